@@ -1,0 +1,11 @@
+pub mod Views
+pub mod Numerals
+pub mod Runs
+pub mod Words
+pub mod Front
+pub mod Steps
+pub mod Parts
+pub mod Texts
+pub mod Alike
+pub mod Locality
+pub mod Worked

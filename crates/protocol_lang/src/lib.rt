@@ -1,0 +1,19 @@
+//! The protocol language of bgsim: its texts, and what they mean.
+#![tactic(auto)]
+
+mod fault;
+mod lexer;
+mod meaning;
+mod number;
+mod parser;
+mod protocol;
+mod token;
+mod tree;
+
+pub use fault::ParseFault;
+pub use meaning::{Action, View, first, next};
+pub use number::read_number;
+pub use protocol::{Protocol, parse, parse_bytes};
+
+#[cfg(test)]
+mod tests;

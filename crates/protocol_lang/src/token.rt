@@ -1,0 +1,139 @@
+//! The tokens of the language.
+ghost use Rattle.std.specs.Prelude.{◌≡◌, ◌≤◌, length, IfSome};
+ghost use Rattle.protocol_lang.specs.Tokens.{word_of, symbol_of, symbol_spelling, name_of};
+
+use crate::tree::Name;
+
+/// A word of the language.
+#[derive(Clone, Copy, PartialEq, Eq)]
+pub enum Word {
+    First,
+    When,
+    And,
+    Write,
+    Decide,
+    Else,
+    Input,
+    Id,
+    N,
+    Round,
+    Mine,
+    Count,
+    Min,
+    Max,
+    Cell,
+    Seen,
+    Equal,
+}
+
+/// A token that is neither a word nor a number.
+#[derive(Clone, Copy, PartialEq, Eq)]
+pub enum Symbol {
+    Semicolon,
+    Open,
+    Close,
+    Plus,
+    Minus,
+    Times,
+    Divide,
+    Remainder,
+    Equal,
+    NotEqual,
+    Less,
+    LessOrEqual,
+    Greater,
+    GreaterOrEqual,
+}
+
+/// A token.
+#[derive(Clone, Copy, PartialEq, Eq)]
+pub enum Token {
+    Word(Word),
+    Number(u32),
+    Symbol(Symbol),
+    /// The text's end.
+    End,
+}
+
+impl Word {
+    /// The word that these letters spell.
+    pub fn spelled(letters: &[u8]) -> Option<Word>
+        ensures { result ≡ word_of letters.now }
+    {
+        match letters {
+            b"first" => Some(Word::First),
+            b"when" => Some(Word::When),
+            b"and" => Some(Word::And),
+            b"write" => Some(Word::Write),
+            b"decide" => Some(Word::Decide),
+            b"else" => Some(Word::Else),
+            b"input" => Some(Word::Input),
+            b"id" => Some(Word::Id),
+            b"n" => Some(Word::N),
+            b"round" => Some(Word::Round),
+            b"mine" => Some(Word::Mine),
+            b"count" => Some(Word::Count),
+            b"min" => Some(Word::Min),
+            b"max" => Some(Word::Max),
+            b"cell" => Some(Word::Cell),
+            b"seen" => Some(Word::Seen),
+            b"equal" => Some(Word::Equal),
+            _ => None,
+        }
+    }
+}
+
+impl Word {
+    /// The name that the word is.
+    pub fn name(self) -> Option<Name>
+        ensures { result ≡ name_of self }
+    {
+        match self {
+            Word::Input => Some(Name::Input),
+            Word::Id => Some(Name::Id),
+            Word::N => Some(Name::N),
+            Word::Round => Some(Name::Round),
+            Word::Mine => Some(Name::Mine),
+            Word::Count => Some(Name::Count),
+            Word::Min => Some(Name::Min),
+            Word::Max => Some(Name::Max),
+            _ => None,
+        }
+    }
+}
+
+impl Symbol {
+    /// The longest symbol at the front of a text.
+    pub fn at_front(text: &[u8]) -> Option<Symbol>
+        ensures symbol { result ≡ symbol_of text.now }
+        ensures within { IfSome result (λ symbol. length (symbol_spelling symbol) ≤ length text.now) }
+    {
+        match text {
+            [b';', ..] => Some(Symbol::Semicolon),
+            [b'(', ..] => Some(Symbol::Open),
+            [b')', ..] => Some(Symbol::Close),
+            [b'+', ..] => Some(Symbol::Plus),
+            [b'-', ..] => Some(Symbol::Minus),
+            [b'*', ..] => Some(Symbol::Times),
+            [b'/', ..] => Some(Symbol::Divide),
+            [b'%', ..] => Some(Symbol::Remainder),
+            [b'=', b'=', ..] => Some(Symbol::Equal),
+            [b'!', b'=', ..] => Some(Symbol::NotEqual),
+            [b'<', b'=', ..] => Some(Symbol::LessOrEqual),
+            [b'<', ..] => Some(Symbol::Less),
+            [b'>', b'=', ..] => Some(Symbol::GreaterOrEqual),
+            [b'>', ..] => Some(Symbol::Greater),
+            _ => None,
+        }
+    }
+
+    /// How many bytes it takes, 1 or 2.
+    pub fn len(self) -> usize
+        ensures { result ≡ length (symbol_spelling self) }
+    {
+        match self {
+            Symbol::Equal | Symbol::NotEqual | Symbol::LessOrEqual | Symbol::GreaterOrEqual => 2,
+            _ => 1,
+        }
+    }
+}
