@@ -1,0 +1,366 @@
+-- What is read is a block, and what is a block is read.
+use Rattle.std.proofs.Common.{◌≡◌, ◌≢◌, ℕ, ◌+◌, ◌*◌, ◌^◌, ◌<◌, ◌≤◌, min, true, false, not, List, [], ◌∷◌, ◌++◌, length, take, map, Option, Some, Result, Ok, Err, refl, sym, ap, ◌∙◌, subst, arith}
+use Rattle.std.specs.Prelude.{codes, nat_le}
+use Rattle.std.specs.List.{join_with_byte, list_all}
+use Rattle.std.specs.Fmt.{decimal}
+use Rattle.std.proofs.lemmas.Bool.{and_parts, and_from, leb-true, le-leb}
+use Rattle.std.proofs.lemmas.Bool.Decides.{nat_tests}
+use Rattle.std.proofs.lemmas.List.{take_at, append_assoc, length-append}
+use Rattle.std.proofs.lemmas.List.Concat.{flat_map-append}
+use Rattle.std.proofs.lemmas.List.Folds.{list_all-append}
+use Rattle.protocol_lang.specs.Numbers.{greatest}
+use Rattle.protocol_lang.specs.Reading.{reading}
+use Rattle.protocol_lang.specs.declared.protocol.Protocol.{Protocol}
+use Rattle.protocol_lang.specs.declared.fault.ParseFault.{ParseFault}
+use Rattle.room_spec.specs.Names.{is_name, is_name_byte}
+use Rattle.room_spec.specs.Rooms.{RoomSpec, IsShape, IsWithinLimits, bits_of}
+use Rattle.room_spec.specs.Texts.{is_line_end, first_line, later_lines}
+use Rattle.room_spec.specs.Blocks.{◌>>=◌, is_end, body_len, version_line, name_line, is_value, are_inputs, inputs_line, number_line, fitting, protocol_line, protocol_of, room_in, block_in}
+use Rattle.room_spec.specs.Grammar.{line_end, is_line, text_of, are_before_end, head_lines, block_text, IsInFront, IsBlock}
+use Rattle.room_spec.specs.declared.fault.SpecFault.{SpecFault}
+use Rattle.room_spec.specs.declared.fault.SpecFault.TheVariants.{Simulators, Rounds, Turns, TooWide}
+use Rattle.room_spec.proofs.Lines.{are_lines, first_line-text_of, later_lines-text_of}
+use Rattle.room_spec.proofs.Ends.{with_line_end, line_before, end_found, end_at, front_from, front_to, are_lines-before_end}
+use Rattle.room_spec.proofs.Numerals.{each_passes, decimal_passes, digit_no_line_end}
+use Rattle.room_spec.proofs.Heads.{bind_ok, guard_ok, ok_is, version_found, version_again, protocol_found, protocol_again, name_found, name_again, number_found, number_again, inputs_are_values, inputs_found, inputs_again}
+
+-- ---- one line after the other
+
+-- the first of the lines, and what stands behind it
+pub record Takes (lines : List (List ℕ)) (line rest : List ℕ) : Type 0 where
+  pub more : List (List ℕ)
+  pub parts : lines ≡ line ∷ more
+  pub rest_is : rest ≡ text_of more
+  pub whole : are_lines more ≡ true
+
+cons_some : (byte : ℕ) (bytes : List ℕ) → byte ∷ bytes ≢ []
+cons_some byte bytes = λ e. absurd cc
+
+takes : (text : List ℕ) (lines : List (List ℕ)) (line rest : List ℕ) → text ≡ text_of lines → are_lines lines ≡ true → line ≢ [] → first_line text ≡ line → later_lines text ≡ rest → Takes lines line rest
+takes text [] line rest is all some first later = absurd (some (sym first ∙ ap first_line is))
+takes text (top ∷ lines) line rest is all some first later =
+    let parts = and_parts (is_line top) (are_lines lines) all in
+    record {
+      more = lines;
+      parts = ap (λ (l : List ℕ). l ∷ lines) (sym (first_line-text_of top lines parts.0) ∙ ap first_line (sym is) ∙ first);
+      rest_is = sym later ∙ ap later_lines is ∙ later_lines-text_of top lines parts.0;
+      whole = parts.1;
+    }
+
+-- ---- what is read line by line, from a line on
+
+abbrev pub from_text : List ℕ → List ℕ → ℕ → ℕ → ℕ → List ℕ → Result RoomSpec SpecFault
+from_text name inputs simulators rounds turns text = protocol_of (reading text) >>= λ protocol. Ok (record { name = name; inputs = inputs; simulators = simulators; rounds = rounds; turns = turns; protocol = protocol })
+
+abbrev pub from_protocol : List ℕ → List ℕ → ℕ → ℕ → ℕ → List ℕ → Result RoomSpec SpecFault
+from_protocol name inputs simulators rounds turns text = protocol_line text >>= from_text name inputs simulators rounds turns
+
+abbrev pub from_turns : List ℕ → List ℕ → ℕ → ℕ → List ℕ → Result RoomSpec SpecFault
+from_turns name inputs simulators rounds text = number_line 6 (codes "turns ") 65535 Turns text >>= λ turns. from_protocol name inputs simulators rounds turns.0 turns.1
+
+abbrev pub from_fitting : List ℕ → List ℕ → ℕ → ℕ → List ℕ → Result RoomSpec SpecFault
+from_fitting name inputs simulators rounds text = fitting (simulators * length inputs * bits_of rounds) >>= λ bits. from_turns name inputs simulators rounds text
+
+abbrev pub from_rounds : List ℕ → List ℕ → ℕ → List ℕ → Result RoomSpec SpecFault
+from_rounds name inputs simulators text = number_line 5 (codes "rounds ") 15 Rounds text >>= λ rounds. from_fitting name inputs simulators rounds.0 rounds.1
+
+abbrev pub from_simulators : List ℕ → List ℕ → List ℕ → Result RoomSpec SpecFault
+from_simulators name inputs text = number_line 4 (codes "simulators ") 8 Simulators text >>= λ simulators. from_rounds name inputs simulators.0 simulators.1
+
+abbrev pub from_inputs : List ℕ → List ℕ → Result RoomSpec SpecFault
+from_inputs name text = inputs_line text >>= λ inputs. from_simulators name inputs.0 inputs.1
+
+abbrev pub from_name : List ℕ → Result RoomSpec SpecFault
+from_name text = name_line text >>= λ name. from_inputs name.0 name.1
+
+-- ---- what is read
+
+-- the lines are those of a room's block
+pub record AreRoom (lines : List (List ℕ)) (room : RoomSpec) : Type 0 where
+  pub limits : IsWithinLimits room
+  pub inputs : list_all is_value room.inputs ≡ true
+  pub more : List (List ℕ)
+  pub parts : lines ≡ head_lines room ++ more
+  pub protocol : reading (text_of more) ≡ Ok room.protocol
+
+protocol_read : (outcome : Result Protocol ParseFault) (protocol : Protocol) → protocol_of outcome ≡ Ok protocol → outcome ≡ Ok protocol
+protocol_read (Ok read) protocol e = cc
+protocol_read (Err fault) protocol e = absurd cc
+
+fitting_read : (bits n : ℕ) → fitting bits ≡ Ok n → bits ≤ 64
+fitting_read bits n e = leb-true bits 64 (guard_ok (nat_le bits 64) TooWide bits n e).0
+
+-- what a room was made of, and the lines that say the rest of it
+record Found (name inputs : List ℕ) (simulators rounds turns : ℕ) (lines head : List (List ℕ)) (room : RoomSpec) : Type 0 where
+  name_is : room.name ≡ name
+  inputs_is : room.inputs ≡ inputs
+  simulators_is : room.simulators ≡ simulators
+  rounds_is : room.rounds ≡ rounds
+  turns_is : room.turns ≡ turns
+  more : List (List ℕ)
+  parts : lines ≡ head ++ more
+  protocol : reading (text_of more) ≡ Ok room.protocol
+
+found_protocol : (name inputs : List ℕ) (simulators rounds turns : ℕ) (text : List ℕ) (lines : List (List ℕ)) (room : RoomSpec) → text ≡ text_of lines → are_lines lines ≡ true → from_protocol name inputs simulators rounds turns text ≡ Ok room → Found name inputs simulators rounds turns lines (codes "protocol" ∷ []) room
+found_protocol name inputs simulators rounds turns text lines room is all read =
+    let line = bind_ok (protocol_line text) (from_text name inputs simulators rounds turns) room read in
+    let says = protocol_found text line.0 line.1 in
+    let taken = takes text lines (codes "protocol") line.0 is all (cons_some _ _) says.0 says.1 in
+    let protocol = bind_ok (protocol_of (reading line.0)) (λ protocol. Ok (record { name = name; inputs = inputs; simulators = simulators; rounds = rounds; turns = turns; protocol = protocol })) room line.2 in
+    let made : record { name = name; inputs = inputs; simulators = simulators; rounds = rounds; turns = turns; protocol = protocol.0 } ≡ room = ok_is _ room protocol.2 in
+    subst (λ (r : RoomSpec). Found name inputs simulators rounds turns lines (codes "protocol" ∷ []) r) made
+    (record {
+      name_is = refl;
+      inputs_is = refl;
+      simulators_is = refl;
+      rounds_is = refl;
+      turns_is = refl;
+      more = taken.more;
+      parts = taken.parts;
+      protocol = ap reading (sym taken.rest_is) ∙ protocol_read (reading line.0) protocol.0 protocol.1;
+    })
+
+-- the lines of a room from one on
+abbrev turns_on : RoomSpec → List (List ℕ)
+turns_on room = (codes "turns " ++ decimal room.turns) ∷ codes "protocol" ∷ []
+
+abbrev rounds_on : RoomSpec → List (List ℕ)
+rounds_on room = (codes "rounds " ++ decimal room.rounds) ∷ turns_on room
+
+abbrev simulators_on : RoomSpec → List (List ℕ)
+simulators_on room = (codes "simulators " ++ decimal room.simulators) ∷ rounds_on room
+
+abbrev inputs_on : RoomSpec → List (List ℕ)
+inputs_on room = join_with_byte 32 (codes "inputs" ∷ map decimal room.inputs) ∷ simulators_on room
+
+abbrev name_on : RoomSpec → List (List ℕ)
+name_on room = (codes "room " ++ room.name) ∷ inputs_on room
+
+one_more : (lines rest head more : List (List ℕ)) (line said : List ℕ) → lines ≡ line ∷ rest → line ≡ said → rest ≡ head ++ more → lines ≡ (said ∷ head) ++ more
+one_more lines rest head more line said top same parts = cc
+
+longer : (name inputs : List ℕ) (simulators rounds turns : ℕ) (lines rest head : List (List ℕ)) (line said : List ℕ) (room : RoomSpec) → lines ≡ line ∷ rest → line ≡ said → Found name inputs simulators rounds turns rest head room → Found name inputs simulators rounds turns lines (said ∷ head) room
+longer name inputs simulators rounds turns lines rest head line said room top same found = record {
+  name_is = found.name_is;
+  inputs_is = found.inputs_is;
+  simulators_is = found.simulators_is;
+  rounds_is = found.rounds_is;
+  turns_is = found.turns_is;
+  more = found.more;
+  parts = one_more lines rest head found.more line said top same found.parts;
+  protocol = found.protocol;
+}
+
+found_turns : (name inputs : List ℕ) (simulators rounds : ℕ) (text : List ℕ) (lines : List (List ℕ)) (room : RoomSpec) → text ≡ text_of lines → are_lines lines ≡ true → from_turns name inputs simulators rounds text ≡ Ok room → Found name inputs simulators rounds room.turns lines (turns_on room) room × ((1 ≤ room.turns) × (room.turns ≤ 65535))
+found_turns name inputs simulators rounds text lines room is all read =
+    let line = bind_ok (number_line 6 (codes "turns ") 65535 Turns text) (λ turns. from_protocol name inputs simulators rounds turns.0 turns.1) room read in
+    let says = number_found 6 (codes "turns ") 65535 Turns text line.0 (omega arith) line.1 in
+    let taken = takes text lines (codes "turns " ++ decimal line.0.0) line.0.1 is all (cons_some _ _) says.line says.rest_is in
+    let found = found_protocol name inputs simulators rounds line.0.0 line.0.1 taken.more room taken.rest_is taken.whole line.2 in (
+      subst (λ (turns : ℕ). Found name inputs simulators rounds turns lines (turns_on room) room) (sym found.turns_is)
+          (longer name inputs simulators rounds line.0.0 lines taken.more (codes "protocol" ∷ []) (codes "turns " ++ decimal line.0.0) (codes "turns " ++ decimal room.turns) room taken.parts (ap (λ (n : ℕ). codes "turns " ++ decimal n) (sym found.turns_is)) found),
+      subst (λ (n : ℕ). (1 ≤ n) × (n ≤ 65535)) (sym found.turns_is) says.range,
+    )
+
+found_rounds : (name inputs : List ℕ) (simulators : ℕ) (text : List ℕ) (lines : List (List ℕ)) (room : RoomSpec) → text ≡ text_of lines → are_lines lines ≡ true → from_rounds name inputs simulators text ≡ Ok room → Found name inputs simulators room.rounds room.turns lines (rounds_on room) room × ((1 ≤ room.turns) × (room.turns ≤ 65535)) × (room.simulators * length room.inputs * bits_of room.rounds ≤ 64) × ((1 ≤ room.rounds) × (room.rounds ≤ 15))
+found_rounds name inputs simulators text lines room is all read =
+    let line = bind_ok (number_line 5 (codes "rounds ") 15 Rounds text) (λ rounds. from_fitting name inputs simulators rounds.0 rounds.1) room read in
+    let says = number_found 5 (codes "rounds ") 15 Rounds text line.0 (omega arith) line.1 in
+    let taken = takes text lines (codes "rounds " ++ decimal line.0.0) line.0.1 is all (cons_some _ _) says.line says.rest_is in
+    let fits = bind_ok (fitting (simulators * length inputs * bits_of line.0.0)) (λ bits. from_turns name inputs simulators line.0.0 line.0.1) room line.2 in
+    let both = found_turns name inputs simulators line.0.0 line.0.1 taken.more room taken.rest_is taken.whole fits.2 in
+    let found = both.0 in
+    let memory : room.simulators * length room.inputs * bits_of room.rounds ≤ 64 = rw (found.simulators_is, found.inputs_is, found.rounds_is) (fitting_read (simulators * length inputs * bits_of line.0.0) fits.0 fits.1) in (
+      subst (λ (rounds : ℕ). Found name inputs simulators rounds room.turns lines (rounds_on room) room) (sym found.rounds_is)
+          (longer name inputs simulators line.0.0 room.turns lines taken.more (turns_on room) (codes "rounds " ++ decimal line.0.0) (codes "rounds " ++ decimal room.rounds) room taken.parts (ap (λ (n : ℕ). codes "rounds " ++ decimal n) (sym found.rounds_is)) found),
+      both.1,
+      memory,
+      subst (λ (n : ℕ). (1 ≤ n) × (n ≤ 15)) (sym found.rounds_is) says.range,
+    )
+
+found_simulators : (name inputs : List ℕ) (text : List ℕ) (lines : List (List ℕ)) (room : RoomSpec) → text ≡ text_of lines → are_lines lines ≡ true → from_simulators name inputs text ≡ Ok room → Found name inputs room.simulators room.rounds room.turns lines (simulators_on room) room × ((1 ≤ room.turns) × (room.turns ≤ 65535)) × (room.simulators * length room.inputs * bits_of room.rounds ≤ 64) × ((1 ≤ room.rounds) × (room.rounds ≤ 15)) × ((1 ≤ room.simulators) × (room.simulators ≤ 8))
+found_simulators name inputs text lines room is all read =
+    let line = bind_ok (number_line 4 (codes "simulators ") 8 Simulators text) (λ simulators. from_rounds name inputs simulators.0 simulators.1) room read in
+    let says = number_found 4 (codes "simulators ") 8 Simulators text line.0 (omega arith) line.1 in
+    let taken = takes text lines (codes "simulators " ++ decimal line.0.0) line.0.1 is all (cons_some _ _) says.line says.rest_is in
+    let both = found_rounds name inputs line.0.0 line.0.1 taken.more room taken.rest_is taken.whole line.2 in
+    let found = both.0 in (
+      subst (λ (simulators : ℕ). Found name inputs simulators room.rounds room.turns lines (simulators_on room) room) (sym found.simulators_is)
+          (longer name inputs line.0.0 room.rounds room.turns lines taken.more (rounds_on room) (codes "simulators " ++ decimal line.0.0) (codes "simulators " ++ decimal room.simulators) room taken.parts (ap (λ (n : ℕ). codes "simulators " ++ decimal n) (sym found.simulators_is)) found),
+      both.1,
+      both.2,
+      both.3,
+      subst (λ (n : ℕ). (1 ≤ n) × (n ≤ 8)) (sym found.simulators_is) says.range,
+    )
+
+inputs_some : (values : List ℕ) → join_with_byte 32 (codes "inputs" ∷ map decimal values) ≢ []
+inputs_some [] = cons_some _ _
+inputs_some (value ∷ values) = cons_some _ _
+
+inputs_range : (values : List ℕ) → are_inputs values ≡ true → (1 ≤ length values) × (length values ≤ 16)
+inputs_range values are =
+    let tests = and_parts (nat_le 1 (length values)) (nat_le (length values) 16) (and_parts _ (list_all is_value values) are).0 in
+    (leb-true 1 (length values) tests.0, leb-true (length values) 16 tests.1)
+
+found_inputs : (name : List ℕ) (text : List ℕ) (lines : List (List ℕ)) (room : RoomSpec) → text ≡ text_of lines → are_lines lines ≡ true → from_inputs name text ≡ Ok room → Found name room.inputs room.simulators room.rounds room.turns lines (inputs_on room) room × ((1 ≤ room.turns) × (room.turns ≤ 65535)) × IsShape (length room.inputs) room.simulators (bits_of room.rounds) room.rounds × (list_all is_value room.inputs ≡ true)
+found_inputs name text lines room is all read =
+    let line = bind_ok (inputs_line text) (λ inputs. from_simulators name inputs.0 inputs.1) room read in
+    let says = inputs_found text line.0 line.1 in
+    let taken = takes text lines (join_with_byte 32 (codes "inputs" ∷ map decimal line.0.0)) line.0.1 is all (inputs_some line.0.0) says.0 says.1 in
+    let both = found_simulators name line.0.0 line.0.1 taken.more room taken.rest_is taken.whole line.2 in
+    let found = both.0 in
+    let are : are_inputs room.inputs ≡ true = subst (λ (values : List ℕ). are_inputs values ≡ true) (sym found.inputs_is) says.2 in (
+      subst (λ (inputs : List ℕ). Found name inputs room.simulators room.rounds room.turns lines (inputs_on room) room) (sym found.inputs_is)
+          (longer name line.0.0 room.simulators room.rounds room.turns lines taken.more (simulators_on room) (join_with_byte 32 (codes "inputs" ∷ map decimal line.0.0)) (join_with_byte 32 (codes "inputs" ∷ map decimal room.inputs)) room taken.parts (ap (λ (values : List ℕ). join_with_byte 32 (codes "inputs" ∷ map decimal values)) (sym found.inputs_is)) found),
+      both.1,
+      record { n_range = inputs_range room.inputs are; m_range = both.4; rounds_range = both.3; width = refl; memory = both.2 },
+      inputs_are_values room.inputs are,
+    )
+
+found_name : (text : List ℕ) (lines : List (List ℕ)) (room : RoomSpec) → text ≡ text_of lines → are_lines lines ≡ true → from_name text ≡ Ok room → Found room.name room.inputs room.simulators room.rounds room.turns lines (name_on room) room × IsWithinLimits room × (list_all is_value room.inputs ≡ true)
+found_name text lines room is all read =
+    let line = bind_ok (name_line text) (λ name. from_inputs name.0 name.1) room read in
+    let says = name_found text line.0 line.1 in
+    let taken = takes text lines (codes "room " ++ line.0.0) line.0.1 is all (cons_some _ _) says.0 says.1 in
+    let both = found_inputs line.0.0 line.0.1 taken.more room taken.rest_is taken.whole line.2 in
+    let found = both.0 in (
+      subst (λ (name : List ℕ). Found name room.inputs room.simulators room.rounds room.turns lines (name_on room) room) (sym found.name_is)
+          (longer line.0.0 room.inputs room.simulators room.rounds room.turns lines taken.more (inputs_on room) (codes "room " ++ line.0.0) (codes "room " ++ room.name) room taken.parts (ap (λ (name : List ℕ). codes "room " ++ name) (sym found.name_is)) found),
+      record { name = subst (λ (name : List ℕ). is_name name ≡ true) (sym found.name_is) says.2; shape = both.2; turns = both.1 },
+      both.3,
+    )
+
+room_found : (lines : List (List ℕ)) (room : RoomSpec) → are_lines lines ≡ true → room_in (text_of lines) ≡ Ok room → AreRoom lines room
+unfolding room_in
+room_found lines room all read =
+    let line = bind_ok (version_line (text_of lines)) from_name room read in
+    let says = version_found (text_of lines) line.0 line.1 in
+    let taken = takes (text_of lines) lines (codes "bgsim 1") line.0 refl all (cons_some _ _) says.0 says.1 in
+    let both = found_name line.0 taken.more room taken.rest_is taken.whole line.2 in
+    record {
+      limits = both.1;
+      inputs = both.2;
+      more = both.0.more;
+      parts = one_more lines taken.more (name_on room) both.0.more (codes "bgsim 1") (codes "bgsim 1") taken.parts refl both.0.parts;
+      protocol = both.0.protocol;
+    }
+
+before_parts : (first more : List (List ℕ)) → are_before_end (first ++ more) ≡ true → are_before_end more ≡ true
+before_parts first more all = (and_parts (are_before_end first) (are_before_end more) (sym (list_all-append _ first more) ∙ all)).1
+
+regrouped : (a b c d : List ℕ) → (a ++ b) ++ (c ++ d) ≡ (a ++ (b ++ c)) ++ d
+regrouped a b c d = simp append_assoc
+
+pub block_found : (text : List ℕ) (body : ℕ) (room : RoomSpec) → Some body ≡ body_len text → Ok room ≡ room_in (take body text) → IsBlock text room (min (body + 4) (length text))
+block_found text body room ends read =
+    let end = end_found text body (sym ends) in
+    let bytes : take body text ≡ text_of end.lines = ap (take body) end.parts ∙ take_at (text_of end.lines) (codes "end" ++ with_line_end end.later) body (sym end.extent) in
+    let found = room_found end.lines room (are_lines-before_end end.lines end.no_end) (sym (read ∙ ap room_in bytes)) in
+    let lines : text_of end.lines ≡ text_of (head_lines room) ++ text_of found.more = ap text_of found.parts ∙ flat_map-append (λ line. line ++ line_end) (head_lines room) found.more in
+    let whole : text ≡ block_text room (text_of found.more) ++ with_line_end end.later = end.parts ∙ ap (λ (t : List ℕ). t ++ (codes "end" ++ with_line_end end.later)) lines ∙ regrouped (text_of (head_lines room)) (text_of found.more) (codes "end") (with_line_end end.later) in
+    let len : length (block_text room (text_of found.more)) + 1 ≡ body + 4 = omega (arith, end.extent, ap length lines, length-append (text_of (head_lines room)) (text_of found.more), length-append (text_of (head_lines room)) (text_of found.more ++ codes "end"), length-append (text_of found.more) (codes "end")) in
+    record {
+      limits = found.limits;
+      inputs = found.inputs;
+      lines = found.more;
+      no_end = before_parts (head_lines room) found.more (subst (λ (l : List (List ℕ)). are_before_end l ≡ true) found.parts end.no_end);
+      protocol = found.protocol;
+      bytes = subst (λ n. IsInFront (block_text room (text_of found.more)) text (min n (length text))) len (front_from (block_text room (text_of found.more)) text end.later whole);
+    }
+
+-- ---- what is written is read
+
+steps : (room : RoomSpec) (a b c d e f g h : List ℕ) → version_line a ≡ Ok b → name_line b ≡ Ok (room.name, c) → inputs_line c ≡ Ok (room.inputs, d) → number_line 4 (codes "simulators ") 8 Simulators d ≡ Ok (room.simulators, e) → number_line 5 (codes "rounds ") 15 Rounds e ≡ Ok (room.rounds, f) → fitting (room.simulators * length room.inputs * bits_of room.rounds) ≡ Ok (room.simulators * length room.inputs * bits_of room.rounds) → number_line 6 (codes "turns ") 65535 Turns f ≡ Ok (room.turns, g) → protocol_line g ≡ Ok h → reading h ≡ Ok room.protocol → room_in a ≡ Ok room
+unfolding room_in
+steps room a b c d e f g h ab bc cd de ef fits fg gh read = rw (ab, bc, cd, de, ef, fits, fg, gh, read) refl
+
+name_byte_no_line_end : (byte : ℕ) → is_name_byte byte ≡ true → not (is_line_end byte) ≡ true
+name_byte_no_line_end byte is = grind (arith, nat_tests)
+
+-- a word and what stands behind it are a line
+word_line : (word value : List ℕ) → is_line word ≡ true → is_line value ≡ true → is_line (word ++ value) ≡ true
+word_line word value a b = list_all-append _ word value ∙ and_from (is_line word) (is_line value) a b
+
+name_line_is : (name : List ℕ) → is_name name ≡ true → is_line (codes "room " ++ name) ≡ true
+name_line_is name is = word_line (codes "room ") name refl (each_passes is_name_byte (λ byte. not (is_line_end byte)) name name_byte_no_line_end (and_parts _ (list_all is_name_byte name) is).1)
+
+number_line_is : (word : List ℕ) (number : ℕ) → is_line word ≡ true → number < 2 ^ 64 → is_line (word ++ decimal number) ≡ true
+number_line_is word number is small = word_line word (decimal number) is (decimal_passes (λ byte. not (is_line_end byte)) number small digit_no_line_end)
+
+inputs_line_is : (piece : List ℕ) (values : List ℕ) → is_line piece ≡ true → list_all is_value values ≡ true → is_line (join_with_byte 32 (piece ∷ map decimal values)) ≡ true
+inputs_line_is piece [] is all = is
+inputs_line_is piece (value ∷ values) is all =
+    let each = and_parts (is_value value) (list_all is_value values) all in
+    let value_is : is_line (decimal value) ≡ true = decimal_passes (λ byte. not (is_line_end byte)) value (omega (arith, leb-true value greatest each.0)) digit_no_line_end in
+    word_line piece (32 ∷ join_with_byte 32 (decimal value ∷ map decimal values)) is (inputs_line_is (decimal value) values value_is each.1)
+
+version_text : (more : List (List ℕ)) → version_line (text_of (codes "bgsim 1" ∷ more)) ≡ Ok (text_of more)
+version_text more = version_again (text_of (codes "bgsim 1" ∷ more)) (first_line-text_of (codes "bgsim 1") more refl) ∙ ap Ok (later_lines-text_of (codes "bgsim 1") more refl)
+
+protocol_text : (more : List (List ℕ)) → protocol_line (text_of (codes "protocol" ∷ more)) ≡ Ok (text_of more)
+protocol_text more = protocol_again (text_of (codes "protocol" ∷ more)) (first_line-text_of (codes "protocol") more refl) ∙ ap Ok (later_lines-text_of (codes "protocol") more refl)
+
+name_text : (name : List ℕ) (more : List (List ℕ)) → is_name name ≡ true → name_line (text_of ((codes "room " ++ name) ∷ more)) ≡ Ok (name, text_of more)
+name_text name more is =
+    name_again (text_of ((codes "room " ++ name) ∷ more)) name (first_line-text_of (codes "room " ++ name) more (name_line_is name is)) is
+    ∙ ap (λ (rest : List ℕ). Ok (name, rest)) (later_lines-text_of (codes "room " ++ name) more (name_line_is name is))
+
+inputs_text : (values : List ℕ) (more : List (List ℕ)) → are_inputs values ≡ true → inputs_line (text_of (join_with_byte 32 (codes "inputs" ∷ map decimal values) ∷ more)) ≡ Ok (values, text_of more)
+inputs_text values more are =
+    let is = inputs_line_is (codes "inputs") values refl (inputs_are_values values are) in
+    inputs_again (text_of (join_with_byte 32 (codes "inputs" ∷ map decimal values) ∷ more)) values (first_line-text_of (join_with_byte 32 (codes "inputs" ∷ map decimal values)) more is) are
+    ∙ ap (λ (rest : List ℕ). Ok (values, rest)) (later_lines-text_of (join_with_byte 32 (codes "inputs" ∷ map decimal values)) more is)
+
+number_text : (line : ℕ) (word : List ℕ) (most : ℕ) (fault : SpecFault) (number : ℕ) (more : List (List ℕ)) → is_line word ≡ true → most < 2 ^ 64 → (1 ≤ number) × (number ≤ most) → number_line line word most fault (text_of ((word ++ decimal number) ∷ more)) ≡ Ok (number, text_of more)
+number_text line word most fault number more word_is small range =
+    let is = number_line_is word number word_is (omega (arith, range.1)) in
+    number_again line word most fault (text_of ((word ++ decimal number) ∷ more)) number small (first_line-text_of (word ++ decimal number) more is) range
+    ∙ ap (λ (rest : List ℕ). Ok (number, rest)) (later_lines-text_of (word ++ decimal number) more is)
+
+fitting_again : (bits : ℕ) → bits ≤ 64 → fitting bits ≡ Ok bits
+fitting_again bits fits = rw (le-leb bits 64 fits) refl
+
+inputs_are : (values : List ℕ) → (1 ≤ length values) × (length values ≤ 16) → list_all is_value values ≡ true → are_inputs values ≡ true
+inputs_are values range all = and_from _ (list_all is_value values) (and_from (nat_le 1 (length values)) (nat_le (length values) 16) (le-leb 1 (length values) range.0) (le-leb (length values) 16 range.1)) all
+
+room_again : (room : RoomSpec) (more : List (List ℕ)) → IsWithinLimits room → list_all is_value room.inputs ≡ true → reading (text_of more) ≡ Ok room.protocol → room_in (text_of (head_lines room ++ more)) ≡ Ok room
+room_again room more limits inputs protocol =
+    let memory : room.simulators * length room.inputs * bits_of room.rounds ≤ 64 = limits.shape.memory in
+    steps room (text_of (head_lines room ++ more)) (text_of (name_on room ++ more)) (text_of (inputs_on room ++ more)) (text_of (simulators_on room ++ more)) (text_of (rounds_on room ++ more)) (text_of (turns_on room ++ more)) (text_of (codes "protocol" ∷ more)) (text_of more)
+    (version_text (name_on room ++ more))
+    (name_text room.name (inputs_on room ++ more) limits.name)
+    (inputs_text room.inputs (simulators_on room ++ more) (inputs_are room.inputs limits.shape.n_range inputs))
+    (number_text 4 (codes "simulators ") 8 Simulators room.simulators (rounds_on room ++ more) refl (omega arith) limits.shape.m_range)
+    (number_text 5 (codes "rounds ") 15 Rounds room.rounds (turns_on room ++ more) refl (omega arith) limits.shape.rounds_range)
+    (fitting_again (room.simulators * length room.inputs * bits_of room.rounds) memory)
+    (number_text 6 (codes "turns ") 65535 Turns room.turns (codes "protocol" ∷ more) refl (omega arith) limits.turns)
+    (protocol_text more)
+    protocol
+
+inputs_no_end : (values : List ℕ) → is_end (join_with_byte 32 (codes "inputs" ∷ map decimal values)) ≡ false
+inputs_no_end [] = refl
+inputs_no_end (value ∷ values) = refl
+
+head_no_end : (room : RoomSpec) (more : List (List ℕ)) → IsWithinLimits room → list_all is_value room.inputs ≡ true → are_before_end more ≡ true → are_before_end (head_lines room ++ more) ≡ true
+head_no_end room more limits inputs all =
+    line_before (codes "bgsim 1") (name_on room ++ more) refl refl
+    (line_before (codes "room " ++ room.name) (inputs_on room ++ more) (name_line_is room.name limits.name) refl
+    (line_before (join_with_byte 32 (codes "inputs" ∷ map decimal room.inputs)) (simulators_on room ++ more) (inputs_line_is (codes "inputs") room.inputs refl inputs) (inputs_no_end room.inputs)
+    (line_before (codes "simulators " ++ decimal room.simulators) (rounds_on room ++ more) (number_line_is (codes "simulators ") room.simulators refl (omega (arith, limits.shape.m_range.1))) refl
+    (line_before (codes "rounds " ++ decimal room.rounds) (turns_on room ++ more) (number_line_is (codes "rounds ") room.rounds refl (omega (arith, limits.shape.rounds_range.1))) refl
+    (line_before (codes "turns " ++ decimal room.turns) (codes "protocol" ∷ more) (number_line_is (codes "turns ") room.turns refl (omega (arith, limits.turns.1))) refl
+    (line_before (codes "protocol") more refl refl all))))))
+
+read_to_end : (text : List ℕ) (lines : List (List ℕ)) (later : Option (List ℕ)) (room : RoomSpec) (len : ℕ) → text ≡ text_of lines ++ (codes "end" ++ with_line_end later) → are_before_end lines ≡ true → room_in (text_of lines) ≡ Ok room → min (length (text_of lines) + 4) (length text) ≡ len → block_in text ≡ Ok (room, len)
+read_to_end text lines later room len whole no_end read len_is =
+    let body : body_len text ≡ Some (length (text_of lines)) = ap body_len whole ∙ end_at lines later no_end in
+    let bytes : take (length (text_of lines)) text ≡ text_of lines = ap (take (length (text_of lines))) whole ∙ take_at (text_of lines) (codes "end" ++ with_line_end later) (length (text_of lines)) refl in
+    rw (body, bytes, read, len_is) refl
+
+pub block_again : (text : List ℕ) (room : RoomSpec) (len : ℕ) → IsBlock text room len → block_in text ≡ Ok (room, len)
+block_again text room len block =
+    let front = front_to (block_text room (text_of block.lines)) text len block.bytes in
+    let lines : text_of (head_lines room ++ block.lines) ≡ text_of (head_lines room) ++ text_of block.lines = flat_map-append (λ line. line ++ line_end) (head_lines room) block.lines in
+    let whole : text ≡ text_of (head_lines room ++ block.lines) ++ (codes "end" ++ with_line_end front.0) = front.1 ∙ sym (regrouped (text_of (head_lines room)) (text_of block.lines) (codes "end") (with_line_end front.0)) ∙ ap (λ (t : List ℕ). t ++ (codes "end" ++ with_line_end front.0)) (sym lines) in
+    let len_is : min (length (text_of (head_lines room ++ block.lines)) + 4) (length text) ≡ len = omega (arith, front.2, ap length lines, length-append (text_of (head_lines room)) (text_of block.lines), length-append (text_of (head_lines room)) (text_of block.lines ++ codes "end"), length-append (text_of block.lines) (codes "end")) in
+    read_to_end text (head_lines room ++ block.lines) front.0 room len whole (head_no_end room block.lines block.limits block.inputs block.no_end) (room_again room block.lines block.limits block.inputs block.protocol) len_is

@@ -1,0 +1,127 @@
+-- How a room block is read: line by line, up to the first fault.
+use Rattle.std.specs.Prelude.{◌≡◌, ℕ, ◌+◌, ◌*◌, Bool, ◌&&◌, min, List, [], ◌∷◌, length, take, drop, Option, Some, None, Result, Ok, Err, nat_eq, nat_le, if◌then◌else◌, codes}
+use Rattle.std.specs.List.{list_all, position, starts_with, sum_by}
+use Rattle.std.specs.Option.{option_map, option_and_then}
+use Rattle.std.specs.Str.{bytes_eq}
+use Rattle.protocol_lang.specs.Numbers.{greatest, number_of}
+use Rattle.protocol_lang.specs.Reading.{reading}
+use Rattle.protocol_lang.specs.declared.protocol.Protocol.{Protocol}
+use Rattle.protocol_lang.specs.declared.fault.ParseFault.{ParseFault}
+use Rattle.room_spec.specs.Names.{is_name}
+use Rattle.room_spec.specs.Rooms.{RoomSpec, bits_of}
+use Rattle.room_spec.specs.Texts.{first_line, later_lines, lines_of, fields_of}
+use Rattle.room_spec.specs.declared.fault.SpecFault.{SpecFault}
+use Rattle.room_spec.specs.declared.fault.SpecFault.TheVariants.{Truncated, BadLine, BadName, BadProtocol, Inputs, Simulators, Rounds, Turns, TooWide}
+
+-- one step, and then the next where it had no fault
+infixl 10 ◌>>=◌
+abbrev pub ◌>>=◌ : {A B : Type 0} → Result A SpecFault → (A → Result B SpecFault) → Result B SpecFault
+(Ok x) >>= next = next x
+(Err fault) >>= next = Err fault
+
+-- ---- where a block ends
+
+abbrev pub is_end : List ℕ → Bool
+is_end line = bytes_eq line (codes "end")
+
+-- how many bytes the lines take with their line ends
+abbrev pub extent_of : List (List ℕ) → ℕ
+extent_of lines = sum_by (λ line. length line + 1) lines
+
+-- how many bytes stand before the first line `end`
+unfoldable pub body_len : List ℕ → Option ℕ
+body_len text = option_map (λ before. extent_of (take before (lines_of text))) (position is_end (lines_of text))
+
+-- the same with that line, which alone may end with the text instead of a line end
+abbrev pub block_len : List ℕ → Option ℕ
+block_len text = option_map (λ body. min (body + 4) (length text)) (body_len text)
+
+-- ---- the lines, each read from the front of a text; it gives what it says and the lines after it
+
+-- what stands behind a word and its space at the front of a line
+abbrev pub value_after : List ℕ → List ℕ → Option (List ℕ)
+value_after word line = if starts_with nat_eq line word then Some (drop (length word) line) else None
+
+abbrev pub version_line : List ℕ → Result (List ℕ) SpecFault
+version_line text = if bytes_eq (first_line text) (codes "bgsim 1") then Ok (later_lines text) else Err (BadLine 1)
+
+abbrev pub named : Option (List ℕ) → Result (List ℕ) SpecFault
+named None = Err (BadLine 2)
+named (Some name) = if is_name name then Ok name else Err BadName
+
+abbrev pub name_line : List ℕ → Result (List ℕ × List ℕ) SpecFault
+name_line text = named (value_after (codes "room ") (first_line text)) >>= λ name. Ok (name, later_lines text)
+
+-- all of the numbers that the fields are, or nothing where one is none
+abbrev pub with_number : Option ℕ → Option (List ℕ) → Option (List ℕ)
+with_number None numbers = None
+with_number (Some number) None = None
+with_number (Some number) (Some numbers) = Some (number ∷ numbers)
+
+abbrev pub numbers_of : List (List ℕ) → Option (List ℕ)
+numbers_of [] = Some []
+numbers_of (field ∷ fields) = with_number (number_of field) (numbers_of fields)
+
+-- the numbers behind the word `inputs`
+abbrev pub inputs_of : List (List ℕ) → Option (List ℕ)
+inputs_of [] = None
+inputs_of (word ∷ fields) = if bytes_eq word (codes "inputs") then numbers_of fields else None
+
+abbrev pub is_value : ℕ → Bool
+is_value number = nat_le number greatest
+
+abbrev pub are_inputs : List ℕ → Bool
+are_inputs values = nat_le 1 (length values) && nat_le (length values) 16 && list_all is_value values
+
+abbrev pub in_range : Option (List ℕ) → Result (List ℕ) SpecFault
+in_range None = Err (BadLine 3)
+in_range (Some values) = if are_inputs values then Ok values else Err Inputs
+
+abbrev pub inputs_line : List ℕ → Result (List ℕ × List ℕ) SpecFault
+inputs_line text = in_range (inputs_of (fields_of (first_line text))) >>= λ values. Ok (values, later_lines text)
+
+abbrev pub up_to : ℕ → SpecFault → ℕ → Option ℕ → Result ℕ SpecFault
+up_to most fault line None = Err (BadLine line)
+up_to most fault line (Some number) = if nat_le 1 number && nat_le number most then Ok number else Err fault
+
+-- the line of this number has a word and a number from 1 to `most`
+abbrev pub number_line : ℕ → List ℕ → ℕ → SpecFault → List ℕ → Result (ℕ × List ℕ) SpecFault
+number_line line word most fault text =
+    up_to most fault line (option_and_then number_of (value_after word (first_line text))) >>= λ number. Ok (number, later_lines text)
+
+abbrev pub fitting : ℕ → Result ℕ SpecFault
+fitting bits = if nat_le bits 64 then Ok bits else Err TooWide
+
+abbrev pub protocol_line : List ℕ → Result (List ℕ) SpecFault
+protocol_line text = if bytes_eq (first_line text) (codes "protocol") then Ok (later_lines text) else Err (BadLine 7)
+
+abbrev pub protocol_of : Result Protocol ParseFault → Result Protocol SpecFault
+protocol_of (Ok protocol) = Ok protocol
+protocol_of (Err fault) = Err (BadProtocol fault)
+
+-- what the lines before the line `end` say
+unfoldable pub room_in : List ℕ → Result RoomSpec SpecFault
+room_in body =
+    version_line body
+    >>= λ a. name_line a
+    >>= λ name. inputs_line name.1
+    >>= λ inputs. number_line 4 (codes "simulators ") 8 Simulators inputs.1
+    >>= λ simulators. number_line 5 (codes "rounds ") 15 Rounds simulators.1
+    >>= λ rounds. fitting (simulators.0 * length inputs.0 * bits_of rounds.0)
+    >>= λ bits. number_line 6 (codes "turns ") 65535 Turns rounds.1
+    >>= λ turns. protocol_line turns.1
+    >>= λ text. protocol_of (reading text)
+    >>= λ protocol. Ok (record { name = name.0; inputs = inputs.0; simulators = simulators.0; rounds = rounds.0; turns = turns.0; protocol = protocol })
+
+abbrev pub room_before : List ℕ → Option ℕ → Result (RoomSpec × ℕ) SpecFault
+room_before text None = Err Truncated
+room_before text (Some body) = room_in (take body text) >>= λ room. Ok (room, min (body + 4) (length text))
+
+-- what a block at the front of a text says and how many bytes it takes, or its first fault
+abbrev pub block_in : List ℕ → Result (RoomSpec × ℕ) SpecFault
+block_in text = room_before text (body_len text)
+
+-- what a function returned, seen by `view`, is what reading gives
+abbrev pub Gives : {X Y : Type 0} → (X → Y) → Result X SpecFault → Result Y SpecFault → Type 0
+Gives view (Ok x) read = read ≡ Ok (view x)
+Gives view (Err fault) read = read ≡ Err fault

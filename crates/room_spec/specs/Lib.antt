@@ -1,0 +1,6 @@
+pub mod Names
+pub mod Rooms
+pub mod Texts
+pub mod Faults
+pub mod Blocks
+pub mod Grammar

@@ -1,0 +1,35 @@
+-- What a room is told when it is made, and how large it may be.
+use Rattle.std.specs.Prelude.{◌≡◌, ℕ, ◌*◌, ◌≤◌, true, List, length, nat_lt, if◌then◌else◌}
+use Rattle.protocol_lang.specs.declared.protocol.Protocol.{Protocol}
+use Rattle.room_spec.specs.Names.{is_name}
+
+-- The room's name, the input of each process, the number of simulators, how often a process may write, how
+-- many turns each simulator has, and the protocol.
+pub record RoomSpec : Type 0 where
+  pub name : List ℕ
+  pub inputs : List ℕ
+  pub simulators : ℕ
+  pub rounds : ℕ
+  pub turns : ℕ
+  pub protocol : Protocol
+
+abbrev pub processes : RoomSpec → ℕ
+processes spec = length spec.inputs
+
+-- the binary digits of a step number of a room with so many rounds
+abbrev pub bits_of : ℕ → ℕ
+bits_of rounds = if nat_lt rounds 2 then 1 else if nat_lt rounds 4 then 2 else if nat_lt rounds 8 then 3 else 4
+
+-- the numbers of processes, simulators and rounds of a room, and the width of a step number
+pub record IsShape (n m bits rounds : ℕ) : Type 0 where
+  pub n_range : (1 ≤ n) × (n ≤ 16)
+  pub m_range : (1 ≤ m) × (m ≤ 8)
+  pub rounds_range : (1 ≤ rounds) × (rounds ≤ 15)
+  pub width : bits ≡ bits_of rounds
+  pub memory : m * n * bits ≤ 64
+
+-- the limits of every room
+pub record IsWithinLimits (spec : RoomSpec) : Type 0 where
+  pub name : is_name spec.name ≡ true
+  pub shape : IsShape (length spec.inputs) spec.simulators (bits_of spec.rounds) spec.rounds
+  pub turns : (1 ≤ spec.turns) × (spec.turns ≤ 65535)

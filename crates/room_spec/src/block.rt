@@ -1,0 +1,184 @@
+//! Room blocks.
+ghost use Rattle.std.specs.Prelude.{◌≡◌, ◌≢◌, ℕ, IfNone, All, ◌+◌, ◌≤◌, ◌<◌, min, length, take, IfOk, IfSome, Some, Ok, codes};
+ghost use Rattle.std.specs.Option.{option_copied, option_map, option_and_then};
+ghost use Rattle.protocol_lang.specs.Numbers.{number_of};
+ghost use Rattle.room_spec.specs.Rooms.{RoomSpec};
+ghost use Rattle.room_spec.specs.Texts.{lines_of, first_line, later_lines, fields_of};
+ghost use Rattle.room_spec.specs.Grammar.{EndsAt, IsBlock};
+ghost use Rattle.room_spec.specs.Blocks.{body_len, block_len, value_after, version_line, named, name_line, numbers_of, inputs_of, in_range, inputs_line, up_to, number_line, protocol_line, room_in, block_in, Gives};
+
+use crate::fault::SpecFault;
+use crate::name::Name;
+use crate::spec::{Spec, bits};
+use crate::text::cut;
+use arrayvec::ArrayVec;
+use protocol_lang::{parse_bytes, read_number};
+
+/// How many bytes a room block at the front of `text` takes: up to and with the first line `end`,
+/// or `None` where there is no such line.
+pub fn block_len(text: &[u8]) -> Option<usize>
+    // It is the block's lines up to and with the first `end`.
+    ensures ends { IfSome result (λ len. EndsAt text.now len) }
+    // Only that is a block.
+    ensures only { (len : ℕ) → EndsAt text.now len → result ≡ Some len }
+    ensures none { IfNone result (All (λ line. line ≢ codes "end") (lines_of text.now)) }
+    ensures exact { result ≡ block_len text.now }
+{
+    let body = body_len(text)?;
+    Some((body + 4).min(text.len()))
+}
+
+/// How many bytes stand before the first line `end`.
+fn body_len(text: &[u8]) -> Option<usize>
+    ensures value { result ≡ body_len text.now }
+    ensures within { IfSome result (λ body. body + 3 ≤ length text.now) }
+{
+    let mut rest = text;
+    loop {
+        let (line, later) = cut(rest, b'\n');
+        if line == b"end".as_slice() {
+            return Some(text.len() - rest.len());
+        }
+        rest = later?;
+    }
+}
+
+/// Reads the room block at the front of `text`, and gives its length too. The fault is that of the
+/// block's first line that has one.
+#[tactic(auto, unfolding(crate::specs::Blocks::room_in))]
+pub fn read_block(text: &[u8]) -> Result<(Spec, usize), SpecFault>
+    // What is read is a block.
+    ensures found { IfOk result (λ read. IsBlock text.now read.0 read.1) }
+    // What is a block is read.
+    ensures only { (room : RoomSpec) (len : ℕ) → IsBlock text.now room len → result ≡ Ok (room, len) }
+    ensures within { IfOk result (λ read. read.1 ≤ length text.now) }
+    // Which fault it is.
+    ensures exact { result ≡ block_in text.now }
+{
+    let body = body_len(text).ok_or(SpecFault::Truncated)?;
+    let spec = read_room(&text[..body])?;
+    Ok((spec, (body + 4).min(text.len())))
+}
+
+/// Reads the lines before the line `end`.
+#[tactic(auto, unfolding(crate::specs::Blocks::room_in))]
+fn read_room(body: &[u8]) -> Result<Spec, SpecFault>
+    ensures { result ≡ room_in body.now }
+{
+    let rest = read_version(body)?;
+    let (name, rest) = read_name(rest)?;
+    let (inputs, rest) = read_inputs(rest)?;
+    let (simulators, rest) = read_number_line(rest, 4, b"simulators ", 8, SpecFault::Simulators)?;
+    let (rounds, rest) = read_number_line(rest, 5, b"rounds ", 15, SpecFault::Rounds)?;
+    if usize::from(simulators) * inputs.len() * bits(usize::from(rounds)) > 64 {
+        return Err(SpecFault::TooWide);
+    }
+    let (turns, rest) = read_number_line(rest, 6, b"turns ", 65535, SpecFault::Turns)?;
+    let text = read_protocol_line(rest)?;
+    let protocol = parse_bytes(text).map_err(SpecFault::BadProtocol)?;
+    Ok(Spec {
+        name,
+        inputs,
+        simulators: simulators as u8,
+        rounds: rounds as u8,
+        turns,
+        protocol,
+    })
+}
+
+/// The first line of `text` and the lines after it.
+fn split_line(text: &[u8]) -> (&[u8], &[u8])
+    ensures first { result.0.now ≡ first_line text.now }
+    ensures later { result.1.now ≡ later_lines text.now }
+{
+    match cut(text, b'\n') {
+        (line, Some(rest)) => (line, rest),
+        (line, None) => (line, &[]),
+    }
+}
+
+fn read_version(text: &[u8]) -> Result<&[u8], SpecFault>
+    ensures { Gives (λ rest. rest.now) result (version_line text.now) }
+{
+    let (line, rest) = split_line(text);
+    if line == b"bgsim 1".as_slice() {
+        Ok(rest)
+    } else {
+        Err(SpecFault::BadLine(1))
+    }
+}
+
+fn read_name(text: &[u8]) -> Result<(Name, &[u8]), SpecFault>
+    ensures { Gives (λ read. (read.0, read.1.now)) result (name_line text.now) }
+{
+    let (line, rest) = split_line(text);
+    let value = line
+        .strip_prefix(b"room ".as_slice())
+        .ok_or(SpecFault::BadLine(2))?;
+    let name = Name::read(value).ok_or(SpecFault::BadName)?;
+    Ok((name, rest))
+}
+
+fn read_inputs(text: &[u8]) -> Result<(ArrayVec<u32, 16>, &[u8]), SpecFault>
+    ensures { Gives (λ read. (read.0.items, read.1.now)) result (inputs_line text.now) }
+{
+    let (line, rest) = split_line(text);
+    let inputs = inputs_from(line)?;
+    Ok((inputs, rest))
+}
+
+fn inputs_from(line: &[u8]) -> Result<ArrayVec<u32, 16>, SpecFault>
+    ensures { Gives (λ values. values.items) result (in_range (inputs_of (fields_of line.now))) }
+{
+    let (word, mut rest) = cut(line, b' ');
+    if word != b"inputs".as_slice() {
+        return Err(SpecFault::BadLine(3));
+    }
+    let mut values = ArrayVec::new();
+    let mut fits = true;
+    while let Some(fields) = rest {
+        let (field, others) = cut(fields, b' ');
+        let number = read_number(field).ok_or(SpecFault::BadLine(3))?;
+        match u32::try_from(number) {
+            Ok(value) if !values.is_full() => values.push(value),
+            _ => fits = false,
+        }
+        rest = others;
+    }
+    if fits && !values.is_empty() {
+        Ok(values)
+    } else {
+        Err(SpecFault::Inputs)
+    }
+}
+
+/// Reads the line of the number `line`, which has a word and a number from 1 to `most`.
+fn read_number_line<'a>(
+    text: &'a [u8],
+    line: usize,
+    word: &[u8],
+    most: u16,
+    fault: SpecFault,
+) -> Result<(u16, &'a [u8]), SpecFault>
+    ensures value { Gives (λ read. (read.0, read.1.now)) result (number_line line word.now most fault text.now) }
+    ensures range { IfOk result (λ read. (1 ≤ read.0) × (read.0 ≤ most)) }
+{
+    let (found, rest) = split_line(text);
+    let value = found.strip_prefix(word).ok_or(SpecFault::BadLine(line))?;
+    let number = read_number(value).ok_or(SpecFault::BadLine(line))?;
+    match u16::try_from(number) {
+        Ok(number) if number >= 1 && number <= most => Ok((number, rest)),
+        _ => Err(fault),
+    }
+}
+
+fn read_protocol_line(text: &[u8]) -> Result<&[u8], SpecFault>
+    ensures { Gives (λ rest. rest.now) result (protocol_line text.now) }
+{
+    let (line, rest) = split_line(text);
+    if line == b"protocol".as_slice() {
+        Ok(rest)
+    } else {
+        Err(SpecFault::BadLine(7))
+    }
+}

@@ -1,0 +1,17 @@
+//! Rooms of bgsim: what each is told, and the text that tells it.
+#![tactic(auto)]
+
+mod block;
+mod fault;
+mod name;
+mod spec;
+mod text;
+
+pub use block::{block_len, read_block};
+pub use fault::SpecFault;
+pub use name::Name;
+pub use spec::{Shape, Spec};
+pub use text::cut;
+
+#[cfg(test)]
+mod tests;

@@ -1,0 +1,126 @@
+//! What a room is told when it is made.
+ghost use Rattle.std.specs.Prelude.{◌≡◌, ◌*◌, ◌<◌, ◌≤◌, length, slice_index};
+ghost use Rattle.room_spec.specs.Rooms.{IsShape, IsWithinLimits, bits_of, processes};
+
+use crate::name::Name;
+use arrayvec::ArrayVec;
+use protocol_lang::Protocol;
+use std::marker::Model;
+
+/// The numbers that a room's memory depends on: `m` simulators run `n` processes, which write at
+/// most `rounds` times each, and a step number has `bits` binary digits. `n` is 1 to 16, `m` 1 to
+/// 8, `rounds` 1 to 15, and `m * n * bits` at most 64.
+#[derive(Clone, Copy, Debug, PartialEq, Eq)]
+pub struct Shape {
+    pub n: usize,
+    pub m: usize,
+    pub bits: usize,
+    pub rounds: usize,
+    pub ghost limits: { IsShape n m bits rounds },
+}
+
+/// A room's name, inputs, numbers and protocol, within the limits of every room.
+#[derive(Drop)]
+pub struct Spec {
+    pub(crate) name: Name,
+    pub(crate) inputs: ArrayVec<u32, 16>,
+    pub(crate) simulators: u8,
+    pub(crate) rounds: u8,
+    pub(crate) turns: u16,
+    pub(crate) protocol: Protocol,
+}
+
+impl Model for Spec {
+    ghost use Rattle.room_spec.specs.Rooms.{RoomSpec, IsWithinLimits};
+
+    ghost Value = { RoomSpec };
+
+    ghost view = { λ s. record { name = s.name; inputs = s.inputs.items; simulators = s.simulators; rounds = s.rounds; turns = s.turns; protocol = s.protocol } };
+
+    ghost invariant = { λ s. IsWithinLimits (record { name = s.name; inputs = s.inputs.items; simulators = s.simulators; rounds = s.rounds; turns = s.turns; protocol = s.protocol }) };
+}
+
+impl Spec {
+    /// The room's name.
+    pub fn name(&self) -> &Name
+        ensures { result.now ≡ self.now.name }
+    {
+        &self.name
+    }
+
+    /// The number of processes, 1 to 16.
+    pub fn n(&self) -> usize
+        ensures value { result ≡ processes self.now }
+        ensures range { (1 ≤ result) × (result ≤ 16) }
+    {
+        self.inputs.len()
+    }
+
+    /// The number of simulators, 1 to 8.
+    pub fn m(&self) -> usize
+        ensures value { result ≡ self.now.simulators }
+        ensures range { (1 ≤ result) × (result ≤ 8) }
+    {
+        usize::from(self.simulators)
+    }
+
+    /// How often a process may write, 1 to 15.
+    pub fn rounds(&self) -> usize
+        ensures value { result ≡ self.now.rounds }
+        ensures range { (1 ≤ result) × (result ≤ 15) }
+    {
+        usize::from(self.rounds)
+    }
+
+    /// How many turns each simulator has, 1 to 65535.
+    pub fn turns(&self) -> u64
+        ensures value { result ≡ self.now.turns }
+        ensures range { (1 ≤ result) × (result ≤ 65535) }
+    {
+        u64::from(self.turns)
+    }
+
+    /// The input of process `j`.
+    pub fn input(&self, j: usize) -> u32
+        requires { j < processes self.now }
+        ensures { result ≡ slice_index self.now.inputs j }
+    {
+        self.inputs[j]
+    }
+
+    /// The protocol that the processes run.
+    pub fn protocol(&self) -> &Protocol
+        ensures { result.now ≡ self.now.protocol }
+    {
+        &self.protocol
+    }
+
+    /// The numbers that the room's memory depends on.
+    pub fn shape(&self) -> Shape
+        ensures n { result.n ≡ processes self.now }
+        ensures m { result.m ≡ self.now.simulators }
+        ensures bits { result.bits ≡ bits_of self.now.rounds }
+        ensures rounds { result.rounds ≡ self.now.rounds }
+        ensures limits { IsWithinLimits self.now }
+    {
+        let rounds = usize::from(self.rounds);
+        Shape {
+            n: self.inputs.len(),
+            m: usize::from(self.simulators),
+            bits: bits(rounds),
+            rounds,
+        }
+    }
+}
+
+/// The binary digits of a step number of a room with so many rounds.
+pub(crate) fn bits(rounds: usize) -> usize
+    ensures { result ≡ bits_of rounds }
+{
+    match rounds {
+        0..2 => 1,
+        2..4 => 2,
+        4..8 => 3,
+        _ => 4,
+    }
+}

@@ -1,0 +1,260 @@
+use super::*;
+use protocol_lang::{ParseFault, first};
+use std::test::*;
+
+const ONE: &str =
+    "bgsim 1\nroom one\ninputs 5\nsimulators 1\nrounds 1\nturns 10\nprotocol\nfirst input;\nelse decide mine;\nend\n";
+
+const WIDEST: &str =
+    "bgsim 1\nroom a-32_letters_long_0123456789abcd\ninputs 4294967295 1 2 3 4 5 6 7 8 9 10 11 12 13 14 0\nsimulators 1\nrounds 15\nturns 65535\nprotocol\nfirst n;else write max;\nend";
+
+#[test]
+fn rooms(rt: HostRuntime) -> Result<(), Fail> {
+    let (room, len) = read_block(ONE.as_bytes()).ok().ok_or("a block")?;
+    assert_eq!(rt; len, 101);
+    assert_eq!(rt; room.name().as_str(), "one");
+    assert_eq!(rt;
+        (room.n(), room.m(), room.rounds(), room.turns()),
+        (1, 1, 1, 10)
+    );
+    let shape = room.shape();
+    assert_eq!(rt; (shape.n, shape.m, shape.bits, shape.rounds), (1, 1, 1, 1));
+    assert_eq!(rt; room.input(0), 5);
+    assert_eq!(rt; first(room.protocol(), 5, 0, 1), 5);
+    Ok(())
+}
+
+#[test]
+fn widest_room(rt: HostRuntime) -> Result<(), Fail> {
+    let (room, len) = read_block(WIDEST.as_bytes()).ok().ok_or("a block")?;
+    assert_eq!(rt; len, WIDEST.len());
+    assert_eq!(rt; room.name().as_str(), "a-32_letters_long_0123456789abcd");
+    let shape = room.shape();
+    assert_eq!(rt;
+        (shape.n, shape.m, shape.bits, shape.rounds),
+        (16, 1, 4, 15)
+    );
+    assert_eq!(rt; room.turns(), 65535);
+    assert!(rt; room.n() == 16);
+    assert_eq!(rt;
+        (room.input(0), room.input(9), room.input(15)),
+        (4294967295, 9, 0)
+    );
+    Ok(())
+}
+
+#[test]
+fn ends_of_blocks(rt: HostRuntime) {
+    for (text, len) in [
+        ("", None),
+        ("en", None),
+        ("end", Some(3)),
+        ("end\n", Some(4)),
+        ("end\nend\n", Some(4)),
+        ("the end\n end\nend \nend\r\nEND\n", None),
+        ("\n\nend\n\n", Some(6)),
+        (ONE, Some(101)),
+    ] {
+        assert_eq!(rt; block_len(text.as_bytes()), len, "in {text}");
+    }
+    let bytes = ONE.as_bytes();
+    assert_eq!(rt; block_len(&bytes[..100]), Some(100));
+    assert_eq!(rt; block_len(&bytes[..99]), None);
+}
+
+#[test]
+fn what_is_behind_a_block_is_left(rt: HostRuntime) -> Result<(), Fail> {
+    let twice = format!(in rt.alloc(); "{ONE}{ONE}")?;
+    let (_, len) = read_block(twice.as_bytes()).ok().ok_or("a block")?;
+    assert_eq!(rt; len, 101);
+    let (_, len) = read_block(&ONE.as_bytes()[..100]).ok().ok_or("a block")?;
+    assert_eq!(rt; len, 100);
+    Ok(())
+}
+
+fn fault_of(text: &str) -> Option<SpecFault> {
+    read_block(text.as_bytes()).err()
+}
+
+#[test]
+fn faults_of_the_head(rt: HostRuntime) {
+    for (text, fault) in [
+        ("", SpecFault::Truncated),
+        ("bgsim 1\nroom One\nEND\n", SpecFault::Truncated),
+        ("end\n", SpecFault::BadLine(1)),
+        ("bgsim 2\nend\n", SpecFault::BadLine(1)),
+        ("bgsim 1 \nend\n", SpecFault::BadLine(1)),
+        ("bgsim 1\nend\n", SpecFault::BadLine(2)),
+        ("bgsim 1\nroom\nend\n", SpecFault::BadLine(2)),
+        ("bgsim 1\nname one\nend\n", SpecFault::BadLine(2)),
+        ("bgsim 1\nroom \nend\n", SpecFault::BadName),
+        ("bgsim 1\nroom One\nend\n", SpecFault::BadName),
+        ("bgsim 1\nroom one \nend\n", SpecFault::BadName),
+        (
+            "bgsim 1\nroom a-32_letters_long_0123456789abcd\nend\n",
+            SpecFault::BadLine(3),
+        ),
+        (
+            "bgsim 1\nroom a-33_letters_long_0123456789abcde\nend\n",
+            SpecFault::BadName,
+        ),
+    ] {
+        assert_eq!(rt; fault_of(text), Some(fault), "in {text}");
+    }
+}
+
+#[test]
+fn faults_of_inputs(rt: HostRuntime) -> Result<(), Fail> {
+    for (inputs, fault) in [
+        ("inputs", SpecFault::Inputs),
+        ("inputs ", SpecFault::BadLine(3)),
+        ("inputs  5", SpecFault::BadLine(3)),
+        ("inputs 5 ", SpecFault::BadLine(3)),
+        ("inputs 05", SpecFault::BadLine(3)),
+        ("inputs -5", SpecFault::BadLine(3)),
+        ("input 5", SpecFault::BadLine(3)),
+        ("inputs5", SpecFault::BadLine(3)),
+        ("inputs 4294967295", SpecFault::BadLine(4)),
+        ("inputs 4294967296", SpecFault::Inputs),
+        ("inputs 99999999999999999999999999", SpecFault::Inputs),
+        ("inputs 4294967296 05", SpecFault::BadLine(3)),
+        (
+            "inputs 1 2 3 4 5 6 7 8 9 10 11 12 13 14 15 16",
+            SpecFault::BadLine(4),
+        ),
+        (
+            "inputs 1 2 3 4 5 6 7 8 9 10 11 12 13 14 15 16 17",
+            SpecFault::Inputs,
+        ),
+        (
+            "inputs 1 2 3 4 5 6 7 8 9 10 11 12 13 14 15 16 17 x",
+            SpecFault::BadLine(3),
+        ),
+    ] {
+        let text = format!(in rt.alloc(); "bgsim 1\nroom one\n{inputs}\nend\n")?;
+        assert_eq!(rt; fault_of(text.as_str()), Some(fault), "at {inputs}");
+    }
+    Ok(())
+}
+
+#[test]
+fn faults_of_numbers(rt: HostRuntime) -> Result<(), Fail> {
+    for (lines, fault) in [
+        ("simulators 0", SpecFault::Simulators),
+        ("simulators 8", SpecFault::BadLine(5)),
+        ("simulators 9", SpecFault::Simulators),
+        ("simulators", SpecFault::BadLine(4)),
+        ("simulators 1 ", SpecFault::BadLine(4)),
+        ("simulator 1", SpecFault::BadLine(4)),
+        ("simulators 01", SpecFault::BadLine(4)),
+        ("simulators 9\nrounds 0", SpecFault::Simulators),
+        ("simulators 1\nrounds 0", SpecFault::Rounds),
+        ("simulators 1\nrounds 15", SpecFault::BadLine(6)),
+        ("simulators 1\nrounds 16", SpecFault::Rounds),
+        ("simulators 1\nround 1", SpecFault::BadLine(5)),
+        ("simulators 1\nrounds 1\nturns 0", SpecFault::Turns),
+        ("simulators 1\nrounds 1\nturns 65535", SpecFault::BadLine(7)),
+        ("simulators 1\nrounds 1\nturns 65536", SpecFault::Turns),
+        (
+            "simulators 1\nrounds 1\nturns 999999999999999999999999",
+            SpecFault::Turns,
+        ),
+        ("simulators 1\nrounds 1\nturn 1", SpecFault::BadLine(6)),
+        ("simulators 2\nrounds 7\nturns 0", SpecFault::Turns),
+        ("simulators 2\nrounds 15\nturns 0", SpecFault::TooWide),
+        ("simulators 2\nrounds 15\nturn 0", SpecFault::TooWide),
+        (
+            "simulators 1\nrounds 1\nturns 1\ncrash 0 after 3\nprotocol",
+            SpecFault::BadLine(7),
+        ),
+        (
+            "simulators 1\nrounds 1\nturns 1\nprotocols",
+            SpecFault::BadLine(7),
+        ),
+    ] {
+        let text = format!(in rt.alloc();
+            "bgsim 1\nroom one\ninputs 1 2 3 4 5 6 7 8 9\n{lines}\nend\n"
+        )?;
+        assert_eq!(rt; fault_of(text.as_str()), Some(fault), "at {lines}");
+    }
+    Ok(())
+}
+
+#[test]
+fn faults_of_protocols(rt: HostRuntime) -> Result<(), Fail> {
+    for (text, fault) in [
+        ("first input;\n", ParseFault::Unexpected(13)),
+        ("first min;\nelse decide 1;\n", ParseFault::ViewInFirst(6)),
+        (
+            "\nfirst 1;\n\nelse decide 2; \nelse\n",
+            ParseFault::Unexpected(27),
+        ),
+    ] {
+        let text = format!(in rt.alloc();
+            "bgsim 1\nroom one\ninputs 5\nsimulators 1\nrounds 1\nturns 10\nprotocol\n{text}end\n"
+        )?;
+        assert_eq!(rt;
+            fault_of(text.as_str()),
+            Some(SpecFault::BadProtocol(fault))
+        );
+    }
+    assert_eq!(rt;
+        read_block(
+            b"bgsim 1\nroom one\ninputs 5\nsimulators 1\nrounds 1\nturns 10\nprotocol\nfirst in\xFF\nend"
+        ).err(),
+        Some(SpecFault::BadProtocol(ParseFault::BadToken(6)))
+    );
+    Ok(())
+}
+
+#[test]
+fn names(rt: HostRuntime) {
+    for name in ["a", "events", "-", "0_", "z9"] {
+        let read = Name::read(name.as_bytes());
+        assert!(rt;
+            matches!(read, Some(read) if read.as_str() == name),
+            "{name}"
+        );
+    }
+    for name in [
+        "",
+        "A",
+        "a b",
+        "a.",
+        "a\n",
+        "{",
+        "`",
+        "/",
+        ":",
+        "aaaaaaaaaaaaaaaaaaaaaaaaaaaaaaaaa",
+    ] {
+        assert!(rt; Name::read(name.as_bytes()).is_none(), "{name}");
+    }
+}
+
+#[test]
+fn cuts(rt: HostRuntime) {
+    assert_eq!(rt;
+        cut(b"a b c", b' '),
+        (b"a".as_slice(), Some(b"b c".as_slice()))
+    );
+    assert_eq!(rt; cut(b" ", b' '), (b"".as_slice(), Some(b"".as_slice())));
+    assert_eq!(rt; cut(b"abc", b' '), (b"abc".as_slice(), None));
+}
+
+#[test]
+fn codes_of_faults(rt: HostRuntime) {
+    for (fault, code) in [
+        (SpecFault::Truncated, 10),
+        (SpecFault::BadLine(3), 11),
+        (SpecFault::BadName, 12),
+        (SpecFault::BadProtocol(ParseFault::TooLong), 13),
+        (SpecFault::Inputs, 14),
+        (SpecFault::Simulators, 15),
+        (SpecFault::Rounds, 16),
+        (SpecFault::Turns, 17),
+        (SpecFault::TooWide, 18),
+    ] {
+        assert_eq!(rt; fault.code(), code);
+    }
+}

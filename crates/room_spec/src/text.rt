@@ -1,0 +1,25 @@
+//! Texts cut at a byte, into lines or fields.
+ghost use Rattle.std.specs.Prelude.{◌≡◌, ◌==◌, ◌∷◌, ◌<◌, ◌≤◌, ◌+◌, [], IfSome, MatchOption, length};
+ghost use Rattle.std.specs.Option.{option_copied};
+ghost use Rattle.std.specs.List.{before_first, after_first, position, slice_split};
+ghost use Rattle.room_spec.specs.Texts.{pieces_of};
+
+/// What stands before the first `byte` of `text`, and what stands behind it. Where there is none,
+/// all of `text` and `None`.
+pub fn cut(text: &[u8], byte: u8) -> (&[u8], Option<&[u8]>)
+    ensures before { result.0.now ≡ before_first (λ b. b == byte) text.now }
+    ensures after { MatchOption result.1 (after_first (λ b. b == byte) text.now ≡ []) (λ rest. rest.now ≡ after_first (λ b. b == byte) text.now) }
+    ensures pieces { slice_split (λ b. b == byte) text.now ≡ result.0.now ∷ pieces_of (λ b. b == byte) (option_copied result.1) }
+    ensures shorter { IfSome result.1 (λ rest. length result.0.now + 1 + length rest.now ≡ length text.now) }
+{
+    match place_of(text, byte) {
+        Some(place) => (&text[..place], Some(&text[place + 1..])),
+        None => (text, None),
+    }
+}
+
+fn place_of(text: &[u8], byte: u8) -> Option<usize>
+    ensures { result ≡ position (λ b. b == byte) text.now }
+{
+    text.iter().position(|b| *b == byte)
+}

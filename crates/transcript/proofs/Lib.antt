@@ -1,0 +1,5 @@
+pub mod Events
+pub mod Fields
+pub mod Numbers
+pub mod Rows
+pub mod Worked

@@ -1,0 +1,83 @@
+-- How an event line is read: by its fields, up to the first fault.
+use Rattle.std.specs.Prelude.{◌≡◌, ℕ, List, [], ◌∷◌, length, Option, Some, None, Result, Ok, Err, nat_le, nat_lt, if◌then◌else◌, codes}
+use Rattle.std.specs.Str.{bytes_eq}
+use Rattle.protocol_lang.specs.Numbers.{greatest, number_of}
+use Rattle.room_spec.specs.Names.{is_name}
+use Rattle.room_spec.specs.Texts.{fields_of}
+use Rattle.transcript.specs.declared.event.Event.{Event}
+use Rattle.transcript.specs.declared.event.Event.TheVariants.{Write, Snap, Decide}
+use Rattle.transcript.specs.declared.fault.LineFault.{LineFault}
+use Rattle.transcript.specs.declared.fault.LineFault.TheVariants.{BadName, BadWord, BadNumber, BadLength, TooLong}
+
+-- one step, and then the next where it had no fault
+infixl 10 ◌>>=◌
+abbrev pub ◌>>=◌ : {A B : Type 0} → Result A LineFault → (A → Result B LineFault) → Result B LineFault
+(Ok x) >>= next = next x
+(Err fault) >>= next = Err fault
+
+abbrev pub up_to : ℕ → Option ℕ → Result ℕ LineFault
+up_to most None = Err BadNumber
+up_to most (Some number) = if nat_le number most then Ok number else Err BadNumber
+
+-- the number that a field is, of at most `most`
+abbrev pub number_in : ℕ → List ℕ → Result ℕ LineFault
+number_in most field = up_to most (number_of field)
+
+abbrev pub entry_of : ℕ → Result (Option ℕ) LineFault
+entry_of value = Ok (Some value)
+
+-- an entry of a snapshot: a value, or `.` for nothing
+abbrev pub entry_in : List ℕ → Result (Option ℕ) LineFault
+entry_in field = if bytes_eq field (codes ".") then Ok None else number_in greatest field >>= entry_of
+
+abbrev pub entries_in : List (List ℕ) → Result (List (Option ℕ)) LineFault
+entries_in [] = Ok []
+entries_in (field ∷ fields) = entry_in field >>= λ entry. entries_in fields >>= λ entries. Ok (entry ∷ entries)
+
+-- the one value behind `write` and `decide`
+abbrev pub value_in : List (List ℕ) → Result ℕ LineFault
+value_in [] = Err BadLength
+value_in (field ∷ []) = number_in greatest field
+value_in (first ∷ second ∷ fields) = Err BadLength
+
+abbrev pub row_in : List (List ℕ) → Result (List (Option ℕ)) LineFault
+row_in fields = if nat_lt 16 (length fields) then Err BadLength else entries_in fields
+
+abbrev pub write_by : ℕ → ℕ → Result Event LineFault
+write_by p v = Ok (Write p v)
+
+abbrev pub snap_by : ℕ → List (Option ℕ) → Result Event LineFault
+snap_by p entries = Ok (Snap p (record { items = entries }))
+
+abbrev pub decide_by : ℕ → ℕ → Result Event LineFault
+decide_by p v = Ok (Decide p v)
+
+-- the event of process p, by its word and the fields behind it
+abbrev pub event_of : List ℕ → List (List ℕ) → ℕ → Result Event LineFault
+event_of word fields p =
+    if bytes_eq word (codes "write") then value_in fields >>= write_by p
+    else if bytes_eq word (codes "snap") then row_in fields >>= snap_by p
+    else if bytes_eq word (codes "decide") then value_in fields >>= decide_by p
+    else Err BadWord
+
+-- the fields behind the name: the process, the word and at least one more
+abbrev pub event_in : List (List ℕ) → Result Event LineFault
+event_in [] = Err BadLength
+event_in (process ∷ []) = Err BadLength
+event_in (process ∷ word ∷ fields) = if nat_lt 0 (length fields) then number_in 15 process >>= event_of word fields else Err BadLength
+
+abbrev pub of_room : List ℕ → Event → Result (List ℕ × Event) LineFault
+of_room name event = Ok (name, event)
+
+abbrev pub named_event : List (List ℕ) → Result (List ℕ × Event) LineFault
+named_event [] = Err BadName
+named_event (name ∷ fields) = if is_name name then event_in fields >>= of_room name else Err BadName
+
+-- the room's name and the event that a line says, or its first fault
+abbrev pub line_in : List ℕ → Result (List ℕ × Event) LineFault
+line_in line = if nat_lt 256 (length line) then Err TooLong else named_event (fields_of line)
+
+-- what a function returned, seen by `view`, is what reading gives
+abbrev pub Gives : {X Y : Type 0} → (X → Y) → Result X LineFault → Result Y LineFault → Type 0
+Gives view (Ok x) read = read ≡ Ok (view x)
+Gives view (Err fault) read = read ≡ Err fault

@@ -1,0 +1,12 @@
+//! Transcripts of bgsim: events, and the lines that say them.
+#![tactic(auto)]
+
+mod event;
+mod fault;
+mod line;
+#[cfg(test)]
+mod tests;
+
+pub use event::Event;
+pub use fault::LineFault;
+pub use line::read_line;

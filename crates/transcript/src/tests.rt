@@ -1,0 +1,97 @@
+use super::*;
+use std::test::*;
+
+#[test]
+fn values(rt: HostRuntime) -> Result<(), Fail> {
+    for (line, room, word, process, value) in [
+        ("one 0 write 5", "one", "write", 0, 5),
+        ("0-_z 15 write 4294967295", "0-_z", "write", 15, 4294967295),
+        (
+            "abcdefghijklmnopqrstuvwxyz_-0123 9 decide 10",
+            "abcdefghijklmnopqrstuvwxyz_-0123",
+            "decide",
+            9,
+            10,
+        ),
+    ] {
+        let (name, event) = read_line(line.as_bytes()).ok().ok_or("no event")?;
+        let said = match event {
+            Event::Write { p, v } => ("write", p, v),
+            Event::Decide { p, v } => ("decide", p, v),
+            Event::Snap { p, .. } => ("snap", p, 0),
+        };
+        assert_eq!(rt; name.as_str(), room);
+        assert_eq!(rt; said.0, word, "in {line}");
+        assert_eq!(rt; said.1, process, "in {line}");
+        assert_eq!(rt; said.2, value, "in {line}");
+    }
+    Ok(())
+}
+
+#[test]
+fn rows(rt: HostRuntime) -> Result<(), Fail> {
+    for (line, process, entries) in [
+        ("pair 0 snap 7 .", 0, [Some(7), None].as_slice()),
+        ("one 15 snap 4294967295", 15, [Some(4294967295)].as_slice()),
+        (
+            "many 3 snap . . . . . . . . . . . . . . . .",
+            3,
+            [None; 16].as_slice(),
+        ),
+    ] {
+        let (_, event) = read_line(line.as_bytes()).ok().ok_or("no event")?;
+        let Event::Snap { p, row } = event else {
+            return Err(Fail::from("no snapshot"));
+        };
+        assert_eq!(rt; p, process, "in {line}");
+        assert_eq!(rt; row.as_slice(), entries, "in {line}");
+    }
+    Ok(())
+}
+
+/// The number of the fault, or 0 where the line says an event.
+fn code_of(line: &[u8]) -> u16 {
+    match read_line(line) {
+        Ok(_) => 0,
+        Err(fault) => fault.code(),
+    }
+}
+
+#[test]
+fn faults(rt: HostRuntime) {
+    for (line, code) in [
+        ("", 30),
+        (" 0 write 5", 30),
+        ("One 0 write 5", 30),
+        ("abcdefghijklmnopqrstuvwxyz_-01234 0 write 5", 30),
+        ("one 0 wrote 5", 31),
+        ("one 0 wrote 5 6", 31),
+        ("one 16 write 5", 32),
+        ("one 16 wrote 5", 32),
+        ("one 00 write 5", 32),
+        ("one  0 write 5", 32),
+        ("one 0 write 05", 32),
+        ("one 0 write .", 32),
+        ("one 0 write ", 32),
+        ("one 0 write 4294967296", 32),
+        ("one 0 snap 4294967296", 32),
+        ("one 0 snap . ", 32),
+        ("one", 33),
+        ("one 0 write", 33),
+        ("one 0 snap", 33),
+        ("one 16 write", 33),
+        ("one 0 write 5 6", 33),
+        ("one 0 write 05 6", 33),
+        ("one 0 write 5 ", 33),
+        ("one 0 snap x . . . . . . . . . . . . . . . .", 33),
+    ] {
+        assert_eq!(rt; code_of(line.as_bytes()), code, "in {line}");
+    }
+}
+
+#[test]
+fn too_long(rt: HostRuntime) {
+    let line = [b'a'; 257];
+    assert_eq!(rt; code_of(&line), 34);
+    assert_eq!(rt; code_of(&line[..256]), 30);
+}
