@@ -1,6 +1,7 @@
 //! Why a text is no protocol.
 ghost use Rattle.std.specs.Prelude.{◌≡◌};
 ghost use Rattle.protocol_lang.specs.Faults.{code_of};
+ghost use Rattle.protocol_lang.specs.Grammar.{place_of};
 
 use thiserror::Error;
 
@@ -48,6 +49,21 @@ impl ParseFault {
             ParseFault::ViewInFirst(_) => 6,
             ParseFault::NumberTooLarge(_) => 7,
             ParseFault::OutOfMemory => 8,
+        }
+    }
+
+    /// Where the fault stands, in bytes from the text's first, or `None` where it is of the whole
+    /// text.
+    pub fn place(self) -> Option<usize>
+        ensures { result ≡ place_of self }
+    {
+        match self {
+            ParseFault::BadToken(at)
+            | ParseFault::Unexpected(at)
+            | ParseFault::TooDeep(at)
+            | ParseFault::ViewInFirst(at)
+            | ParseFault::NumberTooLarge(at) => Some(at),
+            ParseFault::TooLong | ParseFault::TooManyRules | ParseFault::OutOfMemory => None,
         }
     }
 }

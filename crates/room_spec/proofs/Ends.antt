@@ -101,7 +101,7 @@ end_found text body found = subst (λ (t : List ℕ). HasEnd t body) (join_with_
 
 -- ---- and back
 
-before_line : (line : List ℕ) (lines : List (List ℕ)) → are_before_end (line ∷ lines) ≡ true → (is_line line ≡ true) × (is_end line ≡ false) × (are_before_end lines ≡ true)
+pub before_line : (line : List ℕ) (lines : List (List ℕ)) → are_before_end (line ∷ lines) ≡ true → (is_line line ≡ true) × (is_end line ≡ false) × (are_before_end lines ≡ true)
 before_line line lines all =
     let parts = and_parts (is_line line && not (is_end line)) (are_before_end lines) all in
     let tests = and_parts (is_line line) (not (is_end line)) parts.0 in
@@ -121,11 +121,12 @@ end_pieces : (later : Option (List ℕ)) → lines_of (codes "end" ++ with_line_
 end_pieces None = refl
 end_pieces (Some rest) = pieces_cut is_line_end (codes "end") 10 rest refl refl
 
+pub lines_to_end : (lines : List (List ℕ)) (later : Option (List ℕ)) → are_before_end lines ≡ true → lines_of (text_of lines ++ (codes "end" ++ with_line_end later)) ≡ lines ++ codes "end" ∷ pieces_of is_line_end later
+lines_to_end lines later all = lines_of-text_of lines _ (are_lines-before_end lines all) ∙ ap (λ (more : List (List ℕ)). lines ++ more) (end_pieces later)
+
 pub end_at : (lines : List (List ℕ)) (later : Option (List ℕ)) → are_before_end lines ≡ true → body_len (text_of lines ++ (codes "end" ++ with_line_end later)) ≡ Some (length (text_of lines))
 unfolding body_len
-end_at lines later all =
-    let cut : lines_of (text_of lines ++ (codes "end" ++ with_line_end later)) ≡ lines ++ codes "end" ∷ pieces_of is_line_end later = lines_of-text_of lines _ (are_lines-before_end lines all) ∙ ap (λ (more : List (List ℕ)). lines ++ more) (end_pieces later) in
-    rw cut (extent_to_end lines (pieces_of is_line_end later) all)
+end_at lines later all = rw (lines_to_end lines later all) (extent_to_end lines (pieces_of is_line_end later) all)
 
 -- ---- the clauses of `block_len`
 

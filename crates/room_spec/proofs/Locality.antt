@@ -1,10 +1,10 @@
 -- A fault rests on the lines up to its own, and a protocol's fault on the protocol's text.
-use Rattle.std.proofs.Common.{◌≡◌, ℕ, ◌+◌, ◌-◌, ◌*◌, ◌≤◌, ◌⊎◌, min, Bool, true, false, zero, suc, List, [], ◌∷◌, ◌++◌, length, take, drop, Option, Some, None, Result, Ok, Err, cond, refl, sym, ap, ◌∙◌, subst, arith, inl, inr}
-use Rattle.std.specs.Prelude.{codes, nat_le, ◌&&◌}
+use Rattle.std.proofs.Common.{◌≡◌, ◌≢◌, ℕ, All, ◌+◌, ◌-◌, ◌*◌, ◌≤◌, ◌⊎◌, min, Bool, true, false, zero, suc, List, [], ◌∷◌, ◌++◌, length, take, drop, Option, Some, None, Result, Ok, Err, cond, refl, sym, ap, ◌∙◌, subst, arith, inl, inr}
+use Rattle.std.specs.Prelude.{codes, nat_le, ◌&&◌, IfSome, IfErr}
 use Rattle.std.specs.Option.{option_and_then}
 use Rattle.std.specs.Str.{bytes_eq}
 use Rattle.std.proofs.lemmas.Bool.{and_parts, false≢true}
-use Rattle.std.proofs.lemmas.List.{drop_all}
+use Rattle.std.proofs.lemmas.List.{append_assoc, take_at, drop_all}
 use Rattle.std.proofs.lemmas.Option.{same_Some}
 use Rattle.protocol_lang.specs.Numbers.{number_of}
 use Rattle.protocol_lang.specs.Reading.{reading}
@@ -12,17 +12,18 @@ use Rattle.protocol_lang.specs.declared.protocol.Protocol.{Protocol}
 use Rattle.protocol_lang.specs.declared.fault.ParseFault.{ParseFault}
 use Rattle.room_spec.specs.Rooms.{RoomSpec, bits_of}
 use Rattle.room_spec.specs.Names.{is_name}
-use Rattle.room_spec.specs.Texts.{first_line, later_lines, lines_of, fields_of}
+use Rattle.room_spec.specs.Texts.{is_line_end, first_line, later_lines, lines_of, fields_of, pieces_of}
 use Rattle.room_spec.specs.Blocks.{◌>>=◌, is_end, body_len, value_after, named, inputs_of, are_inputs, in_range, up_to, fitting, protocol_of, room_in, room_before, block_in}
-use Rattle.room_spec.specs.Grammar.{is_line, text_of, are_before_end, EndsAt, line_of}
+use Rattle.room_spec.specs.Grammar.{is_line, text_of, are_before_end, EndsAt, line_of, IsLocal, IsOfText}
 use Rattle.room_spec.specs.declared.fault.SpecFault.{SpecFault}
-use Rattle.room_spec.specs.declared.fault.SpecFault.TheVariants.{BadLine, BadName, BadProtocol, Inputs, Simulators, Rounds, Turns, TooWide}
+use Rattle.room_spec.specs.declared.fault.SpecFault.TheVariants.{Truncated, BadLine, BadName, BadProtocol, Inputs, Simulators, Rounds, Turns, TooWide}
 use Rattle.room_spec.proofs.Lines.{are_lines, first_line-text_of, later_lines-text_of}
-use Rattle.room_spec.proofs.Laws.{from_text, from_protocol, from_turns, from_fitting, from_rounds, from_simulators, from_inputs, from_name}
+use Rattle.room_spec.proofs.Ends.{with_line_end, front_to, lines_to_end, end_at, before_line, block_ends, block_nowhere, are_lines-before_end}
+use Rattle.room_spec.proofs.Laws.{from_text, from_protocol, from_turns, from_rounds, from_simulators, from_inputs, from_name}
 
 -- ---- steps that may fail
 
-err_cases : {A : Type 0} (r : Result A SpecFault) (next : A → Result RoomSpec SpecFault) (fault : SpecFault) → (r >>= next) ≡ Err fault → (r ≡ Err fault) ⊎ ((x : A) × (r ≡ Ok x) × (next x ≡ Err fault))
+err_cases : {A B : Type 0} (r : Result A SpecFault) (next : A → Result B SpecFault) (fault : SpecFault) → (r >>= next) ≡ Err fault → (r ≡ Err fault) ⊎ ((x : A) × (r ≡ Ok x) × (next x ≡ Err fault))
 err_cases (Ok x) next fault e = inr (x, refl, e)
 err_cases (Err own) next fault e = inl (let same : own ≡ fault = cc in ap Err same)
 
@@ -46,11 +47,13 @@ agree_same (suc n) text = (refl, agree_same n (later_lines text))
 pub record IsLocalFrom (line behind : ℕ) (read : List ℕ → Result RoomSpec SpecFault) : Type 0 where
   pub own : (text : List ℕ) (fault : SpecFault) (n : ℕ) → read text ≡ Err fault → line_of fault ≡ Some n → (line ≤ n) × ((other : List ℕ) → Agree (suc n - line) text other → read other ≡ Err fault)
   pub protocol : (lines : List (List ℕ)) (fault : ParseFault) → are_lines lines ≡ true → read (text_of lines) ≡ Err (BadProtocol fault) → reading (text_of (drop behind lines)) ≡ Err fault
+  pub ends : (text : List ℕ) → read text ≡ Err Truncated → ⊥
 
 same_reader : (line behind : ℕ) (read same : List ℕ → Result RoomSpec SpecFault) → ((text : List ℕ) → read text ≡ same text) → IsLocalFrom line behind same → IsLocalFrom line behind read
 same_reader line behind read same is local = record {
   own = λ text fault n e h. (let so = local.own text fault n (sym (is text) ∙ e) h in (so.0, λ other agree. is other ∙ so.1 other agree));
   protocol = λ lines fault all e. local.protocol lines fault all (sym (is (text_of lines)) ∙ e);
+  ends = λ text e. local.ends text (sym (is text) ∙ e);
 }
 
 -- one line is judged, and what is behind it is read
@@ -61,17 +64,21 @@ line_own : {A : Type 0} (line behind : ℕ) (judge : List ℕ → Result A SpecF
 line_own {A} line behind judge next judged later text fault n e h =
     elim (err_cases (judge (first_line text)) (λ x. next x (later_lines text)) fault e) [
       | inl here ↦
-        let at : line ≡ n = same_Some line n (sym (judged (first_line text) fault here) ∙ h) in
-        (omega arith, λ other agree.
-          let count : suc n - line ≡ suc (n - line) = omega arith in
-          let both = subst (λ (m : ℕ). Agree m text other) count agree in
-          err_goes (judge (first_line other)) (λ x. next x (later_lines other)) fault (ap judge (sym both.0) ∙ here))
+          let at : line ≡ n = same_Some line n (sym (judged (first_line text) fault here) ∙ h) in (
+            omega arith,
+            λ other agree.
+                let count : suc n - line ≡ suc (n - line) = omega arith in
+                let both = subst (λ (m : ℕ). Agree m text other) count agree in
+                err_goes (judge (first_line other)) (λ x. next x (later_lines other)) fault (ap judge (sym both.0) ∙ here),
+          )
       | inr (x, judged_ok, there) ↦
-        let so = (later x).own (later_lines text) fault n there h in
-        (omega (arith, so.0), λ other agree.
-          let count : suc n - line ≡ suc (suc n - suc line) = omega (arith, so.0) in
-          let both = subst (λ (m : ℕ). Agree m text other) count agree in
-          ok_goes (judge (first_line other)) (λ y. next y (later_lines other)) x fault (ap judge (sym both.0) ∙ judged_ok) (so.1 (later_lines other) both.1))
+          let so = (later x).own (later_lines text) fault n there h in (
+            omega (arith, so.0),
+            λ other agree.
+                let count : suc n - line ≡ suc (suc n - suc line) = omega (arith, so.0) in
+                let both = subst (λ (m : ℕ). Agree m text other) count agree in
+                ok_goes (judge (first_line other)) (λ y. next y (later_lines other)) x fault (ap judge (sym both.0) ∙ judged_ok) (so.1 (later_lines other) both.1),
+          )
     ]
 
 line_protocol : {A : Type 0} (line behind : ℕ) (judge : List ℕ → Result A SpecFault) (next : A → List ℕ → Result RoomSpec SpecFault) → ((bytes : List ℕ) (fault : SpecFault) → judge bytes ≡ Err fault → line_of fault ≡ Some line) → ((x : A) → IsLocalFrom (suc line) behind (next x)) → (lines : List (List ℕ)) (fault : ParseFault) → are_lines lines ≡ true → by_line judge next (text_of lines) ≡ Err (BadProtocol fault) → reading (text_of (drop (suc behind) lines)) ≡ Err fault
@@ -87,10 +94,18 @@ line_protocol line behind judge next judged later (top ∷ lines) fault all e =
       | inr (x, judged_ok, there) ↦ (later x).protocol lines fault parts.1 (ap (next x) (sym (later_lines-text_of top lines parts.0)) ∙ there)
     ]
 
+line_ends : {A : Type 0} (line behind : ℕ) (judge : List ℕ → Result A SpecFault) (next : A → List ℕ → Result RoomSpec SpecFault) → ((bytes : List ℕ) (fault : SpecFault) → judge bytes ≡ Err fault → line_of fault ≡ Some line) → ((x : A) → IsLocalFrom (suc line) behind (next x)) → (text : List ℕ) → by_line judge next text ≡ Err Truncated → ⊥
+line_ends line behind judge next judged later text e =
+    elim (err_cases (judge (first_line text)) (λ x. next x (later_lines text)) Truncated e) [
+      | inl here ↦ absurd (let none : None ≡ Some line = judged (first_line text) Truncated here in cc)
+      | inr (x, judged_ok, there) ↦ (later x).ends (later_lines text) there
+    ]
+
 line_local : {A : Type 0} (line behind : ℕ) (judge : List ℕ → Result A SpecFault) (next : A → List ℕ → Result RoomSpec SpecFault) → ((bytes : List ℕ) (fault : SpecFault) → judge bytes ≡ Err fault → line_of fault ≡ Some line) → ((x : A) → IsLocalFrom (suc line) behind (next x)) → IsLocalFrom line (suc behind) (by_line judge next)
 line_local line behind judge next judged later = record {
   own = line_own line behind judge next judged later;
   protocol = line_protocol line behind judge next judged later;
+  ends = line_ends line behind judge next judged later;
 }
 
 -- ---- the judgements of lines
@@ -164,6 +179,7 @@ local_text : (name inputs : List ℕ) (simulators rounds turns : ℕ) → IsLoca
 local_text name inputs simulators rounds turns = record {
   own = λ text fault n e h. absurd (let is = protocol_fault (reading text) _ fault (λ protocol same. absurd cc) e in let none : None ≡ Some n = ap line_of is.2 ∙ h in cc);
   protocol = λ lines fault all e. (let is = protocol_fault (reading (text_of lines)) _ (BadProtocol fault) (λ protocol same. absurd cc) e in let same : is.0 ≡ fault = cc in is.1 ∙ ap Err same);
+  ends = λ text e. (let is = protocol_fault (reading text) _ Truncated (λ protocol same. absurd cc) e in let same : BadProtocol is.0 ≡ Truncated = is.2 in absurd cc);
 }
 
 local_protocol : (name inputs : List ℕ) (simulators rounds turns : ℕ) → IsLocalFrom 7 1 (from_protocol name inputs simulators rounds turns)
@@ -180,7 +196,7 @@ local_rounds : (name inputs : List ℕ) (simulators : ℕ) → IsLocalFrom 5 3 (
 local_rounds name inputs simulators =
     same_reader 5 3 (from_rounds name inputs simulators) _ (λ text. regroup_fitting (λ n. simulators * length inputs * bits_of n) (number_judge 5 (codes "rounds ") 15 Rounds (first_line text)) (later_lines text) (λ rounds. from_turns name inputs simulators rounds))
     (line_local 5 2 (λ bytes. fitting_judge (λ n. simulators * length inputs * bits_of n) (number_judge 5 (codes "rounds ") 15 Rounds bytes)) (λ rounds. from_turns name inputs simulators rounds)
-      (λ bytes fault. fitting_fault (λ n. simulators * length inputs * bits_of n) (number_judge 5 (codes "rounds ") 15 Rounds bytes) fault (λ own. number_fault 15 Rounds 5 (option_and_then number_of (value_after (codes "rounds ") bytes)) own refl)) (λ rounds. local_turns name inputs simulators rounds))
+    (λ bytes fault. fitting_fault (λ n. simulators * length inputs * bits_of n) (number_judge 5 (codes "rounds ") 15 Rounds bytes) fault (λ own. number_fault 15 Rounds 5 (option_and_then number_of (value_after (codes "rounds ") bytes)) own refl)) (λ rounds. local_turns name inputs simulators rounds))
 
 local_simulators : (name inputs : List ℕ) → IsLocalFrom 4 4 (from_simulators name inputs)
 local_simulators name inputs =
@@ -202,3 +218,122 @@ unfolding room_in
 local_room =
     same_reader 1 7 room_in _ (λ text. regroup_word 1 (bytes_eq (first_line text) (codes "bgsim 1")) (later_lines text) from_name)
     (line_local 1 6 (word_judge 1 (codes "bgsim 1")) (λ x. from_name) (λ bytes. word_fault 1 (bytes_eq bytes (codes "bgsim 1"))) (λ x. local_name))
+
+-- ---- whole blocks
+
+-- the lines before the first `end`, as the text is read
+record Ended (text : List ℕ) (lines : List (List ℕ)) : Type 0 where
+  body : body_len text ≡ Some (length (text_of lines))
+  bytes : take (length (text_of lines)) text ≡ text_of lines
+  pieces : List (List ℕ)
+  cut : lines_of text ≡ lines ++ codes "end" ∷ pieces
+
+ended : (text : List ℕ) (len : ℕ) (at : EndsAt text len) → Ended text at.lines
+ended text len at =
+    let front = front_to (text_of at.lines ++ codes "end") text len at.bytes in
+    let whole : text ≡ text_of at.lines ++ (codes "end" ++ with_line_end front.0) = front.1 ∙ append_assoc (text_of at.lines) (codes "end") (with_line_end front.0) in
+    record {
+      body = ap body_len whole ∙ end_at at.lines front.0 at.no_end;
+      bytes = ap (take (length (text_of at.lines))) whole ∙ take_at (text_of at.lines) (codes "end" ++ with_line_end front.0) (length (text_of at.lines)) refl;
+      pieces = pieces_of is_line_end front.0;
+      cut = ap lines_of whole ∙ lines_to_end at.lines front.0 at.no_end;
+    }
+
+-- a fault that is not that of the whole block
+record FaultAt (text : List ℕ) (fault : SpecFault) : Type 0 where
+  len : ℕ
+  at : EndsAt text len
+  read : room_in (text_of at.lines) ≡ Err fault
+
+fault_before : (text : List ℕ) (found : Option ℕ) (fault : SpecFault) → room_before text found ≡ Err fault → ((fault ≡ Truncated) × (found ≡ None)) ⊎ ((body : ℕ) × (found ≡ Some body) × (room_in (take body text) ≡ Err fault))
+fault_before text None fault e = inl (cc, refl)
+fault_before text (Some body) fault e =
+    elim (err_cases (room_in (take body text)) (λ room. Ok (room, min (body + 4) (length text))) fault e) [
+      | inl here ↦ inr (body, refl, here)
+      | inr (room, read, there) ↦ absurd cc
+    ]
+
+fault_at : (text : List ℕ) (fault : SpecFault) → block_in text ≡ Err fault → ((fault ≡ Truncated) × (body_len text ≡ None)) ⊎ FaultAt text fault
+fault_at text fault e =
+    elim (fault_before text (body_len text) fault e) [
+      | inl whole ↦ inl whole
+      | inr (body, found, read) ↦
+          let at = block_ends text body (sym found) in
+          let end = ended text (min (body + 4) (length text)) at in
+          let body_is : length (text_of at.lines) ≡ body = same_Some _ _ (sym end.body ∙ found) in
+          inr (record {
+            len = min (body + 4) (length text);
+            at = at;
+            read = ap room_in (sym end.bytes ∙ ap (λ (n : ℕ). take n text) body_is) ∙ read;
+          })
+    ]
+
+same_cons : (line other : List ℕ) (lines others : List (List ℕ)) → line ∷ lines ≡ other ∷ others → (line ≡ other) × (lines ≡ others)
+same_cons line other lines others e = (cc, cc)
+
+never_end : (line : List ℕ) → is_end line ≡ false → line ≡ codes "end" → ⊥
+never_end line is e = false≢true (sym is ∙ ap is_end e)
+
+agree_lines : (n : ℕ) (lines others pieces rest : List (List ℕ)) → are_before_end lines ≡ true → are_before_end others ≡ true → take n (others ++ codes "end" ∷ rest) ≡ take n (lines ++ codes "end" ∷ pieces) → Agree n (text_of lines) (text_of others)
+agree_lines zero lines others pieces rest all all_others same = tt
+agree_lines (suc n) [] [] pieces rest all all_others same = agree_same (suc n) []
+agree_lines (suc n) [] (other ∷ others) pieces rest all all_others same =
+    let parts = same_cons other (codes "end") (take n (others ++ codes "end" ∷ rest)) (take n pieces) same in
+    absurd (never_end other (before_line other others all_others).1 parts.0)
+agree_lines (suc n) (line ∷ lines) [] pieces rest all all_others same =
+    let parts = same_cons (codes "end") line (take n rest) (take n (lines ++ codes "end" ∷ pieces)) same in
+    absurd (never_end line (before_line line lines all).1 (sym parts.0))
+agree_lines (suc n) (line ∷ lines) (other ∷ others) pieces rest all all_others same =
+    let parts = same_cons other line (take n (others ++ codes "end" ∷ rest)) (take n (lines ++ codes "end" ∷ pieces)) same in
+    let here = before_line line lines all in
+    let there = before_line other others all_others in
+    let later : Agree n (text_of lines) (text_of others) = agree_lines n lines others pieces rest here.2 there.2 parts.1 in (
+      first_line-text_of line lines here.0 ∙ sym parts.0 ∙ sym (first_line-text_of other others there.0),
+      subst (λ (t : List ℕ). Agree n t (later_lines (text_of (other ∷ others)))) (sym (later_lines-text_of line lines here.0))
+          (subst (λ (t : List ℕ). Agree n (text_of lines) t) (sym (later_lines-text_of other others there.0)) later),
+    )
+
+-- ---- the clauses of `read_block`
+
+if_some : {A : Type 0} (found : Option A) (P : A → Type 0) → ((x : A) → found ≡ Some x → P x) → IfSome found P
+if_some None P from = tt
+if_some (Some x) P from = from x refl
+
+same_fault : (text : List ℕ) (fault : SpecFault) (line : ℕ) → line_of fault ≡ Some line → FaultAt text fault → (other : List ℕ) (len : ℕ) → EndsAt other len → take line (lines_of other) ≡ take line (lines_of text) → block_in other ≡ Err fault
+same_fault text fault line is found other len at same =
+    let end = ended text found.len found.at in
+    let end_other = ended other len at in
+    let agree : Agree line (text_of found.at.lines) (text_of at.lines) = agree_lines line found.at.lines at.lines end.pieces end_other.pieces found.at.no_end at.no_end (ap (take line) (sym end_other.cut) ∙ same ∙ ap (take line) end.cut) in
+    let local = local_room.own (text_of found.at.lines) fault line found.read is in
+    let count : line ≡ suc line - 1 = omega arith in
+    let read : room_in (text_of at.lines) ≡ Err fault = local.1 (text_of at.lines) (subst (λ (n : ℕ). Agree n (text_of found.at.lines) (text_of at.lines)) count agree) in
+    rw (end_other.body, end_other.bytes, read) refl
+
+fault_local : (text : List ℕ) (fault : SpecFault) → block_in text ≡ Err fault → IsLocal text fault
+fault_local text fault e =
+    if_some (line_of fault) _ (λ line is other len at same.
+    elim (fault_at text fault e) [
+      | inl whole ↦ absurd (let none : None ≡ Some line = sym (ap line_of whole.0) ∙ is in cc)
+      | inr found ↦ same_fault text fault line is found other len at same
+    ])
+
+pub block_local : (text : List ℕ) (outcome : Result (RoomSpec × ℕ) SpecFault) → outcome ≡ block_in text → IfErr outcome (λ fault. IsLocal text fault)
+block_local text (Ok read) e = tt
+block_local text (Err fault) e = fault_local text fault (sym e)
+
+whole_fault : (text : List ℕ) → ((Truncated ≡ Truncated) × (body_len text ≡ None)) ⊎ FaultAt text Truncated → All (λ line. line ≢ codes "end") (lines_of text)
+whole_fault text (inl whole) = block_nowhere text (sym whole.1)
+whole_fault text (inr found) = absurd (local_room.ends (text_of found.at.lines) found.read)
+
+protocol_at : (text : List ℕ) (fault : ParseFault) → ((BadProtocol fault ≡ Truncated) × (body_len text ≡ None)) ⊎ FaultAt text (BadProtocol fault) → IsOfText text (BadProtocol fault)
+protocol_at text fault (inl whole) = absurd (let same = whole.0 in cc)
+protocol_at text fault (inr found) = (found.len, found.at, local_room.protocol found.at.lines fault (are_lines-before_end found.at.lines found.at.no_end) found.read)
+
+fault_of_text : (text : List ℕ) (fault : SpecFault) → block_in text ≡ Err fault → IsOfText text fault
+fault_of_text text Truncated e = whole_fault text (fault_at text Truncated e)
+fault_of_text text (BadProtocol fault) e = protocol_at text fault (fault_at text (BadProtocol fault) e)
+fault_of_text text fault e = tt
+
+pub block_of_text : (text : List ℕ) (outcome : Result (RoomSpec × ℕ) SpecFault) → outcome ≡ block_in text → IfErr outcome (λ fault. IsOfText text fault)
+block_of_text text (Ok read) e = tt
+block_of_text text (Err fault) e = fault_of_text text fault (sym e)

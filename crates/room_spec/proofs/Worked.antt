@@ -3,7 +3,6 @@ use Rattle.std.proofs.Common.{◌≡◌, ℕ, List, [], ◌∷◌, ◌++◌, tak
 use Rattle.std.specs.Prelude.{codes}
 use Rattle.std.specs.Fmt.{digits}
 use Rattle.protocol_lang.specs.Reading.{reading, tree_in, expected_at, expression_at, command_at, next_token}
-use Rattle.protocol_lang.specs.declared.tree.Tree.{Tree}
 use Rattle.protocol_lang.specs.declared.tree.Name.TheVariants as names
 use Rattle.protocol_lang.specs.declared.tree.Expression.TheVariants as expressions
 use Rattle.protocol_lang.specs.declared.tree.Command.TheVariants as commands

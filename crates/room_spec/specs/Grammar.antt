@@ -1,5 +1,5 @@
 -- The grammar of room blocks, apart from how they are read.
-use Rattle.std.specs.Prelude.{◌≡◌, ℕ, ◌+◌, Bool, true, not, ◌&&◌, ◌⊎◌, List, [], ◌∷◌, ◌++◌, length, take, drop, map, Option, Some, None, IfSome, Ok, Err, ⊤, codes}
+use Rattle.std.specs.Prelude.{◌≡◌, ◌≢◌, ℕ, All, ◌+◌, Bool, true, not, ◌&&◌, ◌⊎◌, List, [], ◌∷◌, ◌++◌, length, take, drop, map, Option, Some, None, IfSome, Ok, Err, ⊤, codes}
 use Rattle.std.specs.List.{flat_map, join_with_byte, list_all}
 use Rattle.std.specs.Fmt.{decimal}
 use Rattle.protocol_lang.specs.Reading.{reading}
@@ -84,7 +84,8 @@ abbrev pub IsLocal : List ℕ → SpecFault → Type 0
 IsLocal text fault =
     IfSome (line_of fault) (λ line. (other : List ℕ) (len : ℕ) → EndsAt other len → take line (lines_of other) ≡ take line (lines_of text) → block_in other ≡ Err fault)
 
--- a fault of the protocol is that of the text behind the seventh line
-abbrev pub IsOfProtocol : List ℕ → SpecFault → Type 0
-IsOfProtocol text (BadProtocol fault) = (len : ℕ) × (at : EndsAt text len) × (reading (text_of (drop 7 at.lines)) ≡ Err fault)
-IsOfProtocol text fault = ⊤
+-- a fault of no one line: there is no line `end`, or the text behind the seventh line has the protocol's fault
+abbrev pub IsOfText : List ℕ → SpecFault → Type 0
+IsOfText text Truncated = All (λ line. line ≢ codes "end") (lines_of text)
+IsOfText text (BadProtocol fault) = (len : ℕ) × (at : EndsAt text len) × (reading (text_of (drop 7 at.lines)) ≡ Err fault)
+IsOfText text fault = ⊤

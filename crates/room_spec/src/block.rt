@@ -1,10 +1,10 @@
 //! Room blocks.
-ghost use Rattle.std.specs.Prelude.{◌≡◌, ◌≢◌, ℕ, IfNone, All, ◌+◌, ◌≤◌, ◌<◌, min, length, take, IfOk, IfSome, Some, Ok, codes};
+ghost use Rattle.std.specs.Prelude.{◌≡◌, ◌≢◌, ℕ, IfNone, All, ◌+◌, ◌≤◌, ◌<◌, min, length, take, IfOk, IfErr, IfSome, Some, Ok, codes};
 ghost use Rattle.std.specs.Option.{option_copied, option_map, option_and_then};
 ghost use Rattle.protocol_lang.specs.Numbers.{number_of};
 ghost use Rattle.room_spec.specs.Rooms.{RoomSpec};
 ghost use Rattle.room_spec.specs.Texts.{lines_of, first_line, later_lines, fields_of};
-ghost use Rattle.room_spec.specs.Grammar.{EndsAt, IsBlock};
+ghost use Rattle.room_spec.specs.Grammar.{EndsAt, IsBlock, IsLocal, IsOfText};
 ghost use Rattle.room_spec.specs.Blocks.{body_len, block_len, value_after, version_line, named, name_line, numbers_of, inputs_of, in_range, inputs_line, up_to, number_line, protocol_line, room_in, block_in, Gives};
 
 use crate::fault::SpecFault;
@@ -52,6 +52,10 @@ pub fn read_block(text: &[u8]) -> Result<(Spec, usize), SpecFault>
     // What is a block is read.
     ensures only { (room : RoomSpec) (len : ℕ) → IsBlock text.now room len → result ≡ Ok (room, len) }
     ensures within { IfOk result (λ read. read.1 ≤ length text.now) }
+    // A fault rests on the lines up to its own,
+    ensures local { IfErr result (λ fault. IsLocal text.now fault) }
+    // or on the protocol's text, or there is no line `end`.
+    ensures of_text { IfErr result (λ fault. IsOfText text.now fault) }
     // Which fault it is.
     ensures exact { result ≡ block_in text.now }
 {

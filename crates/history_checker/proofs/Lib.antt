@@ -1,0 +1,5 @@
+pub mod Histories
+pub mod Tracking
+pub mod Runs
+pub mod Hearing
+pub mod RoomLists

@@ -1,0 +1,6 @@
+use Rattle.std.proofs.Common.{arith, refl}
+use Rattle.history_checker.proofs.Tracking.{decide_follows}
+use Rattle.history_checker.proofs.process.follow_decide.Goals as goal
+
+pub returns : goal.returns
+returns c = λ before tracks. decide_follows c.args.spec.now c.args.processes.now before c.args.p c.args.v _ tracks (omega arith) (c.if-not-is_decide_of.ensures.0 refl)

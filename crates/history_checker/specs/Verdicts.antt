@@ -1,0 +1,82 @@
+-- Verdicts on rooms, whose events come one by one and with those of other rooms between.
+use Rattle.std.specs.Prelude.{◌≡◌, ℕ, Bool, List, map, Option, Some, None, slice_get}
+use Rattle.std.specs.List.{All, filter, list_any}
+use Rattle.std.specs.Str.{bytes_eq}
+use Rattle.room_spec.specs.Rooms.{RoomSpec}
+use Rattle.transcript.specs.declared.event.Event.{Event}
+use Rattle.transcript.specs.Runs.{IsRun, IsFirstBreak}
+use Rattle.history_checker.specs.declared.process.Process.{Process}
+use Rattle.history_checker.specs.declared.rooms.Verdict.{Verdict}
+use Rattle.history_checker.specs.declared.rooms.Verdict.TheVariants.{Run, Broken}
+use Rattle.history_checker.specs.declared.rooms.AddFault.{AddFault}
+use Rattle.history_checker.specs.declared.rooms.AddFault.TheVariants.{NameTaken, OutOfMemory}
+use Rattle.history_checker.specs.Processes.{Tracks}
+
+-- an event that was told, of which room, and on which line
+pub record Told : Type 0 where
+  pub name : List ℕ
+  pub event : Event
+  pub line : ℕ
+
+abbrev pub events_of : List Told → List Event
+events_of told = map (λ one. one.event) told
+
+-- what was told of one room
+abbrev pub told_of : List ℕ → List Told → List Told
+told_of name told = filter (λ one. bytes_eq name one.name) told
+
+-- the first event that may not follow those before it was told on this line
+pub record BreaksOn (spec : RoomSpec) (told : List Told) (line : ℕ) : Type 0 where
+  pub place : ℕ
+  pub first : IsFirstBreak spec (events_of told) place
+  pub one : Told
+  pub there : slice_get told place ≡ Some one
+  pub line_is : one.line ≡ line
+
+-- the verdict on what was told of a room
+abbrev pub IsVerdict : RoomSpec → List Told → Verdict → Type 0
+IsVerdict spec told Run = IsRun spec (events_of told)
+IsVerdict spec told (Broken line) = BreaksOn spec told line
+
+-- ---- what is kept of a room
+
+pub record RoomState : Type 0 where
+  pub spec : RoomSpec
+  pub processes : List Process
+  -- the line of the first event that may not follow those before it
+  pub broken : Option ℕ
+
+abbrev pub StandsAfter : RoomState → List Told → Option ℕ → Type 0
+StandsAfter room told None = IsRun room.spec (events_of told) × Tracks room.spec room.processes (events_of told)
+StandsAfter room told (Some line) = BreaksOn room.spec told line
+
+-- what is kept of the room is so after all that was told, of which the other rooms' part is passed over
+abbrev pub HasHeardOwn : List Told → RoomState → Type 0
+HasHeardOwn told room = StandsAfter room (told_of room.spec.name told) room.broken
+
+-- the same of every room
+abbrev pub HasHeard : List RoomState → List Told → Type 0
+HasHeard rooms told = All (HasHeardOwn told) rooms
+
+-- the rooms, in order
+abbrev pub specs_of : List RoomState → List RoomSpec
+specs_of rooms = map (λ room. room.spec) rooms
+
+abbrev pub names_of : List RoomSpec → List (List ℕ)
+names_of specs = map (λ spec. spec.name) specs
+
+abbrev pub has_room : List ℕ → List RoomSpec → Bool
+has_room name specs = list_any (bytes_eq name) (names_of specs)
+
+-- the numbers of the faults of adding a room
+abbrev pub add_code : AddFault → ℕ
+add_code NameTaken = 41
+add_code OutOfMemory = 8
+
+-- the rooms of a map from their names, in its order
+abbrev pub rooms_in : List (List ℕ × RoomState) → List RoomState
+rooms_in entries = map (λ entry. entry.1) entries
+
+-- each room stands under its own name
+abbrev pub IsKeyed : List (List ℕ × RoomState) → Type 0
+IsKeyed entries = map (λ entry. entry.0) entries ≡ names_of (specs_of (rooms_in entries))

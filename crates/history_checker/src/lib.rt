@@ -1,0 +1,12 @@
+//! Verdicts on histories of bgsim: which lists of events are runs, and where the others break.
+#![tactic(auto)]
+
+mod history;
+mod process;
+mod rooms;
+
+pub use history::check;
+pub use rooms::{AddFault, NoRoom, Rooms, Verdict};
+
+#[cfg(test)]
+mod tests;

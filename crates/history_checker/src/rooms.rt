@@ -1,0 +1,207 @@
+//! Verdicts on many rooms, whose events come mixed.
+ghost use Rattle.std.specs.Prelude.{◌≡◌, ◌↔◌, ℕ, List, [], ◌∷◌, ◌++◌, IsTrue, IsFalse, IsOk, IfOk, IsErrOf, OnOk, OnErr, None, MatchOption, IsSomeAnd, slice_get};
+ghost use Rattle.room_spec.specs.Rooms.{RoomSpec};
+ghost use Rattle.history_checker.specs.Verdicts.{Told, HasHeard, HasHeardOwn, StandsAfter, IsVerdict, specs_of, has_room, told_of, add_code};
+
+use crate::history::open;
+use crate::process::{Process, follow};
+use indexmap::IndexMap;
+use room_spec::{Name, Spec};
+use std::alloc::{AllocError, Global};
+use std::marker::Model;
+use thiserror::Error;
+use transcript::Event;
+
+/// Whether a room's events are a run of its protocol on write-snapshot memory.
+#[derive(Clone, Copy, Debug, PartialEq, Eq)]
+pub enum Verdict {
+    /// They are, also where there are none.
+    Run,
+    /// They aren't. The line, as it was fed, of the first event that may not follow those of its
+    /// room before it.
+    Broken(u64),
+}
+
+/// Why a room was not added.
+#[derive(Clone, Copy, Debug, PartialEq, Eq, Error)]
+pub enum AddFault {
+    /// A room has this name already.
+    #[error("a room has this name already")]
+    NameTaken,
+    /// Memory was refused.
+    #[error("out of memory")]
+    OutOfMemory,
+}
+
+impl AddFault {
+    /// The number by which reports name the fault, 41 or 8.
+    pub fn code(self) -> u16
+        ensures { result ≡ add_code self }
+    {
+        match self {
+            AddFault::NameTaken => 41,
+            AddFault::OutOfMemory => 8,
+        }
+    }
+}
+
+/// No room has this name.
+#[derive(Clone, Copy, Debug, PartialEq, Eq, Error)]
+#[error("no room has this name")]
+pub struct NoRoom;
+
+impl NoRoom {
+    /// The number by which reports name the fault, 40.
+    pub fn code(self) -> u16
+        ensures { result ≡ 40 }
+    {
+        40
+    }
+}
+
+/// A room and its events so far.
+#[derive(Drop)]
+struct Room {
+    spec: Spec,
+    processes: Vec<Process>,
+    broken: Option<u64>,
+}
+
+impl Model for Room {
+    ghost use Rattle.history_checker.specs.Verdicts.{RoomState};
+
+    ghost Value = { RoomState };
+
+    ghost view = { λ room. record { spec = room.spec; processes = room.processes.items; broken = room.broken } };
+}
+
+impl Room {
+    fn open(alloc: Global, spec: Spec) -> Result<Room, AllocError>
+        ensures spec { IfOk result (λ room. room.spec ≡ spec) }
+        ensures heard { IfOk result (HasHeardOwn []) }
+    {
+        let mut processes = vec![in alloc; Process::BLANK; spec.n()]?;
+        open(&spec, &mut processes);
+        Ok(Room {
+            spec,
+            processes,
+            broken: None,
+        })
+    }
+
+    /// Hears an event, which stands on this line.
+    fn hear(&mut self, event: &Event, line: u64)
+        ensures spec { self.new.spec ≡ self.old.spec }
+        ensures heard { (told : List Told) (one : Told) → one.event ≡ event.now → one.line ≡ line
+            → StandsAfter self.old told self.old.broken → StandsAfter self.new (told ++ one ∷ []) self.new.broken }
+    {
+        if self.broken.is_some() {
+            return;
+        }
+        let follows = follow(&mut self.processes, &self.spec, event);
+        if !follows {
+            self.broken = Some(line);
+        }
+    }
+
+    fn verdict(&self) -> Verdict
+        ensures { (told : List Told) → StandsAfter self.now told self.now.broken → IsVerdict self.now.spec told result }
+    {
+        match self.broken {
+            None => Verdict::Run,
+            Some(line) => Verdict::Broken(line),
+        }
+    }
+}
+
+/// Rooms in order of adding, each with what its events so far leave it to expect. A room's verdict
+/// rests on the events that were fed under its name alone.
+#[derive(Drop)]
+pub struct Rooms {
+    rooms: IndexMap<Name, Room>,
+}
+
+impl Model for Rooms {
+    ghost use Rattle.std.specs.Prelude.{List, map};
+    ghost use Rattle.history_checker.specs.Verdicts.{RoomState, rooms_in, IsKeyed};
+
+    ghost Value = { List RoomState };
+
+    ghost view = { λ all. rooms_in all.rooms.entries };
+
+    ghost invariant = { λ all. IsKeyed all.rooms.entries };
+}
+
+impl Rooms {
+    /// No rooms.
+    pub fn new(alloc: Global) -> Rooms
+        ensures { result ≡ [] }
+    {
+        Rooms {
+            rooms: IndexMap::new(alloc),
+        }
+    }
+
+    /// Adds a room, which has no events yet. An `Err` drops the spec and changes nothing. It is
+    /// `NameTaken` wherever a room has this name already, and `OutOfMemory` only for a new name.
+    pub fn add(&mut self, alloc: Global, spec: Spec) -> Result<(), AddFault>
+        ensures taken { IsErrOf result AddFault.NameTaken ↔ IsTrue (has_room spec.name (specs_of self.old)) }
+        ensures added { OnOk result (specs_of self.new ≡ specs_of self.old ++ spec ∷ []) }
+        // What the other rooms have heard stands, and the new one has heard nothing.
+        ensures heard { OnOk result ((told : List Told) → told_of spec.name told ≡ [] → HasHeard self.old told → HasHeard self.new told) }
+        ensures err { OnErr result (self.new ≡ self.old) }
+    {
+        if self.rooms.contains_key(spec.name()) {
+            return Err(AddFault::NameTaken);
+        }
+        match self.push(alloc, spec) {
+            Ok(()) => Ok(()),
+            Err(AllocError) => Err(AddFault::OutOfMemory),
+        }
+    }
+
+    /// Adds a room whose name no room has.
+    fn push(&mut self, alloc: Global, spec: Spec) -> Result<(), AllocError>
+        requires { IsFalse (has_room spec.name (specs_of self.now)) }
+        ensures added { OnOk result (specs_of self.new ≡ specs_of self.old ++ spec ∷ []) }
+        ensures heard { OnOk result ((told : List Told) → told_of spec.name told ≡ [] → HasHeard self.old told → HasHeard self.new told) }
+        ensures err { OnErr result (self.new ≡ self.old) }
+    {
+        let name = spec.name().clone()?;
+        let room = Room::open(alloc, spec)?;
+        self.rooms.insert(name, room)?;
+        Ok(())
+    }
+
+    /// Feeds the room of this name the event that stands on this line of the transcript. This
+    /// takes no memory. Where no room has the name, nothing changes.
+    pub fn feed(&mut self, name: &Name, event: &Event, line: u64) -> Result<(), NoRoom>
+        ensures known { IsOk result ↔ IsTrue (has_room name.now (specs_of self.old)) }
+        ensures rooms { specs_of self.new ≡ specs_of self.old }
+        // All that was told before, and this.
+        ensures heard { OnOk result ((told : List Told) → HasHeard self.old told
+            → HasHeard self.new (told ++ record { name = name.now; event = event.now; line = line } ∷ [])) }
+        ensures err { OnErr result (self.new ≡ self.old) }
+    {
+        let Some(index) = self.rooms.get_index_of(name) else {
+            return Err(NoRoom);
+        };
+        let Some(room) = self.rooms.get_index_mut(index) else {
+            unreachable!()
+        };
+        room.hear(event, line);
+        Ok(())
+    }
+
+    /// The verdict on the room of this index, from 0 in order of adding, or `None` where there is
+    /// none.
+    pub fn verdict(&self, index: usize) -> Option<Verdict>
+        ensures { (told : List Told) → HasHeard self.now told
+            → MatchOption (slice_get (specs_of self.now) index) (result ≡ None) (λ spec. IsSomeAnd result (IsVerdict spec (told_of spec.name told))) }
+    {
+        match self.rooms.get_index(index) {
+            Some((_, room)) => Some(room.verdict()),
+            None => None,
+        }
+    }
+}

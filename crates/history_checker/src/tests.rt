@@ -1,0 +1,184 @@
+use super::*;
+use room_spec::{Name, Spec, read_block};
+use std::alloc::Global;
+use std::test::*;
+use transcript::{Event, read_line};
+
+const PAIR: &str =
+    "bgsim 1\nroom pair\ninputs 7 3\nsimulators 2\nrounds 1\nturns 100\nprotocol\nfirst input;\nelse decide mine;\nend\n";
+
+const ONE: &str =
+    "bgsim 1\nroom one\ninputs 5\nsimulators 1\nrounds 1\nturns 10\nprotocol\nfirst input;\nelse decide mine;\nend\n";
+
+const WRITER: &str =
+    "bgsim 1\nroom w\ninputs 5\nsimulators 1\nrounds 2\nturns 10\nprotocol\nfirst input;\nelse write 6;\nend\n";
+
+fn room_of(block: &str) -> Result<Spec, Fail> {
+    let (spec, _) = read_block(block.as_bytes()).ok().ok_or("a block")?;
+    Ok(spec)
+}
+
+fn event_of(line: &str) -> Result<(Name, Event), Fail> {
+    let read = read_line(line.as_bytes()).ok().ok_or("an event")?;
+    Ok(read)
+}
+
+const PAIR_RUN: [&str; 6] = [
+    "pair 0 write 7",
+    "pair 1 write 3",
+    "pair 0 snap 7 3",
+    "pair 1 snap 7 3",
+    "pair 0 decide 7",
+    "pair 1 decide 3",
+];
+
+const ONE_RUN: [&str; 3] = ["one 0 write 5", "one 0 snap 5", "one 0 decide 5"];
+
+const WRITER_RUN: [&str; 4] = ["w 0 write 5", "w 0 snap 5", "w 0 write 6", "w 0 snap 6"];
+
+/// The first events of a run.
+fn start_of(alloc: Global, run: &[&str], len: usize) -> Result<Vec<Event>, Fail> {
+    let mut events = Vec::new(alloc);
+    for line in run.iter().take(len) {
+        let (_, event) = event_of(line)?;
+        events.push(event)?;
+    }
+    Ok(events)
+}
+
+#[test]
+fn runs(rt: HostRuntime) -> Result<(), Fail> {
+    for (block, run) in [
+        (PAIR, PAIR_RUN.as_slice()),
+        (ONE, ONE_RUN.as_slice()),
+        (WRITER, WRITER_RUN.as_slice()),
+    ] {
+        let spec = room_of(block)?;
+        for len in 0..7 {
+            let events = start_of(rt.alloc(), run, len)?;
+            assert_eq!(rt; check(&spec, &events), Ok(()), "of {len} in {block}");
+        }
+    }
+    Ok(())
+}
+
+#[test]
+fn first_breaks(rt: HostRuntime) -> Result<(), Fail> {
+    for (block, run, at, odd) in [
+        (PAIR, PAIR_RUN.as_slice(), 0, "pair 0 write 3"),
+        (PAIR, PAIR_RUN.as_slice(), 0, "pair 2 write 7"),
+        (PAIR, PAIR_RUN.as_slice(), 0, "pair 0 snap . ."),
+        (PAIR, PAIR_RUN.as_slice(), 1, "pair 0 write 7"),
+        (PAIR, PAIR_RUN.as_slice(), 1, "pair 0 snap 7"),
+        (PAIR, PAIR_RUN.as_slice(), 1, "pair 0 snap 7 . ."),
+        (PAIR, PAIR_RUN.as_slice(), 1, "pair 0 snap 7 3"),
+        (PAIR, PAIR_RUN.as_slice(), 2, "pair 0 snap 7 ."),
+        (PAIR, PAIR_RUN.as_slice(), 2, "pair 0 decide 7"),
+        (PAIR, PAIR_RUN.as_slice(), 3, "pair 0 snap 7 3"),
+        (PAIR, PAIR_RUN.as_slice(), 3, "pair 0 decide 3"),
+        (PAIR, PAIR_RUN.as_slice(), 3, "pair 0 write 7"),
+        (PAIR, PAIR_RUN.as_slice(), 5, "pair 0 decide 7"),
+        (PAIR, PAIR_RUN.as_slice(), 5, "pair 0 write 7"),
+        (PAIR, PAIR_RUN.as_slice(), 5, "pair 0 snap 7 3"),
+        (WRITER, WRITER_RUN.as_slice(), 2, "w 0 decide 6"),
+        (WRITER, WRITER_RUN.as_slice(), 3, "w 0 snap 5"),
+        (WRITER, WRITER_RUN.as_slice(), 4, "w 0 write 6"),
+    ] {
+        let spec = room_of(block)?;
+        let (_, event) = event_of(odd)?;
+        let mut events = start_of(rt.alloc(), run, at)?;
+        events.push(event)?;
+        assert_eq!(rt; check(&spec, &events), Err(at), "with {odd}");
+    }
+    Ok(())
+}
+
+/// The rooms pair and one.
+fn two_rooms(alloc: Global) -> Result<Rooms, Fail> {
+    let mut rooms = Rooms::new(alloc);
+    rooms.add(alloc, room_of(PAIR)?)?;
+    rooms.add(alloc, room_of(ONE)?)?;
+    Ok(rooms)
+}
+
+#[test]
+fn mixed_rooms(rt: HostRuntime) -> Result<(), Fail> {
+    for (lines, pair, one) in [
+        ([].as_slice(), Verdict::Run, Verdict::Run),
+        (
+            [
+                "pair 0 write 7",
+                "one 0 write 5",
+                "pair 1 write 3",
+                "one 0 snap 5",
+                "pair 0 snap 7 3",
+                "pair 0 decide 7",
+                "one 0 decide 5",
+            ]
+            .as_slice(),
+            Verdict::Run,
+            Verdict::Run,
+        ),
+        (
+            [
+                "pair 0 write 7",
+                "one 0 write 5",
+                "pair 0 snap 7 3",
+                "one 0 snap 5",
+                "pair 1 write 3",
+                "one 0 decide 5",
+            ]
+            .as_slice(),
+            Verdict::Broken(24),
+            Verdict::Run,
+        ),
+        (
+            ["one 1 write 5"].as_slice(),
+            Verdict::Run,
+            Verdict::Broken(22),
+        ),
+        (
+            [
+                "pair 0 write 7",
+                "one 0 snap 5",
+                "pair 0 write 7",
+                "one 0 write 5",
+                "pair 0 write 7",
+            ]
+            .as_slice(),
+            Verdict::Broken(24),
+            Verdict::Broken(23),
+        ),
+    ] {
+        let mut rooms = two_rooms(rt.alloc())?;
+        for (place, line) in (22..).zip(lines) {
+            let (name, event) = event_of(line)?;
+            rooms.feed(&name, &event, place)?;
+        }
+        assert_eq!(rt; rooms.verdict(0), Some(pair));
+        assert_eq!(rt; rooms.verdict(1), Some(one));
+        assert_eq!(rt; rooms.verdict(2), None);
+    }
+    Ok(())
+}
+
+#[test]
+fn refusals(rt: HostRuntime) -> Result<(), Fail> {
+    let mut rooms = two_rooms(rt.alloc())?;
+    assert_eq!(rt;
+        rooms.add(rt.alloc(), room_of(PAIR)?),
+        Err(AddFault::NameTaken)
+    );
+    let (name, event) = event_of("two 0 write 5")?;
+    assert_eq!(rt; rooms.feed(&name, &event, 22), Err(NoRoom));
+    assert_eq!(rt; rooms.verdict(1), Some(Verdict::Run));
+    assert_eq!(rt; rooms.verdict(2), None);
+    Ok(())
+}
+
+#[test]
+fn codes(rt: HostRuntime) {
+    assert_eq!(rt; AddFault::NameTaken.code(), 41);
+    assert_eq!(rt; AddFault::OutOfMemory.code(), 8);
+    assert_eq!(rt; NoRoom.code(), 40);
+}
