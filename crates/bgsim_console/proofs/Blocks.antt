@@ -1,0 +1,56 @@
+-- Blocks taken one by one.
+use Rattle.std.proofs.Common.{◌≡◌, ◌∙◌, ℕ, zero, suc, ◌+◌, ◌-◌, ◌<◌, ◌≤◌, Bool, true, false, List, [], ◌∷◌, ◌++◌, min, length, take, drop, Option, Some, None, Result, Ok, Err, refl, sym, ap, subst, arith, inl, inr}
+use Rattle.std.specs.Prelude.{◌⊎◌, codes}
+use Rattle.std.specs.Option.{option_map}
+use Rattle.std.specs.Str.{bytes_eq}
+use Rattle.std.proofs.Math.Nat.{min-le_right}
+use Rattle.std.proofs.lemmas.List.{length-append, length-drop, length-take-le, take_all}
+use Rattle.room_spec.specs.Rooms.{RoomSpec}
+use Rattle.room_spec.specs.Texts.{first_line}
+use Rattle.room_spec.specs.Blocks.{body_len, block_len}
+use Rattle.room_spec.specs.Grammar.{EndsAt, text_of}
+use Rattle.history_checker.specs.Verdicts.{RoomState, has_room, specs_of}
+use Rattle.bgsim_console.specs.Check.{Setup, refuse, open_room, after_block, blocks_from, next_block}
+
+pub some_bytes : (text : List ℕ) (len : ℕ) → EndsAt text len → 0 < len
+some_bytes text len ends = by ends.bytes (length-append (text_of ends.lines) (codes "end"))
+  where
+    by : ((len ≡ length (text_of ends.lines ++ codes "end") + 1) × (take len text ≡ (text_of ends.lines ++ codes "end") ++ (10 ∷ []))) ⊎ ((len ≡ length (text_of ends.lines ++ codes "end")) × (text ≡ text_of ends.lines ++ codes "end"))
+        → length (text_of ends.lines ++ codes "end") ≡ length (text_of ends.lines) + 3 → 0 < len
+    by (inl front) all = let is = front.0 in omega arith
+    by (inr front) all = let is = front.0 in omega arith
+
+bounded : (len most : ℕ) (found : Option ℕ) → Some len ≡ option_map (λ body. min (body + 4) most) found → len ≤ most
+bounded len most None is = absurd cc
+bounded len most (Some body) is = let len_is : len ≡ min (body + 4) most = cc in rw len_is (min-le_right (body + 4) most)
+
+pub within_text : (text : List ℕ) (len : ℕ) → Some len ≡ block_len text → len ≤ length text
+within_text text len is = bounded len (length text) (body_len text) is
+
+-- the text behind its first bytes, as a slice of it
+pub behind : (text : List ℕ) (n m : ℕ) → m ≡ length text → take (m - n) (drop n text) ≡ drop n text
+behind text n m is = take_all (m - n) (drop n text) (rw (length-drop n text, is) (omega arith))
+
+pub shorter_behind : (text : List ℕ) (n m : ℕ) → m ≡ length text → 0 < n → n ≤ length text → length (take (m - n) (drop n text)) < length text
+shorter_behind text n m is some within = rw (behind text n m is, length-drop n text) (omega arith)
+
+pub line_bound : (text : List ℕ) (n m line now most : ℕ) → m ≡ length text → n ≤ length text → now ≤ line + length (take n text) → line + length text ≤ most + 1 → now + length (take (m - n) (drop n text)) ≤ most + 1
+line_bound text n m line now most is within passed before =
+    let taken = length-take-le n text within in
+    rw (behind text n m is, length-drop n text) (omega arith)
+
+pub step_blocks : (most : ℕ) (setup now : Setup) (rest later : List ℕ) (len : ℕ) → length rest ≤ most → 0 < len → len ≤ length rest → bytes_eq (first_line rest) (codes "events") ≡ false → block_len rest ≡ Some len
+    → now ≡ after_block setup (take len rest) → later ≡ drop len rest → (fewer : ℕ) × (length later ≤ fewer) × (blocks_from (suc most) setup rest ≡ blocks_from (suc fewer) now later)
+unfolding blocks_from
+step_blocks zero setup now rest later len most some within other found now_is later_is = absurd (omega arith)
+step_blocks (suc fewer) setup now rest later len most some within other found now_is later_is =
+    (fewer, rw (later_is, length-drop len rest) (omega arith), rw (other, found, now_is, later_is) refl)
+
+opens : (setup : Setup) (room : RoomSpec) → has_room room.name setup.rooms ≡ true → open_room setup room ≡ refuse setup (codes "41")
+opens setup room known = rw known refl
+
+pub refused_name : (rooms after : List RoomState) (refused : List ℕ) (line : ℕ) (setup : Setup) (room : RoomSpec) (result : Setup) → record { rooms = specs_of rooms; refused = refused; line = line } ≡ setup → after ≡ rooms
+    → has_room room.name (specs_of rooms) ≡ true → result ≡ refuse (record { rooms = specs_of after; refused = refused; line = line }) (codes "41") → result ≡ open_room setup room
+refused_name rooms after refused line setup room result view_is same known is =
+    is ∙ ap (λ (rs : List RoomState). refuse (record { rooms = specs_of rs; refused = refused; line = line }) (codes "41")) same
+    ∙ ap (λ (s : Setup). refuse s (codes "41")) view_is ∙ sym (opens setup room (subst (λ (s : Setup). has_room room.name s.rooms ≡ true) view_is known))

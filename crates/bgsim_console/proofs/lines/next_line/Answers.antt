@@ -1,0 +1,5 @@
+use Rattle.bgsim_console.proofs.LineLists.{first_and_later}
+use Rattle.bgsim_console.proofs.lines.next_line.Goals as goal
+
+pub returns-clause-lines : goal.returns-clause-lines
+returns-clause-lines c = first_and_later c.args.text.now c.cut.result.0.now c.in-Some.rest.now (rw c.in-Some.is at c.cut.ensures.pieces)

@@ -1,0 +1,183 @@
+-- What `check` answers for an input.
+use Rattle.std.specs.Prelude.{◌≡◌, ℕ, ◌+◌, ◌≤◌, ◌<◌, Bool, true, false, ◌&&◌, ◌==◌, List, [], ◌∷◌, ◌++◌, length, suc, zero, take, drop, map, Option, Some, None, Result, Ok, Err, is_some, if◌then◌else◌, codes, decimal}
+use Rattle.std.specs.List.{All, flat_map, list_all}
+use Rattle.std.specs.Str.{bytes_eq}
+use Rattle.protocol_lang.specs.Faults.{code_of as protocol_code}
+use Rattle.protocol_lang.specs.Grammar.{place_of}
+use Rattle.protocol_lang.specs.declared.fault.ParseFault.{ParseFault}
+use Rattle.room_spec.specs.Rooms.{RoomSpec}
+use Rattle.room_spec.specs.Texts.{first_line, later_lines}
+use Rattle.room_spec.specs.Blocks.{block_len, block_in}
+use Rattle.room_spec.specs.Faults.{code_of as block_code}
+use Rattle.room_spec.specs.declared.fault.SpecFault.{SpecFault}
+use Rattle.room_spec.specs.declared.fault.SpecFault.TheVariants.{Truncated, BadLine, BadName, BadProtocol, Inputs, Simulators, Rounds, Turns, TooWide}
+use Rattle.transcript.specs.Faults.{code_of as line_code}
+use Rattle.transcript.specs.Lines.{line_in}
+use Rattle.transcript.specs.declared.event.Event.{Event}
+use Rattle.transcript.specs.declared.fault.LineFault.{LineFault}
+use Rattle.history_checker.specs.Verdicts.{Told, IsVerdict, has_room, told_of}
+use Rattle.history_checker.specs.declared.rooms.Verdict.{Verdict}
+use Rattle.history_checker.specs.declared.rooms.Verdict.TheVariants.{Run, Broken}
+use Rattle.bgsim_console.specs.Lines.{text_lines}
+use Rattle.bgsim_console.specs.Reading.{most_bytes}
+use Rattle.bgsim_console.specs.declared.fault.Outcome.{Outcome}
+use Rattle.bgsim_console.specs.declared.fault.Outcome.TheVariants.{AllWell, SomeRefused}
+use Rattle.bgsim_console.specs.declared.fault.IoFault.{IoFault}
+use Rattle.bgsim_console.specs.declared.fault.IoFault.TheVariants.{Read, Write, TooLong, BadInput, Memory}
+
+-- ---- a refused block's line
+
+-- the fault's code, and its place where it has one
+abbrev pub protocol_text : ℕ → Option ℕ → List ℕ
+protocol_text code None = decimal code
+protocol_text code (Some at) = decimal code ++ (codes " " ++ decimal at)
+
+-- the fault's code and the numbers behind it
+abbrev pub fault_text : SpecFault → List ℕ
+fault_text (BadLine line) = codes "11 " ++ decimal line
+fault_text (BadProtocol fault) = codes "13 " ++ protocol_text (protocol_code fault) (place_of fault)
+fault_text Truncated = codes "10"
+fault_text BadName = codes "12"
+fault_text Inputs = codes "14"
+fault_text Simulators = codes "15"
+fault_text Rounds = codes "16"
+fault_text Turns = codes "17"
+fault_text TooWide = codes "18"
+
+abbrev pub refused_line : ℕ → List ℕ → List ℕ
+refused_line line fault = codes "line " ++ (decimal line ++ (codes " refused " ++ (fault ++ codes "\n")))
+
+-- ---- the blocks
+
+-- what the blocks so far say: the rooms that they open, the lines of those that were refused, and the number of the next line
+pub record Setup : Type 0 where
+  pub rooms : List RoomSpec
+  pub refused : List ℕ
+  pub line : ℕ
+
+abbrev pub no_blocks : Setup
+no_blocks = record { rooms = []; refused = []; line = 1 }
+
+abbrev pub refuse : Setup → List ℕ → Setup
+refuse setup fault = record { rooms = setup.rooms; refused = setup.refused ++ refused_line setup.line fault; line = setup.line }
+
+-- a second room of a name is refused
+abbrev pub open_room : Setup → RoomSpec → Setup
+open_room setup room =
+    if has_room room.name setup.rooms then refuse setup (codes "41") else record { rooms = setup.rooms ++ room ∷ []; refused = setup.refused; line = setup.line }
+
+abbrev pub open_block : Setup → Result (RoomSpec × ℕ) SpecFault → Setup
+open_block setup (Ok read) = open_room setup read.0
+open_block setup (Err fault) = refuse setup (fault_text fault)
+
+abbrev pub pass_lines : ℕ → Setup → Setup
+pass_lines count setup = record { rooms = setup.rooms; refused = setup.refused; line = setup.line + count }
+
+-- one block more, of these bytes
+abbrev pub after_block : Setup → List ℕ → Setup
+after_block setup block = pass_lines (length (text_lines block)) (open_block setup (block_in block))
+
+-- what ends the input early, with the number after the last line
+abbrev pub ended_early : Setup → List ℕ → Result (Setup × List ℕ) (ℕ × ℕ)
+ended_early setup rest = Err (setup.line + length (text_lines rest), 61)
+
+abbrev pub next_block : (Setup → List ℕ → Result (Setup × List ℕ) (ℕ × ℕ)) → Setup → List ℕ → Option ℕ → Result (Setup × List ℕ) (ℕ × ℕ)
+next_block later setup rest None = ended_early setup rest
+next_block later setup rest (Some len) = later (after_block setup (take len rest)) (drop len rest)
+
+-- the blocks up to the line `events`, at most so many, and the text behind it
+unfoldable pub blocks_from : ℕ → Setup → List ℕ → Result (Setup × List ℕ) (ℕ × ℕ)
+blocks_from zero setup rest = ended_early setup rest
+blocks_from (suc most) setup rest =
+    if bytes_eq (first_line rest) (codes "events") then Ok (pass_lines 1 setup, later_lines rest)
+    else next_block (blocks_from most) setup rest (block_len rest)
+
+-- an input has fewer blocks than bytes
+abbrev pub blocks_in : List ℕ → Result (Setup × List ℕ) (ℕ × ℕ)
+blocks_in input = blocks_from (suc (length input)) no_blocks input
+
+-- ---- the events
+
+abbrev pub of_known_room : List RoomSpec → ℕ → Result (List ℕ × Event) LineFault → Result Told (ℕ × ℕ)
+of_known_room rooms line (Err fault) = Err (line, line_code fault)
+of_known_room rooms line (Ok read) = if has_room read.0 rooms then Ok (record { name = read.0; event = read.1; line = line }) else Err (line, 40)
+
+abbrev pub then_told : (List Told → Result (List Told) (ℕ × ℕ)) → List Told → Result Told (ℕ × ℕ) → Result (List Told) (ℕ × ℕ)
+then_told later told (Ok one) = later (told ++ one ∷ [])
+then_told later told (Err fault) = Err fault
+
+-- what was told so far, and what these lines tell, the first of which has this number
+unfoldable pub told_from : List RoomSpec → List Told → ℕ → List (List ℕ) → Result (List Told) (ℕ × ℕ)
+told_from rooms told line [] = Ok told
+told_from rooms told line (text ∷ texts) = then_told (λ so_far. told_from rooms so_far (line + 1) texts) told (of_known_room rooms line (line_in text))
+
+abbrev pub with_told : Setup → Result (List Told) (ℕ × ℕ) → Result (Setup × List Told) (ℕ × ℕ)
+with_told setup (Ok told) = Ok (setup, told)
+with_told setup (Err fault) = Err fault
+
+abbrev pub events_behind : Result (Setup × List ℕ) (ℕ × ℕ) → Result (Setup × List Told) (ℕ × ℕ)
+events_behind (Ok read) = with_told read.0 (told_from read.0.rooms [] read.0.line (text_lines read.1))
+events_behind (Err fault) = Err fault
+
+-- what an input says: its blocks and its events, or the line and the code of its first fault
+abbrev pub input_says : List ℕ → Result (Setup × List Told) (ℕ × ℕ)
+input_says input = events_behind (blocks_in input)
+
+-- ---- the verdicts
+
+pub record Judged : Type 0 where
+  pub room : RoomSpec
+  pub verdict : Verdict
+
+-- the verdict rests on what was told of the room alone
+abbrev pub IsJustified : List Told → Judged → Type 0
+IsJustified told one = IsVerdict one.room (told_of one.room.name told) one.verdict
+
+abbrev pub verdict_line : List ℕ → Verdict → List ℕ
+verdict_line name Run = name ++ codes " is a run\n"
+verdict_line name (Broken line) = name ++ (codes " is not a run: line " ++ (decimal line ++ codes "\n"))
+
+abbrev pub judged_line : Judged → List ℕ
+judged_line one = verdict_line one.room.name one.verdict
+
+abbrev pub is_run : Verdict → Bool
+is_run Run = true
+is_run (Broken line) = false
+
+abbrev pub outcome_if : Bool → Outcome
+outcome_if well = if well then AllWell else SomeRefused
+
+-- all is well where no block was refused and each room's events are a run
+abbrev pub outcome_of : List ℕ → List Judged → Outcome
+outcome_of refused all = outcome_if ((length refused == 0) && list_all (λ one. is_run one.verdict) all)
+
+-- the verdicts on the rooms, in order, and the output
+pub record IsOutput (rooms : List RoomSpec) (refused : List ℕ) (told : List Told) (outcome : Outcome) (output : List ℕ) : Type 0 where
+  pub all : List Judged
+  pub each_room : map (λ one. one.room) all ≡ rooms
+  pub justified : All (IsJustified told) all
+  pub output_is : output ≡ refused ++ flat_map judged_line all
+  pub outcome_is : outcome ≡ outcome_of refused all
+
+-- ---- the answer
+
+-- the fault is the one that reading gave; want of memory may come in its place
+abbrev pub IsFaultOf : {A : Type 0} → Result A (ℕ × ℕ) → IoFault → Type 0
+IsFaultOf read (BadInput line code) = read ≡ Err (line, code)
+IsFaultOf read Memory = Unit {0}
+IsFaultOf read Read = ⊥
+IsFaultOf read Write = ⊥
+IsFaultOf read TooLong = ⊥
+
+-- the output for an input that has no fault
+abbrev pub IsOutputFor : List ℕ → Outcome → List ℕ → Type 0
+IsOutputFor input outcome output = (setup : Setup) × (told : List Told) × (input_says input ≡ Ok (setup, told)) × IsOutput setup.rooms setup.refused told outcome output
+
+-- the answer to a whole input is an outcome, with its output, or a fault, with none
+abbrev pub IsAnswer : List ℕ → Result Outcome IoFault → List ℕ → Type 0
+IsAnswer input (Ok outcome) output = (length input ≤ most_bytes) × IsOutputFor input outcome output
+IsAnswer input (Err TooLong) output = (most_bytes < length input) × (output ≡ [])
+IsAnswer input (Err (BadInput line code)) output = (length input ≤ most_bytes) × (input_says input ≡ Err (line, code)) × (output ≡ [])
+IsAnswer input (Err Memory) output = output ≡ []
+IsAnswer input (Err Read) output = ⊥
+IsAnswer input (Err Write) output = ⊥

@@ -1,0 +1,5 @@
+pub mod Check
+pub mod CommandLine
+pub mod Ends
+pub mod Lines
+pub mod Reading

@@ -1,0 +1,49 @@
+-- What was read of an input.
+use Rattle.std.specs.Prelude.{◌≡◌, ℕ, ◌+◌, ◌<◌, Bool, true, List, ◌++◌, length, Option, Result, Ok, Err}
+use Rattle.std.specs.Global.{Vec}
+use Rattle.std.specs.Io.KnownBytes.{Consumes, IsAtEnd}
+use Rattle.bgsim_console.specs.declared.fault.IoFault.{IoFault}
+use Rattle.bgsim_console.specs.declared.fault.IoFault.TheVariants.{Read, Write, TooLong, BadInput, Memory}
+
+abbrev pub most_bytes : ℕ
+most_bytes = 16777216
+
+-- the next bytes of the reader, so many, went behind the text; there are none only at its end
+pub record IsPiece (old new : Option (List ℕ)) (before after : List ℕ) (count : ℕ) : Type 0 where
+  pub bytes : List ℕ
+  pub behind : after ≡ before ++ bytes
+  pub count_is : length bytes ≡ count
+  pub consumed : Consumes old new bytes
+  pub at_end : count ≡ 0 → IsAtEnd new
+
+-- the reader's next bytes make the text too long
+pub record IsTooMuch (old : Option (List ℕ)) (before : List ℕ) : Type 0 where
+  pub new : Option (List ℕ)
+  pub bytes : List ℕ
+  pub consumed : Consumes old new bytes
+  pub long : most_bytes < length before + length bytes
+
+-- the faults with which a read may end
+abbrev pub MayEnd : Option (List ℕ) → List ℕ → Bool → IoFault → Type 0
+MayEnd old before failed TooLong = IsTooMuch old before
+MayEnd old before failed Read = failed ≡ true
+MayEnd old before failed Memory = Unit {0}
+MayEnd old before failed Write = ⊥
+MayEnd old before failed (BadInput line code) = ⊥
+
+-- what was read of a whole input, where the reader didn't fail and memory wasn't refused
+abbrev pub IsWholeInput : List ℕ → Result (Vec ℕ) IoFault → Type 0
+IsWholeInput input (Ok text) = text.items ≡ input
+IsWholeInput input (Err TooLong) = most_bytes < length input
+IsWholeInput input (Err Read) = Unit {0}
+IsWholeInput input (Err Memory) = Unit {0}
+IsWholeInput input (Err Write) = ⊥
+IsWholeInput input (Err (BadInput line code)) = ⊥
+
+-- the faults with which reading may end, and where the reader failed
+abbrev pub IsReadFault : Bool → IoFault → Type 0
+IsReadFault failed Read = failed ≡ true
+IsReadFault failed TooLong = Unit {0}
+IsReadFault failed Memory = Unit {0}
+IsReadFault failed Write = ⊥
+IsReadFault failed (BadInput line code) = ⊥

@@ -1,0 +1,111 @@
+//! Readers and writers that know whether they failed.
+ghost use Rattle.std.specs.Prelude.{◌≡◌, ◌+◌, ◌-◌, ◌^◌, ◌<◌, ◌||◌, min, false, is_err, IfOk};
+ghost use Rattle.std.specs.Io.{ReadsAtMost, WritesAtMost};
+ghost use Rattle.std.specs.Io.KnownBytes.{Appends, Keeps, ReadConsumes, WriteAppends};
+
+use std::io::{Read, Write};
+
+/// A call on a device failed.
+#[derive(Clone, Copy, Debug, PartialEq, Eq)]
+pub struct DeviceFailed;
+
+/// A reader or a writer that counts its reads or writes and remembers whether one failed.
+#[derive(Drop)]
+pub struct Device<D> {
+    inner: D,
+    calls: u64,
+    failed: bool,
+}
+
+impl<D> Device<D> {
+    /// The device before its first call.
+    pub fn new(inner: D) -> Device<D>
+        ensures { result ≡ record { inner = inner; calls = 0; failed = false } }
+    {
+        Device {
+            inner,
+            calls: 0,
+            failed: false,
+        }
+    }
+
+    /// Whether a call on the device has failed.
+    pub fn has_failed(&self) -> bool
+        ensures { result ≡ self.now.failed }
+    {
+        self.failed
+    }
+
+    /// How many reads or writes were made on the device. It stops at `u64::MAX`.
+    pub fn calls(&self) -> u64
+        ensures { result ≡ self.now.calls }
+    {
+        self.calls
+    }
+}
+
+impl<R: Read> Device<R> {
+    /// One read: how many bytes it gave, none only at the end or where `buffer` has no room.
+    ///
+    /// # Errors
+    ///
+    /// Each error of the reader is a failure, an interrupted call too.
+    pub fn read(&mut self, buffer: &mut [u8]) -> Result<usize, DeviceFailed>
+        ensures bound { ReadsAtMost result buffer.new }
+        ensures bytes { ReadConsumes (R.remaining self.old.inner) (R.remaining self.new.inner) result buffer.new }
+        ensures failed { self.new.failed ≡ (self.old.failed || is_err result) }
+        ensures calls { self.new.calls ≡ min (self.old.calls + 1) (2 ^ 64 - 1) }
+    {
+        self.calls = self.calls.saturating_add(1);
+        match self.inner.read(buffer) {
+            Ok(count) => Ok(count),
+            Err(_) => {
+                self.failed = true;
+                Err(DeviceFailed)
+            }
+        }
+    }
+}
+
+impl<W: Write> Device<W> {
+    /// One write: how many of the bytes the writer took.
+    ///
+    /// # Errors
+    ///
+    /// Each error of the writer is a failure, an interrupted call too, and so is a write of no bytes.
+    pub fn write(&mut self, bytes: &[u8]) -> Result<usize, DeviceFailed>
+        ensures bound { WritesAtMost result bytes.now }
+        ensures some { IfOk result (λ count. 0 < count) }
+        ensures bytes { WriteAppends (W.contents self.old.inner) (W.contents self.new.inner) result bytes.now }
+        ensures failed { self.new.failed ≡ (self.old.failed || is_err result) }
+        ensures calls { self.new.calls ≡ min (self.old.calls + 1) (2 ^ 64 - 1) }
+    {
+        self.calls = self.calls.saturating_add(1);
+        match self.inner.write(bytes) {
+            Ok(count) if count > 0 => Ok(count),
+            _ => {
+                self.failed = true;
+                Err(DeviceFailed)
+            }
+        }
+    }
+
+    /// Hands on what the writer may still hold back.
+    ///
+    /// # Errors
+    ///
+    /// Each error of the writer is a failure.
+    pub fn flush(&mut self) -> Result<(), DeviceFailed>
+        ensures bytes { Keeps (W.contents self.old.inner) (W.contents self.new.inner) }
+        ensures failed { self.new.failed ≡ (self.old.failed || is_err result) }
+        ensures calls { self.new.calls ≡ self.old.calls }
+    {
+        match self.inner.flush() {
+            Ok(()) => Ok(()),
+            Err(_) => {
+                self.failed = true;
+                Err(DeviceFailed)
+            }
+        }
+    }
+}

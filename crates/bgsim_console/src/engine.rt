@@ -1,0 +1,38 @@
+//! From bytes to bytes.
+ghost use Rattle.std.specs.Prelude.{◌≡◌, List, ℕ, true, false, IfErr, IfSome};
+ghost use Rattle.std.specs.Io.KnownBytes.{Appends};
+ghost use Rattle.bgsim_console.specs.Check.{IsAnswer};
+ghost use Rattle.bgsim_console.specs.declared.fault.IoFault.TheVariants.{Read as ReadFault, Write as WriteFault};
+
+use crate::device::Device;
+use crate::fault::{IoFault, Outcome};
+use crate::input::read_input;
+use crate::judge::judge;
+use crate::output::write_output;
+use std::alloc::Global;
+use std::io::{Read, Write};
+
+/// Judges the transcript that the reader gives, and writes the verdicts.
+///
+/// # Errors
+///
+/// The input's first fault, found before anything is written; a device that failed; or want of
+/// memory.
+pub fn check_io<R: Read, W: Write>(
+    alloc: Global,
+    reader: &mut Device<R>,
+    writer: &mut Device<W>,
+) -> Result<Outcome, IoFault>
+    requires reader { reader.old.failed ≡ false }
+    requires writer { writer.old.failed ≡ false }
+    // What is written is the output for what was read, and the answer goes with it.
+    ensures text { IfSome (R.remaining reader.old.inner) (λ input. reader.new.failed ≡ false → writer.new.failed ≡ false
+        → (output : List ℕ) × IsAnswer input result output × Appends (W.contents writer.old.inner) (W.contents writer.new.inner) output) }
+    ensures read_failed { IfErr result (λ fault. fault ≡ ReadFault → reader.new.failed ≡ true) }
+    ensures write_failed { IfErr result (λ fault. fault ≡ WriteFault → writer.new.failed ≡ true) }
+{
+    let input = read_input(alloc, reader)?;
+    let report = judge(alloc, &input)?;
+    write_output(writer, report.output.as_bytes())?;
+    Ok(report.outcome)
+}

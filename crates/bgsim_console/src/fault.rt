@@ -1,0 +1,68 @@
+//! How an engine ends.
+ghost use Rattle.std.specs.Prelude.{◌≡◌};
+ghost use Rattle.bgsim_console.specs.declared.fault.IoFault.TheVariants.{Memory};
+ghost use Rattle.bgsim_console.specs.Ends.{outcome_status, fault_status};
+
+use std::alloc::AllocError;
+use thiserror::Error;
+
+/// How an engine ended that read good input and wrote its output.
+#[derive(Clone, Copy, Debug, PartialEq, Eq)]
+pub enum Outcome {
+    /// Nothing was refused, and each room's events are a run.
+    AllWell,
+    /// A block was refused, or a room's events aren't a run.
+    SomeRefused,
+}
+
+impl Outcome {
+    /// The program's exit status.
+    pub fn status(self) -> u8
+        ensures { result ≡ outcome_status self }
+    {
+        match self {
+            Outcome::AllWell => 0,
+            Outcome::SomeRefused => 1,
+        }
+    }
+}
+
+/// Why an engine ended early.
+#[derive(Clone, Copy, Debug, PartialEq, Eq, Error)]
+pub enum IoFault {
+    /// The reader failed.
+    #[error("read failed")]
+    Read,
+    /// The writer failed.
+    #[error("write failed")]
+    Write,
+    /// The input has more than 16777216 bytes.
+    #[error("input too long")]
+    TooLong,
+    /// The input has a fault of this code on this line, counted from 1.
+    #[error("line {line}: fault {code}")]
+    BadInput { line: u64, code: u16 },
+    /// Memory was refused.
+    #[error("out of memory")]
+    Memory,
+}
+
+impl IoFault {
+    /// The program's exit status.
+    pub fn status(self) -> u8
+        ensures { result ≡ fault_status self }
+    {
+        match self {
+            IoFault::Memory => 3,
+            _ => 2,
+        }
+    }
+}
+
+impl From<AllocError> for IoFault {
+    ghost from_gives = { λ _ fault. fault ≡ Memory };
+
+    fn from(_: AllocError) -> IoFault {
+        IoFault::Memory
+    }
+}

@@ -1,0 +1,55 @@
+//! The whole of a reader's bytes.
+ghost use Rattle.std.specs.Prelude.{◌≡◌, ◌≤◌, ◌<◌, false, IfOk, IfErr, IfSome, length};
+ghost use Rattle.bgsim_console.specs.Reading.{IsPiece, IsReadFault, IsWholeInput, MayEnd};
+
+use crate::device::Device;
+use crate::fault::IoFault;
+use std::alloc::{AllocError, Global};
+use std::io::Read;
+
+/// The most bytes that an input has.
+const MAX_INPUT: usize = 16777216;
+
+/// How many bytes a read asks for.
+const PIECE: usize = 65536;
+
+/// Reads to the end.
+pub fn read_input<R: Read>(alloc: Global, reader: &mut Device<R>) -> Result<Vec<u8>, IoFault>
+    requires { reader.old.failed ≡ false }
+    ensures whole { IfSome (R.remaining reader.old.inner) (λ input. IsWholeInput input result) }
+    ensures short { IfOk result (λ text. length text.items ≤ 16777216) }
+    ensures err { IfErr result (IsReadFault reader.new.failed) }
+{
+    let mut piece = empty_piece(alloc)?;
+    let mut text = Vec::new(alloc);
+    while read_piece(reader, &mut piece, &mut text)? > 0 {}
+    Ok(text)
+}
+
+fn empty_piece(alloc: Global) -> Result<Vec<u8>, AllocError>
+    ensures { IfOk result (λ piece. 0 < length piece.items) }
+{
+    vec![in alloc; 0; PIECE]
+}
+
+/// Makes one read, and puts what it gave behind the text.
+fn read_piece<R: Read>(
+    reader: &mut Device<R>,
+    piece: &mut [u8],
+    text: &mut Vec<u8>,
+) -> Result<usize, IoFault>
+    requires room { 0 < length piece.old }
+    requires short { length text.old.items ≤ 16777216 }
+    ensures given { IfOk result (IsPiece (R.remaining reader.old.inner) (R.remaining reader.new.inner) text.old.items text.new.items) }
+    ensures short { IfOk result (λ count. length text.new.items ≤ 16777216) }
+    ensures err { IfErr result (MayEnd (R.remaining reader.old.inner) text.old.items reader.new.failed) }
+{
+    let Ok(count) = reader.read(piece) else {
+        return Err(IoFault::Read);
+    };
+    if count > MAX_INPUT - text.len() {
+        return Err(IoFault::TooLong);
+    }
+    text.extend_from_slice(&piece[..count])?;
+    Ok(count)
+}

@@ -1,0 +1,79 @@
+//! The answer to a whole input.
+ghost use Rattle.std.specs.Prelude.{◌≡◌, ◌≤◌, List, Ok, IfOk, IfErr, length, string_bytes};
+ghost use Rattle.history_checker.specs.Verdicts.{Told, HasHeard, specs_of, names_of};
+ghost use Rattle.bgsim_console.specs.Check.{IsFaultOf, IsOutput, IsOutputFor, input_says, is_run, outcome_if};
+
+use crate::events::feed_events;
+use crate::fault::{IoFault, Outcome};
+use crate::report::verdict_line;
+use crate::setup::{Setup, read_blocks};
+use history_checker::{Rooms, Verdict};
+use room_spec::Name;
+use std::alloc::{AllocError, Global};
+
+/// An output, and the outcome that goes with it.
+#[derive(Drop)]
+pub struct Report {
+    pub output: String,
+    pub outcome: Outcome,
+}
+
+/// Judges an input.
+pub fn judge(alloc: Global, input: &[u8]) -> Result<Report, IoFault>
+    requires { length input.now ≤ 16777216 }
+    ensures output { IfOk result (λ report. IsOutputFor input.now report.outcome (string_bytes report.output)) }
+    ensures err { IfErr result (IsFaultOf (input_says input.now)) }
+{
+    let (setup, transcript) = read_blocks(alloc, input)?;
+    let Setup {
+        mut rooms,
+        names,
+        refused,
+        line,
+    } = setup;
+    feed_events(&mut rooms, line, transcript)?;
+    Ok(report_on(alloc, &rooms, &names, refused)?)
+}
+
+/// Puts the rooms' verdicts behind the lines of the refused blocks.
+fn report_on(
+    alloc: Global,
+    rooms: &Rooms,
+    names: &[Name],
+    refused: String,
+) -> Result<Report, AllocError>
+    requires names { names.now ≡ names_of (specs_of rooms.now) }
+    requires heard { (told : List Told) × HasHeard rooms.now told }
+    ensures { IfOk result (λ report. (told : List Told) → HasHeard rooms.now told → IsOutput (specs_of rooms.now) (string_bytes refused) told report.outcome (string_bytes report.output)) }
+{
+    let mut all_well = refused.is_empty();
+    let mut output = refused;
+    for (index, name) in names.iter().enumerate() {
+        let Some(verdict) = rooms.verdict(index) else {
+            unreachable!()
+        };
+        all_well &= is_run(verdict);
+        let line = verdict_line(alloc, name, verdict)?;
+        output.push_str(line.as_str())?;
+    }
+    Ok(Report {
+        output,
+        outcome: outcome_if(all_well),
+    })
+}
+
+fn is_run(verdict: Verdict) -> bool
+    ensures { result ≡ is_run verdict }
+{
+    matches!(verdict, Verdict::Run)
+}
+
+fn outcome_if(all_well: bool) -> Outcome
+    ensures { result ≡ outcome_if all_well }
+{
+    if all_well {
+        Outcome::AllWell
+    } else {
+        Outcome::SomeRefused
+    }
+}

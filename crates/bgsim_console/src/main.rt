@@ -1,0 +1,84 @@
+//! Judges transcripts of protocols on write-snapshot memory.
+#![tactic(auto)]
+
+mod command_line;
+mod device;
+mod engine;
+mod events;
+mod fault;
+mod input;
+mod judge;
+mod lines;
+mod output;
+mod report;
+mod setup;
+#[cfg(test)]
+mod tests;
+
+use clap::error::ErrorKind;
+use command_line::{Mode, line};
+use device::Device;
+use fault::{IoFault, Outcome};
+use std::fs::File;
+use std::io;
+use std::io::Read;
+use std::process::ExitCode;
+
+fn main(rt: HostRuntime) -> ExitCode {
+    ExitCode::from(status(&rt))
+}
+
+fn status(rt: &HostRuntime) -> u8 {
+    let Ok(words) = words(rt) else {
+        return fault_status(rt, IoFault::Memory);
+    };
+    match line(rt.alloc(), words.as_slice()) {
+        Ok(line) => match line.command {
+            Mode::Check => ending_status(rt, check(rt, line.file)),
+        },
+        Err(error) => words_status(rt, &error),
+    }
+}
+
+/// The words after the program's name.
+fn words(rt: &HostRuntime) -> io::Result<Vec<String>> {
+    Ok(std::env::args(rt)?.skip(1).collect(rt.alloc())?)
+}
+
+fn check(rt: &HostRuntime, file: Option<&str>) -> Result<Outcome, IoFault> {
+    match file {
+        None => check_input(rt, rt.stdin()),
+        Some(path) => match File::open(rt, path) {
+            Ok(input) => check_input(rt, input),
+            Err(_) => Err(IoFault::Read),
+        },
+    }
+}
+
+fn check_input<R: Read + Drop>(rt: &HostRuntime, input: R) -> Result<Outcome, IoFault> {
+    let mut reader = Device::new(input);
+    let mut writer = Device::new(rt.stdout());
+    engine::check_io(rt.alloc(), &mut reader, &mut writer)
+}
+
+fn ending_status(rt: &HostRuntime, ending: Result<Outcome, IoFault>) -> u8 {
+    match ending {
+        Ok(outcome) => outcome.status(),
+        Err(fault) => fault_status(rt, fault),
+    }
+}
+
+/// The status of a run that this fault ended, once it is told on standard error.
+fn fault_status(rt: &HostRuntime, fault: IoFault) -> u8 {
+    let _ = eprintln!(rt; "bgsim: {fault}");
+    fault.status()
+}
+
+/// The status where the words gave no line, once `clap`'s text is printed.
+fn words_status(rt: &HostRuntime, error: &clap::Error) -> u8 {
+    if error.kind() == ErrorKind::OutOfMemory {
+        return fault_status(rt, IoFault::Memory);
+    }
+    let _ = error.print(rt);
+    error.exit_code() as u8
+}

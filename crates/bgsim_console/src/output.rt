@@ -1,0 +1,26 @@
+//! All of the bytes to a writer.
+ghost use Rattle.std.specs.Prelude.{◌≡◌, true, IfErr, OnOk};
+ghost use Rattle.std.specs.Io.KnownBytes.{Appends};
+ghost use Rattle.bgsim_console.specs.declared.fault.IoFault.TheVariants.{Write as WriteFault};
+
+use crate::device::Device;
+use crate::fault::IoFault;
+use std::io::Write;
+
+/// Writes the output, in as few writes as the writer takes.
+pub fn write_output<W: Write>(writer: &mut Device<W>, output: &[u8]) -> Result<(), IoFault>
+    ensures written { OnOk result (Appends (W.contents writer.old.inner) (W.contents writer.new.inner) output.now) }
+    ensures failed { IfErr result (λ fault. (fault ≡ WriteFault) × (writer.new.failed ≡ true)) }
+{
+    let mut rest = output;
+    while !rest.is_empty() {
+        let Ok(count) = writer.write(rest) else {
+            return Err(IoFault::Write);
+        };
+        rest = &rest[count..];
+    }
+    match writer.flush() {
+        Ok(()) => Ok(()),
+        Err(_) => Err(IoFault::Write),
+    }
+}

@@ -1,0 +1,57 @@
+//! The lines of the output.
+ghost use Rattle.std.specs.Prelude.{◌≡◌, IfOk, string_bytes};
+ghost use Rattle.protocol_lang.specs.Faults.{code_of};
+ghost use Rattle.protocol_lang.specs.Grammar.{place_of};
+ghost use Rattle.bgsim_console.specs.Check.{fault_text, protocol_text, refused_line, verdict_line};
+
+use history_checker::Verdict;
+use protocol_lang::ParseFault;
+use room_spec::{Name, SpecFault};
+use std::alloc::{AllocError, Global};
+
+/// The code of a block's fault, and the numbers behind it.
+pub fn fault_text(alloc: Global, fault: SpecFault) -> Result<String, AllocError>
+    ensures { IfOk result (λ text. string_bytes text ≡ fault_text fault) }
+{
+    match fault {
+        SpecFault::BadLine(line) => format!(in alloc; "11 {line}"),
+        SpecFault::BadProtocol(fault) => {
+            let text = protocol_text(alloc, fault)?;
+            format!(in alloc; "13 {text}")
+        }
+        SpecFault::Truncated => format!(in alloc; "10"),
+        SpecFault::BadName => format!(in alloc; "12"),
+        SpecFault::Inputs => format!(in alloc; "14"),
+        SpecFault::Simulators => format!(in alloc; "15"),
+        SpecFault::Rounds => format!(in alloc; "16"),
+        SpecFault::Turns => format!(in alloc; "17"),
+        SpecFault::TooWide => format!(in alloc; "18"),
+    }
+}
+
+fn protocol_text(alloc: Global, fault: ParseFault) -> Result<String, AllocError>
+    ensures { IfOk result (λ text. string_bytes text ≡ protocol_text (code_of fault) (place_of fault)) }
+{
+    let code = fault.code();
+    let Some(place) = fault.place() else {
+        return format!(in alloc; "{code}");
+    };
+    format!(in alloc; "{code} {place}")
+}
+
+/// The line of a refused block, whose first line has this number.
+pub fn refused_line(alloc: Global, line: u64, fault: &str) -> Result<String, AllocError>
+    ensures { IfOk result (λ text. string_bytes text ≡ refused_line line fault.now) }
+{
+    format!(in alloc; "line {line} refused {fault}\n")
+}
+
+/// The line of a room's verdict.
+pub fn verdict_line(alloc: Global, name: &Name, verdict: Verdict) -> Result<String, AllocError>
+    ensures { IfOk result (λ text. string_bytes text ≡ verdict_line name.now verdict) }
+{
+    match verdict {
+        Verdict::Run => format!(in alloc; "{name} is a run\n"),
+        Verdict::Broken(line) => format!(in alloc; "{name} is not a run: line {line}\n"),
+    }
+}

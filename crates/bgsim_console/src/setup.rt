@@ -1,0 +1,129 @@
+//! What the blocks of an input say.
+ghost use Rattle.std.specs.Prelude.{◌≡◌, ◌+◌, ◌<◌, ◌^◌, ◌≤◌, [], Ok, IfOk, IfErr, length, string_bytes, codes};
+ghost use Rattle.bgsim_console.specs.declared.fault.IoFault.TheVariants.{Memory};
+ghost use Rattle.bgsim_console.specs.Check.{no_blocks, refuse, open_room, after_block, pass_lines, blocks_in, fault_text, IsFaultOf};
+
+use crate::fault::IoFault;
+use crate::lines::count_lines;
+use crate::report::{fault_text, refused_line};
+use history_checker::{AddFault, Rooms};
+use room_spec::{Name, Spec, block_len, cut, read_block};
+use std::alloc::{AllocError, Global};
+use std::marker::Model;
+
+/// The code of an input that ends before the line `events`.
+const ENDED_EARLY: u16 = 61;
+
+/// What the blocks so far say.
+#[derive(Drop)]
+pub struct Setup {
+    /// The rooms that they open, which have no events yet.
+    pub rooms: Rooms,
+    /// The names of the rooms, in order.
+    pub names: Vec<Name>,
+    /// The lines of the blocks that were refused.
+    pub refused: String,
+    /// The number of the next line.
+    pub line: u64,
+}
+
+impl Model for Setup {
+    ghost use Rattle.std.specs.Prelude.{◌≡◌, [], string_bytes};
+    ghost use Rattle.history_checker.specs.Verdicts.{HasHeard, specs_of, names_of};
+    ghost use Rattle.bgsim_console.specs.Check.{Setup as SetupSpec};
+
+    ghost Value = { SetupSpec };
+
+    ghost view = { λ setup. record { rooms = specs_of setup.rooms; refused = string_bytes setup.refused; line = setup.line } };
+
+    ghost invariant = { λ setup. HasHeard setup.rooms [] × (setup.names.items ≡ names_of (specs_of setup.rooms)) };
+}
+
+impl Setup {
+    fn new(alloc: Global) -> Setup
+        ensures { result ≡ no_blocks }
+    {
+        Setup {
+            rooms: Rooms::new(alloc),
+            names: Vec::new(alloc),
+            refused: String::new(alloc),
+            line: 1,
+        }
+    }
+
+    /// Takes the next block, which has these bytes.
+    fn take_block(self, alloc: Global, block: &[u8]) -> Result<Setup, IoFault>
+        requires { self.line + length block.now < 2 ^ 64 }
+        ensures block { IfOk result (λ setup. setup ≡ after_block self block.now) }
+        ensures line { IfOk result (λ setup. setup.line ≤ self.line + length block.now) }
+        ensures err { IfErr result (λ fault. fault ≡ Memory) }
+    {
+        let lines = count_lines(block);
+        let setup = match read_block(block) {
+            Ok((spec, _)) => self.open_room(alloc, spec)?,
+            Err(fault) => {
+                let text = fault_text(alloc, fault)?;
+                self.refuse(alloc, text.as_str())?
+            }
+        };
+        Ok(setup.pass_lines(lines))
+    }
+
+    fn open_room(mut self, alloc: Global, spec: Spec) -> Result<Setup, AllocError>
+        ensures room { IfOk result (λ setup. setup ≡ open_room self spec) }
+        ensures line { IfOk result (λ setup. setup.line ≡ self.line) }
+    {
+        let name = spec.name().clone()?;
+        match self.rooms.add(alloc, spec) {
+            Ok(()) => {
+                self.names.push(name)?;
+                Ok(self)
+            }
+            Err(AddFault::NameTaken) => self.refuse(alloc, "41"),
+            Err(AddFault::OutOfMemory) => Err(AllocError),
+        }
+    }
+
+    fn refuse(mut self, alloc: Global, fault: &str) -> Result<Setup, AllocError>
+        ensures refused { IfOk result (λ setup. setup ≡ refuse self fault.now) }
+        ensures line { IfOk result (λ setup. setup.line ≡ self.line) }
+    {
+        let line = refused_line(alloc, self.line, fault)?;
+        self.refused.push_str(line.as_str())?;
+        Ok(self)
+    }
+
+    fn pass_lines(mut self, count: u64) -> Setup
+        requires { self.line + count < 2 ^ 64 }
+        ensures { result ≡ pass_lines count self }
+    {
+        self.line += count;
+        self
+    }
+}
+
+/// Takes the blocks up to the line `events`: what they say, and the text behind that line.
+#[tactic(auto, unfolding(crate::specs::Check::blocks_from))]
+pub fn read_blocks(alloc: Global, input: &[u8]) -> Result<(Setup, &[u8]), IoFault>
+    requires { length input.now ≤ 16777216 }
+    ensures read { IfOk result (λ read. blocks_in input.now ≡ Ok (read.0, read.1.now)) }
+    ensures fits { IfOk result (λ read. read.0.line + length read.1.now < 2 ^ 64) }
+    ensures err { IfErr result (IsFaultOf (blocks_in input.now)) }
+{
+    let mut setup = Setup::new(alloc);
+    let mut rest = input;
+    loop {
+        let (first, later) = cut(rest, b'\n');
+        if first == b"events".as_slice() {
+            return Ok((setup.pass_lines(1), later.unwrap_or(&[])));
+        }
+        let Some(len) = block_len(rest) else {
+            return Err(IoFault::BadInput {
+                line: setup.line + count_lines(rest),
+                code: ENDED_EARLY,
+            });
+        };
+        setup = setup.take_block(alloc, &rest[..len])?;
+        rest = &rest[len..];
+    }
+}
