@@ -1,0 +1,4 @@
+pub mod FieldLemmas
+pub mod LevelLemmas
+pub mod PackingLemmas
+pub mod Worked

@@ -1,0 +1,12 @@
+//! Small numbers in fields of bits of one word, and the agreement levels of a round in such a word.
+#![tactic(auto)]
+
+mod agreement;
+mod bits;
+pub mod laws;
+
+pub use agreement::levels;
+pub use bits::{added, field, one_at, taken};
+
+#[cfg(test)]
+mod tests;

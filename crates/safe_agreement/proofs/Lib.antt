@@ -1,0 +1,4 @@
+pub mod Clean
+pub mod Steps
+pub mod Replays
+mod Worked

@@ -1,0 +1,4 @@
+pub mod Greatest
+pub mod Rows
+pub mod Words
+mod Worked

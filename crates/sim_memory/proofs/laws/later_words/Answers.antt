@@ -1,0 +1,8 @@
+use Rattle.sim_memory.proofs.Words.{later_steps, later_row}
+use Rattle.sim_memory.proofs.laws.later_words.Goals as goal
+
+pub returns-clause-steps : goal.returns-clause-steps
+returns-clause-steps c = λ shape word later most. later_steps shape word later most
+
+pub returns-clause-row : goal.returns-clause-row
+returns-clause-row c = λ shape word later most. later_row shape word later most

@@ -1,0 +1,78 @@
+-- Step numbers: how often each simulator has written for each process. A map of them gives for a simulator and a
+-- process a number.
+use Rattle.std.specs.Prelude.{◌≡◌, ◌≢◌, ℕ, zero, suc, ◌+◌, ◌*◌, ◌/◌, ◌%◌, ◌<◌, ◌≤◌, min, max, List, length, map, slice_index, ◌==◌, ◌&&◌, if◌then◌else◌}
+use Rattle.std.specs.List.{range_with_len, position_or_len}
+use Rattle.room_spec.specs.declared.spec.Shape.{Shape}
+use Rattle.level_cells.specs.Fields.{field_of}
+use Rattle.level_cells.specs.Packing.{packed}
+
+-- ---- maps of step numbers
+
+-- the greatest of the first m numbers
+abbrev pub greatest_of : ℕ → (ℕ → ℕ) → ℕ
+greatest_of zero numbers = 0
+greatest_of (suc m) numbers = max (greatest_of m numbers) (numbers m)
+
+-- how many writes of process p the m simulators have made: the greatest step number that one of them has for it
+abbrev pub merged_of : ℕ → (ℕ → ℕ → ℕ) → ℕ → ℕ
+merged_of m steps p = greatest_of m (λ i. steps i p)
+
+-- the first simulator that has that number
+abbrev pub holder_of : ℕ → (ℕ → ℕ → ℕ) → ℕ → ℕ
+holder_of m steps p = position_or_len (λ step. step == merged_of m steps p) (map (λ i. steps i p) (range_with_len 0 m))
+
+-- the same: nobody has a greater number than this simulator, and nobody before it has as great a one
+pub record IsHolder (m : ℕ) (steps : ℕ → ℕ → ℕ) (p holder : ℕ) : Type 0 where
+  pub below : holder < m
+  pub greatest : (i : ℕ) → i < m → steps i p ≤ steps holder p
+  pub least : (i : ℕ) → i < holder → steps i p < steps holder p
+
+-- the row of a map: the merged number of each of n processes
+abbrev pub row_of : ℕ → ℕ → (ℕ → ℕ → ℕ) → List ℕ
+row_of m n steps = map (λ p. merged_of m steps p) (range_with_len 0 n)
+
+-- one row is at most another, entry by entry
+pub record IsRowAtMost (row other : List ℕ) : Type 0 where
+  pub same_length : length row ≡ length other
+  pub each : (p : ℕ) → p < length row → slice_index row p ≤ slice_index other p
+
+-- no step number is lower in the second map
+abbrev pub AreAtMost : ℕ → ℕ → (ℕ → ℕ → ℕ) → (ℕ → ℕ → ℕ) → Type 0
+AreAtMost m n steps others = (i p : ℕ) → i < m → p < n → steps i p ≤ others i p
+
+-- all step numbers are the same
+abbrev pub AreSameSteps : ℕ → ℕ → (ℕ → ℕ → ℕ) → (ℕ → ℕ → ℕ) → Type 0
+AreSameSteps m n steps others = (i p : ℕ) → i < m → p < n → steps i p ≡ others i p
+
+-- simulator i has written once more for process p, and nothing else has changed
+pub record IsRaised (m n : ℕ) (steps : ℕ → ℕ → ℕ) (i p : ℕ) (after : ℕ → ℕ → ℕ) : Type 0 where
+  pub own : after i p ≡ steps i p + 1
+  pub other_simulators : (k q : ℕ) → k < m → q < n → k ≢ i → after k q ≡ steps k q
+  pub other_processes : (q : ℕ) → q < n → q ≢ p → after i q ≡ steps i q
+
+-- that map
+abbrev pub one_more : (ℕ → ℕ → ℕ) → ℕ → ℕ → ℕ → ℕ → ℕ
+one_more steps i p k q = if (k == i) && (q == p) then steps k q + 1 else steps k q
+
+-- ---- memory words
+
+-- the lowest bit of the field of simulator i and process p
+abbrev pub place_of : Shape → ℕ → ℕ → ℕ
+place_of shape i p = (i * shape.n + p) * shape.bits
+
+-- The reading of a memory word: its map of step numbers. A number above the last round reads as the last round.
+abbrev pub step_in : Shape → ℕ → ℕ → ℕ → ℕ
+step_in shape word i p = min (field_of word (place_of shape i p) shape.bits) shape.rounds
+
+-- the memory word that has these step numbers
+abbrev pub memory_word : Shape → (ℕ → ℕ → ℕ) → ℕ
+memory_word shape steps = packed (λ place. steps (place / shape.n) (place % shape.n)) shape.bits (shape.m * shape.n)
+
+-- no field of step numbers is lower in the second word
+abbrev pub AreFieldsAtMost : Shape → ℕ → ℕ → Type 0
+AreFieldsAtMost shape word later =
+    (i p : ℕ) → i < shape.m → p < shape.n → field_of word (place_of shape i p) shape.bits ≤ field_of later (place_of shape i p) shape.bits
+
+-- no step number is above the last round
+abbrev pub AreWithin : Shape → (ℕ → ℕ → ℕ) → Type 0
+AreWithin shape steps = (i p : ℕ) → i < shape.m → p < shape.n → steps i p ≤ shape.rounds

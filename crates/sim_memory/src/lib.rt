@@ -1,0 +1,73 @@
+//! The memory word of a room: the step numbers that its simulators have raised.
+//!
+//! Simulator i raises its own number of process p by one each time it writes for it, so the number
+//! tells how many writes of p it has made. All numbers stand in one word, so that one load of the
+//! word is a snapshot of the memory (Y. Afek, H. Attiya, D. Dolev, E. Gafni, M. Merritt, N. Shavit,
+//! "Atomic snapshots of shared memory", J. ACM 40(4), 1993). What a process has written is then the
+//! greatest number that a simulator has for it: the merging of the simulators' memories in
+//! E. Borowsky, E. Gafni, N. Lynch, S. Rajsbaum, "The BG distributed simulation algorithm",
+//! Distributed Computing 14(3), 2001.
+#![tactic(auto)]
+
+ghost use Rattle.std.specs.Prelude.{◌≡◌, ◌+◌, ◌<◌, ◌≤◌};
+ghost use Rattle.sim_memory.specs.Steps.{IsHolder, holder_of, merged_of, place_of, step_in};
+
+pub mod laws;
+#[cfg(test)]
+mod tests;
+
+use level_cells::field;
+use room_spec::Shape;
+
+/// The lowest bit of the field in which simulator `i` has its step number of process `p`. The field
+/// has `shape.bits` bits, and lies within a word.
+pub fn place(shape: &Shape, i: usize, p: usize) -> usize
+    requires simulator { i < shape.now.m }
+    requires process { p < shape.now.n }
+    ensures value { result ≡ place_of shape.now i p }
+    ensures inside { result + shape.now.bits ≤ 64 }
+    ensures wide { 1 ≤ shape.now.bits }
+{
+    (i * shape.n + p) * shape.bits
+}
+
+/// How often simulator `i` has written for process `p`, 0 to `shape.rounds`, by a memory word. A
+/// field above that reads as `shape.rounds`.
+pub fn step_of(shape: &Shape, word: u64, i: usize, p: usize) -> usize
+    requires simulator { i < shape.now.m }
+    requires process { p < shape.now.n }
+    ensures value { result ≡ step_in shape.now word i p }
+    ensures range { result ≤ shape.now.rounds }
+{
+    let step = field(word, place(shape, i, p), shape.bits) as usize;
+    step.min(shape.rounds)
+}
+
+/// The greatest step number that a simulator has for process `p`: how many writes of it the memory
+/// word shows, 0 to `shape.rounds`.
+pub fn merged(shape: &Shape, word: u64, p: usize) -> usize
+    requires { p < shape.now.n }
+    ensures value { result ≡ merged_of shape.now.m (step_in shape.now word) p }
+    ensures range { result ≤ shape.now.rounds }
+{
+    let mut greatest = 0;
+    for i in 0..shape.m {
+        greatest = greatest.max(step_of(shape, word, i, p));
+    }
+    greatest
+}
+
+/// The least simulator that has the greatest step number for process `p`, 0 to `shape.m - 1`.
+pub fn holder(shape: &Shape, word: u64, p: usize) -> usize
+    requires { p < shape.now.n }
+    ensures value { result ≡ holder_of shape.now.m (step_in shape.now word) p }
+    ensures holds { IsHolder shape.now.m (step_in shape.now word) p result }
+{
+    let mut holder = 0;
+    for i in 1..shape.m {
+        if step_of(shape, word, i, p) > step_of(shape, word, holder, p) {
+            holder = i;
+        }
+    }
+    holder
+}

@@ -1,0 +1,3 @@
+pub mod PlaceLemmas
+pub mod WordLemmas
+pub mod Worked

@@ -1,0 +1,85 @@
+-- The places of rooms that were worked by hand.
+use Rattle.std.proofs.Common.{◌≡◌, refl, arith}
+use Rattle.room_spec.specs.declared.spec.Shape.{Shape}
+use Rattle.view_table.specs.declared.place.Place.TheVariants.{Steps, Levels, View, Value, Out}
+use Rattle.view_table.specs.Places.{index_of, words_of}
+
+-- one process, one simulator, one round
+smallest : Shape
+smallest = record {
+  n = 1;
+  m = 1;
+  bits = 1;
+  rounds = 1;
+  limits = record { n_range = (omega arith, omega arith); m_range = (omega arith, omega arith); rounds_range = (omega arith, omega arith); width = refl; memory = omega arith };
+}
+
+smallest_steps : index_of smallest Steps ≡ 0
+unfolding smallest index_of
+smallest_steps = refl
+
+smallest_levels : index_of smallest (Levels 0 1) ≡ 1
+unfolding smallest index_of
+smallest_levels = refl
+
+smallest_view : index_of smallest (View 0 0 1) ≡ 2
+unfolding smallest index_of
+smallest_view = refl
+
+smallest_value : index_of smallest (Value 0 0 1) ≡ 3
+unfolding smallest index_of
+smallest_value = refl
+
+smallest_out : index_of smallest (Out 0 0) ≡ 4
+unfolding smallest index_of
+smallest_out = refl
+
+smallest_words : words_of smallest ≡ 5
+unfolding smallest words_of
+smallest_words = refl
+
+-- two processes, two simulators, one round
+two_by_two : Shape
+two_by_two = record {
+  n = 2;
+  m = 2;
+  bits = 1;
+  rounds = 1;
+  limits = record { n_range = (omega arith, omega arith); m_range = (omega arith, omega arith); rounds_range = (omega arith, omega arith); width = refl; memory = omega arith };
+}
+
+two_by_two_words : words_of two_by_two ≡ 15
+unfolding two_by_two words_of
+two_by_two_words = refl
+
+-- the most words of any room: 16 processes, one simulator, 15 rounds
+longest : Shape
+longest = record {
+  n = 16;
+  m = 1;
+  bits = 4;
+  rounds = 15;
+  limits = record { n_range = (omega arith, omega arith); m_range = (omega arith, omega arith); rounds_range = (omega arith, omega arith); width = refl; memory = omega arith };
+}
+
+longest_words : words_of longest ≡ 737
+unfolding longest words_of
+longest_words = refl
+
+longest_last : index_of longest (Out 0 15) ≡ 736
+unfolding longest index_of
+longest_last = refl
+
+-- eight processes, four simulators, three rounds: a full word of step numbers
+full : Shape
+full = record {
+  n = 8;
+  m = 4;
+  bits = 2;
+  rounds = 3;
+  limits = record { n_range = (omega arith, omega arith); m_range = (omega arith, omega arith); rounds_range = (omega arith, omega arith); width = refl; memory = omega arith };
+}
+
+full_words : words_of full ≡ 249
+unfolding full words_of
+full_words = refl

@@ -1,0 +1,10 @@
+//! The places of a room's shared memory, and where each stands among the memory's words.
+#![tactic(auto)]
+
+pub mod laws;
+mod place;
+
+pub use place::{Place, index, words};
+
+#[cfg(test)]
+mod tests;
