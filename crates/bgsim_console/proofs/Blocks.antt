@@ -1,5 +1,5 @@
 -- Blocks taken one by one.
-use Rattle.std.proofs.Common.{◌≡◌, ◌∙◌, ℕ, zero, suc, ◌+◌, ◌-◌, ◌<◌, ◌≤◌, Bool, true, false, List, [], ◌∷◌, ◌++◌, min, length, take, drop, Option, Some, None, Result, Ok, Err, refl, sym, ap, subst, arith, inl, inr}
+use Rattle.std.proofs.Common.{◌≡◌, ◌∙◌, ℕ, zero, suc, ◌+◌, ◌-◌, ◌<◌, ◌≤◌, true, false, List, [], ◌∷◌, ◌++◌, min, length, take, drop, Option, Some, None, refl, sym, ap, subst, arith, inl, inr}
 use Rattle.std.specs.Prelude.{◌⊎◌, codes}
 use Rattle.std.specs.Option.{option_map}
 use Rattle.std.specs.Str.{bytes_eq}
@@ -10,7 +10,7 @@ use Rattle.room_spec.specs.Texts.{first_line}
 use Rattle.room_spec.specs.Blocks.{body_len, block_len}
 use Rattle.room_spec.specs.Grammar.{EndsAt, text_of}
 use Rattle.history_checker.specs.Verdicts.{RoomState, has_room, specs_of}
-use Rattle.bgsim_console.specs.Check.{Setup, refuse, open_room, after_block, blocks_from, next_block}
+use Rattle.bgsim_console.specs.Check.{Setup, refuse, open_room, after_block, blocks_from}
 
 pub some_bytes : (text : List ℕ) (len : ℕ) → EndsAt text len → 0 < len
 some_bytes text len ends = by ends.bytes (length-append (text_of ends.lines) (codes "end"))

@@ -1,6 +1,5 @@
 -- Lines, one by one.
-use Rattle.std.proofs.Common.{◌≡◌, ◌∙◌, ℕ, ◌<◌, List, [], ◌∷◌, length, refl, sym, ap, subst, arith}
-use Rattle.std.specs.List.{slice_split}
+use Rattle.std.proofs.Common.{◌≡◌, ◌∙◌, ℕ, ◌<◌, List, [], ◌∷◌, length, refl, ap, arith}
 use Rattle.std.proofs.lemmas.List.Splits.{length-slice_split}
 use Rattle.room_spec.specs.Texts.{is_line_end, lines_of}
 use Rattle.bgsim_console.specs.Lines.{lines_in, text_lines}

@@ -1,14 +1,12 @@
 -- What `check` answers for an input.
-use Rattle.std.specs.Prelude.{◌≡◌, ℕ, ◌+◌, ◌≤◌, ◌<◌, Bool, true, false, ◌&&◌, ◌==◌, List, [], ◌∷◌, ◌++◌, length, suc, zero, take, drop, map, Option, Some, None, Result, Ok, Err, is_some, if◌then◌else◌, codes, decimal}
+use Rattle.std.specs.Prelude.{◌≡◌, ℕ, ◌+◌, ◌≤◌, ◌<◌, Bool, true, false, ◌&&◌, ◌==◌, List, [], ◌∷◌, ◌++◌, length, suc, zero, take, drop, map, Option, Some, None, Result, Ok, Err, if◌then◌else◌, codes, decimal}
 use Rattle.std.specs.List.{All, flat_map, list_all}
 use Rattle.std.specs.Str.{bytes_eq}
 use Rattle.protocol_lang.specs.Faults.{code_of as protocol_code}
 use Rattle.protocol_lang.specs.Grammar.{place_of}
-use Rattle.protocol_lang.specs.declared.fault.ParseFault.{ParseFault}
 use Rattle.room_spec.specs.Rooms.{RoomSpec}
 use Rattle.room_spec.specs.Texts.{first_line, later_lines}
 use Rattle.room_spec.specs.Blocks.{block_len, block_in}
-use Rattle.room_spec.specs.Faults.{code_of as block_code}
 use Rattle.room_spec.specs.declared.fault.SpecFault.{SpecFault}
 use Rattle.room_spec.specs.declared.fault.SpecFault.TheVariants.{Truncated, BadLine, BadName, BadProtocol, Inputs, Simulators, Rounds, Turns, TooWide}
 use Rattle.transcript.specs.Faults.{code_of as line_code}
@@ -173,11 +171,15 @@ IsFaultOf read TooLong = ⊥
 abbrev pub IsOutputFor : List ℕ → Outcome → List ℕ → Type 0
 IsOutputFor input outcome output = (setup : Setup) × (told : List Told) × (input_says input ≡ Ok (setup, told)) × IsOutput setup.rooms setup.refused told outcome output
 
--- the answer to a whole input is an outcome, with its output, or a fault, with none
+-- a beginning of the output for an input that has no fault
+abbrev pub IsPartFor : List ℕ → List ℕ → Type 0
+IsPartFor input part = (outcome : Outcome) × (rest : List ℕ) × IsOutputFor input outcome (part ++ rest)
+
+-- the answer to a whole input is an outcome, with its output, or a fault, with none; where writing failed a beginning of the output is there
 abbrev pub IsAnswer : List ℕ → Result Outcome IoFault → List ℕ → Type 0
 IsAnswer input (Ok outcome) output = (length input ≤ most_bytes) × IsOutputFor input outcome output
 IsAnswer input (Err TooLong) output = (most_bytes < length input) × (output ≡ [])
 IsAnswer input (Err (BadInput line code)) output = (length input ≤ most_bytes) × (input_says input ≡ Err (line, code)) × (output ≡ [])
 IsAnswer input (Err Memory) output = output ≡ []
-IsAnswer input (Err Read) output = ⊥
-IsAnswer input (Err Write) output = ⊥
+IsAnswer input (Err Read) output = output ≡ []
+IsAnswer input (Err Write) output = (length input ≤ most_bytes) × IsPartFor input output

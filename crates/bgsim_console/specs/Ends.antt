@@ -1,5 +1,7 @@
 -- The program's exit statuses.
-use Rattle.std.specs.Prelude.{ℕ}
+use Rattle.std.specs.Prelude.{ℕ, Bool, true, false, Result, Ok, Err}
+use Rattle.clap.specs.declared.error.kind.ErrorKind.{ErrorKind}
+use Rattle.clap.specs.declared.error.kind.ErrorKind.TheVariants.{DisplayHelp, DisplayVersion, OutOfMemory}
 use Rattle.bgsim_console.specs.declared.fault.Outcome.{Outcome}
 use Rattle.bgsim_console.specs.declared.fault.Outcome.TheVariants.{AllWell, SomeRefused}
 use Rattle.bgsim_console.specs.declared.fault.IoFault.{IoFault}
@@ -15,3 +17,32 @@ fault_status Write = 2
 fault_status TooLong = 2
 fault_status (BadInput line code) = 2
 fault_status Memory = 3
+
+abbrev pub ending_status : Result Outcome IoFault → ℕ
+ending_status (Ok outcome) = outcome_status outcome
+ending_status (Err fault) = fault_status fault
+
+-- where the words gave no line: help and the version are no mistake
+abbrev pub words_status : ErrorKind → ℕ
+words_status DisplayHelp = 0
+words_status DisplayVersion = 0
+words_status OutOfMemory = 3
+words_status _ = 2
+
+-- reading ended the run
+abbrev pub is_read_failed : {A : Type 0} → Result A IoFault → Bool
+is_read_failed (Ok value) = false
+is_read_failed (Err Read) = true
+is_read_failed (Err Write) = false
+is_read_failed (Err TooLong) = false
+is_read_failed (Err (BadInput line code)) = false
+is_read_failed (Err Memory) = false
+
+-- writing ended the run
+abbrev pub is_write_failed : {A : Type 0} → Result A IoFault → Bool
+is_write_failed (Ok value) = false
+is_write_failed (Err Read) = false
+is_write_failed (Err Write) = true
+is_write_failed (Err TooLong) = false
+is_write_failed (Err (BadInput line code)) = false
+is_write_failed (Err Memory) = false

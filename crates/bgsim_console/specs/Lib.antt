@@ -3,3 +3,4 @@ pub mod CommandLine
 pub mod Ends
 pub mod Lines
 pub mod Reading
+pub mod Writing

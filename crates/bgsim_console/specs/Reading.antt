@@ -1,5 +1,5 @@
 -- What was read of an input.
-use Rattle.std.specs.Prelude.{◌≡◌, ℕ, ◌+◌, ◌<◌, Bool, true, List, ◌++◌, length, Option, Result, Ok, Err}
+use Rattle.std.specs.Prelude.{◌≡◌, ℕ, ◌+◌, ◌<◌, List, ◌++◌, length, Option, Result, Ok, Err}
 use Rattle.std.specs.Global.{Vec}
 use Rattle.std.specs.Io.KnownBytes.{Consumes, IsAtEnd}
 use Rattle.bgsim_console.specs.declared.fault.IoFault.{IoFault}
@@ -24,12 +24,12 @@ pub record IsTooMuch (old : Option (List ℕ)) (before : List ℕ) : Type 0 wher
   pub long : most_bytes < length before + length bytes
 
 -- the faults with which a read may end
-abbrev pub MayEnd : Option (List ℕ) → List ℕ → Bool → IoFault → Type 0
-MayEnd old before failed TooLong = IsTooMuch old before
-MayEnd old before failed Read = failed ≡ true
-MayEnd old before failed Memory = Unit {0}
-MayEnd old before failed Write = ⊥
-MayEnd old before failed (BadInput line code) = ⊥
+abbrev pub MayEnd : Option (List ℕ) → List ℕ → IoFault → Type 0
+MayEnd old before TooLong = IsTooMuch old before
+MayEnd old before Read = Unit {0}
+MayEnd old before Memory = Unit {0}
+MayEnd old before Write = ⊥
+MayEnd old before (BadInput line code) = ⊥
 
 -- what was read of a whole input, where the reader didn't fail and memory wasn't refused
 abbrev pub IsWholeInput : List ℕ → Result (Vec ℕ) IoFault → Type 0
@@ -40,10 +40,10 @@ IsWholeInput input (Err Memory) = Unit {0}
 IsWholeInput input (Err Write) = ⊥
 IsWholeInput input (Err (BadInput line code)) = ⊥
 
--- the faults with which reading may end, and where the reader failed
-abbrev pub IsReadFault : Bool → IoFault → Type 0
-IsReadFault failed Read = failed ≡ true
-IsReadFault failed TooLong = Unit {0}
-IsReadFault failed Memory = Unit {0}
-IsReadFault failed Write = ⊥
-IsReadFault failed (BadInput line code) = ⊥
+-- the faults with which reading may end
+abbrev pub IsReadFault : IoFault → Type 0
+IsReadFault Read = Unit {0}
+IsReadFault TooLong = Unit {0}
+IsReadFault Memory = Unit {0}
+IsReadFault Write = ⊥
+IsReadFault (BadInput line code) = ⊥

@@ -1,8 +1,8 @@
 //! From bytes to bytes.
-ghost use Rattle.std.specs.Prelude.{◌≡◌, List, ℕ, true, false, IfErr, IfSome};
+ghost use Rattle.std.specs.Prelude.{◌≡◌, ◌+◌, ◌≤◌, List, ℕ, false, IfSome};
 ghost use Rattle.std.specs.Io.KnownBytes.{Appends};
 ghost use Rattle.bgsim_console.specs.Check.{IsAnswer};
-ghost use Rattle.bgsim_console.specs.declared.fault.IoFault.TheVariants.{Read as ReadFault, Write as WriteFault};
+ghost use Rattle.bgsim_console.specs.Ends.{is_read_failed, is_write_failed};
 
 use crate::device::Device;
 use crate::fault::{IoFault, Outcome};
@@ -26,10 +26,11 @@ pub fn check_io<R: Read, W: Write>(
     requires reader { reader.old.failed ≡ false }
     requires writer { writer.old.failed ≡ false }
     // What is written is the output for what was read, and the answer goes with it.
-    ensures text { IfSome (R.remaining reader.old.inner) (λ input. reader.new.failed ≡ false → writer.new.failed ≡ false
-        → (output : List ℕ) × IsAnswer input result output × Appends (W.contents writer.old.inner) (W.contents writer.new.inner) output) }
-    ensures read_failed { IfErr result (λ fault. fault ≡ ReadFault → reader.new.failed ≡ true) }
-    ensures write_failed { IfErr result (λ fault. fault ≡ WriteFault → writer.new.failed ≡ true) }
+    ensures text { IfSome (R.remaining reader.old.inner) (λ input. (output : List ℕ) × IsAnswer input result output
+        × Appends (W.contents writer.old.inner) (W.contents writer.new.inner) output) }
+    ensures read_failed { reader.new.failed ≡ is_read_failed result }
+    ensures write_failed { writer.new.failed ≡ is_write_failed result }
+    ensures reads { reader.new.calls ≤ reader.old.calls + 16777217 }
 {
     let input = read_input(alloc, reader)?;
     let report = judge(alloc, &input)?;

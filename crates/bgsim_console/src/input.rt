@@ -1,5 +1,6 @@
 //! The whole of a reader's bytes.
-ghost use Rattle.std.specs.Prelude.{◌≡◌, ◌≤◌, ◌<◌, false, IfOk, IfErr, IfSome, length};
+ghost use Rattle.bgsim_console.specs.Ends.{is_read_failed};
+ghost use Rattle.std.specs.Prelude.{◌≡◌, ◌||◌, ◌+◌, ◌≤◌, ◌<◌, false, IfOk, IfErr, IfSome, length};
 ghost use Rattle.bgsim_console.specs.Reading.{IsPiece, IsReadFault, IsWholeInput, MayEnd};
 
 use crate::device::Device;
@@ -18,7 +19,9 @@ pub fn read_input<R: Read>(alloc: Global, reader: &mut Device<R>) -> Result<Vec<
     requires { reader.old.failed ≡ false }
     ensures whole { IfSome (R.remaining reader.old.inner) (λ input. IsWholeInput input result) }
     ensures short { IfOk result (λ text. length text.items ≤ 16777216) }
-    ensures err { IfErr result (IsReadFault reader.new.failed) }
+    ensures err { IfErr result IsReadFault }
+    ensures failed { reader.new.failed ≡ is_read_failed result }
+    ensures reads { reader.new.calls ≤ reader.old.calls + 16777217 }
 {
     let mut piece = empty_piece(alloc)?;
     let mut text = Vec::new(alloc);
@@ -42,7 +45,10 @@ fn read_piece<R: Read>(
     requires short { length text.old.items ≤ 16777216 }
     ensures given { IfOk result (IsPiece (R.remaining reader.old.inner) (R.remaining reader.new.inner) text.old.items text.new.items) }
     ensures short { IfOk result (λ count. length text.new.items ≤ 16777216) }
-    ensures err { IfErr result (MayEnd (R.remaining reader.old.inner) text.old.items reader.new.failed) }
+    ensures err { IfErr result (MayEnd (R.remaining reader.old.inner) text.old.items) }
+    ensures failed { reader.new.failed ≡ (reader.old.failed || is_read_failed result) }
+    ensures grows { IfOk result (λ count. length text.new.items ≡ length text.old.items + count) }
+    ensures reads { reader.new.calls ≤ reader.old.calls + 1 }
 {
     let Ok(count) = reader.read(piece) else {
         return Err(IoFault::Read);

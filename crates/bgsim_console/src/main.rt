@@ -1,6 +1,10 @@
 //! Judges transcripts of protocols on write-snapshot memory.
 #![tactic(auto)]
 
+ghost use Rattle.std.specs.Prelude.{◌≡◌, ◌≤◌};
+ghost use Rattle.clap.specs.Values.{kind_of};
+ghost use Rattle.bgsim_console.specs.Ends.{ending_status, fault_status, words_status};
+
 mod command_line;
 mod device;
 mod engine;
@@ -28,7 +32,9 @@ fn main(rt: HostRuntime) -> ExitCode {
     ExitCode::from(status(&rt))
 }
 
-fn status(rt: &HostRuntime) -> u8 {
+fn status(rt: &HostRuntime) -> u8
+    ensures { result ≤ 3 }
+{
     let Ok(words) = words(rt) else {
         return fault_status(rt, IoFault::Memory);
     };
@@ -61,7 +67,9 @@ fn check_input<R: Read + Drop>(rt: &HostRuntime, input: R) -> Result<Outcome, Io
     engine::check_io(rt.alloc(), &mut reader, &mut writer)
 }
 
-fn ending_status(rt: &HostRuntime, ending: Result<Outcome, IoFault>) -> u8 {
+fn ending_status(rt: &HostRuntime, ending: Result<Outcome, IoFault>) -> u8
+    ensures { result ≡ ending_status ending }
+{
     match ending {
         Ok(outcome) => outcome.status(),
         Err(fault) => fault_status(rt, fault),
@@ -69,13 +77,17 @@ fn ending_status(rt: &HostRuntime, ending: Result<Outcome, IoFault>) -> u8 {
 }
 
 /// The status of a run that this fault ended, once it is told on standard error.
-fn fault_status(rt: &HostRuntime, fault: IoFault) -> u8 {
+fn fault_status(rt: &HostRuntime, fault: IoFault) -> u8
+    ensures { result ≡ fault_status fault }
+{
     let _ = eprintln!(rt; "bgsim: {fault}");
     fault.status()
 }
 
 /// The status where the words gave no line, once `clap`'s text is printed.
-fn words_status(rt: &HostRuntime, error: &clap::Error) -> u8 {
+fn words_status(rt: &HostRuntime, error: &clap::Error) -> u8
+    ensures { result ≡ words_status (kind_of error.now) }
+{
     if error.kind() == ErrorKind::OutOfMemory {
         return fault_status(rt, IoFault::Memory);
     }

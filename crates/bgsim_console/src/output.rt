@@ -1,6 +1,7 @@
 //! All of the bytes to a writer.
-ghost use Rattle.std.specs.Prelude.{◌≡◌, true, IfErr, OnOk};
+ghost use Rattle.std.specs.Prelude.{◌≡◌, ◌||◌, is_err, IfErr, OnOk};
 ghost use Rattle.std.specs.Io.KnownBytes.{Appends};
+ghost use Rattle.bgsim_console.specs.Writing.{AppendsPart};
 ghost use Rattle.bgsim_console.specs.declared.fault.IoFault.TheVariants.{Write as WriteFault};
 
 use crate::device::Device;
@@ -10,7 +11,8 @@ use std::io::Write;
 /// Writes the output, in as few writes as the writer takes.
 pub fn write_output<W: Write>(writer: &mut Device<W>, output: &[u8]) -> Result<(), IoFault>
     ensures written { OnOk result (Appends (W.contents writer.old.inner) (W.contents writer.new.inner) output.now) }
-    ensures failed { IfErr result (λ fault. (fault ≡ WriteFault) × (writer.new.failed ≡ true)) }
+    ensures part { IfErr result (λ fault. (fault ≡ WriteFault) × AppendsPart (W.contents writer.old.inner) (W.contents writer.new.inner) output.now) }
+    ensures failed { writer.new.failed ≡ (writer.old.failed || is_err result) }
 {
     let mut rest = output;
     while !rest.is_empty() {

@@ -292,3 +292,31 @@ fn slow_and_failing_devices(rt: HostRuntime) -> Result<(), Fail> {
     }
     Ok(())
 }
+
+/// It takes all bytes, and fails when it is to hand them on.
+#[derive(Drop)]
+struct Unflushed {}
+
+impl Write for Unflushed {
+    fn write(&mut self, bytes: &[u8]) -> io::Result<usize> {
+        Ok(bytes.len())
+    }
+
+    fn flush(&mut self) -> io::Result<()> {
+        Err(io::ErrorKind::Other.into())
+    }
+}
+
+#[test]
+fn failing_flush(rt: HostRuntime) -> Result<(), Fail> {
+    let alloc = rt.alloc();
+    let mut device = Device::new(Unflushed {});
+    assert_eq!(rt; device.flush(), Err(DeviceFailed));
+    assert!(rt; device.has_failed());
+    let input = format!(in alloc; "{ONE}events\none 0 write 5\n")?;
+    let mut reader = Device::new(input.as_bytes());
+    let mut writer = Device::new(Unflushed {});
+    let found = engine::check_io(alloc, &mut reader, &mut writer);
+    assert_eq!(rt; found, Err(IoFault::Write));
+    Ok(())
+}

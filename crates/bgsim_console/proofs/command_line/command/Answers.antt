@@ -5,8 +5,8 @@ use Rattle.bgsim_console.specs.CommandLine.{check_shape, plain_shape}
 use Rattle.bgsim_console.proofs.command_line.command.Goals as goal
 
 -- src/command_line.rt:14:1
-pub returns : goal.returns
-returns c =
+pub returns-clause-app : goal.returns-clause-app
+returns-clause-app c =
     let file_is : rule_of c.help-file.result ≡ new_rule (codes "FILE") = search rules in
     let check_is : app_of c.in_ok-check.check ≡ record { top = check_shape; subs = [] } =
     c.in_ok-check.ensures.shape (search rules) ∙ ap₂ with_rule (ap app_of_fields c.override_usage.ensures ∙ ap app_of_fields c.about.ensures ∙ c.new-2.ensures.app) file_is in

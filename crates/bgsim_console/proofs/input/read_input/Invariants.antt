@@ -1,4 +1,4 @@
-use Rattle.std.proofs.Common.{◌≤◌, ◌<◌, ◌-◌, length}
+use Rattle.std.proofs.Common.{◌≡◌, ◌+◌, false, ◌≤◌, ◌<◌, ◌-◌, length}
 use Rattle.std.specs.Io.KnownBytes.{Consumes}
 use Rattle.bgsim_console.proofs.input.read_input.Given as goal
 
@@ -7,6 +7,8 @@ invariant-loop-text g l = record {
   read : Consumes (g.R.Read.remaining l.initial.reader.inner) (g.R.Read.remaining l.reader.inner) l.text.items;
   short : length l.text.items ≤ 16777216;
   piece : 0 < length l.piece.items;
+  sound : l.reader.failed ≡ false;
+  reads : l.reader.calls ≤ l.initial.reader.calls + length l.text.items;
 }
 
 abbrev pub decreases-loop-text : goal.decreases-loop-text

@@ -1,7 +1,7 @@
-use Rattle.std.proofs.Common.{rules, ◌&&◌, ◌≡◌, ◌∙◌, List, ◌++◌, ◌≤◌, subst, ap}
+use Rattle.std.proofs.Common.{rules, ◌&&◌, ◌∙◌, ◌++◌, ◌≤◌, subst, ap}
 use Rattle.std.specs.Prelude.{slice_get, string_bytes}
-use Rattle.history_checker.specs.Verdicts.{Told, specs_of}
-use Rattle.bgsim_console.specs.Check.{Judged, verdict_line}
+use Rattle.history_checker.specs.Verdicts.{specs_of}
+use Rattle.bgsim_console.specs.Check.{verdict_line}
 use Rattle.bgsim_console.proofs.Verdicts.{none_yet, one_more, all_judged, as_many, room_judged, never_none, name_there}
 use Rattle.bgsim_console.proofs.judge.report_on.Goals as goal
 

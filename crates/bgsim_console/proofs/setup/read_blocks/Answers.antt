@@ -1,4 +1,4 @@
-use Rattle.std.proofs.Common.{◌≡◌, ◌∙◌, ◌+◌, ◌≤◌, ◌<◌, false, rules, subst, sym, length, refl}
+use Rattle.std.proofs.Common.{◌≡◌, ◌∙◌, false, rules, subst, sym, length, refl}
 use Rattle.std.specs.Prelude.{codes}
 use Rattle.std.specs.Str.{bytes_eq}
 use Rattle.bgsim_console.proofs.Blocks.{some_bytes, within_text, behind, line_bound, shorter_behind, step_blocks}

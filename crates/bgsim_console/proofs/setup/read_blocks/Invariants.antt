@@ -1,4 +1,4 @@
-use Rattle.std.proofs.Common.{◌≡◌, ◌+◌, ◌<◌, ◌≤◌, ℕ, suc, length}
+use Rattle.std.proofs.Common.{◌≡◌, ◌+◌, ◌≤◌, ℕ, suc, length}
 use Rattle.bgsim_console.specs.Check.{blocks_from, blocks_in}
 use Rattle.bgsim_console.proofs.setup.read_blocks.Given as goal
 

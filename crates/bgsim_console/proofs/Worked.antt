@@ -1,0 +1,34 @@
+-- The definitions at worked values.
+use Rattle.std.proofs.Common.{◌≡◌, [], ◌∷◌, Some, None, refl, codes}
+use Rattle.clap.specs.declared.error.kind.ErrorKind.TheVariants.{MissingSubcommand, UnknownArgument}
+use Rattle.clap.proofs.OnLiterals.{clap_on_literals}
+use Rattle.bgsim_console.specs.CommandLine.{file_named, words_fault}
+
+pub standard_input : file_named [] ≡ None
+standard_input = refl
+
+pub a_file : file_named (codes "rooms.txt" ∷ []) ≡ Some (codes "rooms.txt")
+a_file = refl
+
+pub behind_dashes : file_named (codes "--" ∷ codes "--rooms" ∷ []) ≡ Some (codes "--rooms")
+behind_dashes = refl
+
+pub check_taken : words_fault (codes "check" ∷ []) ≡ []
+unfolding clap_on_literals
+check_taken = refl
+
+pub file_taken : words_fault (codes "check" ∷ codes "rooms.txt" ∷ []) ≡ []
+unfolding clap_on_literals
+file_taken = refl
+
+pub dashes_taken : words_fault (codes "check" ∷ codes "--" ∷ codes "--rooms" ∷ []) ≡ []
+unfolding clap_on_literals
+dashes_taken = refl
+
+pub second_file_refused : words_fault (codes "check" ∷ codes "a" ∷ codes "b" ∷ []) ≡ UnknownArgument ∷ []
+unfolding clap_on_literals
+second_file_refused = refl
+
+pub dashes_alone_refused : words_fault (codes "--" ∷ []) ≡ MissingSubcommand ∷ []
+unfolding clap_on_literals
+dashes_alone_refused = refl
