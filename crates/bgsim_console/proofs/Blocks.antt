@@ -9,7 +9,7 @@ use Rattle.room_spec.specs.Rooms.{RoomSpec}
 use Rattle.room_spec.specs.Texts.{first_line}
 use Rattle.room_spec.specs.Blocks.{body_len, block_len}
 use Rattle.room_spec.specs.Grammar.{EndsAt, text_of}
-use Rattle.history_checker.specs.Verdicts.{RoomState, has_room, specs_of}
+use Rattle.history_checker.specs.Verdicts.{RoomState, HasHeard, has_room, names_of, specs_of}
 use Rattle.bgsim_console.specs.Check.{Setup, refuse, open_room, after_block, blocks_from}
 
 pub some_bytes : (text : List ℕ) (len : ℕ) → EndsAt text len → 0 < len
@@ -54,3 +54,7 @@ pub refused_name : (rooms after : List RoomState) (refused : List ℕ) (line : �
 refused_name rooms after refused line setup room result view_is same known is =
     is ∙ ap (λ (rs : List RoomState). refuse (record { rooms = specs_of rs; refused = refused; line = line }) (codes "41")) same
     ∙ ap (λ (s : Setup). refuse s (codes "41")) view_is ∙ sym (opens setup room (subst (λ (s : Setup). has_room room.name s.rooms ≡ true) view_is known))
+
+-- rooms that stay as they were still have heard nothing, and their names are the same
+pub unheard_still : (rooms after : List RoomState) (names : List (List ℕ)) → after ≡ rooms → HasHeard rooms [] × (names ≡ names_of (specs_of rooms)) → HasHeard after [] × (names ≡ names_of (specs_of after))
+unheard_still rooms after names same before = subst (λ (rs : List RoomState). HasHeard rs [] × (names ≡ names_of (specs_of rs))) (sym same) before

@@ -8,7 +8,7 @@ use Rattle.room_spec.specs.Rooms.{RoomSpec}
 use Rattle.room_spec.specs.Texts.{first_line, later_lines}
 use Rattle.room_spec.specs.Blocks.{block_len, block_in}
 use Rattle.room_spec.specs.declared.fault.SpecFault.{SpecFault}
-use Rattle.room_spec.specs.declared.fault.SpecFault.TheVariants.{Truncated, BadLine, BadName, BadProtocol, Inputs, Simulators, Rounds, Turns, TooWide}
+use Rattle.room_spec.specs.declared.fault.SpecFault.TheVariants.{Truncated, BadLine, BadName, BadProtocol, Inputs, Simulators, Rounds, Turns, TooWide, CrashLine, Repeated}
 use Rattle.transcript.specs.Faults.{code_of as line_code}
 use Rattle.transcript.specs.Lines.{line_in}
 use Rattle.transcript.specs.declared.event.Event.{Event}
@@ -41,6 +41,8 @@ fault_text Simulators = codes "15"
 fault_text Rounds = codes "16"
 fault_text Turns = codes "17"
 fault_text TooWide = codes "18"
+fault_text (CrashLine line) = codes "19 " ++ decimal line
+fault_text (Repeated line) = codes "20 " ++ decimal line
 
 abbrev pub refused_line : ℕ → List ℕ → List ℕ
 refused_line line fault = codes "line " ++ (decimal line ++ (codes " refused " ++ (fault ++ codes "\n")))

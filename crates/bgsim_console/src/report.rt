@@ -26,6 +26,8 @@ pub fn fault_text(alloc: Global, fault: SpecFault) -> Result<String, AllocError>
         SpecFault::Rounds => format!(in alloc; "16"),
         SpecFault::Turns => format!(in alloc; "17"),
         SpecFault::TooWide => format!(in alloc; "18"),
+        SpecFault::CrashLine(line) => format!(in alloc; "19 {line}"),
+        SpecFault::Repeated(line) => format!(in alloc; "20 {line}"),
     }
 }
 

@@ -1,13 +1,15 @@
 //! What the blocks of an input say.
 ghost use Rattle.std.specs.Prelude.{◌≡◌, ◌+◌, ◌<◌, ◌^◌, ◌≤◌, [], Ok, IfOk, IfErr, length, string_bytes, codes};
 ghost use Rattle.bgsim_console.specs.declared.fault.IoFault.TheVariants.{Memory};
+ghost use Rattle.room_spec.specs.Blocks.{block_in};
 ghost use Rattle.bgsim_console.specs.Check.{no_blocks, refuse, open_room, after_block, pass_lines, blocks_in, fault_text, IsFaultOf};
 
 use crate::fault::IoFault;
 use crate::lines::count_lines;
 use crate::report::{fault_text, refused_line};
 use history_checker::{AddFault, Rooms};
-use room_spec::{Name, Spec, block_len, cut, read_block};
+use protocol_lang::ParseFault;
+use room_spec::{Name, Spec, SpecFault, block_len, cut, read_block};
 use std::alloc::{AllocError, Global};
 use std::marker::Model;
 
@@ -28,11 +30,15 @@ pub struct Setup {
 }
 
 impl Model for Setup {
+    ghost use Rattle.std.specs.Coded.{codes};
+    ghost use Rattle.protocol_lang.specs.Codes.{expression_code};
     ghost use Rattle.std.specs.Prelude.{◌≡◌, [], string_bytes};
     ghost use Rattle.history_checker.specs.Verdicts.{HasHeard, specs_of, names_of};
     ghost use Rattle.bgsim_console.specs.Check.{Setup as SetupSpec};
 
     ghost Value = { SetupSpec };
+
+    ghost coded = { Prim.hlevel (codes, expression_code) };
 
     ghost view = { λ setup. record { rooms = specs_of setup.rooms; refused = string_bytes setup.refused; line = setup.line } };
 
@@ -59,7 +65,7 @@ impl Setup {
         ensures err { IfErr result (λ fault. fault ≡ Memory) }
     {
         let lines = count_lines(block);
-        let setup = match read_block(block) {
+        let setup = match read_room(alloc, block)? {
             Ok((spec, _)) => self.open_room(alloc, spec)?,
             Err(fault) => {
                 let text = fault_text(alloc, fault)?;
@@ -99,6 +105,16 @@ impl Setup {
     {
         self.line += count;
         self
+    }
+}
+
+/// Reads a block, unless memory is refused to its protocol.
+fn read_room(alloc: Global, block: &[u8]) -> Result<Result<(Spec, usize), SpecFault>, AllocError>
+    ensures { IfOk result (λ read. read ≡ block_in block.now) }
+{
+    match read_block(alloc, block) {
+        Err(SpecFault::BadProtocol(ParseFault::OutOfMemory)) => Err(AllocError),
+        read => Ok(read),
     }
 }
 

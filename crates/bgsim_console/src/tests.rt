@@ -143,6 +143,15 @@ fn statuses(rt: HostRuntime) {
 const PAIRM: &str =
     "bgsim 1\nroom pair\ninputs 7 3\nsimulators 2\nrounds 1\nturns 100\nprotocol\nfirst input;\nelse decide mine;\nend\n";
 
+const TWO: &str =
+    "bgsim 1\nroom two\ninputs 5\nsimulators 2\nrounds 2\nturns 10\nprotocol\nfirst input;\nwhen round < 2 write mine + 1;\nelse decide max;\nend\n";
+
+const TWICE_CRASHED: &str =
+    "bgsim 1\nroom one\ninputs 5\nsimulators 1\nrounds 1\nturns 10\ncrash 0 after 3\ncrash 0 after 4\nprotocol\nfirst input;\nelse decide mine;\nend\n";
+
+const STRANGER_CRASHED: &str =
+    "bgsim 1\nroom one\ninputs 5\nsimulators 1\nrounds 1\nturns 10\ncrash 1 after 3\nprotocol\nfirst input;\nelse decide mine;\nend\n";
+
 const ONE: &str =
     "bgsim 1\nroom one\ninputs 5\nsimulators 1\nrounds 1\nturns 10\nprotocol\nfirst input;\nelse decide mine;\nend\n";
 
@@ -171,6 +180,27 @@ fn answers(rt: HostRuntime) -> Result<(), Fail> {
             "events\none 1 write 5\n",
             Ok(Outcome::SomeRefused),
             "pair is a run\none is not a run: line 22\n",
+        ),
+        (
+            TWO,
+            "",
+            "events\ntwo 0 write 5\ntwo 0 snap 5\ntwo 0 write 6\ntwo 0 snap 6\ntwo 0 decide 6\n",
+            Ok(Outcome::AllWell),
+            "two is a run\n",
+        ),
+        (
+            TWO,
+            "",
+            "events\ntwo 0 write 5\ntwo 0 snap 5\ntwo 0 write 6\ntwo 0 snap 6\ntwo 0 decide 5\n",
+            Ok(Outcome::SomeRefused),
+            "two is not a run: line 17\n",
+        ),
+        (
+            TWICE_CRASHED,
+            STRANGER_CRASHED,
+            "events\n",
+            Ok(Outcome::SomeRefused),
+            "line 1 refused 20 8\nline 13 refused 19 7\n",
         ),
         (ONE, "", "events\none 0 wrote 5\n", bad(12, 31), ""),
         (ONE, "", "events\none 16 write 5\n", bad(12, 32), ""),

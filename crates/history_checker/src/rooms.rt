@@ -68,9 +68,13 @@ struct Room {
 }
 
 impl Model for Room {
+    ghost use Rattle.std.specs.Coded.{codes};
+    ghost use Rattle.protocol_lang.specs.Codes.{expression_code};
     ghost use Rattle.history_checker.specs.Verdicts.{RoomState};
 
     ghost Value = { RoomState };
+
+    ghost coded = { Prim.hlevel (codes, expression_code) };
 
     ghost view = { λ room. record { spec = room.spec; processes = room.processes.items; broken = room.broken } };
 }
@@ -122,10 +126,14 @@ pub struct Rooms {
 }
 
 impl Model for Rooms {
+    ghost use Rattle.std.specs.Coded.{codes};
+    ghost use Rattle.protocol_lang.specs.Codes.{expression_code};
     ghost use Rattle.std.specs.Prelude.{List, map};
     ghost use Rattle.history_checker.specs.Verdicts.{RoomState, rooms_in, IsKeyed};
 
     ghost Value = { List RoomState };
+
+    ghost coded = { Prim.hlevel (codes, expression_code) };
 
     ghost view = { λ all. rooms_in all.rooms.entries };
 

@@ -13,8 +13,8 @@ const ONE: &str =
 const WRITER: &str =
     "bgsim 1\nroom w\ninputs 5\nsimulators 1\nrounds 2\nturns 10\nprotocol\nfirst input;\nelse write 6;\nend\n";
 
-fn room_of(block: &str) -> Result<Spec, Fail> {
-    let (spec, _) = read_block(block.as_bytes()).ok().ok_or("a block")?;
+fn room_of(alloc: Global, block: &str) -> Result<Spec, Fail> {
+    let (spec, _) = read_block(alloc, block.as_bytes()).ok().ok_or("a block")?;
     Ok(spec)
 }
 
@@ -53,7 +53,7 @@ fn runs(rt: HostRuntime) -> Result<(), Fail> {
         (ONE, ONE_RUN.as_slice()),
         (WRITER, WRITER_RUN.as_slice()),
     ] {
-        let spec = room_of(block)?;
+        let spec = room_of(rt.alloc(), block)?;
         for len in 0..7 {
             let events = start_of(rt.alloc(), run, len)?;
             assert_eq!(rt; check(&spec, &events), Ok(()), "of {len} in {block}");
@@ -84,7 +84,7 @@ fn first_breaks(rt: HostRuntime) -> Result<(), Fail> {
         (WRITER, WRITER_RUN.as_slice(), 3, "w 0 snap 5"),
         (WRITER, WRITER_RUN.as_slice(), 4, "w 0 write 6"),
     ] {
-        let spec = room_of(block)?;
+        let spec = room_of(rt.alloc(), block)?;
         let (_, event) = event_of(odd)?;
         let mut events = start_of(rt.alloc(), run, at)?;
         events.push(event)?;
@@ -96,8 +96,8 @@ fn first_breaks(rt: HostRuntime) -> Result<(), Fail> {
 /// The rooms pair and one.
 fn two_rooms(alloc: Global) -> Result<Rooms, Fail> {
     let mut rooms = Rooms::new(alloc);
-    rooms.add(alloc, room_of(PAIR)?)?;
-    rooms.add(alloc, room_of(ONE)?)?;
+    rooms.add(alloc, room_of(alloc, PAIR)?)?;
+    rooms.add(alloc, room_of(alloc, ONE)?)?;
     Ok(rooms)
 }
 
@@ -166,7 +166,7 @@ fn mixed_rooms(rt: HostRuntime) -> Result<(), Fail> {
 fn refusals(rt: HostRuntime) -> Result<(), Fail> {
     let mut rooms = two_rooms(rt.alloc())?;
     assert_eq!(rt;
-        rooms.add(rt.alloc(), room_of(PAIR)?),
+        rooms.add(rt.alloc(), room_of(rt.alloc(), PAIR)?),
         Err(AddFault::NameTaken)
     );
     let (name, event) = event_of("two 0 write 5")?;

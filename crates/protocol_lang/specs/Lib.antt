@@ -1,6 +1,11 @@
 pub mod Numbers
 pub mod Faults
 pub mod Tokens
-pub mod Reading
+pub mod Stacks
+pub mod Trees
+pub mod Codes
 pub mod Meaning
+pub mod Formulas
+pub mod Reading
 pub mod Grammar
+pub mod Printing

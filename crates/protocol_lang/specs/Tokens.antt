@@ -5,7 +5,17 @@ use Rattle.std.specs.Str.{bytes_eq}
 use Rattle.protocol_lang.specs.declared.token.Word.{Word}
 use Rattle.protocol_lang.specs.declared.token.Word.TheVariants.{First, When, And, Write, Decide, Else, Input, Id, N, Round, Mine, Count, Min, Max, Cell, Seen, Equal}
 use Rattle.protocol_lang.specs.declared.token.Symbol.{Symbol}
+use Rattle.protocol_lang.specs.declared.token.Token.{Token}
+use Rattle.protocol_lang.specs.declared.token.Token.TheVariants as tokens
 use Rattle.protocol_lang.specs.declared.tree.Name.{Name}
+use Rattle.protocol_lang.specs.declared.tree.Call.{Call}
+use Rattle.protocol_lang.specs.declared.tree.Call.TheVariants as calls
+use Rattle.protocol_lang.specs.declared.tree.Operator.{Operator}
+use Rattle.protocol_lang.specs.declared.tree.Operator.TheVariants as operators
+use Rattle.protocol_lang.specs.declared.tree.Comparator.{Comparator}
+use Rattle.protocol_lang.specs.declared.tree.Comparator.TheVariants as comparators
+use Rattle.protocol_lang.specs.declared.tree.Kind.{Kind}
+use Rattle.protocol_lang.specs.declared.tree.Kind.TheVariants as kinds
 use Rattle.protocol_lang.specs.declared.tree.Name.TheVariants as names
 use Rattle.protocol_lang.specs.declared.token.Symbol.TheVariants as symbols
 
@@ -87,3 +97,39 @@ reads_view names.Mine = true
 reads_view names.Count = true
 reads_view names.Min = true
 reads_view names.Max = true
+
+-- the calls among the words
+abbrev pub call_of : Word → Option Call
+call_of Cell = Some calls.Cell
+call_of Seen = Some calls.Seen
+call_of Equal = Some calls.Equal
+call_of word = None
+
+-- the operators among the tokens
+abbrev pub operator_of : Token → Option Operator
+operator_of (tokens.Symbol symbols.Plus) = Some operators.Add
+operator_of (tokens.Symbol symbols.Minus) = Some operators.Subtract
+operator_of (tokens.Symbol symbols.Times) = Some operators.Multiply
+operator_of (tokens.Symbol symbols.Divide) = Some operators.Divide
+operator_of (tokens.Symbol symbols.Remainder) = Some operators.Remainder
+operator_of token = None
+
+-- the comparators among the tokens
+abbrev pub comparator_of : Token → Option Comparator
+comparator_of (tokens.Symbol symbols.Equal) = Some comparators.Equal
+comparator_of (tokens.Symbol symbols.NotEqual) = Some comparators.NotEqual
+comparator_of (tokens.Symbol symbols.Less) = Some comparators.Less
+comparator_of (tokens.Symbol symbols.LessOrEqual) = Some comparators.LessOrEqual
+comparator_of (tokens.Symbol symbols.Greater) = Some comparators.Greater
+comparator_of (tokens.Symbol symbols.GreaterOrEqual) = Some comparators.GreaterOrEqual
+comparator_of token = None
+
+-- `write` and `decide`
+abbrev pub kind_of : Token → Option Kind
+kind_of (tokens.Word Write) = Some kinds.Write
+kind_of (tokens.Word Decide) = Some kinds.Decide
+kind_of token = None
+
+abbrev pub is_end : Token → Bool
+is_end tokens.End = true
+is_end token = false

@@ -1,7 +1,7 @@
 //! A text's tokens, from left to right.
-ghost use Rattle.std.specs.Prelude.{◌≡◌, ◌≤◌, length, IfOk};
+ghost use Rattle.std.specs.Prelude.{◌≡◌, ◌≤◌, ◌<◌, ◌⊎◌, true, length, IfOk};
 ghost use Rattle.std.specs.List.{prefix_len};
-ghost use Rattle.protocol_lang.specs.Tokens.{is_blank, is_letter};
+ghost use Rattle.protocol_lang.specs.Tokens.{is_blank, is_letter, is_end};
 ghost use Rattle.protocol_lang.specs.Numbers.{is_digit, number_of};
 ghost use Rattle.protocol_lang.specs.Reading.{token_and_extent, next_token, number_token};
 
@@ -44,10 +44,11 @@ fn digits(text: &[u8]) -> usize
 
 /// The next token of `text` from the place `from` on, or its own fault.
 #[tactic(auto, unfolding(crate::specs::Reading::next_token))]
-pub fn next_token(text: &[u8], from: usize) -> Result<Placed, ParseFault>
+pub(crate) fn next_token(text: &[u8], from: usize) -> Result<Placed, ParseFault>
     requires { from ≤ length text.now }
     ensures token { result ≡ next_token text.now from }
     ensures within { IfOk result (λ placed. placed.end ≤ length text.now) }
+    ensures onward { IfOk result (λ placed. (is_end placed.token ≡ true) ⊎ (from < placed.end)) }
 {
     let at = from + blanks(&text[from..]);
     let (token, extent) = front_token(&text[at..], at)?;
@@ -63,6 +64,7 @@ pub fn next_token(text: &[u8], from: usize) -> Result<Placed, ParseFault>
 fn front_token(text: &[u8], at: usize) -> Result<(Token, usize), ParseFault>
     ensures token { result ≡ token_and_extent at text.now }
     ensures within { IfOk result (λ read. read.1 ≤ length text.now) }
+    ensures onward { IfOk result (λ read. (is_end read.0 ≡ true) ⊎ (0 < read.1)) }
 {
     match text {
         [] => Ok((Token::End, 0)),

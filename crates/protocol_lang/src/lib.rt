@@ -2,18 +2,26 @@
 #![tactic(auto)]
 
 mod fault;
+mod formula;
 mod lexer;
 mod meaning;
 mod number;
 mod parser;
+mod printer;
 mod protocol;
+mod rules;
+mod situation;
+mod stack;
 mod token;
 mod tree;
 
 pub use fault::ParseFault;
 pub use meaning::{Action, View, first, next};
 pub use number::read_number;
+pub use printer::print;
 pub use protocol::{Protocol, parse, parse_bytes};
 
+#[cfg(test)]
+mod printing_tests;
 #[cfg(test)]
 mod tests;

@@ -1,12 +1,16 @@
 //! What a protocol writes and decides.
-ghost use Rattle.std.specs.Prelude.{◌≡◌, ◌≤◌, min, max, length, unwrap_or};
-ghost use Rattle.std.specs.List.{reduce, fold};
-ghost use Rattle.protocol_lang.specs.Meaning.{entry, present, value_of_name, value_of, action_of, first_value, next_action};
+ghost use Rattle.std.specs.Prelude.{◌≡◌, length};
+ghost use Rattle.std.specs.List.{find, list_all};
+ghost use Rattle.std.specs.Option.{option_map};
+ghost use Rattle.protocol_lang.specs.Meaning.{holds, applies, action, action_of, action_in, first_value, next_action};
 
+use crate::formula::MOST_WAITING;
 use crate::protocol::Protocol;
-use crate::tree::{Command, Expression, Name};
+use crate::rules::{Command, Comparison, Rule, Tree};
+use crate::situation::Situation;
+use crate::stack::Stack;
+use crate::tree::Kind;
 use arrayvec::ArrayVec;
-use std::marker::Model;
 
 /// A snapshot: for each process its last write, or nothing. It has an entry for each process.
 pub type View = ArrayVec<Option<u32>, 16>;
@@ -18,40 +22,12 @@ pub enum Action {
     Decide(u32),
 }
 
-/// What an expression may ask for.
-#[derive(Drop)]
-struct Situation<'a> {
-    input: u32,
-    id: u32,
-    processes: u32,
-    round: u32,
-    view: &'a [Option<u32>],
-}
-
-impl<'a> Model for Situation<'a> {
-    ghost use Rattle.protocol_lang.specs.Meaning.{Situation as Asked};
-
-    ghost Value = { Asked };
-
-    ghost view = { λ s. record { input = s.input; id = s.id; processes = s.processes; round = s.round; view = s.view.now } };
-
-    ghost use Rattle.std.specs.Prelude.{◌≤◌, length};
-
-    ghost invariant = { λ s. length s.view.now ≤ 16 };
-}
-
 /// The first value that the process number `id` of `n` processes writes.
 pub fn first(protocol: &Protocol, input: u32, id: u32, n: u32) -> u32
     ensures { result ≡ first_value protocol.now input id n }
 {
-    let situation = Situation {
-        input,
-        id,
-        processes: n,
-        round: 0,
-        view: &[],
-    };
-    value(protocol.tree.first, &situation)
+    let situation = Situation::new(input, id, n, 0, &[]);
+    protocol.tree.first.value(&situation, &mut Stack::new())
 }
 
 /// What the process number `id` does after its snapshot `view`, before which it made `round`
@@ -59,77 +35,73 @@ pub fn first(protocol: &Protocol, input: u32, id: u32, n: u32) -> u32
 pub fn next(protocol: &Protocol, input: u32, id: u32, round: u32, view: &View) -> Action
     ensures { result ≡ next_action protocol.now input id round view.now.items }
 {
-    let situation = Situation {
-        input,
-        id,
-        processes: view.len() as u32,
-        round,
-        view: view.as_slice(),
-    };
-    match protocol.tree.last {
-        Command::Write(expression) => Action::Write(value(expression, &situation)),
-        Command::Decide(expression) => Action::Decide(value(expression, &situation)),
+    let situation = Situation::new(input, id, view.len() as u32, round, view.as_slice());
+    let mut stack = Stack::new();
+    action_in(&protocol.tree, &situation, &mut stack)
+}
+
+fn action_in(tree: &Tree, situation: &Situation<'_>, stack: &mut Stack<u32, MOST_WAITING>) -> Action
+    ensures { result ≡ action_in tree.now situation.now }
+{
+    match action_by(tree.rules.as_slice(), situation, stack) {
+        Some(action) => action,
+        None => action_of(&tree.last, situation, stack),
     }
 }
 
-fn value(expression: Expression, situation: &Situation<'_>) -> u32
-    ensures { result ≡ value_of expression situation.now }
+/// What the first rule that applies asks for.
+fn action_by(
+    rules: &[Rule],
+    situation: &Situation<'_>,
+    stack: &mut Stack<u32, MOST_WAITING>,
+) -> Option<Action>
+    ensures { result ≡ option_map (λ rule. action_of situation.now rule.command) (find (applies situation.now) rules.now) }
 {
-    match expression {
-        Expression::Number(number) => number,
-        Expression::Name(name) => named(name, situation),
+    for rule in rules {
+        if all_hold(rule.conditions.as_slice(), situation, stack) {
+            return Some(action_of(&rule.command, situation, stack));
+        }
     }
+    None
 }
 
-fn named(name: Name, situation: &Situation<'_>) -> u32
-    ensures { result ≡ value_of_name name situation.now }
+fn all_hold(
+    comparisons: &[Comparison],
+    situation: &Situation<'_>,
+    stack: &mut Stack<u32, MOST_WAITING>,
+) -> bool
+    ensures { result ≡ list_all (holds situation.now) comparisons.now }
 {
-    match name {
-        Name::Input => situation.input,
-        Name::Id => situation.id,
-        Name::N => situation.processes,
-        Name::Round => situation.round,
-        Name::Mine => mine(situation.view, situation.id),
-        Name::Count => count(situation.view),
-        Name::Min => least(situation.view),
-        Name::Max => greatest(situation.view),
+    for comparison in comparisons {
+        if !holds(comparison, situation, stack) {
+            return false;
+        }
     }
+    true
 }
 
-fn mine(view: &[Option<u32>], id: u32) -> u32
-    ensures { result ≡ entry view.now id }
+fn holds(
+    comparison: &Comparison,
+    situation: &Situation<'_>,
+    stack: &mut Stack<u32, MOST_WAITING>,
+) -> bool
+    ensures { result ≡ holds situation.now comparison.now }
 {
-    match view.get(id as usize) {
-        Some(Some(value)) => *value,
-        Some(None) | None => 0,
+    let left = comparison.left.value(situation, stack);
+    let right = comparison.right.value(situation, stack);
+    comparison.comparator.holds(left, right)
+}
+
+fn action_of(
+    command: &Command,
+    situation: &Situation<'_>,
+    stack: &mut Stack<u32, MOST_WAITING>,
+) -> Action
+    ensures { result ≡ action_of situation.now command.now }
+{
+    let value = command.value.value(situation, stack);
+    match command.kind {
+        Kind::Write => Action::Write(value),
+        Kind::Decide => Action::Decide(value),
     }
-}
-
-fn count(view: &[Option<u32>]) -> u32
-    requires { length view.now ≤ 16 }
-    ensures { result ≡ length (present view.now) }
-{
-    view.iter().filter_map(|entry| *entry).count() as u32
-}
-
-fn least(view: &[Option<u32>]) -> u32
-    ensures { result ≡ unwrap_or (reduce min (present view.now)) 0 }
-{
-    let mut least: Option<u32> = None;
-    for entry in view {
-        least = match (least, *entry) {
-            (Some(least), Some(value)) => Some(least.min(value)),
-            (_, None) => least,
-            (None, value) => value,
-        };
-    }
-    least.unwrap_or(0)
-}
-
-fn greatest(view: &[Option<u32>]) -> u32
-    ensures { result ≡ fold max 0 (present view.now) }
-{
-    view.iter()
-        .filter_map(|entry| *entry)
-        .fold(0, |greatest, value| greatest.max(value))
 }

@@ -1,135 +1,535 @@
 //! The grammar, read from left to right.
-ghost use Rattle.std.specs.Prelude.{◌≡◌, ◌≤◌, length, Some, IfOk};
-ghost use Rattle.protocol_lang.specs.Reading.{is_fixed, expected_at, name_expression, expression_of, expression_at, command_at, reading};
+ghost use Rattle.std.specs.Prelude.{◌≡◌, ◌≤◌, ◌<◌, ⊤, [], ◌∷◌, ◌++◌, length, Option, Some, None, Result, Ok, Err, OnOk, IfOk, IfErr, IfSome};
+ghost use Rattle.protocol_lang.specs.Formulas.{trees, after, last_of};
+ghost use Rattle.protocol_lang.specs.Tokens.{operator_of, kind_of};
+ghost use Rattle.protocol_lang.specs.Reading.{Ends, Takes, one_token, IsReading, cleared, opening, step, step_at, operand, word_operand, opened, call_opened, behind, closed, in_outermost, ended, first_ended, left_ended, right_ended, command_ended, last_ended, begun, rule, last, ending, with_waiting, with_operand, behind_operand, with_infix, enclosed, value_read, compared_with, is_hidden, is_first, last_kind, tree_read, fault_at, reading};
 
 use crate::fault::ParseFault;
+use crate::formula::{Draft, Formula, Instruction};
 use crate::lexer::next_token;
+use crate::rules::{Command, Comparison, Conditions, Rule, Rules, Tree};
+use crate::stack::Stack;
 use crate::token::{Symbol, Token, Word};
-use crate::tree::{Command, Expression, Name, Tree};
+use crate::tree::{Call, Comparator, Kind, Name, Operator};
+use std::alloc::{AllocError, Global};
+use std::marker::Model;
+use std::mem;
+
+/// What may stand next.
+#[derive(Clone, Copy)]
+pub enum Expected {
+    /// The word `first`.
+    First,
+    /// A number, a name, a call or an opening parenthesis.
+    Operand,
+    /// The opening parenthesis of a call.
+    Open(Call),
+    /// What may follow an operand.
+    Operator,
+    /// `when` or `else`.
+    Rule,
+    /// `write` or `decide` behind `else`.
+    Last,
+    /// The text's end.
+    End,
+}
+
+/// The part of the text to which an expression belongs.
+#[derive(Clone, Copy)]
+pub enum Part {
+    /// The value of the first write.
+    First,
+    /// The left side of a comparison.
+    Left,
+    /// Its right side.
+    Right(Comparator),
+    /// The value of a rule.
+    Command(Kind),
+    /// The value of the last command.
+    Last(Kind),
+}
+
+/// What opened an expression.
+#[derive(Clone, Copy)]
+pub enum Opener {
+    /// A parenthesis, or nothing where it is the outermost.
+    Group,
+    /// A call.
+    Call(Call),
+}
+
+/// What waits for its right operand within one pair of parentheses: a sum, a product, or both.
+#[derive(Clone, Copy)]
+pub struct Level {
+    pub opener: Opener,
+    pub sum: Option<Operator>,
+    pub product: Option<Operator>,
+}
+
+impl Level {
+    fn new(opener: Opener) -> Level
+        ensures { result ≡ record { opener = opener; sum = None; product = None } }
+    {
+        Level {
+            opener,
+            sum: None,
+            product: None,
+        }
+    }
+}
+
+impl Default for Level {
+    fn default() -> Level {
+        Level::new(Opener::Group)
+    }
+}
+
+/// Why a token can't stand where it stands.
+#[derive(Clone, Copy)]
+pub enum Refusal {
+    Unexpected,
+    TooDeep,
+    TooManyRules,
+    ViewInFirst,
+    /// Nothing is wrong with the token, but memory was refused.
+    OutOfMemory,
+}
+
+impl From<AllocError> for Refusal {
+    ghost use Rattle.std.specs.Prelude.{◌≡◌};
+    ghost use Rattle.protocol_lang.specs.declared.parser.Refusal.{Refusal};
+
+    ghost from_gives = { λ error refusal. refusal ≡ Refusal.OutOfMemory };
+
+    fn from(_: AllocError) -> Refusal {
+        Refusal::OutOfMemory
+    }
+}
+
+impl Refusal {
+    /// The fault of a token at this place.
+    fn at(self, at: usize) -> ParseFault
+        ensures { result ≡ fault_at at self }
+    {
+        match self {
+            Refusal::Unexpected => ParseFault::Unexpected(at),
+            Refusal::TooDeep => ParseFault::TooDeep(at),
+            Refusal::TooManyRules => ParseFault::TooManyRules,
+            Refusal::ViewInFirst => ParseFault::ViewInFirst(at),
+            Refusal::OutOfMemory => ParseFault::OutOfMemory,
+        }
+    }
+}
+
+impl Part {
+    /// Whether the name asks for a view in a place that has none.
+    fn hides(self, name: Name) -> bool
+        ensures { result ≡ is_hidden self name }
+    {
+        match self {
+            Part::First => name.reads_view(),
+            _ => false,
+        }
+    }
+
+    fn is_first(self) -> bool
+        ensures { result ≡ is_first self }
+    {
+        matches!(self, Part::First)
+    }
+
+    fn last_kind(self) -> Kind
+        ensures { result ≡ last_kind self }
+    {
+        match self {
+            Part::Last(kind) => kind,
+            _ => Kind::Write,
+        }
+    }
+}
+
+/// What has been read so far.
+#[derive(Drop)]
+pub struct Parser {
+    alloc: Global,
+    expected: Expected,
+    part: Part,
+    level: Level,
+    outer: Stack<Level, 32>,
+    draft: Draft,
+    left: Formula,
+    conditions: Conditions,
+    rules: Rules,
+    first: Formula,
+}
+
+impl Model for Parser {
+    ghost use Rattle.std.specs.Coded.{codes};
+    ghost use Rattle.protocol_lang.specs.Codes.{expression_code};
+    ghost use Rattle.protocol_lang.specs.Trees.{Expression};
+    ghost use Rattle.protocol_lang.specs.Reading.{State};
+
+    ghost Value = { State Expression };
+
+    ghost coded = { Prim.hlevel (codes, expression_code) };
+
+    ghost view = { λ p. record { expected = p.expected; part = p.part; level = p.level; outer = p.outer; stack = p.draft; left = p.left; conditions = p.conditions; rules = p.rules; first = p.first } };
+}
+
+impl Parser {
+    pub(crate) fn new(alloc: Global) -> Parser
+        ensures { result ≡ opening trees }
+    {
+        Parser {
+            alloc,
+            expected: Expected::First,
+            part: Part::First,
+            level: Level::new(Opener::Group),
+            outer: Stack::new(),
+            draft: Draft::new(alloc),
+            left: Draft::new(alloc).finish(),
+            conditions: Conditions::new(alloc),
+            rules: Rules::new(alloc),
+            first: Draft::new(alloc).finish(),
+        }
+    }
+
+    /// Goes past a token.
+    pub(crate) fn take(&mut self, token: Token) -> Result<(), Refusal>
+        ensures { Ends (step trees self.old token) result self.new }
+    {
+        match self.expected {
+            Expected::First => self.take_first(token),
+            Expected::Operand => self.take_operand(token),
+            Expected::Open(call) => self.take_open(call, token),
+            Expected::Operator => self.take_behind(token),
+            Expected::Rule => self.take_rule(token),
+            Expected::Last => self.take_last(token),
+            Expected::End => self.take_end(token),
+        }
+    }
+
+    fn take_first(&mut self, token: Token) -> Result<(), Refusal>
+        ensures { Ends (begun self.old token) result self.new }
+    {
+        match token {
+            Token::Word(Word::First) => {
+                self.expected = Expected::Operand;
+                Ok(())
+            }
+            _ => Err(Refusal::Unexpected),
+        }
+    }
+
+    fn take_operand(&mut self, token: Token) -> Result<(), Refusal>
+        ensures { Ends (operand trees self.old token) result self.new }
+    {
+        match token {
+            Token::Number(number) => self.read_operand(Instruction::Number(number)),
+            Token::Word(word) => self.take_word(word.name(), word.call()),
+            Token::Symbol(Symbol::Open) => self.open_level(Opener::Group),
+            _ => Err(Refusal::Unexpected),
+        }
+    }
+
+    fn take_word(&mut self, name: Option<Name>, call: Option<Call>) -> Result<(), Refusal>
+        ensures { Ends (word_operand trees self.old name call) result self.new }
+    {
+        match (name, call) {
+            (Some(name), _) if self.part.hides(name) => Err(Refusal::ViewInFirst),
+            (Some(name), _) => self.read_operand(Instruction::Name(name)),
+            (None, Some(_)) if self.part.is_first() => Err(Refusal::ViewInFirst),
+            (None, Some(call)) => {
+                self.expected = Expected::Open(call);
+                Ok(())
+            }
+            (None, None) => Err(Refusal::Unexpected),
+        }
+    }
+
+    fn take_open(&mut self, call: Call, token: Token) -> Result<(), Refusal>
+        ensures { Ends (call_opened call self.old token) result self.new }
+    {
+        match token {
+            Token::Symbol(Symbol::Open) => self.open_level(Opener::Call(call)),
+            _ => Err(Refusal::Unexpected),
+        }
+    }
+
+    fn open_level(&mut self, opener: Opener) -> Result<(), Refusal>
+        ensures { Ends (opened opener self.old) result self.new }
+    {
+        if self.outer.is_full() {
+            return Err(Refusal::TooDeep);
+        }
+        self.outer.push(self.level);
+        self.level = Level::new(opener);
+        self.expected = Expected::Operand;
+        Ok(())
+    }
+
+    fn read_operand(&mut self, instruction: Instruction) -> Result<(), Refusal>
+        ensures { Ends (Ok (with_operand trees instruction self.old)) result self.new }
+    {
+        self.draft.push(instruction)?;
+        self.end_operand()
+    }
+
+    /// Gives a product that waits its right operand.
+    fn end_operand(&mut self) -> Result<(), Refusal>
+        ensures { Ends (Ok (behind_operand trees self.old)) result self.new }
+    {
+        if let Some(operator) = self.level.product {
+            self.draft.push(Instruction::Operate(operator))?;
+        }
+        self.level.product = None;
+        self.expected = Expected::Operator;
+        Ok(())
+    }
+
+    /// Gives a sum that waits its right operand.
+    fn end_sum(&mut self) -> Result<(), Refusal>
+        ensures { Ends (Ok (record self.old { stack = with_waiting trees self.old.level.sum self.old.stack })) result self.new }
+    {
+        if let Some(operator) = self.level.sum {
+            self.draft.push(Instruction::Operate(operator))?;
+        }
+        Ok(())
+    }
+
+    fn take_behind(&mut self, token: Token) -> Result<(), Refusal>
+        ensures { Ends (behind trees self.old token (operator_of token)) result self.new }
+    {
+        match (token.operator(), token) {
+            (Some(operator), _) => self.read_infix(operator),
+            (None, Token::Symbol(Symbol::Close)) => self.close(),
+            (None, _) => self.end_part(token),
+        }
+    }
+
+    fn read_infix(&mut self, operator: Operator) -> Result<(), Refusal>
+        ensures { Ends (Ok (with_infix trees operator self.old)) result self.new }
+    {
+        if operator.is_sum() {
+            self.end_sum()?;
+            self.level.sum = Some(operator);
+        } else {
+            self.level.product = Some(operator);
+        }
+        self.expected = Expected::Operand;
+        Ok(())
+    }
+
+    fn close(&mut self) -> Result<(), Refusal>
+        ensures { Ends (closed trees self.old self.old.outer) result self.new }
+    {
+        let Some(level) = self.outer.pop() else {
+            return Err(Refusal::Unexpected);
+        };
+        self.end_sum()?;
+        if let Opener::Call(call) = self.level.opener {
+            self.draft.push(Instruction::Call(call))?;
+        }
+        self.level = level;
+        self.end_operand()
+    }
+
+    fn end_part(&mut self, token: Token) -> Result<(), Refusal>
+        ensures { Ends (in_outermost trees self.old self.old.outer token) result self.new }
+    {
+        if !self.outer.is_empty() {
+            return Err(Refusal::Unexpected);
+        }
+        match self.part {
+            Part::First => self.end_first(token),
+            Part::Left => self.end_left(token.comparator()),
+            Part::Right(comparator) => self.end_right(comparator, token),
+            Part::Command(kind) => self.end_command(kind, token),
+            Part::Last(_) => self.end_last(token),
+        }
+    }
+
+    /// The expression that ends here.
+    fn take_value(&mut self) -> Result<Formula, Refusal>
+        ensures value { IfOk result (λ value. value ≡ value_read trees self.old) }
+        ensures rest { OnOk result (self.new ≡ cleared self.old) }
+        ensures err { IfErr result (λ refusal. refusal ≡ Refusal.OutOfMemory) }
+    {
+        self.end_sum()?;
+        self.level = Level::new(Opener::Group);
+        let draft = mem::replace(&mut self.draft, Draft::new(self.alloc));
+        Ok(draft.finish())
+    }
+
+    fn end_first(&mut self, token: Token) -> Result<(), Refusal>
+        ensures { Ends (first_ended trees self.old token) result self.new }
+    {
+        let Token::Symbol(Symbol::Semicolon) = token else {
+            return Err(Refusal::Unexpected);
+        };
+        self.first = self.take_value()?;
+        self.expected = Expected::Rule;
+        Ok(())
+    }
+
+    fn end_left(&mut self, comparator: Option<Comparator>) -> Result<(), Refusal>
+        ensures { Ends (left_ended trees self.old comparator) result self.new }
+    {
+        let Some(comparator) = comparator else {
+            return Err(Refusal::Unexpected);
+        };
+        self.left = self.take_value()?;
+        self.part = Part::Right(comparator);
+        self.expected = Expected::Operand;
+        Ok(())
+    }
+
+    fn end_right(&mut self, comparator: Comparator, token: Token) -> Result<(), Refusal>
+        ensures { Ends (right_ended trees comparator self.old token (kind_of token)) result self.new }
+    {
+        match (token.kind(), token) {
+            (Some(kind), _) => self.read_condition(comparator, Part::Command(kind)),
+            (None, Token::Word(Word::And)) if self.conditions.len() < 7 => {
+                self.read_condition(comparator, Part::Left)
+            }
+            (None, _) => Err(Refusal::Unexpected),
+        }
+    }
+
+    fn read_condition(&mut self, comparator: Comparator, part: Part) -> Result<(), Refusal>
+        ensures { Ends (Ok (compared_with trees comparator part self.old)) result self.new }
+    {
+        let right = self.take_value()?;
+        let left = mem::replace(&mut self.left, Draft::new(self.alloc).finish());
+        self.conditions.push(Comparison {
+            left,
+            comparator,
+            right,
+        })?;
+        self.part = part;
+        self.expected = Expected::Operand;
+        Ok(())
+    }
+
+    fn end_command(&mut self, kind: Kind, token: Token) -> Result<(), Refusal>
+        ensures { Ends (command_ended trees kind self.old token) result self.new }
+    {
+        let Token::Symbol(Symbol::Semicolon) = token else {
+            return Err(Refusal::Unexpected);
+        };
+        let value = self.take_value()?;
+        let conditions = mem::replace(&mut self.conditions, Conditions::new(self.alloc));
+        self.rules.push(Rule {
+            conditions,
+            command: Command { kind, value },
+        })?;
+        self.expected = Expected::Rule;
+        Ok(())
+    }
+
+    fn end_last(&mut self, token: Token) -> Result<(), Refusal>
+        ensures { Ends (last_ended self.old token) result self.new }
+    {
+        match token {
+            Token::Symbol(Symbol::Semicolon) => {
+                self.expected = Expected::End;
+                Ok(())
+            }
+            _ => Err(Refusal::Unexpected),
+        }
+    }
+
+    fn take_rule(&mut self, token: Token) -> Result<(), Refusal>
+        ensures { Ends (rule self.old token) result self.new }
+    {
+        match token {
+            Token::Word(Word::When) if self.rules.len() >= 32 => Err(Refusal::TooManyRules),
+            Token::Word(Word::When) => {
+                self.part = Part::Left;
+                self.expected = Expected::Operand;
+                Ok(())
+            }
+            Token::Word(Word::Else) => {
+                self.expected = Expected::Last;
+                Ok(())
+            }
+            _ => Err(Refusal::Unexpected),
+        }
+    }
+
+    fn take_last(&mut self, token: Token) -> Result<(), Refusal>
+        ensures { Ends (last self.old (kind_of token)) result self.new }
+    {
+        let Some(kind) = token.kind() else {
+            return Err(Refusal::Unexpected);
+        };
+        self.part = Part::Last(kind);
+        self.expected = Expected::Operand;
+        Ok(())
+    }
+
+    fn take_end(&mut self, token: Token) -> Result<(), Refusal>
+        ensures { Ends (ending self.old token) result self.new }
+    {
+        match token {
+            Token::End => Ok(()),
+            _ => Err(Refusal::Unexpected),
+        }
+    }
+}
+
+impl Parser {
+    /// Goes past the next token of the text from the place `from` on, and gives the place after it,
+    /// or `None` at the text's end.
+    #[tactic(auto, unfolding(crate::specs::Reading::one_token))]
+    fn take_next(&mut self, text: &[u8], from: usize) -> Result<Option<usize>, ParseFault>
+        requires { from ≤ length text.now }
+        ensures token { Takes (one_token trees text.now from self.old) result self.new }
+        ensures onward { IfOk result (λ end. IfSome end (λ end. (from < end) × (end ≤ length text.now))) }
+    {
+        let placed = next_token(text, from)?;
+        if let Err(refusal) = self.take(placed.token) {
+            return Err(refusal.at(placed.at));
+        }
+        if placed.token.is_end() {
+            Ok(None)
+        } else {
+            Ok(Some(placed.end))
+        }
+    }
+
+    /// The protocol that was read, at the text's end.
+    fn finish(mut self) -> Result<Tree, Refusal>
+        ensures value { IfOk result (λ tree. tree ≡ tree_read trees self) }
+        ensures err { IfErr result (λ refusal. refusal ≡ Refusal.OutOfMemory) }
+    {
+        let kind = self.part.last_kind();
+        let value = self.take_value()?;
+        Ok(Tree {
+            first: self.first,
+            rules: self.rules,
+            last: Command { kind, value },
+        })
+    }
+}
 
 /// The longest text of a protocol, in bytes.
 const MAX_TEXT: usize = 4096;
 
-/// A token that the grammar names by itself.
-#[derive(Clone, Copy)]
-pub enum Fixed {
-    First,
-    Else,
-    Semicolon,
-    End,
-}
-
-impl Fixed {
-    fn is(self, token: Token) -> bool
-        ensures { result ≡ is_fixed self token }
-    {
-        matches!(
-            (self, token),
-            (Fixed::First, Token::Word(Word::First))
-                | (Fixed::Else, Token::Word(Word::Else))
-                | (Fixed::Semicolon, Token::Symbol(Symbol::Semicolon))
-                | (Fixed::End, Token::End)
-        )
-    }
-}
-
-/// Where an expression stands, which decides the names that it may have.
-#[derive(Clone, Copy)]
-pub enum Scope {
-    First,
-    Rule,
-}
-
-/// Goes past the token that has to stand next.
-#[tactic(auto, unfolding(crate::specs::Reading::expected_at))]
-fn expect(wanted: Fixed, text: &[u8], from: usize) -> Result<usize, ParseFault>
-    requires { from ≤ length text.now }
-    ensures place { result ≡ expected_at wanted text.now from }
-    ensures within { IfOk result (λ end. end ≤ length text.now) }
-{
-    let placed = next_token(text, from)?;
-    if wanted.is(placed.token) {
-        Ok(placed.end)
-    } else {
-        Err(ParseFault::Unexpected(placed.at))
-    }
-}
-
-/// The expression that a name is.
-fn name_expression(scope: Scope, name: Name, at: usize) -> Result<Expression, ParseFault>
-    ensures { result ≡ name_expression scope at (Some name) }
-{
-    match scope {
-        Scope::First if name.reads_view() => Err(ParseFault::ViewInFirst(at)),
-        Scope::First | Scope::Rule => Ok(Expression::Name(name)),
-    }
-}
-
-/// The expression that a token is.
-fn expression_from(scope: Scope, token: Token, at: usize) -> Result<Expression, ParseFault>
-    ensures { result ≡ expression_of scope at token }
-{
-    match token {
-        Token::Number(number) => Ok(Expression::Number(number)),
-        Token::Word(word) => match word.name() {
-            Some(name) => name_expression(scope, name, at),
-            None => Err(ParseFault::Unexpected(at)),
-        },
-        Token::Symbol(_) | Token::End => Err(ParseFault::Unexpected(at)),
-    }
-}
-
-/// Reads an expression, and gives the place after it too.
-#[tactic(auto, unfolding(crate::specs::Reading::expression_at))]
-fn read_expression(
-    scope: Scope,
-    text: &[u8],
-    from: usize,
-) -> Result<(Expression, usize), ParseFault>
-    requires { from ≤ length text.now }
-    ensures value { result ≡ expression_at scope text.now from }
-    ensures within { IfOk result (λ read. read.1 ≤ length text.now) }
-{
-    let placed = next_token(text, from)?;
-    let expression = expression_from(scope, placed.token, placed.at)?;
-    Ok((expression, placed.end))
-}
-
-/// Reads `write` or `decide` and its expression, and gives the place after it too.
-#[tactic(auto, unfolding(crate::specs::Reading::command_at))]
-fn read_command(text: &[u8], from: usize) -> Result<(Command, usize), ParseFault>
-    requires { from ≤ length text.now }
-    ensures value { result ≡ command_at text.now from }
-    ensures within { IfOk result (λ read. read.1 ≤ length text.now) }
-{
-    let placed = next_token(text, from)?;
-    match placed.token {
-        Token::Word(Word::Write) => {
-            let (value, end) = read_expression(Scope::Rule, text, placed.end)?;
-            Ok((Command::Write(value), end))
-        }
-        Token::Word(Word::Decide) => {
-            let (value, end) = read_expression(Scope::Rule, text, placed.end)?;
-            Ok((Command::Decide(value), end))
-        }
-        _ => Err(ParseFault::Unexpected(placed.at)),
-    }
-}
-
 /// The tree of a whole text, or its first fault.
-#[tactic(auto, unfolding(crate::specs::Reading::reading, crate::specs::Reading::tree_in))]
-pub fn read(text: &[u8]) -> Result<Tree, ParseFault>
-    ensures { result ≡ reading text.now }
+pub(crate) fn read(alloc: Global, text: &[u8]) -> Result<Tree, ParseFault>
+    ensures { IsReading text.now result }
 {
     if text.len() > MAX_TEXT {
         return Err(ParseFault::TooLong);
     }
-    let at = expect(Fixed::First, text, 0)?;
-    let (first, at) = read_expression(Scope::First, text, at)?;
-    let at = expect(Fixed::Semicolon, text, at)?;
-    let at = expect(Fixed::Else, text, at)?;
-    let (last, at) = read_command(text, at)?;
-    let at = expect(Fixed::Semicolon, text, at)?;
-    expect(Fixed::End, text, at)?;
-    Ok(Tree { first, last })
+    let mut parser = Parser::new(alloc);
+    let mut from = 0;
+    while let Some(end) = parser.take_next(text, from)? {
+        from = end;
+    }
+    match parser.finish() {
+        Ok(tree) => Ok(tree),
+        Err(refusal) => Err(refusal.at(from)),
+    }
 }

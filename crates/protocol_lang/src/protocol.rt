@@ -1,12 +1,13 @@
 //! A protocol that was read.
-ghost use Rattle.std.specs.Prelude.{◌≡◌, ℕ, List, IfOk, IfErr, Ok};
+ghost use Rattle.std.specs.Prelude.{◌≡◌, IfOk, IfErr};
+ghost use Rattle.protocol_lang.specs.Reading.{IsReading, IsReadAs};
+ghost use Rattle.protocol_lang.specs.Trees.{Tree as ProtocolTree};
 ghost use Rattle.protocol_lang.specs.Grammar.{IsText, IsLocal};
-ghost use Rattle.protocol_lang.specs.Reading.{reading};
-ghost use Rattle.protocol_lang.specs.declared.tree.Tree.{Tree as ProtocolTree};
 
 use crate::fault::ParseFault;
 use crate::parser;
-use crate::tree::Tree;
+use crate::rules::Tree;
+use std::alloc::Global;
 use std::marker::Model;
 
 /// A protocol. It is made by [`parse`] and [`parse_bytes`] alone.
@@ -16,36 +17,45 @@ pub struct Protocol {
 }
 
 impl Model for Protocol {
-    ghost use Rattle.protocol_lang.specs.declared.tree.Tree.{Tree};
+    ghost use Rattle.std.specs.Coded.{codes};
+    ghost use Rattle.protocol_lang.specs.Codes.{expression_code};
+    ghost use Rattle.std.specs.Prelude.{ℕ, List};
+    ghost use Rattle.protocol_lang.specs.Trees.{Tree};
+    ghost use Rattle.protocol_lang.specs.Grammar.{IsText};
 
     ghost Value = { Tree };
 
+    ghost coded = { Prim.hlevel (codes, expression_code) };
+
     ghost view = { λ protocol. protocol.tree };
+
+    // It was read from a text.
+    ghost invariant = { λ protocol. (text : List ℕ) × IsText text protocol.tree };
 }
 
 /// Reads a protocol's text.
-pub fn parse(text: &str) -> Result<Protocol, ParseFault>
+pub fn parse(alloc: Global, text: &str) -> Result<Protocol, ParseFault>
     // What is accepted is a text of the grammar.
     ensures found { IfOk result (IsText text.now) }
     // What is a text of the grammar is accepted, with its tree.
-    ensures only { (tree : ProtocolTree) → IsText text.now tree → result ≡ Ok tree }
-    // The fault is the first, and rests on the bytes up to its token's end alone.
-    ensures exact { result ≡ reading text.now }
+    ensures only { (tree : ProtocolTree) → IsText text.now tree → IsReadAs tree result }
+    ensures exact { IsReading text.now result }
+    // A fault rests on the bytes up to its token's end alone.
     ensures local { IfErr result (IsLocal text.now) }
 {
-    parse_bytes(text.as_bytes())
+    parse_bytes(alloc, text.as_bytes())
 }
 
 /// Reads a protocol's text that need not be UTF-8: a byte outside ASCII begins no token.
-pub fn parse_bytes(text: &[u8]) -> Result<Protocol, ParseFault>
+pub fn parse_bytes(alloc: Global, text: &[u8]) -> Result<Protocol, ParseFault>
     // What is accepted is a text of the grammar.
     ensures found { IfOk result (IsText text.now) }
     // What is a text of the grammar is accepted, with its tree.
-    ensures only { (tree : ProtocolTree) → IsText text.now tree → result ≡ Ok tree }
-    // The fault is the first, and rests on the bytes up to its token's end alone.
-    ensures exact { result ≡ reading text.now }
+    ensures only { (tree : ProtocolTree) → IsText text.now tree → IsReadAs tree result }
+    ensures exact { IsReading text.now result }
+    // A fault rests on the bytes up to its token's end alone.
     ensures local { IfErr result (IsLocal text.now) }
 {
-    let tree = parser::read(text)?;
+    let tree = parser::read(alloc, text)?;
     Ok(Protocol { tree })
 }

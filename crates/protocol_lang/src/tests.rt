@@ -7,48 +7,138 @@ fn faults_of_texts(rt: HostRuntime) {
         ("", ParseFault::Unexpected(0)),
         ("first input;", ParseFault::Unexpected(12)),
         ("first in put;", ParseFault::BadToken(6)),
-        ("first input; when", ParseFault::Unexpected(13)),
-        (
-            "first input + 1; else decide mine;",
-            ParseFault::Unexpected(12),
-        ),
-        ("first cell(1);", ParseFault::Unexpected(6)),
-        ("first 1 min;", ParseFault::Unexpected(8)),
-        ("first min;", ParseFault::ViewInFirst(6)),
+        ("=", ParseFault::BadToken(0)),
+        ("first input; else decide min; !", ParseFault::BadToken(30)),
         ("first 007;", ParseFault::BadToken(6)),
         ("first 04294967296;", ParseFault::BadToken(6)),
+        ("4294967296", ParseFault::NumberTooLarge(0)),
         (
             "first input; else decide 4294967296;",
             ParseFault::NumberTooLarge(25),
         ),
+        ("first min;", ParseFault::ViewInFirst(6)),
+        ("first cell(1);", ParseFault::ViewInFirst(6)),
+        ("first 1 + round;", ParseFault::ViewInFirst(10)),
+        ("first 1 min;", ParseFault::Unexpected(8)),
+        (
+            "first input; else decide cell(1;",
+            ParseFault::Unexpected(31),
+        ),
+        (
+            "first input; else decide cell 1;",
+            ParseFault::Unexpected(30),
+        ),
         ("first 1;else decide 2; minn", ParseFault::BadToken(23)),
         ("first 1;else decide 2; min", ParseFault::Unexpected(23)),
+        ("first 1;else decide 2)", ParseFault::Unexpected(21)),
+        ("first 1;when (1 == 1) write 1;", ParseFault::Unexpected(16)),
+        ("first 1;when 1 write 1;", ParseFault::Unexpected(15)),
+        ("first 1;when 1 == 1;", ParseFault::Unexpected(19)),
+        ("first ();", ParseFault::Unexpected(7)),
+        ("first 1 + ;", ParseFault::Unexpected(10)),
     ] {
-        assert_eq!(rt; parse(text).err(), Some(fault), "in {text}");
+        assert_eq!(rt; parse(rt.alloc(), text).err(), Some(fault), "in {text}");
     }
 }
 
 #[test]
 fn faults_of_bytes(rt: HostRuntime) {
     assert_eq!(rt;
-        parse_bytes(b"first in\xFF").err(),
+        parse_bytes(rt.alloc(), b"first in\xFF").err(),
         Some(ParseFault::BadToken(6))
     );
     assert_eq!(rt;
-        parse_bytes(b"first input\xFF").err(),
+        parse_bytes(rt.alloc(), b"first input\xFF").err(),
         Some(ParseFault::BadToken(11))
     );
     assert_eq!(rt;
-        parse_bytes(&[b' '; 4096]).err(),
+        parse_bytes(rt.alloc(), &[b' '; 4096]).err(),
         Some(ParseFault::Unexpected(4096))
     );
-    assert_eq!(rt; parse_bytes(&[b' '; 4097]).err(), Some(ParseFault::TooLong));
+    assert_eq!(rt;
+        parse_bytes(rt.alloc(), &[b' '; 4097]).err(),
+        Some(ParseFault::TooLong)
+    );
     let mut digits = [b'1'; 206];
     digits[..6].copy_from_slice(b"first ");
     assert_eq!(rt;
-        parse_bytes(&digits).err(),
+        parse_bytes(rt.alloc(), &digits).err(),
         Some(ParseFault::NumberTooLarge(6))
     );
+}
+
+/// `head`, and then `part` so many times, and then `tail`.
+fn repeated(
+    rt: &HostRuntime,
+    head: &str,
+    part: &str,
+    count: usize,
+    tail: &str,
+) -> Result<String, Fail> {
+    let mut text = String::from_str(rt.alloc(), head)?;
+    for _ in 0..count {
+        text.push_str(part)?;
+    }
+    text.push_str(tail)?;
+    Ok(text)
+}
+
+#[test]
+fn limits_of_texts(rt: HostRuntime) -> Result<(), Fail> {
+    let deep = repeated(&rt, "first ", "(", 33, "")?;
+    assert_eq!(rt;
+        parse(rt.alloc(), &deep).err(),
+        Some(ParseFault::TooDeep(38))
+    );
+    let calls = repeated(&rt, "first 1;else decide ", "cell(", 33, "")?;
+    assert_eq!(rt;
+        parse(rt.alloc(), &calls).err(),
+        Some(ParseFault::TooDeep(184))
+    );
+    let many = repeated(
+        &rt,
+        "first input;",
+        "when 0 == 0 write 0;",
+        33,
+        "else write 0;",
+    )?;
+    assert_eq!(rt;
+        parse(rt.alloc(), &many).err(),
+        Some(ParseFault::TooManyRules)
+    );
+    let most = repeated(
+        &rt,
+        "first input;",
+        "when 0 == 0 write 0;",
+        32,
+        "else write 0;",
+    )?;
+    assert!(rt; parse(rt.alloc(), &most).is_ok());
+    let eight = repeated(
+        &rt,
+        "first 1;when 0==0",
+        " and 0==0",
+        7,
+        " write 0;else write 0;",
+    )?;
+    assert!(rt; parse(rt.alloc(), &eight).is_ok());
+    let nine = repeated(
+        &rt,
+        "first 1;when 0==0",
+        " and 0==0",
+        8,
+        " write 0;else write 0;",
+    )?;
+    assert_eq!(rt;
+        parse(rt.alloc(), &nine).err(),
+        Some(ParseFault::Unexpected(81))
+    );
+    let chain = repeated(&rt, "first 1", "+1", 2000, ";else write 0;")?;
+    assert_eq!(rt; first(&parse(rt.alloc(), &chain)?, 0, 0, 1), 2001);
+    let nested = repeated(&rt, "first ", "1+2*(", 32, "3")?;
+    let nested = repeated(&rt, &nested, ")", 32, ";else write 0;")?;
+    assert_eq!(rt; first(&parse(rt.alloc(), &nested)?, 0, 0, 1), 4294967295);
+    Ok(())
 }
 
 #[test]
@@ -57,11 +147,38 @@ fn codes_of_faults(rt: HostRuntime) {
         (ParseFault::TooLong, 1),
         (ParseFault::BadToken(9), 2),
         (ParseFault::Unexpected(9), 3),
+        (ParseFault::TooDeep(9), 4),
+        (ParseFault::TooManyRules, 5),
         (ParseFault::ViewInFirst(9), 6),
         (ParseFault::NumberTooLarge(9), 7),
+        (ParseFault::OutOfMemory, 8),
     ] {
         assert_eq!(rt; fault.code(), code);
     }
+}
+
+#[test]
+fn arithmetic(rt: HostRuntime) -> Result<(), Fail> {
+    for (expression, value) in [
+        ("0 - 1", 0),
+        ("4294967295 + 1", 4294967295),
+        ("7 / 0", 0),
+        ("7 % 0", 0),
+        ("2 + 3 * 4 - 1", 13),
+        ("65536 * 65536", 4294967295),
+        ("9 - 4 - 3", 2),
+        ("9 - (4 - 3)", 8),
+        ("64 / 4 / 2", 8),
+        ("64 / (4 / 2)", 32),
+        ("(2 + 3) * 4", 20),
+        ("17 % 7 % 2", 1),
+        ("((((5))))", 5),
+    ] {
+        let text = repeated(&rt, "first ", expression, 1, "; else decide mine;")?;
+        let protocol = parse(rt.alloc(), &text)?;
+        assert_eq!(rt; first(&protocol, 0, 0, 1), value, "in {expression}");
+    }
+    Ok(())
 }
 
 fn view_of(entries: [Option<u32>; 3]) -> View {
@@ -73,42 +190,75 @@ fn view_of(entries: [Option<u32>; 3]) -> View {
 }
 
 #[test]
-fn values_of_names(rt: HostRuntime) -> Result<(), Fail> {
+fn values_in_views(rt: HostRuntime) -> Result<(), Fail> {
     let nothing = view_of([None, None, None]);
     let some = view_of([None, Some(8), Some(6)]);
-    for (text, of_nothing, of_some) in [
-        ("first 1;else write min;", 0, 6),
-        ("first 1;else write max;", 0, 8),
-        ("first 1;else write count;", 0, 2),
-        ("first 1;else write mine;", 0, 8),
-        ("first 1;else write n;", 3, 3),
-        ("first 1;else write round;", 4, 4),
+    for (expression, of_nothing, of_some) in [
+        ("min", 0, 6),
+        ("max", 0, 8),
+        ("count", 0, 2),
+        ("mine", 0, 8),
+        ("n", 3, 3),
+        ("id", 1, 1),
+        ("input", 5, 5),
+        ("round", 4, 4),
+        ("cell(0)", 0, 0),
+        ("cell(2)", 0, 6),
+        ("cell(3)", 0, 0),
+        ("seen(0)", 0, 0),
+        ("seen(1)", 0, 1),
+        ("seen(4294967295)", 0, 0),
+        ("equal(8)", 0, 1),
+        ("equal(0)", 0, 0),
+        ("cell(cell(n - 1) - 5)", 0, 8),
     ] {
-        let protocol = parse(text)?;
+        let text = repeated(&rt, "first 1;else write ", expression, 1, ";")?;
+        let protocol = parse(rt.alloc(), &text)?;
         assert_eq!(rt;
             next(&protocol, 5, 1, 4, &nothing),
             Action::Write(of_nothing),
-            "in {text}"
+            "{expression} of nothing"
         );
         assert_eq!(rt;
             next(&protocol, 5, 1, 4, &some),
             Action::Write(of_some),
-            "in {text}"
+            "{expression}"
         );
     }
     Ok(())
 }
 
 #[test]
-fn first_and_next(rt: HostRuntime) -> Result<(), Fail> {
-    let view = view_of([Some(3), Some(8), Some(6)]);
-    let input = parse("first input;else decide mine;")?;
-    assert_eq!(rt; first(&input, 5, 1, 3), 5);
-    assert_eq!(rt; next(&input, 5, 1, 4, &view), Action::Decide(8));
-    assert_eq!(rt; next(&input, 5, 3, 4, &view), Action::Decide(0));
-    let number = parse("first5;else decide7;")?;
-    assert_eq!(rt; first(&number, 0, 1, 3), 5);
-    assert_eq!(rt; next(&number, 0, 1, 4, &view), Action::Decide(7));
+fn rules(rt: HostRuntime) -> Result<(), Fail> {
+    let view = view_of([Some(3), None, Some(6)]);
+    for (rules, action) in [
+        (
+            "when 1 == 1 write 1; when 1 == 1 write 2;",
+            Action::Write(1),
+        ),
+        (
+            "when 1 == 2 write 1; when 1 != 2 decide 2;",
+            Action::Decide(2),
+        ),
+        ("when 1 == 1 and 1 == 2 write 1;", Action::Decide(9)),
+        ("when 1 < 1 write 1; when 1 <= 1 write 2;", Action::Write(2)),
+        ("when 1 > 1 write 1; when 1 >= 1 write 2;", Action::Write(2)),
+        ("when 2 > 1 write 1;", Action::Write(1)),
+        ("when 1 < 2 decide min;", Action::Decide(3)),
+        ("when 1 != 1 write 1;", Action::Decide(9)),
+        (
+            "when count >= n - 1 and round < 2 write max;",
+            Action::Write(6),
+        ),
+        ("when count >= n write max;", Action::Decide(9)),
+    ] {
+        let text = repeated(&rt, "first 1;", rules, 1, "else decide 9;")?;
+        let protocol = parse(rt.alloc(), &text)?;
+        assert_eq!(rt; next(&protocol, 5, 1, 1, &view), action, "in {rules}");
+    }
+    let close = parse(rt.alloc(), "first5;when 0==0and 1==1decide7;else write 0;")?;
+    assert_eq!(rt; first(&close, 0, 1, 3), 5);
+    assert_eq!(rt; next(&close, 0, 1, 4, &view), Action::Decide(7));
     Ok(())
 }
 

@@ -1,8 +1,8 @@
 //! The tokens of the language.
 ghost use Rattle.std.specs.Prelude.{◌≡◌, ◌≤◌, length, IfSome};
-ghost use Rattle.protocol_lang.specs.Tokens.{word_of, symbol_of, symbol_spelling, name_of};
+ghost use Rattle.protocol_lang.specs.Tokens.{is_end, word_of, symbol_of, symbol_spelling, name_of, call_of, operator_of, comparator_of, kind_of};
 
-use crate::tree::Name;
+use crate::tree::{Call, Comparator, Kind, Name, Operator};
 
 /// A word of the language.
 #[derive(Clone, Copy, PartialEq, Eq)]
@@ -57,7 +57,7 @@ pub enum Token {
 
 impl Word {
     /// The word that these letters spell.
-    pub fn spelled(letters: &[u8]) -> Option<Word>
+    pub(crate) fn spelled(letters: &[u8]) -> Option<Word>
         ensures { result ≡ word_of letters.now }
     {
         match letters {
@@ -85,7 +85,7 @@ impl Word {
 
 impl Word {
     /// The name that the word is.
-    pub fn name(self) -> Option<Name>
+    pub(crate) fn name(self) -> Option<Name>
         ensures { result ≡ name_of self }
     {
         match self {
@@ -102,9 +102,72 @@ impl Word {
     }
 }
 
+impl Word {
+    /// The call that the word begins.
+    pub(crate) fn call(self) -> Option<Call>
+        ensures { result ≡ call_of self }
+    {
+        match self {
+            Word::Cell => Some(Call::Cell),
+            Word::Seen => Some(Call::Seen),
+            Word::Equal => Some(Call::Equal),
+            _ => None,
+        }
+    }
+}
+
+impl Token {
+    /// Whether it is the text's end.
+    pub(crate) fn is_end(self) -> bool
+        ensures { result ≡ is_end self }
+    {
+        matches!(self, Token::End)
+    }
+
+    /// The operator that the token is.
+    pub(crate) fn operator(self) -> Option<Operator>
+        ensures { result ≡ operator_of self }
+    {
+        match self {
+            Token::Symbol(Symbol::Plus) => Some(Operator::Add),
+            Token::Symbol(Symbol::Minus) => Some(Operator::Subtract),
+            Token::Symbol(Symbol::Times) => Some(Operator::Multiply),
+            Token::Symbol(Symbol::Divide) => Some(Operator::Divide),
+            Token::Symbol(Symbol::Remainder) => Some(Operator::Remainder),
+            _ => None,
+        }
+    }
+
+    /// The comparator that the token is.
+    pub(crate) fn comparator(self) -> Option<Comparator>
+        ensures { result ≡ comparator_of self }
+    {
+        match self {
+            Token::Symbol(Symbol::Equal) => Some(Comparator::Equal),
+            Token::Symbol(Symbol::NotEqual) => Some(Comparator::NotEqual),
+            Token::Symbol(Symbol::Less) => Some(Comparator::Less),
+            Token::Symbol(Symbol::LessOrEqual) => Some(Comparator::LessOrEqual),
+            Token::Symbol(Symbol::Greater) => Some(Comparator::Greater),
+            Token::Symbol(Symbol::GreaterOrEqual) => Some(Comparator::GreaterOrEqual),
+            _ => None,
+        }
+    }
+
+    /// What the token asks to do with a value: `write` or `decide`.
+    pub(crate) fn kind(self) -> Option<Kind>
+        ensures { result ≡ kind_of self }
+    {
+        match self {
+            Token::Word(Word::Write) => Some(Kind::Write),
+            Token::Word(Word::Decide) => Some(Kind::Decide),
+            _ => None,
+        }
+    }
+}
+
 impl Symbol {
     /// The longest symbol at the front of a text.
-    pub fn at_front(text: &[u8]) -> Option<Symbol>
+    pub(crate) fn at_front(text: &[u8]) -> Option<Symbol>
         ensures symbol { result ≡ symbol_of text.now }
         ensures within { IfSome result (λ symbol. length (symbol_spelling symbol) ≤ length text.now) }
     {
@@ -128,7 +191,7 @@ impl Symbol {
     }
 
     /// How many bytes it takes, 1 or 2.
-    pub fn len(self) -> usize
+    pub(crate) fn len(self) -> usize
         ensures { result ≡ length (symbol_spelling self) }
     {
         match self {

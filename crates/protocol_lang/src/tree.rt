@@ -1,6 +1,8 @@
-//! What a text of the language says, as a tree.
+//! The parts of expressions, comparisons and rules.
 ghost use Rattle.std.specs.Prelude.{◌≡◌};
 ghost use Rattle.protocol_lang.specs.Tokens.{reads_view};
+ghost use Rattle.protocol_lang.specs.Trees.{is_sum};
+ghost use Rattle.protocol_lang.specs.Meaning.{operated, compared};
 
 /// A word that stands for a value.
 #[derive(Clone, Copy, Debug, PartialEq, Eq)]
@@ -25,30 +27,91 @@ pub enum Name {
 
 impl Name {
     /// Whether the value comes from the view, which is not there before the first write.
-    pub fn reads_view(self) -> bool
+    pub(crate) fn reads_view(self) -> bool
         ensures { result ≡ reads_view self }
     {
         !matches!(self, Name::Input | Name::Id | Name::N)
     }
 }
 
-/// An expression.
+/// A word that asks the view for something, by an expression in parentheses.
 #[derive(Clone, Copy, Debug, PartialEq, Eq)]
-pub enum Expression {
-    Number(u32),
-    Name(Name),
+pub enum Call {
+    /// The entry of this number, or 0.
+    Cell,
+    /// 1 where the entry of this number is there, or 0.
+    Seen,
+    /// How many entries are there and have this value.
+    Equal,
 }
 
-/// What a rule asks for.
+/// An operator on two values.
 #[derive(Clone, Copy, Debug, PartialEq, Eq)]
-pub enum Command {
-    Write(Expression),
-    Decide(Expression),
+pub enum Operator {
+    /// Stops at 4294967295.
+    Add,
+    /// Stops at 0.
+    Subtract,
+    /// Stops at 4294967295.
+    Multiply,
+    /// 0 where the divisor is 0.
+    Divide,
+    /// 0 where the divisor is 0.
+    Remainder,
 }
 
-/// A protocol's text as a tree: the first value, and the rule that holds where no other does.
+impl Operator {
+    /// Whether it makes a sum or difference; the others are of the stronger kind.
+    pub(crate) fn is_sum(self) -> bool
+        ensures { result ≡ is_sum self }
+    {
+        matches!(self, Operator::Add | Operator::Subtract)
+    }
+
+    /// What it makes of two values.
+    pub(crate) fn of(self, left: u32, right: u32) -> u32
+        ensures { result ≡ operated self left right }
+    {
+        match self {
+            Operator::Add => left.saturating_add(right),
+            Operator::Subtract => left.saturating_sub(right),
+            Operator::Multiply => left.saturating_mul(right),
+            Operator::Divide => left.checked_div(right).unwrap_or(0),
+            Operator::Remainder => left.checked_rem(right).unwrap_or(0),
+        }
+    }
+}
+
+/// How a rule compares two values.
 #[derive(Clone, Copy, Debug, PartialEq, Eq)]
-pub struct Tree {
-    pub first: Expression,
-    pub last: Command,
+pub enum Comparator {
+    Equal,
+    NotEqual,
+    Less,
+    LessOrEqual,
+    Greater,
+    GreaterOrEqual,
+}
+
+impl Comparator {
+    /// Whether it holds of two values.
+    pub(crate) fn holds(self, left: u32, right: u32) -> bool
+        ensures { result ≡ compared self left right }
+    {
+        match self {
+            Comparator::Equal => left == right,
+            Comparator::NotEqual => left != right,
+            Comparator::Less => left < right,
+            Comparator::LessOrEqual => left <= right,
+            Comparator::Greater => left > right,
+            Comparator::GreaterOrEqual => left >= right,
+        }
+    }
+}
+
+/// What a rule does with its value.
+#[derive(Clone, Copy, Debug, PartialEq, Eq)]
+pub enum Kind {
+    Write,
+    Decide,
 }

@@ -14,7 +14,7 @@ use Rattle.std.proofs.lemmas.Slice.Eq.{bytes_eq-Decides, starts_is}
 use Rattle.protocol_lang.specs.Numbers.{greatest, number_of}
 use Rattle.room_spec.specs.Names.{is_name}
 use Rattle.room_spec.specs.Texts.{is_space, first_line, later_lines, fields_of}
-use Rattle.room_spec.specs.Blocks.{◌>>=◌, value_after, version_line, named, name_line, with_number, numbers_of, inputs_of, is_value, are_inputs, in_range, inputs_line, up_to, number_line, protocol_line}
+use Rattle.room_spec.specs.Blocks.{◌>>=◌, value_after, version_line, named, name_line, with_number, numbers_of, inputs_of, is_value, are_inputs, in_range, inputs_line, up_to, number_line}
 use Rattle.room_spec.specs.declared.fault.SpecFault.{SpecFault}
 use Rattle.room_spec.specs.declared.fault.SpecFault.TheVariants.{BadLine, BadName, Inputs}
 use Rattle.room_spec.proofs.Lines.{passes_none, pass_none, pieces_cut, pieces_one}
@@ -50,22 +50,14 @@ version_found text rest e =
 pub version_again : (text : List ℕ) → first_line text ≡ codes "bgsim 1" → version_line text ≡ Ok (later_lines text)
 version_again text is = cond-true _ _ _ ((bytes_eq-Decides (first_line text) (codes "bgsim 1")).1 is)
 
-pub protocol_found : (text rest : List ℕ) → protocol_line text ≡ Ok rest → (first_line text ≡ codes "protocol") × (later_lines text ≡ rest)
-protocol_found text rest e =
-    let parts = guard_ok (bytes_eq (first_line text) (codes "protocol")) (BadLine 7) (later_lines text) rest e in
-    ((bytes_eq-Decides (first_line text) (codes "protocol")).0 parts.0, parts.1)
-
-pub protocol_again : (text : List ℕ) → first_line text ≡ codes "protocol" → protocol_line text ≡ Ok (later_lines text)
-protocol_again text is = cond-true _ _ _ ((bytes_eq-Decides (first_line text) (codes "protocol")).1 is)
-
 -- ---- lines of a word and a value
 
-value_found : (word line value : List ℕ) → value_after word line ≡ Some value → line ≡ word ++ value
+pub value_found : (word line value : List ℕ) → value_after word line ≡ Some value → line ≡ word ++ value
 value_found word line value e =
     let parts = cond_some (starts_with nat_eq line word) (drop (length word) line) value e in
     (starts_is Decides-eqb line word (starts_with nat_eq line word) refl).0 parts.0 ∙ ap (λ (v : List ℕ). word ++ v) parts.1
 
-value_again : (word line value : List ℕ) → line ≡ word ++ value → value_after word line ≡ Some value
+pub value_again : (word line value : List ℕ) → line ≡ word ++ value → value_after word line ≡ Some value
 value_again word line value is =
     let starts : starts_with nat_eq line word ≡ true = (starts_is Decides-eqb line word (starts_with nat_eq line word) refl).1 value is in
     rw starts (ap Some (ap (drop (length word)) is ∙ drop_at word value (length word) refl))
@@ -129,7 +121,7 @@ test_found : (b : Bool) (found : Option (List ℕ)) (values : List ℕ) → cond
 test_found true found values e = (refl, e)
 test_found false found values e = absurd cc
 
-small_value : (value : ℕ) → is_value value ≡ true → value < 2 ^ 64
+pub small_value : (value : ℕ) → is_value value ≡ true → value < 2 ^ 64
 small_value value is = omega (arith, leb-true value greatest is)
 
 values_found : (fields : List (List ℕ)) (values : List ℕ) → numbers_of fields ≡ Some values → list_all is_value values ≡ true → fields ≡ map decimal values
@@ -164,7 +156,7 @@ inputs_found text read e =
     (sym (join_with_byte-slice_split 32 (first_line text)) ∙ ap (join_with_byte 32) pieces, parts.1, values.1)
 
 -- pieces that have no such byte come back from where they are joined by it
-pieces_again : (p : ℕ → Bool) (byte : ℕ) (piece : List ℕ) (pieces : List (List ℕ)) → p byte ≡ true → pass_none p (piece ∷ pieces) ≡ true → slice_split p (join_with_byte byte (piece ∷ pieces)) ≡ piece ∷ pieces
+pub pieces_again : (p : ℕ → Bool) (byte : ℕ) (piece : List ℕ) (pieces : List (List ℕ)) → p byte ≡ true → pass_none p (piece ∷ pieces) ≡ true → slice_split p (join_with_byte byte (piece ∷ pieces)) ≡ piece ∷ pieces
 pieces_again p byte piece [] is all = pieces_one p piece (and_parts (passes_none p piece) true all).0
 pieces_again p byte piece (next ∷ pieces) is all =
     let parts = and_parts (passes_none p piece) (pass_none p (next ∷ pieces)) all in

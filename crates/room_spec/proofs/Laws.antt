@@ -1,11 +1,11 @@
 -- What is read is a block, and what is a block is read.
-use Rattle.std.proofs.Common.{◌≡◌, ◌≢◌, ℕ, ◌+◌, ◌*◌, ◌^◌, ◌<◌, ◌≤◌, min, true, false, not, List, [], ◌∷◌, ◌++◌, length, take, map, Option, Some, Result, Ok, Err, refl, sym, ap, ◌∙◌, subst, arith}
-use Rattle.std.specs.Prelude.{codes, nat_le}
+use Rattle.std.proofs.Common.{◌≡◌, ◌≢◌, ℕ, ◌+◌, ◌*◌, ◌^◌, ◌<◌, ◌≤◌, min, true, false, not, zero, suc, List, [], ◌∷◌, ◌++◌, length, take, map, Option, Some, None, Result, Ok, Err, refl, sym, ap, ◌∙◌, subst, arith}
+use Rattle.std.specs.Prelude.{codes, nat_le, nat_lt}
 use Rattle.std.specs.List.{join_with_byte, list_all}
 use Rattle.std.specs.Fmt.{decimal}
-use Rattle.std.proofs.lemmas.Bool.{and_parts, and_from, leb-true, le-leb}
+use Rattle.std.proofs.lemmas.Bool.{and_parts, and_from, leb-true, le-leb, ltb-true}
 use Rattle.std.proofs.lemmas.Bool.Decides.{nat_tests}
-use Rattle.std.proofs.lemmas.List.{take_at, append_assoc, length-append}
+use Rattle.std.proofs.lemmas.List.{take_at, append_assoc, append-nil, length-append}
 use Rattle.std.proofs.lemmas.List.Concat.{flat_map-append}
 use Rattle.std.proofs.lemmas.List.Folds.{list_all-append}
 use Rattle.protocol_lang.specs.Numbers.{greatest}
@@ -13,16 +13,17 @@ use Rattle.protocol_lang.specs.Reading.{reading}
 use Rattle.protocol_lang.specs.declared.protocol.Protocol.{Protocol}
 use Rattle.protocol_lang.specs.declared.fault.ParseFault.{ParseFault}
 use Rattle.room_spec.specs.Names.{is_name, is_name_byte}
-use Rattle.room_spec.specs.Rooms.{RoomSpec, IsShape, IsWithinLimits, bits_of}
+use Rattle.room_spec.specs.Rooms.{RoomSpec, AreFuses, IsShape, IsWithinLimits, bits_of}
 use Rattle.room_spec.specs.Texts.{is_line_end, first_line, later_lines}
-use Rattle.room_spec.specs.Blocks.{◌>>=◌, is_end, body_len, version_line, name_line, is_value, are_inputs, inputs_line, number_line, fitting, protocol_line, protocol_of, room_in, block_in}
-use Rattle.room_spec.specs.Grammar.{line_end, is_line, text_of, are_before_end, head_lines, block_text, IsInFront, IsBlock}
+use Rattle.room_spec.specs.Blocks.{◌>>=◌, is_end, body_len, version_line, name_line, is_value, are_inputs, inputs_line, number_line, fitting, onward, told_next, fuses_from, fuse_lines, protocol_of, room_in, block_in}
+use Rattle.room_spec.specs.Grammar.{line_end, is_line, text_of, are_before_end, crash_line, head_lines, block_text, IsInFront, IsBlock}
 use Rattle.room_spec.specs.declared.fault.SpecFault.{SpecFault}
 use Rattle.room_spec.specs.declared.fault.SpecFault.TheVariants.{Simulators, Rounds, Turns, TooWide}
 use Rattle.room_spec.proofs.Lines.{are_lines, first_line-text_of, later_lines-text_of}
 use Rattle.room_spec.proofs.Ends.{with_line_end, line_before, end_found, end_at, front_from, front_to, are_lines-before_end}
 use Rattle.room_spec.proofs.Numerals.{each_passes, decimal_passes, digit_no_line_end}
-use Rattle.room_spec.proofs.Heads.{bind_ok, guard_ok, ok_is, version_found, version_again, protocol_found, protocol_again, name_found, name_again, number_found, number_again, inputs_are_values, inputs_found, inputs_again}
+use Rattle.room_spec.proofs.Fuses.{fuses_few, fuses_apart, fuses_pushed, no_fuses, tells_fuse, tells_protocol, crash_line_found, crash_line_again}
+use Rattle.room_spec.proofs.Heads.{small_value, bind_ok, guard_ok, ok_is, version_found, version_again, name_found, name_again, number_found, number_again, inputs_are_values, inputs_found, inputs_again}
 
 -- ---- one line after the other
 
@@ -49,14 +50,14 @@ takes text (top ∷ lines) line rest is all some first later =
 
 -- ---- what is read line by line, from a line on
 
-abbrev pub from_text : List ℕ → List ℕ → ℕ → ℕ → ℕ → List ℕ → Result RoomSpec SpecFault
-from_text name inputs simulators rounds turns text = protocol_of (reading text) >>= λ protocol. Ok (record { name = name; inputs = inputs; simulators = simulators; rounds = rounds; turns = turns; protocol = protocol })
+abbrev pub from_text : List ℕ → List ℕ → ℕ → ℕ → ℕ → List (ℕ × ℕ) → List ℕ → Result RoomSpec SpecFault
+from_text name inputs simulators rounds turns fuses text = protocol_of (reading text) >>= λ protocol. Ok (record { name = name; inputs = inputs; simulators = simulators; rounds = rounds; turns = turns; fuses = fuses; protocol = protocol })
 
-abbrev pub from_protocol : List ℕ → List ℕ → ℕ → ℕ → ℕ → List ℕ → Result RoomSpec SpecFault
-from_protocol name inputs simulators rounds turns text = protocol_line text >>= from_text name inputs simulators rounds turns
+abbrev pub from_fuses : List ℕ → List ℕ → ℕ → ℕ → ℕ → List ℕ → Result RoomSpec SpecFault
+from_fuses name inputs simulators rounds turns text = fuse_lines simulators text >>= λ fuses. from_text name inputs simulators rounds turns fuses.0 fuses.1
 
 abbrev pub from_turns : List ℕ → List ℕ → ℕ → ℕ → List ℕ → Result RoomSpec SpecFault
-from_turns name inputs simulators rounds text = number_line 6 (codes "turns ") 65535 Turns text >>= λ turns. from_protocol name inputs simulators rounds turns.0 turns.1
+from_turns name inputs simulators rounds text = number_line 6 (codes "turns ") 65535 Turns text >>= λ turns. from_fuses name inputs simulators rounds turns.0 turns.1
 
 abbrev pub from_fitting : List ℕ → List ℕ → ℕ → ℕ → List ℕ → Result RoomSpec SpecFault
 from_fitting name inputs simulators rounds text = fitting (simulators * length inputs * bits_of rounds) >>= λ bits. from_turns name inputs simulators rounds text
@@ -79,6 +80,7 @@ from_name text = name_line text >>= λ name. from_inputs name.0 name.1
 pub record AreRoom (lines : List (List ℕ)) (room : RoomSpec) : Type 0 where
   pub limits : IsWithinLimits room
   pub inputs : list_all is_value room.inputs ≡ true
+  pub fuses : list_all (λ fuse. is_value fuse.1) room.fuses ≡ true
   pub more : List (List ℕ)
   pub parts : lines ≡ head_lines room ++ more
   pub protocol : reading (text_of more) ≡ Ok room.protocol
@@ -101,28 +103,95 @@ record Found (name inputs : List ℕ) (simulators rounds turns : ℕ) (lines hea
   parts : lines ≡ head ++ more
   protocol : reading (text_of more) ≡ Ok room.protocol
 
-found_protocol : (name inputs : List ℕ) (simulators rounds turns : ℕ) (text : List ℕ) (lines : List (List ℕ)) (room : RoomSpec) → text ≡ text_of lines → are_lines lines ≡ true → from_protocol name inputs simulators rounds turns text ≡ Ok room → Found name inputs simulators rounds turns lines (codes "protocol" ∷ []) room
-found_protocol name inputs simulators rounds turns text lines room is all read =
-    let line = bind_ok (protocol_line text) (from_text name inputs simulators rounds turns) room read in
-    let says = protocol_found text line.0 line.1 in
-    let taken = takes text lines (codes "protocol") line.0 is all (cons_some _ _) says.0 says.1 in
-    let protocol = bind_ok (protocol_of (reading line.0)) (λ protocol. Ok (record { name = name; inputs = inputs; simulators = simulators; rounds = rounds; turns = turns; protocol = protocol })) room line.2 in
-    let made : record { name = name; inputs = inputs; simulators = simulators; rounds = rounds; turns = turns; protocol = protocol.0 } ≡ room = ok_is _ room protocol.2 in
-    subst (λ (r : RoomSpec). Found name inputs simulators rounds turns lines (codes "protocol" ∷ []) r) made
-    (record {
-      name_is = refl;
-      inputs_is = refl;
-      simulators_is = refl;
-      rounds_is = refl;
-      turns_is = refl;
+-- the crash lines of the new fuses, and the line `protocol` behind them
+record SaysFuses (m : ℕ) (fuses : List (ℕ × ℕ)) (lines : List (List ℕ)) (read : List (ℕ × ℕ) × List ℕ) : Type 0 where
+  new : List (ℕ × ℕ)
+  all : read.0 ≡ fuses ++ new
+  more : List (List ℕ)
+  parts : lines ≡ map crash_line new ++ codes "protocol" ∷ more
+  rest_is : read.1 ≡ text_of more
+  whole : are_lines more ≡ true
+  are : AreFuses read.0 m
+  values : list_all (λ fuse. is_value fuse.1) read.0 ≡ true
+
+protocol_says : (m : ℕ) (fuses : List (ℕ × ℕ)) (lines : List (List ℕ)) (line rest : List ℕ) (read : List (ℕ × ℕ) × List ℕ) → AreFuses fuses m → list_all (λ fuse. is_value fuse.1) fuses ≡ true → Takes lines line rest → line ≡ codes "protocol" → (fuses, rest) ≡ read → SaysFuses m fuses lines read
+protocol_says m fuses lines line rest read are values taken is same =
+    let says : SaysFuses m fuses lines (fuses, rest) = record {
+      new = [];
+      all = sym (append-nil fuses);
       more = taken.more;
-      parts = taken.parts;
-      protocol = ap reading (sym taken.rest_is) ∙ protocol_read (reading line.0) protocol.0 protocol.1;
-    })
+      parts = taken.parts ∙ ap (λ (l : List ℕ). l ∷ taken.more) is;
+      rest_is = taken.rest_is;
+      whole = taken.whole;
+      are = are;
+      values = values;
+    } in
+    subst (λ (r : List (ℕ × ℕ) × List ℕ). SaysFuses m fuses lines r) same says
+
+fuse_says : (m : ℕ) (fuses : List (ℕ × ℕ)) (fuse : ℕ × ℕ) (lines : List (List ℕ)) (line rest : List ℕ) (read : List (ℕ × ℕ) × List ℕ) → (taken : Takes lines line rest) → line ≡ crash_line fuse → SaysFuses m (fuses ++ fuse ∷ []) taken.more read → SaysFuses m fuses lines read
+fuse_says m fuses fuse lines line rest read taken is says = record {
+  new = fuse ∷ says.new;
+  all = says.all ∙ append_assoc fuses (fuse ∷ []) says.new;
+  more = says.more;
+  parts = taken.parts ∙ ap (λ (l : List ℕ). l ∷ taken.more) is ∙ ap (λ (l : List (List ℕ)). crash_line fuse ∷ l) says.parts;
+  rest_is = says.rest_is;
+  whole = says.whole;
+  are = says.are;
+  values = says.values;
+}
+
+told_some : (m : ℕ) (fuses : List (ℕ × ℕ)) (line : List ℕ) (found : Option (ℕ × ℕ)) → told_next m fuses line ≡ Ok found → line ≢ []
+told_some m fuses line found told empty = absurd (let h : told_next m fuses [] ≡ Ok found = sym (ap (told_next m fuses) empty) ∙ told in cc)
+
+values_pushed : (fuses : List (ℕ × ℕ)) (fuse : ℕ × ℕ) → list_all (λ f. is_value f.1) fuses ≡ true → is_value fuse.1 ≡ true → list_all (λ f. is_value f.1) (fuses ++ fuse ∷ []) ≡ true
+values_pushed fuses fuse all is = list_all-append (λ (f : ℕ × ℕ). is_value f.1) fuses (fuse ∷ []) ∙ and_from (list_all (λ f. is_value f.1) fuses) (list_all (λ f. is_value f.1) (fuse ∷ [])) all (and_from (is_value fuse.1) true is refl)
+
+onward_found : (most m : ℕ) (fuses : List (ℕ × ℕ)) (line rest : List ℕ) (lines : List (List ℕ)) (found : Option (ℕ × ℕ)) (read : List (ℕ × ℕ) × List ℕ) → m ≤ 8 → Takes lines line rest → AreFuses fuses m → list_all (λ fuse. is_value fuse.1) fuses ≡ true → ((fuse : ℕ × ℕ) (more : List (List ℕ)) → rest ≡ text_of more → are_lines more ≡ true → AreFuses (fuses ++ fuse ∷ []) m → list_all (λ f. is_value f.1) (fuses ++ fuse ∷ []) ≡ true → fuses_from most m (fuses ++ fuse ∷ []) rest ≡ Ok read → SaysFuses m (fuses ++ fuse ∷ []) more read) → told_next m fuses line ≡ Ok found → onward (fuses_from most m) fuses rest found ≡ Ok read → SaysFuses m fuses lines read
+onward_found most m fuses line rest lines None read few taken are values later told e = protocol_says m fuses lines line rest read are values taken (tells_protocol m fuses line told) (ok_is _ read e)
+onward_found most m fuses line rest lines (Some fuse) read few taken are values later told e =
+    let tells = tells_fuse m fuses line fuse told in
+    fuse_says m fuses fuse lines line rest read taken (crash_line_found m fuses line fuse few tells)
+    (later fuse taken.more taken.rest_is taken.whole (fuses_pushed fuses fuse m are tells.below tells.new) (values_pushed fuses fuse values tells.value) e)
+
+fuses_found : (most m : ℕ) (fuses : List (ℕ × ℕ)) (text : List ℕ) (lines : List (List ℕ)) (read : List (ℕ × ℕ) × List ℕ) → m ≤ 8 → text ≡ text_of lines → are_lines lines ≡ true → AreFuses fuses m → list_all (λ fuse. is_value fuse.1) fuses ≡ true → fuses_from most m fuses text ≡ Ok read → SaysFuses m fuses lines read
+unfolding fuses_from
+fuses_found zero m fuses text lines read few is all are values e = absurd cc
+fuses_found (suc most) m fuses text lines read few is all are values e =
+    let step = bind_ok (told_next m fuses (first_line text)) (onward (fuses_from most m) fuses (later_lines text)) read e in
+    let taken = takes text lines (first_line text) (later_lines text) is all (told_some m fuses (first_line text) step.0 step.1) refl refl in
+    onward_found most m fuses (first_line text) (later_lines text) lines step.0 read few taken are values (λ fuse more same whole good goods go. fuses_found most m (fuses ++ fuse ∷ []) (later_lines text) more read few same whole good goods go) step.1 step.2
+
+-- what a room's fuses and turns keep
+record Keeps (simulators : ℕ) (room : RoomSpec) : Type 0 where
+  fuses : AreFuses room.fuses simulators
+  values : list_all (λ fuse. is_value fuse.1) room.fuses ≡ true
+
+found_fuses : (name inputs : List ℕ) (simulators rounds turns : ℕ) (text : List ℕ) (lines : List (List ℕ)) (room : RoomSpec) → simulators ≤ 8 → text ≡ text_of lines → are_lines lines ≡ true → from_fuses name inputs simulators rounds turns text ≡ Ok room → Found name inputs simulators rounds turns lines (map crash_line room.fuses ++ codes "protocol" ∷ []) room × Keeps simulators room
+found_fuses name inputs simulators rounds turns text lines room few is all read =
+    let step = bind_ok (fuse_lines simulators text) (λ fuses. from_text name inputs simulators rounds turns fuses.0 fuses.1) room read in
+    let says = fuses_found (suc simulators) simulators [] text lines step.0 few is all (no_fuses simulators) refl step.1 in
+    let protocol = bind_ok (protocol_of (reading step.0.1)) (λ protocol. Ok (record { name = name; inputs = inputs; simulators = simulators; rounds = rounds; turns = turns; fuses = step.0.0; protocol = protocol })) room step.2 in
+    let made : record { name = name; inputs = inputs; simulators = simulators; rounds = rounds; turns = turns; fuses = step.0.0; protocol = protocol.0 } ≡ room = ok_is _ room protocol.2 in
+    subst (λ (r : RoomSpec). Found name inputs simulators rounds turns lines (map crash_line r.fuses ++ codes "protocol" ∷ []) r × Keeps simulators r) made (
+      record {
+        name_is = refl;
+        inputs_is = refl;
+        simulators_is = refl;
+        rounds_is = refl;
+        turns_is = refl;
+        more = says.more;
+        parts = says.parts ∙ ap (λ (new : List (ℕ × ℕ)). map crash_line new ++ codes "protocol" ∷ says.more) (sym says.all) ∙ sym (append_assoc (map crash_line step.0.0) (codes "protocol" ∷ []) says.more);
+        protocol = ap reading (sym says.rest_is) ∙ protocol_read (reading step.0.1) protocol.0 protocol.1;
+      },
+      record { fuses = says.are; values = says.values },
+    )
 
 -- the lines of a room from one on
+abbrev fuses_on : RoomSpec → List (List ℕ)
+fuses_on room = map crash_line room.fuses ++ codes "protocol" ∷ []
+
 abbrev turns_on : RoomSpec → List (List ℕ)
-turns_on room = (codes "turns " ++ decimal room.turns) ∷ codes "protocol" ∷ []
+turns_on room = (codes "turns " ++ decimal room.turns) ∷ fuses_on room
 
 abbrev rounds_on : RoomSpec → List (List ℕ)
 rounds_on room = (codes "rounds " ++ decimal room.rounds) ∷ turns_on room
@@ -151,24 +220,26 @@ longer name inputs simulators rounds turns lines rest head line said room top sa
   protocol = found.protocol;
 }
 
-found_turns : (name inputs : List ℕ) (simulators rounds : ℕ) (text : List ℕ) (lines : List (List ℕ)) (room : RoomSpec) → text ≡ text_of lines → are_lines lines ≡ true → from_turns name inputs simulators rounds text ≡ Ok room → Found name inputs simulators rounds room.turns lines (turns_on room) room × ((1 ≤ room.turns) × (room.turns ≤ 65535))
-found_turns name inputs simulators rounds text lines room is all read =
-    let line = bind_ok (number_line 6 (codes "turns ") 65535 Turns text) (λ turns. from_protocol name inputs simulators rounds turns.0 turns.1) room read in
+found_turns : (name inputs : List ℕ) (simulators rounds : ℕ) (text : List ℕ) (lines : List (List ℕ)) (room : RoomSpec) → simulators ≤ 8 → text ≡ text_of lines → are_lines lines ≡ true → from_turns name inputs simulators rounds text ≡ Ok room → Found name inputs simulators rounds room.turns lines (turns_on room) room × ((1 ≤ room.turns) × (room.turns ≤ 65535)) × Keeps simulators room
+found_turns name inputs simulators rounds text lines room few is all read =
+    let line = bind_ok (number_line 6 (codes "turns ") 65535 Turns text) (λ turns. from_fuses name inputs simulators rounds turns.0 turns.1) room read in
     let says = number_found 6 (codes "turns ") 65535 Turns text line.0 (omega arith) line.1 in
     let taken = takes text lines (codes "turns " ++ decimal line.0.0) line.0.1 is all (cons_some _ _) says.line says.rest_is in
-    let found = found_protocol name inputs simulators rounds line.0.0 line.0.1 taken.more room taken.rest_is taken.whole line.2 in (
+    let both = found_fuses name inputs simulators rounds line.0.0 line.0.1 taken.more room few taken.rest_is taken.whole line.2 in
+    let found = both.0 in (
       subst (λ (turns : ℕ). Found name inputs simulators rounds turns lines (turns_on room) room) (sym found.turns_is)
-          (longer name inputs simulators rounds line.0.0 lines taken.more (codes "protocol" ∷ []) (codes "turns " ++ decimal line.0.0) (codes "turns " ++ decimal room.turns) room taken.parts (ap (λ (n : ℕ). codes "turns " ++ decimal n) (sym found.turns_is)) found),
+          (longer name inputs simulators rounds line.0.0 lines taken.more (fuses_on room) (codes "turns " ++ decimal line.0.0) (codes "turns " ++ decimal room.turns) room taken.parts (ap (λ (n : ℕ). codes "turns " ++ decimal n) (sym found.turns_is)) found),
       subst (λ (n : ℕ). (1 ≤ n) × (n ≤ 65535)) (sym found.turns_is) says.range,
+      both.1,
     )
 
-found_rounds : (name inputs : List ℕ) (simulators : ℕ) (text : List ℕ) (lines : List (List ℕ)) (room : RoomSpec) → text ≡ text_of lines → are_lines lines ≡ true → from_rounds name inputs simulators text ≡ Ok room → Found name inputs simulators room.rounds room.turns lines (rounds_on room) room × ((1 ≤ room.turns) × (room.turns ≤ 65535)) × (room.simulators * length room.inputs * bits_of room.rounds ≤ 64) × ((1 ≤ room.rounds) × (room.rounds ≤ 15))
-found_rounds name inputs simulators text lines room is all read =
+found_rounds : (name inputs : List ℕ) (simulators : ℕ) (text : List ℕ) (lines : List (List ℕ)) (room : RoomSpec) → simulators ≤ 8 → text ≡ text_of lines → are_lines lines ≡ true → from_rounds name inputs simulators text ≡ Ok room → Found name inputs simulators room.rounds room.turns lines (rounds_on room) room × ((1 ≤ room.turns) × (room.turns ≤ 65535)) × (room.simulators * length room.inputs * bits_of room.rounds ≤ 64) × ((1 ≤ room.rounds) × (room.rounds ≤ 15)) × Keeps simulators room
+found_rounds name inputs simulators text lines room few is all read =
     let line = bind_ok (number_line 5 (codes "rounds ") 15 Rounds text) (λ rounds. from_fitting name inputs simulators rounds.0 rounds.1) room read in
     let says = number_found 5 (codes "rounds ") 15 Rounds text line.0 (omega arith) line.1 in
     let taken = takes text lines (codes "rounds " ++ decimal line.0.0) line.0.1 is all (cons_some _ _) says.line says.rest_is in
     let fits = bind_ok (fitting (simulators * length inputs * bits_of line.0.0)) (λ bits. from_turns name inputs simulators line.0.0 line.0.1) room line.2 in
-    let both = found_turns name inputs simulators line.0.0 line.0.1 taken.more room taken.rest_is taken.whole fits.2 in
+    let both = found_turns name inputs simulators line.0.0 line.0.1 taken.more room few taken.rest_is taken.whole fits.2 in
     let found = both.0 in
     let memory : room.simulators * length room.inputs * bits_of room.rounds ≤ 64 = rw (found.simulators_is, found.inputs_is, found.rounds_is) (fitting_read (simulators * length inputs * bits_of line.0.0) fits.0 fits.1) in (
       subst (λ (rounds : ℕ). Found name inputs simulators rounds room.turns lines (rounds_on room) room) (sym found.rounds_is)
@@ -176,14 +247,15 @@ found_rounds name inputs simulators text lines room is all read =
       both.1,
       memory,
       subst (λ (n : ℕ). (1 ≤ n) × (n ≤ 15)) (sym found.rounds_is) says.range,
+      both.2,
     )
 
-found_simulators : (name inputs : List ℕ) (text : List ℕ) (lines : List (List ℕ)) (room : RoomSpec) → text ≡ text_of lines → are_lines lines ≡ true → from_simulators name inputs text ≡ Ok room → Found name inputs room.simulators room.rounds room.turns lines (simulators_on room) room × ((1 ≤ room.turns) × (room.turns ≤ 65535)) × (room.simulators * length room.inputs * bits_of room.rounds ≤ 64) × ((1 ≤ room.rounds) × (room.rounds ≤ 15)) × ((1 ≤ room.simulators) × (room.simulators ≤ 8))
+found_simulators : (name inputs : List ℕ) (text : List ℕ) (lines : List (List ℕ)) (room : RoomSpec) → text ≡ text_of lines → are_lines lines ≡ true → from_simulators name inputs text ≡ Ok room → Found name inputs room.simulators room.rounds room.turns lines (simulators_on room) room × ((1 ≤ room.turns) × (room.turns ≤ 65535)) × (room.simulators * length room.inputs * bits_of room.rounds ≤ 64) × ((1 ≤ room.rounds) × (room.rounds ≤ 15)) × ((1 ≤ room.simulators) × (room.simulators ≤ 8)) × Keeps room.simulators room
 found_simulators name inputs text lines room is all read =
     let line = bind_ok (number_line 4 (codes "simulators ") 8 Simulators text) (λ simulators. from_rounds name inputs simulators.0 simulators.1) room read in
     let says = number_found 4 (codes "simulators ") 8 Simulators text line.0 (omega arith) line.1 in
     let taken = takes text lines (codes "simulators " ++ decimal line.0.0) line.0.1 is all (cons_some _ _) says.line says.rest_is in
-    let both = found_rounds name inputs line.0.0 line.0.1 taken.more room taken.rest_is taken.whole line.2 in
+    let both = found_rounds name inputs line.0.0 line.0.1 taken.more room says.range.1 taken.rest_is taken.whole line.2 in
     let found = both.0 in (
       subst (λ (simulators : ℕ). Found name inputs simulators room.rounds room.turns lines (simulators_on room) room) (sym found.simulators_is)
           (longer name inputs line.0.0 room.rounds room.turns lines taken.more (rounds_on room) (codes "simulators " ++ decimal line.0.0) (codes "simulators " ++ decimal room.simulators) room taken.parts (ap (λ (n : ℕ). codes "simulators " ++ decimal n) (sym found.simulators_is)) found),
@@ -191,6 +263,7 @@ found_simulators name inputs text lines room is all read =
       both.2,
       both.3,
       subst (λ (n : ℕ). (1 ≤ n) × (n ≤ 8)) (sym found.simulators_is) says.range,
+      subst (λ (n : ℕ). Keeps n room) (sym found.simulators_is) both.4,
     )
 
 inputs_some : (values : List ℕ) → join_with_byte 32 (codes "inputs" ∷ map decimal values) ≢ []
@@ -202,7 +275,7 @@ inputs_range values are =
     let tests = and_parts (nat_le 1 (length values)) (nat_le (length values) 16) (and_parts _ (list_all is_value values) are).0 in
     (leb-true 1 (length values) tests.0, leb-true (length values) 16 tests.1)
 
-found_inputs : (name : List ℕ) (text : List ℕ) (lines : List (List ℕ)) (room : RoomSpec) → text ≡ text_of lines → are_lines lines ≡ true → from_inputs name text ≡ Ok room → Found name room.inputs room.simulators room.rounds room.turns lines (inputs_on room) room × ((1 ≤ room.turns) × (room.turns ≤ 65535)) × IsShape (length room.inputs) room.simulators (bits_of room.rounds) room.rounds × (list_all is_value room.inputs ≡ true)
+found_inputs : (name : List ℕ) (text : List ℕ) (lines : List (List ℕ)) (room : RoomSpec) → text ≡ text_of lines → are_lines lines ≡ true → from_inputs name text ≡ Ok room → Found name room.inputs room.simulators room.rounds room.turns lines (inputs_on room) room × ((1 ≤ room.turns) × (room.turns ≤ 65535)) × IsShape (length room.inputs) room.simulators (bits_of room.rounds) room.rounds × (list_all is_value room.inputs ≡ true) × Keeps room.simulators room
 found_inputs name text lines room is all read =
     let line = bind_ok (inputs_line text) (λ inputs. from_simulators name inputs.0 inputs.1) room read in
     let says = inputs_found text line.0 line.1 in
@@ -215,9 +288,10 @@ found_inputs name text lines room is all read =
       both.1,
       record { n_range = inputs_range room.inputs are; m_range = both.4; rounds_range = both.3; width = refl; memory = both.2 },
       inputs_are_values room.inputs are,
+      both.5,
     )
 
-found_name : (text : List ℕ) (lines : List (List ℕ)) (room : RoomSpec) → text ≡ text_of lines → are_lines lines ≡ true → from_name text ≡ Ok room → Found room.name room.inputs room.simulators room.rounds room.turns lines (name_on room) room × IsWithinLimits room × (list_all is_value room.inputs ≡ true)
+found_name : (text : List ℕ) (lines : List (List ℕ)) (room : RoomSpec) → text ≡ text_of lines → are_lines lines ≡ true → from_name text ≡ Ok room → Found room.name room.inputs room.simulators room.rounds room.turns lines (name_on room) room × IsWithinLimits room × (list_all is_value room.inputs ≡ true) × Keeps room.simulators room
 found_name text lines room is all read =
     let line = bind_ok (name_line text) (λ name. from_inputs name.0 name.1) room read in
     let says = name_found text line.0 line.1 in
@@ -226,8 +300,9 @@ found_name text lines room is all read =
     let found = both.0 in (
       subst (λ (name : List ℕ). Found name room.inputs room.simulators room.rounds room.turns lines (name_on room) room) (sym found.name_is)
           (longer line.0.0 room.inputs room.simulators room.rounds room.turns lines taken.more (inputs_on room) (codes "room " ++ line.0.0) (codes "room " ++ room.name) room taken.parts (ap (λ (name : List ℕ). codes "room " ++ name) (sym found.name_is)) found),
-      record { name = subst (λ (name : List ℕ). is_name name ≡ true) (sym found.name_is) says.2; shape = both.2; turns = both.1 },
+      record { name = subst (λ (name : List ℕ). is_name name ≡ true) (sym found.name_is) says.2; shape = both.2; turns = both.1; fuses = both.4.fuses },
       both.3,
+      both.4,
     )
 
 room_found : (lines : List (List ℕ)) (room : RoomSpec) → are_lines lines ≡ true → room_in (text_of lines) ≡ Ok room → AreRoom lines room
@@ -240,6 +315,7 @@ room_found lines room all read =
     record {
       limits = both.1;
       inputs = both.2;
+      fuses = both.3.values;
       more = both.0.more;
       parts = one_more lines taken.more (name_on room) both.0.more (codes "bgsim 1") (codes "bgsim 1") taken.parts refl both.0.parts;
       protocol = both.0.protocol;
@@ -262,6 +338,7 @@ block_found text body room ends read =
     record {
       limits = found.limits;
       inputs = found.inputs;
+      fuses = found.fuses;
       lines = found.more;
       no_end = before_parts (head_lines room) found.more (subst (λ (l : List (List ℕ)). are_before_end l ≡ true) found.parts end.no_end);
       protocol = found.protocol;
@@ -270,7 +347,7 @@ block_found text body room ends read =
 
 -- ---- what is written is read
 
-steps : (room : RoomSpec) (a b c d e f g h : List ℕ) → version_line a ≡ Ok b → name_line b ≡ Ok (room.name, c) → inputs_line c ≡ Ok (room.inputs, d) → number_line 4 (codes "simulators ") 8 Simulators d ≡ Ok (room.simulators, e) → number_line 5 (codes "rounds ") 15 Rounds e ≡ Ok (room.rounds, f) → fitting (room.simulators * length room.inputs * bits_of room.rounds) ≡ Ok (room.simulators * length room.inputs * bits_of room.rounds) → number_line 6 (codes "turns ") 65535 Turns f ≡ Ok (room.turns, g) → protocol_line g ≡ Ok h → reading h ≡ Ok room.protocol → room_in a ≡ Ok room
+steps : (room : RoomSpec) (a b c d e f g h : List ℕ) → version_line a ≡ Ok b → name_line b ≡ Ok (room.name, c) → inputs_line c ≡ Ok (room.inputs, d) → number_line 4 (codes "simulators ") 8 Simulators d ≡ Ok (room.simulators, e) → number_line 5 (codes "rounds ") 15 Rounds e ≡ Ok (room.rounds, f) → fitting (room.simulators * length room.inputs * bits_of room.rounds) ≡ Ok (room.simulators * length room.inputs * bits_of room.rounds) → number_line 6 (codes "turns ") 65535 Turns f ≡ Ok (room.turns, g) → fuse_lines room.simulators g ≡ Ok (room.fuses, h) → reading h ≡ Ok room.protocol → room_in a ≡ Ok room
 unfolding room_in
 steps room a b c d e f g h ab bc cd de ef fits fg gh read = rw (ab, bc, cd, de, ef, fits, fg, gh, read) refl
 
@@ -297,8 +374,40 @@ inputs_line_is piece (value ∷ values) is all =
 version_text : (more : List (List ℕ)) → version_line (text_of (codes "bgsim 1" ∷ more)) ≡ Ok (text_of more)
 version_text more = version_again (text_of (codes "bgsim 1" ∷ more)) (first_line-text_of (codes "bgsim 1") more refl) ∙ ap Ok (later_lines-text_of (codes "bgsim 1") more refl)
 
-protocol_text : (more : List (List ℕ)) → protocol_line (text_of (codes "protocol" ∷ more)) ≡ Ok (text_of more)
-protocol_text more = protocol_again (text_of (codes "protocol" ∷ more)) (first_line-text_of (codes "protocol") more refl) ∙ ap Ok (later_lines-text_of (codes "protocol") more refl)
+crash_line_is : (fuse : ℕ × ℕ) (m : ℕ) → m ≤ 8 → nat_lt fuse.0 m ≡ true → is_value fuse.1 ≡ true → is_line (crash_line fuse) ≡ true
+crash_line_is fuse m few below value =
+    let under : fuse.0 < m = ltb-true fuse.0 m below in
+    let first : is_line (decimal fuse.0) ≡ true = decimal_passes (λ byte. not (is_line_end byte)) fuse.0 (omega arith) digit_no_line_end in
+    let last : is_line (decimal fuse.1) ≡ true = decimal_passes (λ byte. not (is_line_end byte)) fuse.1 (small_value fuse.1 value) digit_no_line_end in
+    word_line (codes "crash ") (decimal fuse.0 ++ (codes " after " ++ decimal fuse.1)) refl (word_line (decimal fuse.0) (codes " after " ++ decimal fuse.1) first (word_line (codes " after ") (decimal fuse.1) refl last))
+
+fuses_step : (most m : ℕ) (fuses : List (ℕ × ℕ)) (line : List ℕ) (more : List (List ℕ)) (found : Option (ℕ × ℕ)) → is_line line ≡ true → told_next m fuses line ≡ Ok found → fuses_from (suc most) m fuses (text_of (line ∷ more)) ≡ onward (fuses_from most m) fuses (text_of more) found
+unfolding fuses_from
+fuses_step most m fuses line more found is told =
+    ap (λ (l : List ℕ). told_next m fuses l >>= onward (fuses_from most m) fuses (later_lines (text_of (line ∷ more)))) (first_line-text_of line more is)
+    ∙ ap (λ (rest : List ℕ). told_next m fuses line >>= onward (fuses_from most m) fuses rest) (later_lines-text_of line more is)
+    ∙ ap (λ (r : Result (Option (ℕ × ℕ)) SpecFault). r >>= onward (fuses_from most m) fuses (text_of more)) told
+
+abbrev read_fuses : List (ℕ × ℕ) → List ℕ → Result (List (ℕ × ℕ) × List ℕ) SpecFault
+read_fuses fuses rest = Ok (fuses, rest)
+
+fuses_again : (new : List (ℕ × ℕ)) (most m : ℕ) (fuses : List (ℕ × ℕ)) (more : List (List ℕ)) → m ≤ 8 → AreFuses (fuses ++ new) m → list_all (λ fuse. is_value fuse.1) new ≡ true → length new < most → fuses_from most m fuses (text_of (map crash_line new ++ codes "protocol" ∷ more)) ≡ Ok (fuses ++ new, text_of more)
+fuses_again new zero m fuses more few are values long = absurd (omega arith)
+fuses_again [] (suc most) m fuses more few are values long =
+    fuses_step most m fuses (codes "protocol") more None refl refl ∙ ap (λ (f : List (ℕ × ℕ)). read_fuses f (text_of more)) (sym (append-nil fuses))
+fuses_again (fuse ∷ new) (suc most) m fuses more few are values long =
+    let each = and_parts (is_value fuse.1) (list_all (λ f. is_value f.1) new) values in
+    let below = and_parts (list_all (λ f. nat_lt f.0 m) fuses) (list_all (λ f. nat_lt f.0 m) (fuse ∷ new)) (sym (list_all-append (λ (f : ℕ × ℕ). nat_lt f.0 m) fuses (fuse ∷ new)) ∙ are.below) in
+    let own = and_parts (nat_lt fuse.0 m) (list_all (λ f. nat_lt f.0 m) new) below.1 in
+    let grouped : (fuses ++ fuse ∷ []) ++ new ≡ fuses ++ fuse ∷ new = append_assoc fuses (fuse ∷ []) new in
+    fuses_step most m fuses (crash_line fuse) (map crash_line new ++ codes "protocol" ∷ more) (Some fuse) (crash_line_is fuse m few own.0 each.0) (crash_line_again m fuses fuse few own.0 each.0 (fuses_apart fuses fuse new are.distinct))
+    ∙ fuses_again new most m (fuses ++ fuse ∷ []) more few (subst (λ (f : List (ℕ × ℕ)). AreFuses f m) (sym grouped) are) each.1 (omega arith)
+    ∙ ap (λ (f : List (ℕ × ℕ)). read_fuses f (text_of more)) grouped
+
+fuses_text : (m : ℕ) (fuses : List (ℕ × ℕ)) (more : List (List ℕ)) → m ≤ 8 → AreFuses fuses m → list_all (λ fuse. is_value fuse.1) fuses ≡ true → fuse_lines m (text_of ((map crash_line fuses ++ codes "protocol" ∷ []) ++ more)) ≡ Ok (fuses, text_of more)
+fuses_text m fuses more few are values =
+    let count : length fuses ≤ m = fuses_few fuses m are in
+    ap (λ (lines : List (List ℕ)). fuse_lines m (text_of lines)) (append_assoc (map crash_line fuses) (codes "protocol" ∷ []) more) ∙ fuses_again fuses (suc m) m [] more few are values (omega arith)
 
 name_text : (name : List ℕ) (more : List (List ℕ)) → is_name name ≡ true → name_line (text_of ((codes "room " ++ name) ∷ more)) ≡ Ok (name, text_of more)
 name_text name more is =
@@ -323,33 +432,40 @@ fitting_again bits fits = rw (le-leb bits 64 fits) refl
 inputs_are : (values : List ℕ) → (1 ≤ length values) × (length values ≤ 16) → list_all is_value values ≡ true → are_inputs values ≡ true
 inputs_are values range all = and_from _ (list_all is_value values) (and_from (nat_le 1 (length values)) (nat_le (length values) 16) (le-leb 1 (length values) range.0) (le-leb (length values) 16 range.1)) all
 
-room_again : (room : RoomSpec) (more : List (List ℕ)) → IsWithinLimits room → list_all is_value room.inputs ≡ true → reading (text_of more) ≡ Ok room.protocol → room_in (text_of (head_lines room ++ more)) ≡ Ok room
-room_again room more limits inputs protocol =
+room_again : (room : RoomSpec) (more : List (List ℕ)) → IsWithinLimits room → list_all is_value room.inputs ≡ true → list_all (λ fuse. is_value fuse.1) room.fuses ≡ true → reading (text_of more) ≡ Ok room.protocol → room_in (text_of (head_lines room ++ more)) ≡ Ok room
+room_again room more limits inputs fuses protocol =
     let memory : room.simulators * length room.inputs * bits_of room.rounds ≤ 64 = limits.shape.memory in
-    steps room (text_of (head_lines room ++ more)) (text_of (name_on room ++ more)) (text_of (inputs_on room ++ more)) (text_of (simulators_on room ++ more)) (text_of (rounds_on room ++ more)) (text_of (turns_on room ++ more)) (text_of (codes "protocol" ∷ more)) (text_of more)
+    steps room (text_of (head_lines room ++ more)) (text_of (name_on room ++ more)) (text_of (inputs_on room ++ more)) (text_of (simulators_on room ++ more)) (text_of (rounds_on room ++ more)) (text_of (turns_on room ++ more)) (text_of (fuses_on room ++ more)) (text_of more)
     (version_text (name_on room ++ more))
     (name_text room.name (inputs_on room ++ more) limits.name)
     (inputs_text room.inputs (simulators_on room ++ more) (inputs_are room.inputs limits.shape.n_range inputs))
     (number_text 4 (codes "simulators ") 8 Simulators room.simulators (rounds_on room ++ more) refl (omega arith) limits.shape.m_range)
     (number_text 5 (codes "rounds ") 15 Rounds room.rounds (turns_on room ++ more) refl (omega arith) limits.shape.rounds_range)
     (fitting_again (room.simulators * length room.inputs * bits_of room.rounds) memory)
-    (number_text 6 (codes "turns ") 65535 Turns room.turns (codes "protocol" ∷ more) refl (omega arith) limits.turns)
-    (protocol_text more)
+    (number_text 6 (codes "turns ") 65535 Turns room.turns (fuses_on room ++ more) refl (omega arith) limits.turns)
+    (fuses_text room.simulators room.fuses more limits.shape.m_range.1 limits.fuses fuses)
     protocol
 
 inputs_no_end : (values : List ℕ) → is_end (join_with_byte 32 (codes "inputs" ∷ map decimal values)) ≡ false
 inputs_no_end [] = refl
 inputs_no_end (value ∷ values) = refl
 
-head_no_end : (room : RoomSpec) (more : List (List ℕ)) → IsWithinLimits room → list_all is_value room.inputs ≡ true → are_before_end more ≡ true → are_before_end (head_lines room ++ more) ≡ true
-head_no_end room more limits inputs all =
+fuses_no_end : (m : ℕ) (fuses : List (ℕ × ℕ)) (more : List (List ℕ)) → m ≤ 8 → list_all (λ fuse. nat_lt fuse.0 m) fuses ≡ true → list_all (λ fuse. is_value fuse.1) fuses ≡ true → are_before_end more ≡ true → are_before_end ((map crash_line fuses ++ codes "protocol" ∷ []) ++ more) ≡ true
+fuses_no_end m [] more few below values all = line_before (codes "protocol") more refl refl all
+fuses_no_end m (fuse ∷ fuses) more few below values all =
+    let under = and_parts (nat_lt fuse.0 m) (list_all (λ f. nat_lt f.0 m) fuses) below in
+    let each = and_parts (is_value fuse.1) (list_all (λ f. is_value f.1) fuses) values in
+    line_before (crash_line fuse) ((map crash_line fuses ++ codes "protocol" ∷ []) ++ more) (crash_line_is fuse m few under.0 each.0) refl (fuses_no_end m fuses more few under.1 each.1 all)
+
+head_no_end : (room : RoomSpec) (more : List (List ℕ)) → IsWithinLimits room → list_all is_value room.inputs ≡ true → list_all (λ fuse. is_value fuse.1) room.fuses ≡ true → are_before_end more ≡ true → are_before_end (head_lines room ++ more) ≡ true
+head_no_end room more limits inputs fuses all =
     line_before (codes "bgsim 1") (name_on room ++ more) refl refl
     (line_before (codes "room " ++ room.name) (inputs_on room ++ more) (name_line_is room.name limits.name) refl
     (line_before (join_with_byte 32 (codes "inputs" ∷ map decimal room.inputs)) (simulators_on room ++ more) (inputs_line_is (codes "inputs") room.inputs refl inputs) (inputs_no_end room.inputs)
     (line_before (codes "simulators " ++ decimal room.simulators) (rounds_on room ++ more) (number_line_is (codes "simulators ") room.simulators refl (omega (arith, limits.shape.m_range.1))) refl
     (line_before (codes "rounds " ++ decimal room.rounds) (turns_on room ++ more) (number_line_is (codes "rounds ") room.rounds refl (omega (arith, limits.shape.rounds_range.1))) refl
-    (line_before (codes "turns " ++ decimal room.turns) (codes "protocol" ∷ more) (number_line_is (codes "turns ") room.turns refl (omega (arith, limits.turns.1))) refl
-    (line_before (codes "protocol") more refl refl all))))))
+    (line_before (codes "turns " ++ decimal room.turns) (fuses_on room ++ more) (number_line_is (codes "turns ") room.turns refl (omega (arith, limits.turns.1))) refl
+    (fuses_no_end room.simulators room.fuses more limits.shape.m_range.1 limits.fuses.below fuses all))))))
 
 read_to_end : (text : List ℕ) (lines : List (List ℕ)) (later : Option (List ℕ)) (room : RoomSpec) (len : ℕ) → text ≡ text_of lines ++ (codes "end" ++ with_line_end later) → are_before_end lines ≡ true → room_in (text_of lines) ≡ Ok room → min (length (text_of lines) + 4) (length text) ≡ len → block_in text ≡ Ok (room, len)
 read_to_end text lines later room len whole no_end read len_is =
@@ -363,4 +479,4 @@ block_again text room len block =
     let lines : text_of (head_lines room ++ block.lines) ≡ text_of (head_lines room) ++ text_of block.lines = flat_map-append (λ line. line ++ line_end) (head_lines room) block.lines in
     let whole : text ≡ text_of (head_lines room ++ block.lines) ++ (codes "end" ++ with_line_end front.0) = front.1 ∙ sym (regrouped (text_of (head_lines room)) (text_of block.lines) (codes "end") (with_line_end front.0)) ∙ ap (λ (t : List ℕ). t ++ (codes "end" ++ with_line_end front.0)) (sym lines) in
     let len_is : min (length (text_of (head_lines room ++ block.lines)) + 4) (length text) ≡ len = omega (arith, front.2, ap length lines, length-append (text_of (head_lines room)) (text_of block.lines), length-append (text_of (head_lines room)) (text_of block.lines ++ codes "end"), length-append (text_of block.lines) (codes "end")) in
-    read_to_end text (head_lines room ++ block.lines) front.0 room len whole (head_no_end room block.lines block.limits block.inputs block.no_end) (room_again room block.lines block.limits block.inputs block.protocol) len_is
+    read_to_end text (head_lines room ++ block.lines) front.0 room len whole (head_no_end room block.lines block.limits block.inputs block.fuses block.no_end) (room_again room block.lines block.limits block.inputs block.fuses block.protocol) len_is

@@ -6,6 +6,8 @@ pub mod Lines
 pub mod Ends
 pub mod Numerals
 pub mod Heads
+pub mod Fuses
 pub mod Laws
-mod Worked
 pub mod Locality
+pub mod Memory
+pub mod Worked

@@ -1,11 +1,13 @@
 -- A fault rests on the lines up to its own, and a protocol's fault on the protocol's text.
 use Rattle.std.proofs.Common.{◌≡◌, ◌≢◌, ℕ, All, ◌+◌, ◌-◌, ◌*◌, ◌≤◌, ◌⊎◌, min, Bool, true, false, zero, suc, List, [], ◌∷◌, ◌++◌, length, take, drop, Option, Some, None, Result, Ok, Err, cond, refl, sym, ap, ◌∙◌, subst, arith, inl, inr}
-use Rattle.std.specs.Prelude.{codes, nat_le, ◌&&◌, IfSome, IfErr}
+use Rattle.std.specs.Prelude.{codes, nat_le, nat_lt, ◌&&◌, IfSome, IfErr}
+use Rattle.std.specs.List.{position_or_len}
 use Rattle.std.specs.Option.{option_and_then}
 use Rattle.std.specs.Str.{bytes_eq}
-use Rattle.std.proofs.lemmas.Bool.{and_parts, false≢true}
-use Rattle.std.proofs.lemmas.List.{append_assoc, take_at, drop_all}
+use Rattle.std.proofs.lemmas.Bool.{and_parts, cases_Bool, false≢true}
+use Rattle.std.proofs.lemmas.List.{append_assoc, length-append, take_at}
 use Rattle.std.proofs.lemmas.Option.{same_Some}
+use Rattle.std.proofs.lemmas.Slice.Eq.{bytes_eq-Decides}
 use Rattle.protocol_lang.specs.Numbers.{number_of}
 use Rattle.protocol_lang.specs.Reading.{reading}
 use Rattle.protocol_lang.specs.declared.protocol.Protocol.{Protocol}
@@ -13,13 +15,14 @@ use Rattle.protocol_lang.specs.declared.fault.ParseFault.{ParseFault}
 use Rattle.room_spec.specs.Rooms.{RoomSpec, bits_of}
 use Rattle.room_spec.specs.Names.{is_name}
 use Rattle.room_spec.specs.Texts.{is_line_end, first_line, later_lines, lines_of, fields_of, pieces_of}
-use Rattle.room_spec.specs.Blocks.{◌>>=◌, is_end, body_len, value_after, named, inputs_of, are_inputs, in_range, up_to, fitting, protocol_of, room_in, room_before, block_in}
-use Rattle.room_spec.specs.Grammar.{is_line, text_of, are_before_end, EndsAt, line_of, IsLocal, IsOfText}
+use Rattle.room_spec.specs.Blocks.{◌>>=◌, is_end, body_len, value_after, named, inputs_of, is_value, are_inputs, in_range, up_to, fitting, is_protocol, fuse_in, of_simulator, has_fuse, unrepeated, line_behind, told, told_next, onward, fuses_from, protocol_of, room_in, room_before, block_in}
+use Rattle.room_spec.specs.Grammar.{is_line, text_of, behind_protocol, are_before_end, EndsAt, line_of, IsLocal, IsOfText}
 use Rattle.room_spec.specs.declared.fault.SpecFault.{SpecFault}
-use Rattle.room_spec.specs.declared.fault.SpecFault.TheVariants.{Truncated, BadLine, BadName, BadProtocol, Inputs, Simulators, Rounds, Turns, TooWide}
+use Rattle.room_spec.specs.declared.fault.SpecFault.TheVariants.{Truncated, BadLine, BadName, BadProtocol, Inputs, Simulators, Rounds, Turns, TooWide, CrashLine, Repeated}
 use Rattle.room_spec.proofs.Lines.{are_lines, first_line-text_of, later_lines-text_of}
 use Rattle.room_spec.proofs.Ends.{with_line_end, front_to, lines_to_end, end_at, before_line, block_ends, block_nowhere, are_lines-before_end}
-use Rattle.room_spec.proofs.Laws.{from_text, from_protocol, from_turns, from_rounds, from_simulators, from_inputs, from_name}
+use Rattle.room_spec.proofs.Fuses.{tells_protocol}
+use Rattle.room_spec.proofs.Laws.{from_text, from_fuses, from_turns, from_rounds, from_simulators, from_inputs, from_name}
 
 -- ---- steps that may fail
 
@@ -43,13 +46,13 @@ agree_same : (n : ℕ) (text : List ℕ) → Agree n text text
 agree_same zero text = tt
 agree_same (suc n) text = (refl, agree_same n (later_lines text))
 
--- what is read from the line `line` on rests on the lines up to the fault's own; `text` lines on the protocol's text begins
-pub record IsLocalFrom (line behind : ℕ) (read : List ℕ → Result RoomSpec SpecFault) : Type 0 where
+-- what is read from the line `line` on rests on the lines up to the fault's own, and the protocol's text is that of the lines `behind`
+pub record IsLocalFrom (line : ℕ) (behind : List (List ℕ) → List (List ℕ)) (read : List ℕ → Result RoomSpec SpecFault) : Type 0 where
   pub own : (text : List ℕ) (fault : SpecFault) (n : ℕ) → read text ≡ Err fault → line_of fault ≡ Some n → (line ≤ n) × ((other : List ℕ) → Agree (suc n - line) text other → read other ≡ Err fault)
-  pub protocol : (lines : List (List ℕ)) (fault : ParseFault) → are_lines lines ≡ true → read (text_of lines) ≡ Err (BadProtocol fault) → reading (text_of (drop behind lines)) ≡ Err fault
+  pub protocol : (lines : List (List ℕ)) (fault : ParseFault) → are_lines lines ≡ true → read (text_of lines) ≡ Err (BadProtocol fault) → reading (text_of (behind lines)) ≡ Err fault
   pub ends : (text : List ℕ) → read text ≡ Err Truncated → ⊥
 
-same_reader : (line behind : ℕ) (read same : List ℕ → Result RoomSpec SpecFault) → ((text : List ℕ) → read text ≡ same text) → IsLocalFrom line behind same → IsLocalFrom line behind read
+same_reader : (line : ℕ) (behind : List (List ℕ) → List (List ℕ)) (read same : List ℕ → Result RoomSpec SpecFault) → ((text : List ℕ) → read text ≡ same text) → IsLocalFrom line behind same → IsLocalFrom line behind read
 same_reader line behind read same is local = record {
   own = λ text fault n e h. (let so = local.own text fault n (sym (is text) ∙ e) h in (so.0, λ other agree. is other ∙ so.1 other agree));
   protocol = λ lines fault all e. local.protocol lines fault all (sym (is (text_of lines)) ∙ e);
@@ -60,7 +63,12 @@ same_reader line behind read same is local = record {
 abbrev by_line : {A : Type 0} → (List ℕ → Result A SpecFault) → (A → List ℕ → Result RoomSpec SpecFault) → List ℕ → Result RoomSpec SpecFault
 by_line judge next text = judge (first_line text) >>= λ x. next x (later_lines text)
 
-line_own : {A : Type 0} (line behind : ℕ) (judge : List ℕ → Result A SpecFault) (next : A → List ℕ → Result RoomSpec SpecFault) → ((bytes : List ℕ) (fault : SpecFault) → judge bytes ≡ Err fault → line_of fault ≡ Some line) → ((x : A) → IsLocalFrom (suc line) behind (next x)) → (text : List ℕ) (fault : SpecFault) (n : ℕ) → by_line judge next text ≡ Err fault → line_of fault ≡ Some n → (line ≤ n) × ((other : List ℕ) → Agree (suc n - line) text other → by_line judge next other ≡ Err fault)
+-- what is read behind a line that says x, and which of the lines behind it are the protocol's
+abbrev Later : {A : Type 0} → ℕ → (List (List ℕ) → List (List ℕ)) → (List ℕ → Result A SpecFault) → (A → List ℕ → Result RoomSpec SpecFault) → A → Type 0
+Later line behind judge next x =
+    (own : List (List ℕ) → List (List ℕ)) × IsLocalFrom (suc line) own (next x) × ((bytes : List ℕ) (lines : List (List ℕ)) → judge bytes ≡ Ok x → behind (bytes ∷ lines) ≡ own lines) × (behind [] ≡ own [])
+
+line_own : {A : Type 0} (line : ℕ) (behind : List (List ℕ) → List (List ℕ)) (judge : List ℕ → Result A SpecFault) (next : A → List ℕ → Result RoomSpec SpecFault) → ((bytes : List ℕ) (fault : SpecFault) → judge bytes ≡ Err fault → line_of fault ≡ Some line) → ((x : A) → Later line behind judge next x) → (text : List ℕ) (fault : SpecFault) (n : ℕ) → by_line judge next text ≡ Err fault → line_of fault ≡ Some n → (line ≤ n) × ((other : List ℕ) → Agree (suc n - line) text other → by_line judge next other ≡ Err fault)
 line_own {A} line behind judge next judged later text fault n e h =
     elim (err_cases (judge (first_line text)) (λ x. next x (later_lines text)) fault e) [
       | inl here ↦
@@ -72,7 +80,7 @@ line_own {A} line behind judge next judged later text fault n e h =
                 err_goes (judge (first_line other)) (λ x. next x (later_lines other)) fault (ap judge (sym both.0) ∙ here),
           )
       | inr (x, judged_ok, there) ↦
-          let so = (later x).own (later_lines text) fault n there h in (
+          let so = (later x).1.own (later_lines text) fault n there h in (
             omega (arith, so.0),
             λ other agree.
                 let count : suc n - line ≡ suc (suc n - suc line) = omega (arith, so.0) in
@@ -81,32 +89,57 @@ line_own {A} line behind judge next judged later text fault n e h =
           )
     ]
 
-line_protocol : {A : Type 0} (line behind : ℕ) (judge : List ℕ → Result A SpecFault) (next : A → List ℕ → Result RoomSpec SpecFault) → ((bytes : List ℕ) (fault : SpecFault) → judge bytes ≡ Err fault → line_of fault ≡ Some line) → ((x : A) → IsLocalFrom (suc line) behind (next x)) → (lines : List (List ℕ)) (fault : ParseFault) → are_lines lines ≡ true → by_line judge next (text_of lines) ≡ Err (BadProtocol fault) → reading (text_of (drop (suc behind) lines)) ≡ Err fault
+line_protocol : {A : Type 0} (line : ℕ) (behind : List (List ℕ) → List (List ℕ)) (judge : List ℕ → Result A SpecFault) (next : A → List ℕ → Result RoomSpec SpecFault) → ((bytes : List ℕ) (fault : SpecFault) → judge bytes ≡ Err fault → line_of fault ≡ Some line) → ((x : A) → Later line behind judge next x) → (lines : List (List ℕ)) (fault : ParseFault) → are_lines lines ≡ true → by_line judge next (text_of lines) ≡ Err (BadProtocol fault) → reading (text_of (behind lines)) ≡ Err fault
 line_protocol line behind judge next judged later [] fault all e =
     elim (err_cases (judge (first_line [])) (λ x. next x (later_lines [])) (BadProtocol fault) e) [
       | inl here ↦ absurd (let none : None ≡ Some line = judged (first_line []) (BadProtocol fault) here in cc)
-      | inr (x, judged_ok, there) ↦ rw (drop_all {X = List ℕ} behind [] (omega arith)) at ((later x).protocol [] fault refl there)
+      | inr (x, judged_ok, there) ↦ ap (λ (l : List (List ℕ)). reading (text_of l)) (later x).3 ∙ (later x).1.protocol [] fault refl there
     ]
 line_protocol line behind judge next judged later (top ∷ lines) fault all e =
     let parts = and_parts (is_line top) (are_lines lines) all in
     elim (err_cases (judge (first_line (text_of (top ∷ lines)))) (λ x. next x (later_lines (text_of (top ∷ lines)))) (BadProtocol fault) e) [
       | inl here ↦ absurd (let none : None ≡ Some line = judged (first_line (text_of (top ∷ lines))) (BadProtocol fault) here in cc)
-      | inr (x, judged_ok, there) ↦ (later x).protocol lines fault parts.1 (ap (next x) (sym (later_lines-text_of top lines parts.0)) ∙ there)
+      | inr (x, judged_ok, there) ↦
+          ap (λ (l : List (List ℕ)). reading (text_of l)) ((later x).2 top lines (ap judge (sym (first_line-text_of top lines parts.0)) ∙ judged_ok))
+          ∙ (later x).1.protocol lines fault parts.1 (ap (next x) (sym (later_lines-text_of top lines parts.0)) ∙ there)
     ]
 
-line_ends : {A : Type 0} (line behind : ℕ) (judge : List ℕ → Result A SpecFault) (next : A → List ℕ → Result RoomSpec SpecFault) → ((bytes : List ℕ) (fault : SpecFault) → judge bytes ≡ Err fault → line_of fault ≡ Some line) → ((x : A) → IsLocalFrom (suc line) behind (next x)) → (text : List ℕ) → by_line judge next text ≡ Err Truncated → ⊥
+line_ends : {A : Type 0} (line : ℕ) (behind : List (List ℕ) → List (List ℕ)) (judge : List ℕ → Result A SpecFault) (next : A → List ℕ → Result RoomSpec SpecFault) → ((bytes : List ℕ) (fault : SpecFault) → judge bytes ≡ Err fault → line_of fault ≡ Some line) → ((x : A) → Later line behind judge next x) → (text : List ℕ) → by_line judge next text ≡ Err Truncated → ⊥
 line_ends line behind judge next judged later text e =
     elim (err_cases (judge (first_line text)) (λ x. next x (later_lines text)) Truncated e) [
       | inl here ↦ absurd (let none : None ≡ Some line = judged (first_line text) Truncated here in cc)
-      | inr (x, judged_ok, there) ↦ (later x).ends (later_lines text) there
+      | inr (x, judged_ok, there) ↦ (later x).1.ends (later_lines text) there
     ]
 
-line_local : {A : Type 0} (line behind : ℕ) (judge : List ℕ → Result A SpecFault) (next : A → List ℕ → Result RoomSpec SpecFault) → ((bytes : List ℕ) (fault : SpecFault) → judge bytes ≡ Err fault → line_of fault ≡ Some line) → ((x : A) → IsLocalFrom (suc line) behind (next x)) → IsLocalFrom line (suc behind) (by_line judge next)
-line_local line behind judge next judged later = record {
+judged_local : {A : Type 0} (line : ℕ) (behind : List (List ℕ) → List (List ℕ)) (judge : List ℕ → Result A SpecFault) (next : A → List ℕ → Result RoomSpec SpecFault) → ((bytes : List ℕ) (fault : SpecFault) → judge bytes ≡ Err fault → line_of fault ≡ Some line) → ((x : A) → Later line behind judge next x) → IsLocalFrom line behind (by_line judge next)
+judged_local line behind judge next judged later = record {
   own = line_own line behind judge next judged later;
   protocol = line_protocol line behind judge next judged later;
   ends = line_ends line behind judge next judged later;
 }
+
+-- ---- the lines behind the line `protocol`
+
+behind_itself : (line : List ℕ) (lines : List (List ℕ)) → is_protocol line ≡ true → behind_protocol (line ∷ lines) ≡ lines
+behind_itself line lines is = rw is refl
+
+drop_one : (line : List ℕ) (lines : List (List ℕ)) (n : ℕ) → drop (1 + n + 1) (line ∷ lines) ≡ drop (n + 1) lines
+drop_one line lines n = let count : 1 + n + 1 ≡ suc (n + 1) = omega arith in ap (λ (k : ℕ). drop k (line ∷ lines)) count
+
+behind_other : (line : List ℕ) (lines : List (List ℕ)) → is_protocol line ≡ false → behind_protocol (line ∷ lines) ≡ behind_protocol lines
+behind_other line lines is = rw is (drop_one line lines (position_or_len is_protocol lines))
+
+other_line : {A : Type 0} (judge : List ℕ → Result A SpecFault) (bytes : List ℕ) (x : A) (told : SpecFault) → judge (codes "protocol") ≡ Err told → judge bytes ≡ Ok x → is_protocol bytes ≡ false
+other_line judge bytes x told refused is =
+    elim (cases_Bool (is_protocol bytes)) [
+      | inl same ↦ absurd (let e : judge bytes ≡ Err told = ap judge ((bytes_eq-Decides bytes (codes "protocol")).0 same) ∙ refused in cc)
+      | inr other ↦ other
+    ]
+
+-- a line of another form
+line_local : {A : Type 0} (line : ℕ) (told : SpecFault) (judge : List ℕ → Result A SpecFault) (next : A → List ℕ → Result RoomSpec SpecFault) → judge (codes "protocol") ≡ Err told → ((bytes : List ℕ) (fault : SpecFault) → judge bytes ≡ Err fault → line_of fault ≡ Some line) → ((x : A) → IsLocalFrom (suc line) behind_protocol (next x)) → IsLocalFrom line behind_protocol (by_line judge next)
+line_local line told judge next refused judged later =
+    judged_local line behind_protocol judge next judged (λ x. (behind_protocol, later x, λ bytes lines is. behind_other bytes lines (other_line judge bytes x told refused is), refl))
 
 -- ---- the judgements of lines
 
@@ -175,49 +208,113 @@ protocol_fault : (outcome : Result Protocol ParseFault) (next : Protocol → Res
 protocol_fault (Ok protocol) next fault never e = absurd (never protocol e)
 protocol_fault (Err own) next fault never e = (own, refl, cc)
 
-local_text : (name inputs : List ℕ) (simulators rounds turns : ℕ) → IsLocalFrom 8 0 (from_text name inputs simulators rounds turns)
-local_text name inputs simulators rounds turns = record {
+local_text : (line : ℕ) (name inputs : List ℕ) (simulators rounds turns : ℕ) (fuses : List (ℕ × ℕ)) → IsLocalFrom line (λ lines. lines) (from_text name inputs simulators rounds turns fuses)
+local_text line name inputs simulators rounds turns fuses = record {
   own = λ text fault n e h. absurd (let is = protocol_fault (reading text) _ fault (λ protocol same. absurd cc) e in let none : None ≡ Some n = ap line_of is.2 ∙ h in cc);
   protocol = λ lines fault all e. (let is = protocol_fault (reading (text_of lines)) _ (BadProtocol fault) (λ protocol same. absurd cc) e in let same : is.0 ≡ fault = cc in is.1 ∙ ap Err same);
   ends = λ text e. (let is = protocol_fault (reading text) _ Truncated (λ protocol same. absurd cc) e in let same : BadProtocol is.0 ≡ Truncated = is.2 in absurd cc);
 }
 
-local_protocol : (name inputs : List ℕ) (simulators rounds turns : ℕ) → IsLocalFrom 7 1 (from_protocol name inputs simulators rounds turns)
-local_protocol name inputs simulators rounds turns =
-    same_reader 7 1 (from_protocol name inputs simulators rounds turns) _ (λ text. regroup_word 7 (bytes_eq (first_line text) (codes "protocol")) (later_lines text) (from_text name inputs simulators rounds turns))
-    (line_local 7 0 (word_judge 7 (codes "protocol")) (λ x. from_text name inputs simulators rounds turns) (λ bytes. word_fault 7 (bytes_eq bytes (codes "protocol"))) (λ x. local_text name inputs simulators rounds turns))
+-- the crash lines and the line `protocol`, one by one
 
-local_turns : (name inputs : List ℕ) (simulators rounds : ℕ) → IsLocalFrom 6 2 (from_turns name inputs simulators rounds)
+abbrev on_from : ℕ → ℕ → List (ℕ × ℕ) → (List (ℕ × ℕ) → List ℕ → Result RoomSpec SpecFault) → List ℕ → Result RoomSpec SpecFault
+on_from most m fuses next text = fuses_from most m fuses text >>= λ read. next read.0 read.1
+
+abbrev on_told : ℕ → ℕ → List (ℕ × ℕ) → (List (ℕ × ℕ) → List ℕ → Result RoomSpec SpecFault) → Option (ℕ × ℕ) → List ℕ → Result RoomSpec SpecFault
+on_told most m fuses next None text = next fuses text
+on_told most m fuses next (Some fuse) text = on_from most m (fuses ++ fuse ∷ []) next text
+
+regroup_onward : (most m : ℕ) (fuses : List (ℕ × ℕ)) (next : List (ℕ × ℕ) → List ℕ → Result RoomSpec SpecFault) (found : Result (Option (ℕ × ℕ)) SpecFault) (rest : List ℕ) → ((found >>= onward (fuses_from most m) fuses rest) >>= λ read. next read.0 read.1) ≡ (found >>= λ x. on_told most m fuses next x rest)
+regroup_onward most m fuses next (Err fault) rest = refl
+regroup_onward most m fuses next (Ok None) rest = refl
+regroup_onward most m fuses next (Ok (Some fuse)) rest = refl
+
+regroup_fuses : (most m : ℕ) (fuses : List (ℕ × ℕ)) (next : List (ℕ × ℕ) → List ℕ → Result RoomSpec SpecFault) (text : List ℕ) → on_from (suc most) m fuses next text ≡ by_line (told_next m fuses) (on_told most m fuses next) text
+unfolding fuses_from
+regroup_fuses most m fuses next text = regroup_onward most m fuses next (told_next m fuses (first_line text)) (later_lines text)
+
+of_simulator_fault : (line m : ℕ) (found : Option (ℕ × ℕ)) (fault : SpecFault) → of_simulator line m found ≡ Err fault → line_of fault ≡ Some line
+of_simulator_fault line m None fault e = let own : CrashLine line ≡ fault = cc in ap line_of (sym own)
+of_simulator_fault line m (Some fuse) fault e = test_fault line (nat_lt fuse.0 m && is_value fuse.1) fuse (CrashLine line) fault refl e
+
+unrepeated_fault : (line : ℕ) (has : Bool) (fuse : Option (ℕ × ℕ)) (fault : SpecFault) → cond has (Err (Repeated line)) (Ok fuse) ≡ Err fault → line_of fault ≡ Some line
+unrepeated_fault line true fuse fault e = let own : Repeated line ≡ fault = cc in ap line_of (sym own)
+unrepeated_fault line false fuse fault e = absurd cc
+
+told_fault : (m : ℕ) (fuses : List (ℕ × ℕ)) (line : List ℕ) (found : Option (List ℕ)) (fault : SpecFault) → told m fuses line found ≡ Err fault → line_of fault ≡ Some (line_behind fuses)
+told_fault m fuses line None fault e = test_fault {A = Option (ℕ × ℕ)} (line_behind fuses) (is_protocol line) None (BadLine (line_behind fuses)) fault refl e
+told_fault m fuses line (Some words) fault e =
+    elim (err_cases (of_simulator (line_behind fuses) m (fuse_in (fields_of words))) (unrepeated (line_behind fuses) fuses) fault e) [
+      | inl here ↦ of_simulator_fault (line_behind fuses) m (fuse_in (fields_of words)) fault here
+      | inr (fuse, found, there) ↦ unrepeated_fault (line_behind fuses) (has_fuse fuses fuse.0) (Some fuse) fault there
+    ]
+
+crash_is_other : (m : ℕ) (fuses : List (ℕ × ℕ)) (line : List ℕ) (fuse : ℕ × ℕ) → told_next m fuses line ≡ Ok (Some fuse) → is_protocol line ≡ false
+crash_is_other m fuses line fuse is =
+    elim (cases_Bool (is_protocol line)) [
+      | inl same ↦ absurd (let e : told_next m fuses (codes "protocol") ≡ Ok (Some fuse) = ap (told_next m fuses) (sym ((bytes_eq-Decides line (codes "protocol")).0 same)) ∙ is in cc)
+      | inr other ↦ other
+    ]
+
+protocol_is_itself : (m : ℕ) (fuses : List (ℕ × ℕ)) (line : List ℕ) → told_next m fuses line ≡ Ok None → is_protocol line ≡ true
+protocol_is_itself m fuses line is = (bytes_eq-Decides line (codes "protocol")).1 (tells_protocol m fuses line is)
+
+local_told : (most m : ℕ) (fuses : List (ℕ × ℕ)) (next : List (ℕ × ℕ) → List ℕ → Result RoomSpec SpecFault) → IsLocalFrom (suc (line_behind fuses)) (λ lines. lines) (next fuses) → ((fuse : ℕ × ℕ) → IsLocalFrom (suc (line_behind fuses)) behind_protocol (on_from most m (fuses ++ fuse ∷ []) next)) → (x : Option (ℕ × ℕ)) → Later (line_behind fuses) behind_protocol (told_next m fuses) (on_told most m fuses next) x
+local_told most m fuses next text more None = (λ lines. lines, text, λ bytes lines is. behind_itself bytes lines (protocol_is_itself m fuses bytes is), refl)
+local_told most m fuses next text more (Some fuse) = (behind_protocol, more fuse, λ bytes lines is. behind_other bytes lines (crash_is_other m fuses bytes fuse is), refl)
+
+no_line_local : (fuses : List (ℕ × ℕ)) (read : List ℕ → Result RoomSpec SpecFault) → ((text : List ℕ) → read text ≡ Err (BadLine (line_behind fuses))) → IsLocalFrom (line_behind fuses) behind_protocol read
+no_line_local fuses read is = record {
+  own = λ text fault n e h. (let same : Err (BadLine (line_behind fuses)) ≡ Err fault = sym (is text) ∙ e in let own : BadLine (line_behind fuses) ≡ fault = cc in let at : line_behind fuses ≡ n = same_Some _ _ (ap line_of own ∙ h) in (omega arith, λ other agree. is other ∙ ap Err own));
+  protocol = λ lines fault all e. absurd (let same : Err (BadLine (line_behind fuses)) ≡ Err (BadProtocol fault) = sym (is (text_of lines)) ∙ e in cc);
+  ends = λ text e. (let same : Err (BadLine (line_behind fuses)) ≡ Err Truncated = sym (is text) ∙ e in absurd cc);
+}
+
+longer_line : (fuses : List (ℕ × ℕ)) (fuse : ℕ × ℕ) → line_behind (fuses ++ fuse ∷ []) ≡ suc (line_behind fuses)
+longer_line fuses fuse = omega (arith, length-append fuses (fuse ∷ []))
+
+local_fuses_from : (most m : ℕ) (fuses : List (ℕ × ℕ)) (next : List (ℕ × ℕ) → List ℕ → Result RoomSpec SpecFault) → ((line : ℕ) (all : List (ℕ × ℕ)) → IsLocalFrom line (λ lines. lines) (next all)) → IsLocalFrom (line_behind fuses) behind_protocol (on_from most m fuses next)
+unfolding fuses_from
+local_fuses_from zero m fuses next text = no_line_local fuses (on_from zero m fuses next) (λ t. refl)
+local_fuses_from (suc most) m fuses next text =
+    same_reader (line_behind fuses) behind_protocol (on_from (suc most) m fuses next) (by_line (told_next m fuses) (on_told most m fuses next)) (regroup_fuses most m fuses next)
+    (judged_local (line_behind fuses) behind_protocol (told_next m fuses) (on_told most m fuses next) (λ bytes. told_fault m fuses bytes (value_after (codes "crash ") bytes))
+    (local_told most m fuses next (text (suc (line_behind fuses)) fuses) (λ fuse. subst (λ (line : ℕ). IsLocalFrom line behind_protocol (on_from most m (fuses ++ fuse ∷ []) next)) (longer_line fuses fuse) (local_fuses_from most m (fuses ++ fuse ∷ []) next text))))
+
+local_fuses : (name inputs : List ℕ) (simulators rounds turns : ℕ) → IsLocalFrom 7 behind_protocol (from_fuses name inputs simulators rounds turns)
+local_fuses name inputs simulators rounds turns = local_fuses_from (suc simulators) simulators [] (λ fuses. from_text name inputs simulators rounds turns fuses) (λ line all. local_text line name inputs simulators rounds turns all)
+
+local_turns : (name inputs : List ℕ) (simulators rounds : ℕ) → IsLocalFrom 6 behind_protocol (from_turns name inputs simulators rounds)
 local_turns name inputs simulators rounds =
-    same_reader 6 2 (from_turns name inputs simulators rounds) _ (λ text. regroup (number_judge 6 (codes "turns ") 65535 Turns (first_line text)) (later_lines text) (λ turns. from_protocol name inputs simulators rounds turns))
-    (line_local 6 1 (number_judge 6 (codes "turns ") 65535 Turns) (λ turns. from_protocol name inputs simulators rounds turns) (λ bytes fault. number_fault 65535 Turns 6 (option_and_then number_of (value_after (codes "turns ") bytes)) fault refl) (λ turns. local_protocol name inputs simulators rounds turns))
+    same_reader 6 behind_protocol (from_turns name inputs simulators rounds) _ (λ text. regroup (number_judge 6 (codes "turns ") 65535 Turns (first_line text)) (later_lines text) (λ turns. from_fuses name inputs simulators rounds turns))
+    (line_local 6 (BadLine 6) (number_judge 6 (codes "turns ") 65535 Turns) (λ turns. from_fuses name inputs simulators rounds turns) refl (λ bytes fault. number_fault 65535 Turns 6 (option_and_then number_of (value_after (codes "turns ") bytes)) fault refl) (λ turns. local_fuses name inputs simulators rounds turns))
 
-local_rounds : (name inputs : List ℕ) (simulators : ℕ) → IsLocalFrom 5 3 (from_rounds name inputs simulators)
+local_rounds : (name inputs : List ℕ) (simulators : ℕ) → IsLocalFrom 5 behind_protocol (from_rounds name inputs simulators)
 local_rounds name inputs simulators =
-    same_reader 5 3 (from_rounds name inputs simulators) _ (λ text. regroup_fitting (λ n. simulators * length inputs * bits_of n) (number_judge 5 (codes "rounds ") 15 Rounds (first_line text)) (later_lines text) (λ rounds. from_turns name inputs simulators rounds))
-    (line_local 5 2 (λ bytes. fitting_judge (λ n. simulators * length inputs * bits_of n) (number_judge 5 (codes "rounds ") 15 Rounds bytes)) (λ rounds. from_turns name inputs simulators rounds)
+    same_reader 5 behind_protocol (from_rounds name inputs simulators) _ (λ text. regroup_fitting (λ n. simulators * length inputs * bits_of n) (number_judge 5 (codes "rounds ") 15 Rounds (first_line text)) (later_lines text) (λ rounds. from_turns name inputs simulators rounds))
+    (line_local 5 (BadLine 5) (λ bytes. fitting_judge (λ n. simulators * length inputs * bits_of n) (number_judge 5 (codes "rounds ") 15 Rounds bytes)) (λ rounds. from_turns name inputs simulators rounds) refl
     (λ bytes fault. fitting_fault (λ n. simulators * length inputs * bits_of n) (number_judge 5 (codes "rounds ") 15 Rounds bytes) fault (λ own. number_fault 15 Rounds 5 (option_and_then number_of (value_after (codes "rounds ") bytes)) own refl)) (λ rounds. local_turns name inputs simulators rounds))
 
-local_simulators : (name inputs : List ℕ) → IsLocalFrom 4 4 (from_simulators name inputs)
+local_simulators : (name inputs : List ℕ) → IsLocalFrom 4 behind_protocol (from_simulators name inputs)
 local_simulators name inputs =
-    same_reader 4 4 (from_simulators name inputs) _ (λ text. regroup (number_judge 4 (codes "simulators ") 8 Simulators (first_line text)) (later_lines text) (λ simulators. from_rounds name inputs simulators))
-    (line_local 4 3 (number_judge 4 (codes "simulators ") 8 Simulators) (λ simulators. from_rounds name inputs simulators) (λ bytes fault. number_fault 8 Simulators 4 (option_and_then number_of (value_after (codes "simulators ") bytes)) fault refl) (λ simulators. local_rounds name inputs simulators))
+    same_reader 4 behind_protocol (from_simulators name inputs) _ (λ text. regroup (number_judge 4 (codes "simulators ") 8 Simulators (first_line text)) (later_lines text) (λ simulators. from_rounds name inputs simulators))
+    (line_local 4 (BadLine 4) (number_judge 4 (codes "simulators ") 8 Simulators) (λ simulators. from_rounds name inputs simulators) refl (λ bytes fault. number_fault 8 Simulators 4 (option_and_then number_of (value_after (codes "simulators ") bytes)) fault refl) (λ simulators. local_rounds name inputs simulators))
 
-local_inputs : (name : List ℕ) → IsLocalFrom 3 5 (from_inputs name)
+local_inputs : (name : List ℕ) → IsLocalFrom 3 behind_protocol (from_inputs name)
 local_inputs name =
-    same_reader 3 5 (from_inputs name) _ (λ text. regroup (in_range (inputs_of (fields_of (first_line text)))) (later_lines text) (λ inputs. from_simulators name inputs))
-    (line_local 3 4 (λ bytes. in_range (inputs_of (fields_of bytes))) (λ inputs. from_simulators name inputs) (λ bytes. inputs_fault (inputs_of (fields_of bytes))) (λ inputs. local_simulators name inputs))
+    same_reader 3 behind_protocol (from_inputs name) _ (λ text. regroup (in_range (inputs_of (fields_of (first_line text)))) (later_lines text) (λ inputs. from_simulators name inputs))
+    (line_local 3 (BadLine 3) (λ bytes. in_range (inputs_of (fields_of bytes))) (λ inputs. from_simulators name inputs) refl (λ bytes. inputs_fault (inputs_of (fields_of bytes))) (λ inputs. local_simulators name inputs))
 
-local_name : IsLocalFrom 2 6 from_name
+local_name : IsLocalFrom 2 behind_protocol from_name
 local_name =
-    same_reader 2 6 from_name _ (λ text. regroup (named (value_after (codes "room ") (first_line text))) (later_lines text) (λ name. from_inputs name))
-    (line_local 2 5 (λ bytes. named (value_after (codes "room ") bytes)) (λ name. from_inputs name) (λ bytes. name_fault (value_after (codes "room ") bytes)) (λ name. local_inputs name))
+    same_reader 2 behind_protocol from_name _ (λ text. regroup (named (value_after (codes "room ") (first_line text))) (later_lines text) (λ name. from_inputs name))
+    (line_local 2 (BadLine 2) (λ bytes. named (value_after (codes "room ") bytes)) (λ name. from_inputs name) refl (λ bytes. name_fault (value_after (codes "room ") bytes)) (λ name. local_inputs name))
 
-pub local_room : IsLocalFrom 1 7 room_in
+pub local_room : IsLocalFrom 1 behind_protocol room_in
 unfolding room_in
 local_room =
-    same_reader 1 7 room_in _ (λ text. regroup_word 1 (bytes_eq (first_line text) (codes "bgsim 1")) (later_lines text) from_name)
-    (line_local 1 6 (word_judge 1 (codes "bgsim 1")) (λ x. from_name) (λ bytes. word_fault 1 (bytes_eq bytes (codes "bgsim 1"))) (λ x. local_name))
+    same_reader 1 behind_protocol room_in _ (λ text. regroup_word 1 (bytes_eq (first_line text) (codes "bgsim 1")) (later_lines text) from_name)
+    (line_local 1 (BadLine 1) (word_judge 1 (codes "bgsim 1")) (λ x. from_name) refl (λ bytes. word_fault 1 (bytes_eq bytes (codes "bgsim 1"))) (λ x. local_name))
 
 -- ---- whole blocks
 

@@ -2,15 +2,15 @@
 use Rattle.std.proofs.Common.{◌≡◌, ℕ, List, [], ◌∷◌, ◌++◌, take, Some, Ok, Err, refl}
 use Rattle.std.specs.Prelude.{codes}
 use Rattle.std.specs.Fmt.{digits}
-use Rattle.protocol_lang.specs.Reading.{reading, tree_in, expected_at, expression_at, command_at, next_token}
+use Rattle.protocol_lang.specs.Reading.{reading, run, one_token, next_token}
 use Rattle.protocol_lang.specs.declared.tree.Name.TheVariants as names
-use Rattle.protocol_lang.specs.declared.tree.Expression.TheVariants as expressions
-use Rattle.protocol_lang.specs.declared.tree.Command.TheVariants as commands
+use Rattle.protocol_lang.specs.declared.tree.Kind.TheVariants as kinds
+use Rattle.protocol_lang.specs.Trees.{Named}
 use Rattle.protocol_lang.specs.declared.fault.ParseFault.TheVariants.{Unexpected}
 use Rattle.room_spec.specs.Rooms.{RoomSpec}
-use Rattle.room_spec.specs.Blocks.{body_len, block_len, room_in, block_in}
+use Rattle.room_spec.specs.Blocks.{body_len, block_len, fuses_from, room_in, block_in}
 use Rattle.room_spec.specs.Grammar.{line_end, block_text}
-use Rattle.room_spec.specs.declared.fault.SpecFault.TheVariants.{Truncated, BadLine, BadName, BadProtocol, Inputs, TooWide}
+use Rattle.room_spec.specs.declared.fault.SpecFault.TheVariants.{Truncated, BadLine, BadName, BadProtocol, Inputs, TooWide, CrashLine, Repeated}
 
 abbrev one : List ℕ
 one = codes "bgsim 1\nroom one\ninputs 5\nsimulators 1\nrounds 1\nturns 10\nprotocol\nfirst input;\nelse decide mine;\nend\n"
@@ -22,7 +22,8 @@ room_one = record {
   simulators = 1;
   rounds = 1;
   turns = 10;
-  protocol = record { first = expressions.Name names.Input; last = commands.Decide (expressions.Name names.Mine) };
+  fuses = [];
+  protocol = record { first = Named names.Input; rules = []; last = record { kind = kinds.Decide; value = Named names.Mine } };
 }
 
 one_len : block_len one ≡ Some 101
@@ -30,7 +31,7 @@ unfolding body_len
 one_len = refl
 
 one_room : block_in one ≡ Ok (room_one, 101)
-unfolding body_len room_in reading tree_in expected_at expression_at command_at next_token
+unfolding body_len room_in fuses_from reading run one_token next_token
 one_room = refl
 
 one_text : block_text room_one (codes "first input;\nelse decide mine;\n") ++ line_end ≡ one
@@ -39,11 +40,11 @@ one_text = refl
 
 -- bytes behind the block are left, and `end` may end with the input
 with_more : block_in (one ++ codes "end\n") ≡ Ok (room_one, 101)
-unfolding body_len room_in reading tree_in expected_at expression_at command_at next_token
+unfolding body_len room_in fuses_from reading run one_token next_token
 with_more = refl
 
 without_line_end : block_in (take 100 one) ≡ Ok (room_one, 100)
-unfolding body_len room_in reading tree_in expected_at expression_at command_at next_token
+unfolding body_len room_in fuses_from reading run one_token next_token
 without_line_end = refl
 
 without_end : block_in (take 99 one) ≡ Err Truncated
@@ -78,10 +79,31 @@ wide_before_turns : block_in (codes "bgsim 1\nroom one\ninputs 1 2 3 4 5 6 7 8 9
 unfolding body_len room_in
 wide_before_turns = refl
 
-crash_line : block_in (codes "bgsim 1\nroom one\ninputs 5\nsimulators 1\nrounds 1\nturns 10\ncrash 0 after 3\nprotocol\nend\n") ≡ Err (BadLine 7)
-unfolding body_len room_in
-crash_line = refl
+-- the fuses stand in the order of their lines
+fuses_of_two : block_in (codes "bgsim 1\nroom one\ninputs 5\nsimulators 2\nrounds 1\nturns 10\ncrash 1 after 4294967295\ncrash 0 after 0\nprotocol\nfirst input;\nelse decide mine;\nend\n") ≡ Ok (record room_one { simulators = 2; fuses = (1, 4294967295) ∷ (0, 0) ∷ [] }, 142)
+unfolding body_len room_in fuses_from reading run one_token next_token
+fuses_of_two = refl
+
+text_with_fuse : block_text (record room_one { fuses = (0, 3) ∷ [] }) (codes "first input;\nelse decide mine;\n") ++ line_end ≡ codes "bgsim 1\nroom one\ninputs 5\nsimulators 1\nrounds 1\nturns 10\ncrash 0 after 3\nprotocol\nfirst input;\nelse decide mine;\nend\n"
+unfolding digits
+text_with_fuse = refl
+
+crash_of_no_simulator : block_in (codes "bgsim 1\nroom one\ninputs 5\nsimulators 1\nrounds 1\nturns 10\ncrash 1 after 3\nprotocol\nend\n") ≡ Err (CrashLine 7)
+unfolding body_len room_in fuses_from
+crash_of_no_simulator = refl
+
+second_crash : block_in (codes "bgsim 1\nroom one\ninputs 5\nsimulators 1\nrounds 1\nturns 10\ncrash 0 after 3\ncrash 0 after 4\nprotocol\nend\n") ≡ Err (Repeated 8)
+unfolding body_len room_in fuses_from
+second_crash = refl
+
+form_before_repeated : block_in (codes "bgsim 1\nroom one\ninputs 5\nsimulators 1\nrounds 1\nturns 10\ncrash 0 after 3\ncrash 0 after 4294967296\nprotocol\nend\n") ≡ Err (CrashLine 8)
+unfolding body_len room_in fuses_from
+form_before_repeated = refl
+
+crash_alone : block_in (codes "bgsim 1\nroom one\ninputs 5\nsimulators 1\nrounds 1\nturns 10\ncrash 0 after 3\ncrash\nend\n") ≡ Err (BadLine 8)
+unfolding body_len room_in fuses_from
+crash_alone = refl
 
 half_protocol : block_in (codes "bgsim 1\nroom one\ninputs 5\nsimulators 1\nrounds 1\nturns 10\nprotocol\nfirst input;\nend\n") ≡ Err (BadProtocol (Unexpected 13))
-unfolding body_len room_in reading tree_in expected_at expression_at command_at next_token
+unfolding body_len room_in fuses_from reading run one_token next_token
 half_protocol = refl

@@ -1,17 +1,18 @@
 -- How a room block is read: line by line, up to the first fault.
-use Rattle.std.specs.Prelude.{◌≡◌, ℕ, ◌+◌, ◌*◌, Bool, ◌&&◌, min, List, [], ◌∷◌, length, take, drop, Option, Some, None, Result, Ok, Err, nat_eq, nat_le, if◌then◌else◌, codes}
-use Rattle.std.specs.List.{list_all, position, starts_with, sum_by}
+use Rattle.std.specs.Prelude.{◌≡◌, ◌⊎◌, ⊤, ℕ, zero, suc, ◌+◌, ◌*◌, Bool, ◌&&◌, min, List, [], ◌∷◌, ◌++◌, length, take, drop, Option, Some, None, Result, Ok, Err, nat_eq, nat_le, nat_lt, ◌==◌, if◌then◌else◌, codes}
+use Rattle.std.specs.List.{list_all, list_any, position, starts_with, sum_by}
 use Rattle.std.specs.Option.{option_map, option_and_then}
 use Rattle.std.specs.Str.{bytes_eq}
 use Rattle.protocol_lang.specs.Numbers.{greatest, number_of}
 use Rattle.protocol_lang.specs.Reading.{reading}
 use Rattle.protocol_lang.specs.declared.protocol.Protocol.{Protocol}
 use Rattle.protocol_lang.specs.declared.fault.ParseFault.{ParseFault}
+use Rattle.protocol_lang.specs.declared.fault.ParseFault.TheVariants.{OutOfMemory}
 use Rattle.room_spec.specs.Names.{is_name}
 use Rattle.room_spec.specs.Rooms.{RoomSpec, bits_of}
 use Rattle.room_spec.specs.Texts.{first_line, later_lines, lines_of, fields_of}
 use Rattle.room_spec.specs.declared.fault.SpecFault.{SpecFault}
-use Rattle.room_spec.specs.declared.fault.SpecFault.TheVariants.{Truncated, BadLine, BadName, BadProtocol, Inputs, Simulators, Rounds, Turns, TooWide}
+use Rattle.room_spec.specs.declared.fault.SpecFault.TheVariants.{Truncated, BadLine, BadName, BadProtocol, Inputs, Simulators, Rounds, Turns, TooWide, CrashLine, Repeated}
 
 -- one step, and then the next where it had no fault
 infixl 10 ◌>>=◌
@@ -92,8 +93,55 @@ number_line line word most fault text =
 abbrev pub fitting : ℕ → Result ℕ SpecFault
 fitting bits = if nat_le bits 64 then Ok bits else Err TooWide
 
-abbrev pub protocol_line : List ℕ → Result (List ℕ) SpecFault
-protocol_line text = if bytes_eq (first_line text) (codes "protocol") then Ok (later_lines text) else Err (BadLine 7)
+abbrev pub is_protocol : List ℕ → Bool
+is_protocol line = bytes_eq line (codes "protocol")
+
+abbrev pub both : Option ℕ → Option ℕ → Option (ℕ × ℕ)
+both None other = None
+both (Some number) None = None
+both (Some number) (Some other) = Some (number, other)
+
+-- the fuse that the words behind `crash` tell
+abbrev pub fuse_in : List (List ℕ) → Option (ℕ × ℕ)
+fuse_in (simulator ∷ word ∷ steps ∷ []) = if bytes_eq word (codes "after") then both (number_of simulator) (number_of steps) else None
+fuse_in words = None
+
+-- it is a fuse of one of m simulators; `line` is the number of its line
+abbrev pub of_simulator : ℕ → ℕ → Option (ℕ × ℕ) → Result (ℕ × ℕ) SpecFault
+of_simulator line m None = Err (CrashLine line)
+of_simulator line m (Some fuse) = if nat_lt fuse.0 m && is_value fuse.1 then Ok fuse else Err (CrashLine line)
+
+abbrev pub has_fuse : List (ℕ × ℕ) → ℕ → Bool
+has_fuse fuses simulator = list_any (λ fuse. fuse.0 == simulator) fuses
+
+-- its simulator has none of the fuses before it
+abbrev pub unrepeated : ℕ → List (ℕ × ℕ) → ℕ × ℕ → Result (Option (ℕ × ℕ)) SpecFault
+unrepeated line fuses fuse = if has_fuse fuses fuse.0 then Err (Repeated line) else Ok (Some fuse)
+
+-- the number of the line behind the crash lines of these fuses
+abbrev pub line_behind : List (ℕ × ℕ) → ℕ
+line_behind fuses = 7 + length fuses
+
+abbrev pub told : ℕ → List (ℕ × ℕ) → List ℕ → Option (List ℕ) → Result (Option (ℕ × ℕ)) SpecFault
+told m fuses line None = if is_protocol line then Ok None else Err (BadLine (line_behind fuses))
+told m fuses line (Some words) = of_simulator (line_behind fuses) m (fuse_in (fields_of words)) >>= unrepeated (line_behind fuses) fuses
+
+-- what the line behind the crash lines of these fuses tells: one more fuse, or nothing where it is `protocol`
+abbrev pub told_next : ℕ → List (ℕ × ℕ) → List ℕ → Result (Option (ℕ × ℕ)) SpecFault
+told_next m fuses line = told m fuses line (value_after (codes "crash ") line)
+
+abbrev pub onward : (List (ℕ × ℕ) → List ℕ → Result (List (ℕ × ℕ) × List ℕ) SpecFault) → List (ℕ × ℕ) → List ℕ → Option (ℕ × ℕ) → Result (List (ℕ × ℕ) × List ℕ) SpecFault
+onward fuses_from fuses later None = Ok (fuses, later)
+onward fuses_from fuses later (Some fuse) = fuses_from (fuses ++ fuse ∷ []) later
+
+-- the fuses of m simulators, of which some were told, and what stands behind the line `protocol`; that is one of the
+-- next `most` lines, since each simulator has one crash line at most
+unfoldable pub fuses_from : ℕ → ℕ → List (ℕ × ℕ) → List ℕ → Result (List (ℕ × ℕ) × List ℕ) SpecFault
+fuses_from zero m fuses text = Err (BadLine (line_behind fuses))
+fuses_from (suc most) m fuses text = told_next m fuses (first_line text) >>= onward (fuses_from most m) fuses (later_lines text)
+
+abbrev pub fuse_lines : ℕ → List ℕ → Result (List (ℕ × ℕ) × List ℕ) SpecFault
+fuse_lines m text = fuses_from (suc m) m [] text
 
 abbrev pub protocol_of : Result Protocol ParseFault → Result Protocol SpecFault
 protocol_of (Ok protocol) = Ok protocol
@@ -109,9 +157,9 @@ room_in body =
     >>= λ simulators. number_line 5 (codes "rounds ") 15 Rounds simulators.1
     >>= λ rounds. fitting (simulators.0 * length inputs.0 * bits_of rounds.0)
     >>= λ bits. number_line 6 (codes "turns ") 65535 Turns rounds.1
-    >>= λ turns. protocol_line turns.1
-    >>= λ text. protocol_of (reading text)
-    >>= λ protocol. Ok (record { name = name.0; inputs = inputs.0; simulators = simulators.0; rounds = rounds.0; turns = turns.0; protocol = protocol })
+    >>= λ turns. fuse_lines simulators.0 turns.1
+    >>= λ fuses. protocol_of (reading fuses.1)
+    >>= λ protocol. Ok (record { name = name.0; inputs = inputs.0; simulators = simulators.0; rounds = rounds.0; turns = turns.0; fuses = fuses.0; protocol = protocol })
 
 abbrev pub room_before : List ℕ → Option ℕ → Result (RoomSpec × ℕ) SpecFault
 room_before text None = Err Truncated
@@ -125,3 +173,15 @@ block_in text = room_before text (body_len text)
 abbrev pub Gives : {X Y : Type 0} → (X → Y) → Result X SpecFault → Result Y SpecFault → Type 0
 Gives view (Ok x) read = read ≡ Ok (view x)
 Gives view (Err fault) read = read ≡ Err fault
+
+-- memory was refused to the protocol
+abbrev pub out_of_memory : SpecFault
+out_of_memory = BadProtocol OutOfMemory
+
+-- what a function returned is this, or memory was refused
+abbrev pub OrMemory : {A : Type 0} → Result A SpecFault → Result A SpecFault → Type 0
+OrMemory result wanted = (result ≡ wanted) ⊎ (result ≡ Err out_of_memory)
+
+abbrev pub UnlessMemory : SpecFault → Type 0 → Type 0
+UnlessMemory (BadProtocol OutOfMemory) fact = ⊤
+UnlessMemory fault fact = fact

@@ -1,13 +1,13 @@
 -- The grammar of room blocks, apart from how they are read.
-use Rattle.std.specs.Prelude.{◌≡◌, ◌≢◌, ℕ, All, ◌+◌, Bool, true, not, ◌&&◌, ◌⊎◌, List, [], ◌∷◌, ◌++◌, length, take, drop, map, Option, Some, None, IfSome, Ok, Err, ⊤, codes}
-use Rattle.std.specs.List.{flat_map, join_with_byte, list_all}
+use Rattle.std.specs.Prelude.{◌≡◌, ◌≢◌, ℕ, All, ◌+◌, Bool, true, not, ◌&&◌, ◌⊎◌, List, [], ◌∷◌, ◌++◌, length, take, map, Option, Some, None, IfSome, Ok, Err, ⊤, codes}
+use Rattle.std.specs.List.{after_first, flat_map, join_with_byte, list_all}
 use Rattle.std.specs.Fmt.{decimal}
 use Rattle.protocol_lang.specs.Reading.{reading}
 use Rattle.room_spec.specs.Rooms.{RoomSpec, IsWithinLimits}
 use Rattle.room_spec.specs.Texts.{is_line_end, lines_of}
-use Rattle.room_spec.specs.Blocks.{is_end, is_value, block_in}
+use Rattle.room_spec.specs.Blocks.{is_end, is_value, is_protocol, block_in}
 use Rattle.room_spec.specs.declared.fault.SpecFault.{SpecFault}
-use Rattle.room_spec.specs.declared.fault.SpecFault.TheVariants.{Truncated, BadLine, BadName, BadProtocol, Inputs, Simulators, Rounds, Turns, TooWide}
+use Rattle.room_spec.specs.declared.fault.SpecFault.TheVariants.{Truncated, BadLine, BadName, BadProtocol, Inputs, Simulators, Rounds, Turns, TooWide, CrashLine, Repeated}
 
 -- ---- lines
 
@@ -40,6 +40,10 @@ pub record EndsAt (input : List ℕ) (len : ℕ) : Type 0 where
 
 -- ---- blocks
 
+-- the line of a fuse
+abbrev pub crash_line : ℕ × ℕ → List ℕ
+crash_line fuse = codes "crash " ++ (decimal fuse.0 ++ (codes " after " ++ decimal fuse.1))
+
 -- the lines before the protocol's text
 abbrev pub head_lines : RoomSpec → List (List ℕ)
 head_lines room =
@@ -49,8 +53,7 @@ head_lines room =
     ∷ (codes "simulators " ++ decimal room.simulators)
     ∷ (codes "rounds " ++ decimal room.rounds)
     ∷ (codes "turns " ++ decimal room.turns)
-    ∷ codes "protocol"
-    ∷ []
+    ∷ (map crash_line room.fuses ++ codes "protocol" ∷ [])
 
 -- the block's bytes, where its protocol has this text
 abbrev pub block_text : RoomSpec → List ℕ → List ℕ
@@ -60,6 +63,7 @@ block_text room text = text_of (head_lines room) ++ (text ++ codes "end")
 pub record IsBlock (input : List ℕ) (room : RoomSpec) (len : ℕ) : Type 0 where
   pub limits : IsWithinLimits room
   pub inputs : list_all is_value room.inputs ≡ true
+  pub fuses : list_all (λ fuse. is_value fuse.1) room.fuses ≡ true
   pub lines : List (List ℕ)
   pub no_end : are_before_end lines ≡ true
   pub protocol : reading (text_of lines) ≡ Ok room.protocol
@@ -78,14 +82,20 @@ line_of Simulators = Some 4
 line_of Rounds = Some 5
 line_of Turns = Some 6
 line_of TooWide = Some 5
+line_of (CrashLine line) = Some line
+line_of (Repeated line) = Some line
 
 -- each other text with a line `end` and with the same lines up to the one that has the fault has it too
 abbrev pub IsLocal : List ℕ → SpecFault → Type 0
 IsLocal text fault =
     IfSome (line_of fault) (λ line. (other : List ℕ) (len : ℕ) → EndsAt other len → take line (lines_of other) ≡ take line (lines_of text) → block_in other ≡ Err fault)
 
--- a fault of no one line: there is no line `end`, or the text behind the seventh line has the protocol's fault
+-- the lines behind the first line `protocol`
+abbrev pub behind_protocol : List (List ℕ) → List (List ℕ)
+behind_protocol lines = after_first is_protocol lines
+
+-- a fault of no one line: there is no line `end`, or the text behind the line `protocol` has the protocol's fault
 abbrev pub IsOfText : List ℕ → SpecFault → Type 0
 IsOfText text Truncated = All (λ line. line ≢ codes "end") (lines_of text)
-IsOfText text (BadProtocol fault) = (len : ℕ) × (at : EndsAt text len) × (reading (text_of (drop 7 at.lines)) ≡ Err fault)
+IsOfText text (BadProtocol fault) = (len : ℕ) × (at : EndsAt text len) × (reading (text_of (behind_protocol at.lines)) ≡ Err fault)
 IsOfText text fault = ⊤

@@ -1,20 +1,28 @@
 -- What a room is told when it is made, and how large it may be.
-use Rattle.std.specs.Prelude.{◌≡◌, ℕ, ◌*◌, ◌≤◌, true, List, length, nat_lt, if◌then◌else◌}
+use Rattle.std.specs.Prelude.{◌≡◌, ℕ, ◌*◌, ◌≤◌, true, List, length, map, Option, nat_eq, nat_lt, ◌==◌, if◌then◌else◌}
+use Rattle.std.specs.List.{IsDistinct, find, list_all}
+use Rattle.std.specs.Option.{option_map}
 use Rattle.protocol_lang.specs.declared.protocol.Protocol.{Protocol}
 use Rattle.room_spec.specs.Names.{is_name}
 
 -- The room's name, the input of each process, the number of simulators, how often a process may write, how
--- many turns each simulator has, and the protocol.
+-- many turns each simulator has, the fuses, and the protocol. A fuse is a simulator and the number of steps after which
+-- it crashes; they stand in the order of their lines.
 pub record RoomSpec : Type 0 where
   pub name : List ℕ
   pub inputs : List ℕ
   pub simulators : ℕ
   pub rounds : ℕ
   pub turns : ℕ
+  pub fuses : List (ℕ × ℕ)
   pub protocol : Protocol
 
 abbrev pub processes : RoomSpec → ℕ
 processes spec = length spec.inputs
+
+-- after how many steps a simulator crashes; nothing where it has no fuse
+abbrev pub fuse_of : List (ℕ × ℕ) → ℕ → Option ℕ
+fuse_of fuses simulator = option_map (λ fuse. fuse.1) (find (λ fuse. fuse.0 == simulator) fuses)
 
 -- the binary digits of a step number of a room with so many rounds
 abbrev pub bits_of : ℕ → ℕ
@@ -28,8 +36,14 @@ pub record IsShape (n m bits rounds : ℕ) : Type 0 where
   pub width : bits ≡ bits_of rounds
   pub memory : m * n * bits ≤ 64
 
+-- each fuse is that of a simulator, and of no two the same
+pub record AreFuses (fuses : List (ℕ × ℕ)) (m : ℕ) : Type 0 where
+  pub below : list_all (λ fuse. nat_lt fuse.0 m) fuses ≡ true
+  pub distinct : IsDistinct nat_eq (map (λ fuse. fuse.0) fuses)
+
 -- the limits of every room
 pub record IsWithinLimits (spec : RoomSpec) : Type 0 where
   pub name : is_name spec.name ≡ true
   pub shape : IsShape (length spec.inputs) spec.simulators (bits_of spec.rounds) spec.rounds
   pub turns : (1 ≤ spec.turns) × (spec.turns ≤ 65535)
+  pub fuses : AreFuses spec.fuses spec.simulators

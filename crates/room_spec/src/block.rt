@@ -1,11 +1,12 @@
 //! Room blocks.
-ghost use Rattle.std.specs.Prelude.{◌≡◌, ◌≢◌, ℕ, IfNone, All, ◌+◌, ◌≤◌, ◌<◌, min, length, take, IfOk, IfErr, IfSome, Some, Ok, codes};
+ghost use Rattle.std.specs.Prelude.{◌≡◌, ◌≢◌, ℕ, IfNone, All, ◌+◌, ◌^◌, ◌≤◌, ◌<◌, min, length, take, IfOk, IfErr, IfSome, None, Some, Ok, Err, if◌then◌else◌, codes};
 ghost use Rattle.std.specs.Option.{option_copied, option_map, option_and_then};
 ghost use Rattle.protocol_lang.specs.Numbers.{number_of};
-ghost use Rattle.room_spec.specs.Rooms.{RoomSpec};
+ghost use Rattle.room_spec.specs.Rooms.{RoomSpec, AreFuses};
 ghost use Rattle.room_spec.specs.Texts.{lines_of, first_line, later_lines, fields_of};
+ghost use Rattle.room_spec.specs.declared.fault.SpecFault.TheVariants.{BadLine};
 ghost use Rattle.room_spec.specs.Grammar.{EndsAt, IsBlock, IsLocal, IsOfText};
-ghost use Rattle.room_spec.specs.Blocks.{body_len, block_len, value_after, version_line, named, name_line, numbers_of, inputs_of, in_range, inputs_line, up_to, number_line, protocol_line, room_in, block_in, Gives};
+ghost use Rattle.room_spec.specs.Blocks.{body_len, block_len, value_after, version_line, named, name_line, numbers_of, inputs_of, in_range, inputs_line, up_to, number_line, fuse_in, of_simulator, told_next, is_protocol, has_fuse, fuse_lines, room_in, block_in, Gives, OrMemory, UnlessMemory};
 
 use crate::fault::SpecFault;
 use crate::name::Name;
@@ -13,6 +14,7 @@ use crate::spec::{Spec, bits};
 use crate::text::cut;
 use arrayvec::ArrayVec;
 use protocol_lang::{parse_bytes, read_number};
+use std::alloc::Global;
 
 /// How many bytes a room block at the front of `text` takes: up to and with the first line `end`,
 /// or `None` where there is no such line.
@@ -45,29 +47,35 @@ fn body_len(text: &[u8]) -> Option<usize>
 
 /// Reads the room block at the front of `text`, and gives its length too. The fault is that of the
 /// block's first line that has one.
-#[tactic(auto, unfolding(crate::specs::Blocks::room_in))]
-pub fn read_block(text: &[u8]) -> Result<(Spec, usize), SpecFault>
+pub fn read_block(alloc: Global, text: &[u8]) -> Result<(Spec, usize), SpecFault>
     // What is read is a block.
     ensures found { IfOk result (λ read. IsBlock text.now read.0 read.1) }
     // What is a block is read.
-    ensures only { (room : RoomSpec) (len : ℕ) → IsBlock text.now room len → result ≡ Ok (room, len) }
+    ensures only { (room : RoomSpec) (len : ℕ) → IsBlock text.now room len → OrMemory result (Ok (room, len)) }
     ensures within { IfOk result (λ read. read.1 ≤ length text.now) }
     // A fault rests on the lines up to its own,
-    ensures local { IfErr result (λ fault. IsLocal text.now fault) }
+    ensures local { IfErr result (λ fault. UnlessMemory fault (IsLocal text.now fault)) }
     // or on the protocol's text, or there is no line `end`.
-    ensures of_text { IfErr result (λ fault. IsOfText text.now fault) }
+    ensures of_text { IfErr result (λ fault. UnlessMemory fault (IsOfText text.now fault)) }
     // Which fault it is.
-    ensures exact { result ≡ block_in text.now }
+    ensures exact { OrMemory result (block_in text.now) }
+{
+    read_front(alloc, text)
+}
+
+fn read_front(alloc: Global, text: &[u8]) -> Result<(Spec, usize), SpecFault>
+    ensures exact { OrMemory result (block_in text.now) }
+    ensures within { IfOk result (λ read. read.1 ≤ length text.now) }
 {
     let body = body_len(text).ok_or(SpecFault::Truncated)?;
-    let spec = read_room(&text[..body])?;
+    let spec = read_room(alloc, &text[..body])?;
     Ok((spec, (body + 4).min(text.len())))
 }
 
 /// Reads the lines before the line `end`.
 #[tactic(auto, unfolding(crate::specs::Blocks::room_in))]
-fn read_room(body: &[u8]) -> Result<Spec, SpecFault>
-    ensures { result ≡ room_in body.now }
+fn read_room(alloc: Global, body: &[u8]) -> Result<Spec, SpecFault>
+    ensures { OrMemory result (room_in body.now) }
 {
     let rest = read_version(body)?;
     let (name, rest) = read_name(rest)?;
@@ -78,14 +86,15 @@ fn read_room(body: &[u8]) -> Result<Spec, SpecFault>
         return Err(SpecFault::TooWide);
     }
     let (turns, rest) = read_number_line(rest, 6, b"turns ", 65535, SpecFault::Turns)?;
-    let text = read_protocol_line(rest)?;
-    let protocol = parse_bytes(text).map_err(SpecFault::BadProtocol)?;
+    let (fuses, text) = read_fuses(rest, simulators)?;
+    let protocol = parse_bytes(alloc, text).map_err(SpecFault::BadProtocol)?;
     Ok(Spec {
         name,
         inputs,
         simulators: simulators as u8,
         rounds: rounds as u8,
         turns,
+        fuses,
         protocol,
     })
 }
@@ -176,13 +185,91 @@ fn read_number_line<'a>(
     }
 }
 
-fn read_protocol_line(text: &[u8]) -> Result<&[u8], SpecFault>
-    ensures { Gives (λ rest. rest.now) result (protocol_line text.now) }
+/// Reads the crash lines and the line `protocol`.
+fn read_fuses(text: &[u8], simulators: u16) -> Result<(ArrayVec<(u8, u32), 8>, &[u8]), SpecFault>
+    requires { simulators ≤ 8 }
+    ensures value { Gives (λ read. (read.0.items, read.1.now)) result (fuse_lines simulators text.now) }
+    ensures fuses { IfOk result (λ read. AreFuses read.0.items simulators) }
 {
-    let (line, rest) = split_line(text);
-    if line == b"protocol".as_slice() {
-        Ok(rest)
-    } else {
-        Err(SpecFault::BadLine(7))
+    let mut fuses = ArrayVec::new();
+    let mut rest = text;
+    loop {
+        let (line, later) = split_line(rest);
+        match read_fuse(line, simulators, fuses.as_slice())? {
+            Some(fuse) => fuses.push(fuse),
+            None => return Ok((fuses, later)),
+        }
+        rest = later;
     }
+}
+
+/// Reads the line behind the crash lines of these fuses: one more, or `None` where it is
+/// `protocol`.
+fn read_fuse(
+    line: &[u8],
+    simulators: u16,
+    fuses: &[(u8, u32)],
+) -> Result<Option<(u8, u32)>, SpecFault>
+    requires simulators { simulators ≤ 8 }
+    requires fuses { length fuses.now ≤ 8 }
+    ensures { result ≡ told_next simulators fuses.now line.now }
+{
+    let number = 7 + fuses.len();
+    let Some(words) = line.strip_prefix(b"crash ".as_slice()) else {
+        return read_protocol_line(line, number);
+    };
+    let fuse = read_fuse_of_simulator(words, number, simulators)?;
+    if has_fuse(fuses, fuse.0) {
+        return Err(SpecFault::Repeated(number));
+    }
+    Ok(Some(fuse))
+}
+
+fn read_protocol_line(line: &[u8], number: usize) -> Result<Option<(u8, u32)>, SpecFault>
+    ensures { result ≡ (if is_protocol line.now then Ok None else Err (BadLine number)) }
+{
+    if line == b"protocol".as_slice() {
+        Ok(None)
+    } else {
+        Err(SpecFault::BadLine(number))
+    }
+}
+
+fn has_fuse(fuses: &[(u8, u32)], simulator: u8) -> bool
+    ensures { result ≡ has_fuse fuses.now simulator }
+{
+    fuses.iter().any(|fuse| fuse.0 == simulator)
+}
+
+fn read_fuse_of_simulator(
+    words: &[u8],
+    number: usize,
+    simulators: u16,
+) -> Result<(u8, u32), SpecFault>
+    requires { simulators ≤ 8 }
+    ensures { result ≡ of_simulator number simulators (fuse_in (fields_of words.now)) }
+{
+    let (simulator, steps) = fuse_from(words).ok_or(SpecFault::CrashLine(number))?;
+    match u32::try_from(steps) {
+        Ok(steps) if simulator < u64::from(simulators) => Ok((simulator as u8, steps)),
+        _ => Err(SpecFault::CrashLine(number)),
+    }
+}
+
+/// The numbers in the words behind `crash`, as they are read.
+fn fuse_from(words: &[u8]) -> Option<(u64, u64)>
+    ensures { result ≡ option_map (λ fuse. (min fuse.0 (2 ^ 32), min fuse.1 (2 ^ 32))) (fuse_in (fields_of words.now)) }
+{
+    let (simulator, rest) = cut(words, b' ');
+    let (word, rest) = cut(rest?, b' ');
+    let (steps, rest) = cut(rest?, b' ');
+    if rest.is_some() {
+        return None;
+    }
+    if word != b"after".as_slice() {
+        return None;
+    }
+    let simulator = read_number(simulator)?;
+    let steps = read_number(steps)?;
+    Some((simulator, steps))
 }

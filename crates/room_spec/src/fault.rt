@@ -36,10 +36,17 @@ pub enum SpecFault {
     /// The step numbers of all simulators need more than 64 bits.
     #[error("simulators, processes and rounds need more than 64 bits")]
     TooWide,
+    /// The line of this number begins with `crash `, and isn't `crash I after K` with the number of
+    /// a simulator and up to 4294967295 steps.
+    #[error("line {0} is no crash of a simulator after up to 4294967295 steps")]
+    CrashLine(usize),
+    /// The line of this number is a second crash of its simulator.
+    #[error("line {0} is a second crash of its simulator")]
+    Repeated(usize),
 }
 
 impl SpecFault {
-    /// The number by which reports name the fault, 10 to 18.
+    /// The number by which reports name the fault, 10 to 20.
     pub fn code(self) -> u16
         ensures { result ≡ code_of self }
     {
@@ -53,6 +60,8 @@ impl SpecFault {
             SpecFault::Rounds => 16,
             SpecFault::Turns => 17,
             SpecFault::TooWide => 18,
+            SpecFault::CrashLine(_) => 19,
+            SpecFault::Repeated(_) => 20,
         }
     }
 }

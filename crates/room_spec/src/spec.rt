@@ -1,6 +1,6 @@
 //! What a room is told when it is made.
 ghost use Rattle.std.specs.Prelude.{◌≡◌, ◌*◌, ◌<◌, ◌≤◌, length, slice_index};
-ghost use Rattle.room_spec.specs.Rooms.{IsShape, IsWithinLimits, bits_of, processes};
+ghost use Rattle.room_spec.specs.Rooms.{IsShape, IsWithinLimits, bits_of, fuse_of, processes};
 
 use crate::name::Name;
 use arrayvec::ArrayVec;
@@ -19,7 +19,7 @@ pub struct Shape {
     pub ghost limits: { IsShape n m bits rounds },
 }
 
-/// A room's name, inputs, numbers and protocol, within the limits of every room.
+/// A room's name, inputs, numbers, fuses and protocol, within the limits of every room.
 #[derive(Drop)]
 pub struct Spec {
     pub(crate) name: Name,
@@ -27,17 +27,22 @@ pub struct Spec {
     pub(crate) simulators: u8,
     pub(crate) rounds: u8,
     pub(crate) turns: u16,
+    pub(crate) fuses: ArrayVec<(u8, u32), 8>,
     pub(crate) protocol: Protocol,
 }
 
 impl Model for Spec {
+    ghost use Rattle.std.specs.Coded.{codes};
+    ghost use Rattle.protocol_lang.specs.Codes.{expression_code};
     ghost use Rattle.room_spec.specs.Rooms.{RoomSpec, IsWithinLimits};
 
     ghost Value = { RoomSpec };
 
-    ghost view = { λ s. record { name = s.name; inputs = s.inputs.items; simulators = s.simulators; rounds = s.rounds; turns = s.turns; protocol = s.protocol } };
+    ghost coded = { Prim.hlevel (codes, expression_code) };
 
-    ghost invariant = { λ s. IsWithinLimits (record { name = s.name; inputs = s.inputs.items; simulators = s.simulators; rounds = s.rounds; turns = s.turns; protocol = s.protocol }) };
+    ghost view = { λ s. record { name = s.name; inputs = s.inputs.items; simulators = s.simulators; rounds = s.rounds; turns = s.turns; fuses = s.fuses.items; protocol = s.protocol } };
+
+    ghost invariant = { λ s. IsWithinLimits (record { name = s.name; inputs = s.inputs.items; simulators = s.simulators; rounds = s.rounds; turns = s.turns; fuses = s.fuses.items; protocol = s.protocol }) };
 }
 
 impl Spec {
@@ -86,6 +91,15 @@ impl Spec {
         ensures { result ≡ slice_index self.now.inputs j }
     {
         self.inputs[j]
+    }
+
+    /// After how many steps simulator `i` crashes, up to 4294967295, or `None` where it has no fuse.
+    pub fn fuse(&self, i: usize) -> Option<u32>
+        requires { i < self.now.simulators }
+        ensures { result ≡ fuse_of self.now.fuses i }
+    {
+        let fuse = self.fuses.iter().find(|fuse| usize::from(fuse.0) == i)?;
+        Some(fuse.1)
     }
 
     /// The protocol that the processes run.

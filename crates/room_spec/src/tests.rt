@@ -1,5 +1,6 @@
 use super::*;
 use protocol_lang::{ParseFault, first};
+use std::alloc::Global;
 use std::test::*;
 
 const ONE: &str =
@@ -10,7 +11,9 @@ const WIDEST: &str =
 
 #[test]
 fn rooms(rt: HostRuntime) -> Result<(), Fail> {
-    let (room, len) = read_block(ONE.as_bytes()).ok().ok_or("a block")?;
+    let (room, len) = read_block(rt.alloc(), ONE.as_bytes())
+        .ok()
+        .ok_or("a block")?;
     assert_eq!(rt; len, 101);
     assert_eq!(rt; room.name().as_str(), "one");
     assert_eq!(rt;
@@ -26,7 +29,9 @@ fn rooms(rt: HostRuntime) -> Result<(), Fail> {
 
 #[test]
 fn widest_room(rt: HostRuntime) -> Result<(), Fail> {
-    let (room, len) = read_block(WIDEST.as_bytes()).ok().ok_or("a block")?;
+    let (room, len) = read_block(rt.alloc(), WIDEST.as_bytes())
+        .ok()
+        .ok_or("a block")?;
     assert_eq!(rt; len, WIDEST.len());
     assert_eq!(rt; room.name().as_str(), "a-32_letters_long_0123456789abcd");
     let shape = room.shape();
@@ -65,15 +70,19 @@ fn ends_of_blocks(rt: HostRuntime) {
 #[test]
 fn what_is_behind_a_block_is_left(rt: HostRuntime) -> Result<(), Fail> {
     let twice = format!(in rt.alloc(); "{ONE}{ONE}")?;
-    let (_, len) = read_block(twice.as_bytes()).ok().ok_or("a block")?;
+    let (_, len) = read_block(rt.alloc(), twice.as_bytes())
+        .ok()
+        .ok_or("a block")?;
     assert_eq!(rt; len, 101);
-    let (_, len) = read_block(&ONE.as_bytes()[..100]).ok().ok_or("a block")?;
+    let (_, len) = read_block(rt.alloc(), &ONE.as_bytes()[..100])
+        .ok()
+        .ok_or("a block")?;
     assert_eq!(rt; len, 100);
     Ok(())
 }
 
-fn fault_of(text: &str) -> Option<SpecFault> {
-    read_block(text.as_bytes()).err()
+fn fault_of(alloc: Global, text: &str) -> Option<SpecFault> {
+    read_block(alloc, text.as_bytes()).err()
 }
 
 #[test]
@@ -99,7 +108,7 @@ fn faults_of_the_head(rt: HostRuntime) {
             SpecFault::BadName,
         ),
     ] {
-        assert_eq!(rt; fault_of(text), Some(fault), "in {text}");
+        assert_eq!(rt; fault_of(rt.alloc(), text), Some(fault), "in {text}");
     }
 }
 
@@ -132,7 +141,11 @@ fn faults_of_inputs(rt: HostRuntime) -> Result<(), Fail> {
         ),
     ] {
         let text = format!(in rt.alloc(); "bgsim 1\nroom one\n{inputs}\nend\n")?;
-        assert_eq!(rt; fault_of(text.as_str()), Some(fault), "at {inputs}");
+        assert_eq!(rt;
+            fault_of(rt.alloc(), text.as_str()),
+            Some(fault),
+            "at {inputs}"
+        );
     }
     Ok(())
 }
@@ -164,10 +177,6 @@ fn faults_of_numbers(rt: HostRuntime) -> Result<(), Fail> {
         ("simulators 2\nrounds 15\nturns 0", SpecFault::TooWide),
         ("simulators 2\nrounds 15\nturn 0", SpecFault::TooWide),
         (
-            "simulators 1\nrounds 1\nturns 1\ncrash 0 after 3\nprotocol",
-            SpecFault::BadLine(7),
-        ),
-        (
             "simulators 1\nrounds 1\nturns 1\nprotocols",
             SpecFault::BadLine(7),
         ),
@@ -175,7 +184,11 @@ fn faults_of_numbers(rt: HostRuntime) -> Result<(), Fail> {
         let text = format!(in rt.alloc();
             "bgsim 1\nroom one\ninputs 1 2 3 4 5 6 7 8 9\n{lines}\nend\n"
         )?;
-        assert_eq!(rt; fault_of(text.as_str()), Some(fault), "at {lines}");
+        assert_eq!(rt;
+            fault_of(rt.alloc(), text.as_str()),
+            Some(fault),
+            "at {lines}"
+        );
     }
     Ok(())
 }
@@ -194,16 +207,127 @@ fn faults_of_protocols(rt: HostRuntime) -> Result<(), Fail> {
             "bgsim 1\nroom one\ninputs 5\nsimulators 1\nrounds 1\nturns 10\nprotocol\n{text}end\n"
         )?;
         assert_eq!(rt;
-            fault_of(text.as_str()),
+            fault_of(rt.alloc(), text.as_str()),
             Some(SpecFault::BadProtocol(fault))
         );
     }
     assert_eq!(rt;
         read_block(
+            rt.alloc(),
             b"bgsim 1\nroom one\ninputs 5\nsimulators 1\nrounds 1\nturns 10\nprotocol\nfirst in\xFF\nend"
-        ).err(),
+        )
+        .err(),
         Some(SpecFault::BadProtocol(ParseFault::BadToken(6)))
     );
+    Ok(())
+}
+
+#[test]
+fn fuses(rt: HostRuntime) -> Result<(), Fail> {
+    let text =
+        "bgsim 1\nroom all\ninputs 5\nsimulators 8\nrounds 1\nturns 10\ncrash 7 after 4294967295\ncrash 0 after 0\ncrash 3 after 5\ncrash 1 after 10\ncrash 2 after 6\ncrash 6 after 1\ncrash 4 after 7\ncrash 5 after 8\nprotocol\nfirst input;\nelse decide mine;\nend\n";
+    let (room, len) = read_block(rt.alloc(), text.as_bytes())
+        .ok()
+        .ok_or("a block")?;
+    assert_eq!(rt; len, text.len());
+    for (simulator, steps) in [
+        (0, 0),
+        (1, 10),
+        (2, 6),
+        (3, 5),
+        (4, 7),
+        (5, 8),
+        (6, 1),
+        (7, 4294967295),
+    ] {
+        assert_eq!(rt; room.m(), 8);
+        if simulator < room.m() {
+            assert_eq!(rt; room.fuse(simulator), Some(steps), "of {simulator}");
+        }
+    }
+    Ok(())
+}
+
+#[test]
+fn rooms_with_one_fuse_or_none(rt: HostRuntime) -> Result<(), Fail> {
+    let text =
+        "bgsim 1\nroom two\ninputs 5\nsimulators 2\nrounds 1\nturns 10\ncrash 1 after 3\nprotocol\nfirst input;\nelse decide mine;\nend\n";
+    let (room, len) = read_block(rt.alloc(), text.as_bytes())
+        .ok()
+        .ok_or("a block")?;
+    assert_eq!(rt; len, text.len());
+    if room.m() == 2 {
+        assert_eq!(rt; (room.fuse(0), room.fuse(1)), (None, Some(3)));
+    }
+    assert_eq!(rt; room.m(), 2);
+    let (room, _) = read_block(rt.alloc(), ONE.as_bytes())
+        .ok()
+        .ok_or("a block")?;
+    assert_eq!(rt; room.fuse(0), None);
+    Ok(())
+}
+
+#[test]
+fn faults_of_crash_lines(rt: HostRuntime) -> Result<(), Fail> {
+    for (lines, fault) in [
+        ("crash 2 after 3", SpecFault::CrashLine(7)),
+        ("crash 0 after 4294967295", SpecFault::BadLine(8)),
+        ("crash 0 after 4294967296", SpecFault::CrashLine(7)),
+        ("crash 4294967296 after 3", SpecFault::CrashLine(7)),
+        (
+            "crash 0 after 99999999999999999999999999",
+            SpecFault::CrashLine(7),
+        ),
+        ("crash 0 after 03", SpecFault::CrashLine(7)),
+        ("crash 00 after 3", SpecFault::CrashLine(7)),
+        ("crash 0 after  3", SpecFault::CrashLine(7)),
+        ("crash  0 after 3", SpecFault::CrashLine(7)),
+        ("crash 0 after 3 ", SpecFault::CrashLine(7)),
+        ("crash 0 after 3 4", SpecFault::CrashLine(7)),
+        ("crash 0 after -3", SpecFault::CrashLine(7)),
+        ("crash 0 at 3", SpecFault::CrashLine(7)),
+        ("crash 0 after", SpecFault::CrashLine(7)),
+        ("crash 0", SpecFault::CrashLine(7)),
+        ("crash ", SpecFault::CrashLine(7)),
+        ("crash 1 after 3\ncrash 2 after 3", SpecFault::CrashLine(8)),
+        ("crash 0 after 3\ncrash 0 after 4", SpecFault::Repeated(8)),
+        (
+            "crash 0 after 3\ncrash 1 after 3\ncrash 0 after 3",
+            SpecFault::Repeated(9),
+        ),
+        (
+            "crash 0 after 3\ncrash 1 after 3\ncrash 1 after 4\ncrash 0 after 3",
+            SpecFault::Repeated(9),
+        ),
+        (
+            "crash 0 after 3\ncrash 0 after 4294967296",
+            SpecFault::CrashLine(8),
+        ),
+        ("crash 0 after 3\ncrash 0 3", SpecFault::CrashLine(8)),
+        ("crash", SpecFault::BadLine(7)),
+        ("crashes 0 after 3", SpecFault::BadLine(7)),
+        (" crash 0 after 3", SpecFault::BadLine(7)),
+        ("crash 0 after 3\ncrash", SpecFault::BadLine(8)),
+        ("crash 0 after 3\ncrash 1 after 4", SpecFault::BadLine(9)),
+        ("crash 0 after 3\nprotocols", SpecFault::BadLine(8)),
+        (
+            "crash 0 after 3\nprotocol\nfirst input;",
+            SpecFault::BadProtocol(ParseFault::Unexpected(13)),
+        ),
+        (
+            "protocol\ncrash 0 after 3",
+            SpecFault::BadProtocol(ParseFault::BadToken(0)),
+        ),
+    ] {
+        let text = format!(in rt.alloc();
+            "bgsim 1\nroom one\ninputs 5\nsimulators 2\nrounds 1\nturns 10\n{lines}\nend\n"
+        )?;
+        assert_eq!(rt;
+            fault_of(rt.alloc(), text.as_str()),
+            Some(fault),
+            "at {lines}"
+        );
+    }
     Ok(())
 }
 
@@ -254,6 +378,8 @@ fn codes_of_faults(rt: HostRuntime) {
         (SpecFault::Rounds, 16),
         (SpecFault::Turns, 17),
         (SpecFault::TooWide, 18),
+        (SpecFault::CrashLine(7), 19),
+        (SpecFault::Repeated(8), 20),
     ] {
         assert_eq!(rt; fault.code(), code);
     }

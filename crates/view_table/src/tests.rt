@@ -12,7 +12,7 @@ fn shape_of(rt: &HostRuntime, n: usize, m: usize, rounds: usize) -> Result<Optio
     let text = format!(in rt.alloc();
         "bgsim 1\nroom a\n{inputs}\nsimulators {m}\nrounds {rounds}\nturns 1\nprotocol\nfirst input;else decide min;\nend\n"
     )?;
-    match read_block(text.as_bytes()) {
+    match read_block(rt.alloc(), text.as_bytes()) {
         Ok((spec, _)) => Ok(Some(spec.shape())),
         Err(_) => Ok(None),
     }

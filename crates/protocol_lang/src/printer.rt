@@ -1,0 +1,496 @@
+//! A protocol's shortest text.
+ghost use Rattle.std.specs.Prelude.{◌≡◌, ◌≤◌, ◌∷◌, ◌++◌, [], ℕ, List, true, false, IfOk, OnOk, length, map, string_bytes};
+ghost use Rattle.std.specs.List.{flat_map};
+ghost use Rattle.protocol_lang.specs.Stacks.{pushed, top_of, below_top};
+ghost use Rattle.protocol_lang.specs.Tokens.{word_spelling, symbol_spelling};
+ghost use Rattle.protocol_lang.specs.Formulas.{most_waiting, after, made_by};
+ghost use Rattle.protocol_lang.specs.Grammar.{word_for, call_word, operator_symbol, comparator_symbol, kind_word, enclosed_tokens, expression_tokens, comparison_tokens, conditions_tokens, command_tokens, rule_tokens, tree_tokens, IsText};
+ghost use Rattle.protocol_lang.specs.Printing.{stands_left, stands_right, shortest, shortest_comparison, shortest_command, shortest_rule, shortest_tree, is_word, spelling, gap, spelled_behind, printed, enclosed_unless, factor, joined, pieces};
+
+use crate::formula::{Formula, Instruction, MOST_WAITING};
+use crate::protocol::Protocol;
+use crate::rules::{Command, Comparison, Rule, Tree};
+use crate::token::{Symbol, Token, Word};
+use crate::tree::{Call, Comparator, Kind, Name, Operator};
+use std::alloc::{AllocError, Global};
+use std::marker::Model;
+
+/// The shortest text of a protocol.
+pub fn print(alloc: Global, protocol: &Protocol) -> Result<String, AllocError>
+    // The tokens of the protocol with the parentheses that its grouping needs, one space between two words and nothing
+    // between other tokens.
+    ensures exact { IfOk result (λ text. string_bytes text ≡ printed protocol.now) }
+    // The text is one of the protocol: by the clause `only` of `parse`, reading it gives the protocol again.
+    ensures again { IfOk result (λ text. IsText (string_bytes text) protocol.now) }
+    // No text of the protocol is shorter.
+    ensures shortest { IfOk result (λ text. (other : List ℕ) → IsText other protocol.now → length (string_bytes text) ≤ length other) }
+{
+    let mut tokens = Tokens::new(alloc);
+    write_tree(alloc, &protocol.tree, &mut tokens)?;
+    spell(alloc, tokens.as_slice())
+}
+
+/// Tokens, in order.
+#[derive(Drop)]
+struct Tokens {
+    tokens: Vec<Token>,
+}
+
+impl Model for Tokens {
+    ghost use Rattle.std.specs.Prelude.{List};
+    ghost use Rattle.protocol_lang.specs.declared.token.Token.{Token as OneToken};
+
+    ghost Value = { List OneToken };
+
+    ghost view = { λ tokens. tokens.tokens.items };
+}
+
+impl Tokens {
+    fn new(alloc: Global) -> Tokens
+        ensures { result ≡ [] }
+    {
+        Tokens {
+            tokens: Vec::new(alloc),
+        }
+    }
+
+    fn one(alloc: Global, token: Token) -> Result<Tokens, AllocError>
+        ensures { IfOk result (λ tokens. tokens ≡ token ∷ []) }
+    {
+        let mut tokens = Tokens::new(alloc);
+        tokens.push(token)?;
+        Ok(tokens)
+    }
+
+    fn as_slice(&self) -> &[Token]
+        ensures { result.now ≡ self.now }
+    {
+        &self.tokens
+    }
+
+    fn push(&mut self, token: Token) -> Result<(), AllocError>
+        ensures { OnOk result (self.new ≡ self.old ++ token ∷ []) }
+    {
+        self.tokens.push(token)?;
+        Ok(())
+    }
+
+    fn append(&mut self, other: &Tokens) -> Result<(), AllocError>
+        ensures { OnOk result (self.new ≡ self.old ++ other.now) }
+    {
+        self.tokens.extend_from_slice(&other.tokens)?;
+        Ok(())
+    }
+
+    /// The same in parentheses.
+    fn enclosed(self) -> Result<Tokens, AllocError>
+        ensures { IfOk result (λ tokens. tokens ≡ enclosed_tokens self) }
+    {
+        let mut tokens = self.tokens;
+        tokens.insert(0, Token::Symbol(Symbol::Open))?;
+        tokens.push(Token::Symbol(Symbol::Close))?;
+        Ok(Tokens { tokens })
+    }
+}
+
+/// The tokens of an expression, and where they may stand without parentheses.
+#[derive(Drop)]
+struct Piece {
+    tokens: Tokens,
+    is_term: bool,
+    is_factor: bool,
+}
+
+impl Model for Piece {
+    ghost use Rattle.protocol_lang.specs.Printing.{Piece as OnePiece};
+
+    ghost Value = { OnePiece };
+
+    ghost view = { λ piece. record { tokens = piece.tokens; is_term = piece.is_term; is_factor = piece.is_factor } };
+}
+
+impl Piece {
+    /// What may stand wherever an operand may.
+    fn factor(tokens: Tokens) -> Piece
+        ensures { result ≡ factor tokens }
+    {
+        Piece {
+            tokens,
+            is_term: true,
+            is_factor: true,
+        }
+    }
+
+    fn number(alloc: Global, number: u32) -> Result<Piece, AllocError>
+        ensures { IfOk result (λ piece. piece ≡ pieces.number number) }
+    {
+        let tokens = Tokens::one(alloc, Token::Number(number))?;
+        Ok(Piece::factor(tokens))
+    }
+
+    fn name(alloc: Global, name: Name) -> Result<Piece, AllocError>
+        ensures { IfOk result (λ piece. piece ≡ pieces.named name) }
+    {
+        let tokens = Tokens::one(alloc, Token::Word(name.word()))?;
+        Ok(Piece::factor(tokens))
+    }
+
+    fn call(alloc: Global, call: Call, argument: Piece) -> Result<Piece, AllocError>
+        ensures { IfOk result (λ piece. piece ≡ pieces.calling call argument) }
+    {
+        let mut tokens = Tokens::one(alloc, Token::Word(call.word()))?;
+        let argument = argument.tokens.enclosed()?;
+        tokens.append(&argument)?;
+        Ok(Piece::factor(tokens))
+    }
+
+    fn operate(operator: Operator, left: Piece, right: Piece) -> Result<Piece, AllocError>
+        ensures { IfOk result (λ piece. piece ≡ joined operator left right) }
+    {
+        let mut tokens = left.on_left(operator)?;
+        let right = right.on_right(operator)?;
+        tokens.push(Token::Symbol(operator.symbol()))?;
+        tokens.append(&right)?;
+        Ok(Piece {
+            tokens,
+            is_term: !operator.is_sum(),
+            is_factor: false,
+        })
+    }
+
+    /// The tokens as the left operand.
+    fn on_left(self, operator: Operator) -> Result<Tokens, AllocError>
+        ensures { IfOk result (λ tokens. tokens ≡ enclosed_unless (stands_left operator self.is_term) self.tokens) }
+    {
+        let stands = operator.is_sum() || self.is_term;
+        self.enclosed_unless(stands)
+    }
+
+    /// The tokens as the right operand.
+    fn on_right(self, operator: Operator) -> Result<Tokens, AllocError>
+        ensures { IfOk result (λ tokens. tokens ≡ enclosed_unless (stands_right operator self.is_term self.is_factor) self.tokens) }
+    {
+        let stands = if operator.is_sum() {
+            self.is_term
+        } else {
+            self.is_factor
+        };
+        self.enclosed_unless(stands)
+    }
+
+    fn enclosed_unless(self, stands: bool) -> Result<Tokens, AllocError>
+        ensures { IfOk result (λ tokens. tokens ≡ enclosed_unless stands self.tokens) }
+    {
+        if stands {
+            Ok(self.tokens)
+        } else {
+            self.tokens.enclosed()
+        }
+    }
+}
+
+/// Pieces that wait for what works on them. Contracts see them from the last one down.
+#[derive(Drop)]
+struct Pieces {
+    pieces: Vec<Piece>,
+}
+
+impl Model for Pieces {
+    ghost use Rattle.std.specs.Prelude.{List, reverse};
+    ghost use Rattle.protocol_lang.specs.Printing.{Piece as OnePiece};
+
+    ghost Value = { List OnePiece };
+
+    ghost view = { λ pieces. reverse pieces.pieces.items };
+}
+
+impl Pieces {
+    fn new(alloc: Global) -> Pieces
+        ensures { result ≡ [] }
+    {
+        Pieces {
+            pieces: Vec::new(alloc),
+        }
+    }
+
+    /// Puts a piece on top, or does nothing where more wait than in any expression of the language.
+    fn push(&mut self, piece: Piece) -> Result<(), AllocError>
+        ensures { OnOk result (self.new ≡ pushed most_waiting piece self.old) }
+    {
+        if self.pieces.len() < MOST_WAITING {
+            self.pieces.push(piece)?;
+        }
+        Ok(())
+    }
+
+    fn pop(&mut self) -> Option<Piece>
+        ensures result { result ≡ top_of self.old }
+        ensures rest { self.new ≡ below_top self.old }
+    {
+        self.pieces.pop()
+    }
+
+    /// Goes one step on.
+    fn take(&mut self, alloc: Global, instruction: Instruction) -> Result<(), AllocError>
+        ensures { OnOk result (self.new ≡ after pieces self.old instruction) }
+    {
+        match instruction {
+            Instruction::Number(number) => self.push(Piece::number(alloc, number)?),
+            Instruction::Name(name) => self.push(Piece::name(alloc, name)?),
+            Instruction::Call(call) => match self.pop() {
+                Some(argument) => self.push(Piece::call(alloc, call, argument)?),
+                None => Ok(()),
+            },
+            Instruction::Operate(operator) => match (self.pop(), self.pop()) {
+                (Some(right), Some(left)) => self.push(Piece::operate(operator, left, right)?),
+                _ => Ok(()),
+            },
+        }
+    }
+}
+
+/// The tokens of an expression.
+fn expression(alloc: Global, formula: &Formula) -> Result<Tokens, AllocError>
+    ensures { IfOk result (λ tokens. tokens ≡ expression_tokens (shortest formula.now)) }
+{
+    let piece = piece_by(alloc, formula.code())?;
+    Ok(piece.tokens)
+}
+
+/// What the instructions make.
+fn piece_by(alloc: Global, code: &[Instruction]) -> Result<Piece, AllocError>
+    ensures { IfOk result (λ piece. piece ≡ made_by pieces code.now) }
+{
+    let mut waiting = Pieces::new(alloc);
+    for instruction in code {
+        waiting.take(alloc, *instruction)?;
+    }
+    match waiting.pop() {
+        Some(piece) => Ok(piece),
+        None => Piece::number(alloc, 0),
+    }
+}
+
+fn write_comparison(
+    alloc: Global,
+    comparison: &Comparison,
+    tokens: &mut Tokens,
+) -> Result<(), AllocError>
+    ensures { OnOk result (tokens.new ≡ tokens.old ++ comparison_tokens (shortest_comparison comparison.now)) }
+{
+    let left = expression(alloc, &comparison.left)?;
+    let right = expression(alloc, &comparison.right)?;
+    tokens.append(&left)?;
+    tokens.push(Token::Symbol(comparison.comparator.symbol()))?;
+    tokens.append(&right)
+}
+
+fn write_conditions(
+    alloc: Global,
+    comparisons: &[Comparison],
+    tokens: &mut Tokens,
+) -> Result<(), AllocError>
+    ensures { OnOk result (tokens.new ≡ tokens.old ++ conditions_tokens Word.When (map shortest_comparison comparisons.now)) }
+{
+    let mut word = Word::When;
+    for comparison in comparisons {
+        tokens.push(Token::Word(word))?;
+        write_comparison(alloc, comparison, tokens)?;
+        word = Word::And;
+    }
+    Ok(())
+}
+
+fn write_command(alloc: Global, command: &Command, tokens: &mut Tokens) -> Result<(), AllocError>
+    ensures { OnOk result (tokens.new ≡ tokens.old ++ command_tokens (shortest_command command.now)) }
+{
+    let value = expression(alloc, &command.value)?;
+    tokens.push(Token::Word(command.kind.word()))?;
+    tokens.append(&value)?;
+    tokens.push(Token::Symbol(Symbol::Semicolon))
+}
+
+fn write_rule(alloc: Global, rule: &Rule, tokens: &mut Tokens) -> Result<(), AllocError>
+    ensures { OnOk result (tokens.new ≡ tokens.old ++ rule_tokens (shortest_rule rule.now)) }
+{
+    write_conditions(alloc, rule.conditions.as_slice(), tokens)?;
+    write_command(alloc, &rule.command, tokens)
+}
+
+fn write_rules(alloc: Global, rules: &[Rule], tokens: &mut Tokens) -> Result<(), AllocError>
+    ensures { OnOk result (tokens.new ≡ tokens.old ++ flat_map rule_tokens (map shortest_rule rules.now)) }
+{
+    for rule in rules {
+        write_rule(alloc, rule, tokens)?;
+    }
+    Ok(())
+}
+
+fn write_tree(alloc: Global, tree: &Tree, tokens: &mut Tokens) -> Result<(), AllocError>
+    ensures { OnOk result (tokens.new ≡ tokens.old ++ tree_tokens (shortest_tree tree.now)) }
+{
+    let first = expression(alloc, &tree.first)?;
+    tokens.push(Token::Word(Word::First))?;
+    tokens.append(&first)?;
+    tokens.push(Token::Symbol(Symbol::Semicolon))?;
+    write_rules(alloc, tree.rules.as_slice(), tokens)?;
+    tokens.push(Token::Word(Word::Else))?;
+    write_command(alloc, &tree.last, tokens)
+}
+
+/// The bytes of the tokens.
+fn spell(alloc: Global, tokens: &[Token]) -> Result<String, AllocError>
+    ensures { IfOk result (λ text. string_bytes text ≡ spelled_behind false tokens.now) }
+{
+    let mut text = String::new(alloc);
+    let mut behind_word = false;
+    for token in tokens {
+        if behind_word && token.is_word() {
+            text.push_str(" ")?;
+        }
+        token.write(alloc, &mut text)?;
+        behind_word = token.is_word();
+    }
+    Ok(text)
+}
+
+impl Token {
+    fn is_word(self) -> bool
+        ensures { result ≡ is_word self }
+    {
+        matches!(self, Token::Word(_))
+    }
+
+    /// Appends how it is spelled.
+    fn write(self, alloc: Global, text: &mut String) -> Result<(), AllocError>
+        ensures { OnOk result (string_bytes text.new ≡ string_bytes text.old ++ spelling self) }
+    {
+        match self {
+            Token::Word(word) => text.push_str(word.spelling()),
+            Token::Number(number) => {
+                let digits = format!(in alloc; "{number}")?;
+                text.push_str(digits.as_str())
+            }
+            Token::Symbol(symbol) => text.push_str(symbol.spelling()),
+            Token::End => Ok(()),
+        }
+    }
+}
+
+impl Word {
+    fn spelling(self) -> &'static str
+        ensures { result.now ≡ word_spelling self }
+    {
+        match self {
+            Word::First => "first",
+            Word::When => "when",
+            Word::And => "and",
+            Word::Write => "write",
+            Word::Decide => "decide",
+            Word::Else => "else",
+            Word::Input => "input",
+            Word::Id => "id",
+            Word::N => "n",
+            Word::Round => "round",
+            Word::Mine => "mine",
+            Word::Count => "count",
+            Word::Min => "min",
+            Word::Max => "max",
+            Word::Cell => "cell",
+            Word::Seen => "seen",
+            Word::Equal => "equal",
+        }
+    }
+}
+
+impl Symbol {
+    fn spelling(self) -> &'static str
+        ensures { result.now ≡ symbol_spelling self }
+    {
+        match self {
+            Symbol::Semicolon => ";",
+            Symbol::Open => "(",
+            Symbol::Close => ")",
+            Symbol::Plus => "+",
+            Symbol::Minus => "-",
+            Symbol::Times => "*",
+            Symbol::Divide => "/",
+            Symbol::Remainder => "%",
+            Symbol::Equal => "==",
+            Symbol::NotEqual => "!=",
+            Symbol::Less => "<",
+            Symbol::LessOrEqual => "<=",
+            Symbol::Greater => ">",
+            Symbol::GreaterOrEqual => ">=",
+        }
+    }
+}
+
+impl Name {
+    fn word(self) -> Word
+        ensures { result ≡ word_for self }
+    {
+        match self {
+            Name::Input => Word::Input,
+            Name::Id => Word::Id,
+            Name::N => Word::N,
+            Name::Round => Word::Round,
+            Name::Mine => Word::Mine,
+            Name::Count => Word::Count,
+            Name::Min => Word::Min,
+            Name::Max => Word::Max,
+        }
+    }
+}
+
+impl Call {
+    fn word(self) -> Word
+        ensures { result ≡ call_word self }
+    {
+        match self {
+            Call::Cell => Word::Cell,
+            Call::Seen => Word::Seen,
+            Call::Equal => Word::Equal,
+        }
+    }
+}
+
+impl Operator {
+    fn symbol(self) -> Symbol
+        ensures { result ≡ operator_symbol self }
+    {
+        match self {
+            Operator::Add => Symbol::Plus,
+            Operator::Subtract => Symbol::Minus,
+            Operator::Multiply => Symbol::Times,
+            Operator::Divide => Symbol::Divide,
+            Operator::Remainder => Symbol::Remainder,
+        }
+    }
+}
+
+impl Comparator {
+    fn symbol(self) -> Symbol
+        ensures { result ≡ comparator_symbol self }
+    {
+        match self {
+            Comparator::Equal => Symbol::Equal,
+            Comparator::NotEqual => Symbol::NotEqual,
+            Comparator::Less => Symbol::Less,
+            Comparator::LessOrEqual => Symbol::LessOrEqual,
+            Comparator::Greater => Symbol::Greater,
+            Comparator::GreaterOrEqual => Symbol::GreaterOrEqual,
+        }
+    }
+}
+
+impl Kind {
+    fn word(self) -> Word
+        ensures { result ≡ kind_word self }
+    {
+        match self {
+            Kind::Write => Word::Write,
+            Kind::Decide => Word::Decide,
+        }
+    }
+}

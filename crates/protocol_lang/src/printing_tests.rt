@@ -1,0 +1,170 @@
+ghost use Rattle.std.specs.Prelude.{◌<◌};
+
+use super::*;
+use std::alloc::{AllocError, Global};
+use std::test::*;
+
+/// The printed text of the protocol of `text`, or nothing where it has none.
+fn reprinted(alloc: Global, text: &str) -> Result<String, AllocError> {
+    match parse(alloc, text) {
+        Ok(protocol) => print(alloc, &protocol),
+        Err(_) => Ok(String::new(alloc)),
+    }
+}
+
+#[test]
+fn shortest_texts(rt: HostRuntime) -> Result<(), Fail> {
+    for (text, printed) in [
+        (
+            "first input; else decide min;",
+            "first input;else decide min;",
+        ),
+        (
+            "first (input + 1) * 2 - (3 - id); when (count) >= n - 1 and mine == 0 decide min; else write ((mine));",
+            "first(input+1)*2-(3-id);when count>=n-1and mine==0decide min;else write mine;",
+        ),
+        (
+            "first ((input-1)-n)*(2*id)/(3%(id+1)); else write cell((id)+(1*2))-(seen(0)+equal(mine));",
+            "first(input-1-n)*(2*id)/(3%(id+1));else write cell(id+1*2)-(seen(0)+equal(mine));",
+        ),
+        (
+            " first 0 ; when 1<2 and(3)<=(4)and 5>6 decide 7 ; when id!=n write(round)+0; else\ndecide max;",
+            "first0;when1<2and3<=4and5>6decide7;when id!=n write round+0;else decide max;",
+        ),
+    ] {
+        let once = reprinted(rt.alloc(), text)?;
+        assert_eq!(rt; once.as_str(), printed, "for {text}");
+        let twice = reprinted(rt.alloc(), once.as_str())?;
+        assert_eq!(rt; twice.as_str(), printed, "again for {text}");
+    }
+    Ok(())
+}
+
+#[test]
+fn lengths_of_examples(rt: HostRuntime) -> Result<(), Fail> {
+    let pair = reprinted(rt.alloc(), "first input; else decide min;")?;
+    assert_eq!(rt; pair.len(), 28);
+    let rules = reprinted(
+        rt.alloc(),
+        "first (input + 1) * 2 - (3 - id); when (count) >= n - 1 and mine == 0 decide min; else write ((mine));",
+    )?;
+    assert_eq!(rt; rules.len(), 77);
+    Ok(())
+}
+
+#[test]
+fn long_chains(rt: HostRuntime) -> Result<(), Fail> {
+    let mut text = String::new(rt.alloc());
+    text.push_str("first1")?;
+    for _ in 0..2000 {
+        text.push_str("-1")?;
+    }
+    text.push_str(";else decide n;")?;
+    let printed = reprinted(rt.alloc(), text.as_str())?;
+    assert_eq!(rt; printed.as_str(), text.as_str());
+    Ok(())
+}
+
+/// Numbers that look random, from a seed.
+#[derive(Drop)]
+struct Dice {
+    state: u64,
+}
+
+impl Dice {
+    fn roll(&mut self, sides: u32) -> u32
+        requires { 0 < sides }
+        ensures { result < sides }
+    {
+        self.state = self
+            .state
+            .wrapping_mul(6364136223846793005)
+            .wrapping_add(1442695040888963407);
+        ((self.state >> 33) as u32) % sides
+    }
+}
+
+/// The postfix of some expression: below 8 an operand, below 11 a call, and an operator from there on.
+fn some_postfix(rt: &HostRuntime, dice: &mut Dice) -> Result<Vec<u32>, Fail> {
+    let mut code = Vec::new(rt.alloc());
+    let operands = dice.roll(9) + 1;
+    let mut operators = 0;
+    for before in 0..operands {
+        code.push(dice.roll(8))?;
+        if dice.roll(4) == 0 {
+            code.push(8 + dice.roll(3))?;
+        }
+        if operators < before && dice.roll(2) == 0 {
+            code.push(11 + dice.roll(5))?;
+            operators += 1;
+        }
+    }
+    for _ in operators..operands - 1 {
+        code.push(11 + dice.roll(5))?;
+    }
+    Ok(code)
+}
+
+/// The text in up to two pairs of parentheses that nothing needs, with blanks.
+fn in_more(rt: &HostRuntime, dice: &mut Dice, text: &str) -> Result<String, Fail> {
+    Ok(match dice.roll(4) {
+        0 => format!(in rt.alloc(); "({text})")?,
+        1 => format!(in rt.alloc(); "( (\n{text}))")?,
+        2 => format!(in rt.alloc(); " {text} ")?,
+        _ => format!(in rt.alloc(); "{text}")?,
+    })
+}
+
+/// One of the texts of an expression, in which each operand stands in parentheses.
+fn one_text(rt: &HostRuntime, dice: &mut Dice, code: &[u32]) -> Result<String, Fail> {
+    let mut texts: Vec<String> = Vec::new(rt.alloc());
+    for step in code {
+        let text = match *step {
+            0 => String::from_str(rt.alloc(), "0")?,
+            1 => String::from_str(rt.alloc(), "4294967295")?,
+            2 => String::from_str(rt.alloc(), "input")?,
+            3 => String::from_str(rt.alloc(), "id")?,
+            4 => String::from_str(rt.alloc(), "n")?,
+            5 => String::from_str(rt.alloc(), "mine")?,
+            6 => String::from_str(rt.alloc(), "min")?,
+            7 => String::from_str(rt.alloc(), "count")?,
+            8..=10 => {
+                let call = ["cell", "seen", "equal"][*step as usize - 8];
+                let argument = texts.pop().ok_or("no argument")?;
+                format!(in rt.alloc(); "{call} ({argument})")?
+            }
+            _ => {
+                let operator = ["+", "-", "*", "/", "%"][(*step as usize - 11) % 5];
+                let right = texts.pop().ok_or("no right operand")?;
+                let left = texts.pop().ok_or("no left operand")?;
+                format!(in rt.alloc(); "({left}){operator}({right})")?
+            }
+        };
+        texts.push(in_more(rt, dice, &text)?)?;
+    }
+    Ok(texts.pop().ok_or("no expression")?)
+}
+
+#[test]
+fn shortest_of_many_texts(rt: HostRuntime) -> Result<(), Fail> {
+    let mut dice = Dice { state: 7 };
+    for _ in 0..200 {
+        let code = some_postfix(&rt, &mut dice)?;
+        let mut shortest: Option<String> = None;
+        for _ in 0..20 {
+            let value = one_text(&rt, &mut dice, &code)?;
+            let text = format!(in rt.alloc();
+                "first 1; when ({value}) == 0 and 1 < 2 write {value}; else decide {value};"
+            )?;
+            let printed = print(rt.alloc(), &parse(rt.alloc(), &text)?)?;
+            assert!(rt; printed.len() <= text.len(), "{printed} of {text}");
+            let again = print(rt.alloc(), &parse(rt.alloc(), &printed)?)?;
+            assert_eq!(rt; again.as_str(), printed.as_str());
+            if let Some(first) = &shortest {
+                assert_eq!(rt; first.as_str(), printed.as_str(), "of {text}");
+            }
+            shortest = Some(printed);
+        }
+    }
+    Ok(())
+}

@@ -1,0 +1,49 @@
+-- What holds of a block that was read, or of its fault, where memory may have been refused.
+use Rattle.std.proofs.Common.{◌≡◌, ℕ, ◌+◌, min, List, length, take, Option, Some, None, Result, Ok, Err, refl, sym, ◌∙◌, subst, inl, inr}
+use Rattle.std.specs.Prelude.{IfOk, IfErr}
+use Rattle.protocol_lang.specs.declared.fault.ParseFault.TheVariants.{OutOfMemory}
+use Rattle.room_spec.specs.Rooms.{RoomSpec}
+use Rattle.room_spec.specs.Blocks.{body_len, room_in, room_before, block_in, OrMemory, UnlessMemory, out_of_memory}
+use Rattle.room_spec.specs.Grammar.{IsBlock, IsLocal, IsOfText}
+use Rattle.room_spec.specs.declared.fault.SpecFault.{SpecFault}
+use Rattle.room_spec.specs.declared.fault.SpecFault.TheVariants.{BadProtocol}
+use Rattle.room_spec.proofs.Heads.{bind_ok}
+use Rattle.room_spec.proofs.Laws.{block_found, block_again}
+use Rattle.room_spec.proofs.Locality.{block_local, block_of_text}
+
+abbrev read_as : RoomSpec → ℕ → Result (RoomSpec × ℕ) SpecFault
+read_as room len = Ok (room, len)
+
+before_found : (text : List ℕ) (body : Option ℕ) (read : RoomSpec × ℕ) → body ≡ body_len text → room_before text body ≡ Ok read → IsBlock text read.0 read.1
+before_found text None read is e = absurd cc
+before_found text (Some body) read is e =
+    let room = bind_ok (room_in (take body text)) (λ room. Ok (room, min (body + 4) (length text))) read e in
+    let same : (room.0, min (body + 4) (length text)) ≡ read = cc in
+    subst (λ (r : RoomSpec × ℕ). IsBlock text r.0 r.1) same (block_found text body room.0 is (sym room.1))
+
+unless : (fault : SpecFault) (fact : Type 0) → fact → UnlessMemory fault fact
+unless (BadProtocol OutOfMemory) fact holds = tt
+unless (BadProtocol fault) fact holds = holds
+unless fault fact holds = holds
+
+refused : (fault : SpecFault) (fact : Type 0) → fault ≡ out_of_memory → UnlessMemory fault fact
+refused fault fact e = rw e tt
+
+pub found_or : (text : List ℕ) (result : Result (RoomSpec × ℕ) SpecFault) → OrMemory result (block_in text) → IfOk result (λ read. IsBlock text read.0 read.1)
+found_or text (Ok read) (inl e) = before_found text (body_len text) read refl (sym e)
+found_or text (Ok read) (inr e) = absurd cc
+found_or text (Err fault) e = tt
+
+pub only_or : (text : List ℕ) (result : Result (RoomSpec × ℕ) SpecFault) → OrMemory result (block_in text) → (room : RoomSpec) (len : ℕ) → IsBlock text room len → OrMemory result (read_as room len)
+only_or text result (inl e) room len block = inl (e ∙ block_again text room len block)
+only_or text result (inr e) room len block = inr e
+
+pub local_or : (text : List ℕ) (result : Result (RoomSpec × ℕ) SpecFault) → OrMemory result (block_in text) → IfErr result (λ fault. UnlessMemory fault (IsLocal text fault))
+local_or text (Ok read) e = tt
+local_or text (Err fault) (inl e) = unless fault (IsLocal text fault) (block_local text (Err fault) e)
+local_or text (Err fault) (inr e) = refused fault (IsLocal text fault) cc
+
+pub of_text_or : (text : List ℕ) (result : Result (RoomSpec × ℕ) SpecFault) → OrMemory result (block_in text) → IfErr result (λ fault. UnlessMemory fault (IsOfText text fault))
+of_text_or text (Ok read) e = tt
+of_text_or text (Err fault) (inl e) = unless fault (IsOfText text fault) (block_of_text text (Err fault) e)
+of_text_or text (Err fault) (inr e) = refused fault (IsOfText text fault) cc
