@@ -1,5 +1,6 @@
 pub mod Names
 pub mod Rooms
+pub mod Sizes
 pub mod Texts
 pub mod Faults
 pub mod Blocks

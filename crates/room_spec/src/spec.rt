@@ -46,6 +46,8 @@ impl Model for Spec {
 }
 
 impl Spec {
+    ghost use Rattle.room_spec.specs.Sizes.{sizes_in, sizes_of};
+
     /// The room's name.
     pub fn name(&self) -> &Name
         ensures { result.now ≡ self.now.name }
@@ -115,6 +117,7 @@ impl Spec {
         ensures m { result.m ≡ self.now.simulators }
         ensures bits { result.bits ≡ bits_of self.now.rounds }
         ensures rounds { result.rounds ≡ self.now.rounds }
+        ensures sizes { sizes_of result ≡ sizes_in self.now }
         ensures limits { IsWithinLimits self.now }
     {
         let rounds = usize::from(self.rounds);

@@ -2,7 +2,7 @@
 -- process a number.
 use Rattle.std.specs.Prelude.{◌≡◌, ◌≢◌, ℕ, zero, suc, ◌+◌, ◌*◌, ◌/◌, ◌%◌, ◌<◌, ◌≤◌, min, max, List, length, map, slice_index, ◌==◌, ◌&&◌, if◌then◌else◌}
 use Rattle.std.specs.List.{range_with_len, position_or_len}
-use Rattle.room_spec.specs.declared.spec.Shape.{Shape}
+use Rattle.room_spec.specs.Sizes.{Sizes}
 use Rattle.level_cells.specs.Fields.{field_of}
 use Rattle.level_cells.specs.Packing.{packed}
 
@@ -57,22 +57,22 @@ one_more steps i p k q = if (k == i) && (q == p) then steps k q + 1 else steps k
 -- ---- memory words
 
 -- the lowest bit of the field of simulator i and process p
-abbrev pub place_of : Shape → ℕ → ℕ → ℕ
-place_of shape i p = (i * shape.n + p) * shape.bits
+abbrev pub place_of : Sizes → ℕ → ℕ → ℕ
+place_of sizes i p = (i * sizes.n + p) * sizes.bits
 
 -- The reading of a memory word: its map of step numbers. A number above the last round reads as the last round.
-abbrev pub step_in : Shape → ℕ → ℕ → ℕ → ℕ
-step_in shape word i p = min (field_of word (place_of shape i p) shape.bits) shape.rounds
+abbrev pub step_in : Sizes → ℕ → ℕ → ℕ → ℕ
+step_in sizes word i p = min (field_of word (place_of sizes i p) sizes.bits) sizes.rounds
 
 -- the memory word that has these step numbers
-abbrev pub memory_word : Shape → (ℕ → ℕ → ℕ) → ℕ
-memory_word shape steps = packed (λ place. steps (place / shape.n) (place % shape.n)) shape.bits (shape.m * shape.n)
+abbrev pub memory_word : Sizes → (ℕ → ℕ → ℕ) → ℕ
+memory_word sizes steps = packed (λ place. steps (place / sizes.n) (place % sizes.n)) sizes.bits (sizes.m * sizes.n)
 
 -- no field of step numbers is lower in the second word
-abbrev pub AreFieldsAtMost : Shape → ℕ → ℕ → Type 0
-AreFieldsAtMost shape word later =
-    (i p : ℕ) → i < shape.m → p < shape.n → field_of word (place_of shape i p) shape.bits ≤ field_of later (place_of shape i p) shape.bits
+abbrev pub AreFieldsAtMost : Sizes → ℕ → ℕ → Type 0
+AreFieldsAtMost sizes word later =
+    (i p : ℕ) → i < sizes.m → p < sizes.n → field_of word (place_of sizes i p) sizes.bits ≤ field_of later (place_of sizes i p) sizes.bits
 
 -- no step number is above the last round
-abbrev pub AreWithin : Shape → (ℕ → ℕ → ℕ) → Type 0
-AreWithin shape steps = (i p : ℕ) → i < shape.m → p < shape.n → steps i p ≤ shape.rounds
+abbrev pub AreWithin : Sizes → (ℕ → ℕ → ℕ) → Type 0
+AreWithin sizes steps = (i p : ℕ) → i < sizes.m → p < sizes.n → steps i p ≤ sizes.rounds

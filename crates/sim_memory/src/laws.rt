@@ -5,7 +5,7 @@
 //! maps are packed in. What a row shows is a snapshot in the sense of Y. Afek and others, "Atomic
 //! snapshots of shared memory", J. ACM 40(4), 1993: any two rows of one memory compare.
 ghost use Rattle.std.specs.Prelude.{◌≡◌, ◌≢◌, ℕ, ◌+◌, ◌^◌, ◌<◌, ◌≤◌, ◌⊎◌, max, length, slice_index};
-ghost use Rattle.room_spec.specs.declared.spec.Shape.{Shape};
+ghost use Rattle.room_spec.specs.Sizes.{AreSizes, Sizes};
 ghost use Rattle.level_cells.specs.Fields.{field_of};
 ghost use Rattle.sim_memory.specs.Steps.{merged_of, holder_of, IsHolder, row_of, IsRowAtMost, AreAtMost, AreSameSteps, IsRaised, one_more, AreWithin, AreFieldsAtMost, place_of, step_in, memory_word};
 
@@ -49,23 +49,23 @@ pub fn raises()
 
 /// A later word of the same memory, in which no field is lower, has no lower row.
 pub fn later_words()
-    ensures steps { (shape : Shape) (word later : ℕ) → AreFieldsAtMost shape word later → AreAtMost shape.m shape.n (step_in shape word) (step_in shape later) }
-    ensures row { (shape : Shape) (word later : ℕ) → AreFieldsAtMost shape word later → IsRowAtMost (row_of shape.m shape.n (step_in shape word)) (row_of shape.m shape.n (step_in shape later)) }
+    ensures steps { (sizes : Sizes) (word later : ℕ) → AreFieldsAtMost sizes word later → AreAtMost sizes.m sizes.n (step_in sizes word) (step_in sizes later) }
+    ensures row { (sizes : Sizes) (word later : ℕ) → AreFieldsAtMost sizes word later → IsRowAtMost (row_of sizes.m sizes.n (step_in sizes word)) (row_of sizes.m sizes.n (step_in sizes later)) }
 {}
 
 /// One more at the lowest bit of a field that is below the last round raises that step number alone.
 pub fn raises_word()
-    ensures { (shape : Shape) (word i p : ℕ) → i < shape.m → p < shape.n → field_of word (place_of shape i p) shape.bits < shape.rounds → IsRaised shape.m shape.n (step_in shape word) i p (step_in shape (word + 2 ^ place_of shape i p)) }
+    ensures { (sizes : Sizes) (word i p : ℕ) → AreSizes sizes → i < sizes.m → p < sizes.n → field_of word (place_of sizes i p) sizes.bits < sizes.rounds → IsRaised sizes.m sizes.n (step_in sizes word) i p (step_in sizes (word + 2 ^ place_of sizes i p)) }
 {}
 
 /// The word that a map is packed in reads back as the map, and one more write is one more at the
 /// lowest bit of its field.
 pub fn memory_words()
-    ensures fits { (shape : Shape) (steps : ℕ → ℕ → ℕ) → AreWithin shape steps → memory_word shape steps < 2 ^ 64 }
-    ensures field { (shape : Shape) (steps : ℕ → ℕ → ℕ) → AreWithin shape steps → (i p : ℕ) → i < shape.m → p < shape.n → field_of (memory_word shape steps) (place_of shape i p) shape.bits ≡ steps i p }
-    ensures reads_back { (shape : Shape) (steps : ℕ → ℕ → ℕ) → AreWithin shape steps → AreSameSteps shape.m shape.n (step_in shape (memory_word shape steps)) steps }
-    ensures raised { (shape : Shape) (steps after : ℕ → ℕ → ℕ) (i p : ℕ) → i < shape.m → p < shape.n → IsRaised shape.m shape.n steps i p after → memory_word shape after ≡ memory_word shape steps + 2 ^ place_of shape i p }
-    ensures same { (shape : Shape) (steps others : ℕ → ℕ → ℕ) → AreSameSteps shape.m shape.n steps others → memory_word shape steps ≡ memory_word shape others }
-    ensures within { (shape : Shape) (steps after : ℕ → ℕ → ℕ) (i p : ℕ) → AreWithin shape steps → IsRaised shape.m shape.n steps i p after → steps i p < shape.rounds → AreWithin shape after }
-    ensures zero { (shape : Shape) → memory_word shape (λ i p. 0) ≡ 0 }
+    ensures fits { (sizes : Sizes) (steps : ℕ → ℕ → ℕ) → AreSizes sizes → AreWithin sizes steps → memory_word sizes steps < 2 ^ 64 }
+    ensures field { (sizes : Sizes) (steps : ℕ → ℕ → ℕ) → AreSizes sizes → AreWithin sizes steps → (i p : ℕ) → i < sizes.m → p < sizes.n → field_of (memory_word sizes steps) (place_of sizes i p) sizes.bits ≡ steps i p }
+    ensures reads_back { (sizes : Sizes) (steps : ℕ → ℕ → ℕ) → AreSizes sizes → AreWithin sizes steps → AreSameSteps sizes.m sizes.n (step_in sizes (memory_word sizes steps)) steps }
+    ensures raised { (sizes : Sizes) (steps after : ℕ → ℕ → ℕ) (i p : ℕ) → i < sizes.m → p < sizes.n → IsRaised sizes.m sizes.n steps i p after → memory_word sizes after ≡ memory_word sizes steps + 2 ^ place_of sizes i p }
+    ensures same { (sizes : Sizes) (steps others : ℕ → ℕ → ℕ) → AreSameSteps sizes.m sizes.n steps others → memory_word sizes steps ≡ memory_word sizes others }
+    ensures within { (sizes : Sizes) (steps after : ℕ → ℕ → ℕ) (i p : ℕ) → AreWithin sizes steps → IsRaised sizes.m sizes.n steps i p after → steps i p < sizes.rounds → AreWithin sizes after }
+    ensures zero { (sizes : Sizes) → memory_word sizes (λ i p. 0) ≡ 0 }
 {}

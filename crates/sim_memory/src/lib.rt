@@ -10,6 +10,7 @@
 #![tactic(auto)]
 
 ghost use Rattle.std.specs.Prelude.{◌≡◌, ◌+◌, ◌<◌, ◌≤◌};
+ghost use Rattle.room_spec.specs.Sizes.{sizes_of};
 ghost use Rattle.sim_memory.specs.Steps.{IsHolder, holder_of, merged_of, place_of, step_in};
 
 pub mod laws;
@@ -24,7 +25,7 @@ use room_spec::Shape;
 pub fn place(shape: &Shape, i: usize, p: usize) -> usize
     requires simulator { i < shape.now.m }
     requires process { p < shape.now.n }
-    ensures value { result ≡ place_of shape.now i p }
+    ensures value { result ≡ place_of (sizes_of shape.now) i p }
     ensures inside { result + shape.now.bits ≤ 64 }
     ensures wide { 1 ≤ shape.now.bits }
 {
@@ -36,7 +37,7 @@ pub fn place(shape: &Shape, i: usize, p: usize) -> usize
 pub fn step_of(shape: &Shape, word: u64, i: usize, p: usize) -> usize
     requires simulator { i < shape.now.m }
     requires process { p < shape.now.n }
-    ensures value { result ≡ step_in shape.now word i p }
+    ensures value { result ≡ step_in (sizes_of shape.now) word i p }
     ensures range { result ≤ shape.now.rounds }
 {
     let step = field(word, place(shape, i, p), shape.bits) as usize;
@@ -47,7 +48,7 @@ pub fn step_of(shape: &Shape, word: u64, i: usize, p: usize) -> usize
 /// word shows, 0 to `shape.rounds`.
 pub fn merged(shape: &Shape, word: u64, p: usize) -> usize
     requires { p < shape.now.n }
-    ensures value { result ≡ merged_of shape.now.m (step_in shape.now word) p }
+    ensures value { result ≡ merged_of shape.now.m (step_in (sizes_of shape.now) word) p }
     ensures range { result ≤ shape.now.rounds }
 {
     let mut greatest = 0;
@@ -60,13 +61,16 @@ pub fn merged(shape: &Shape, word: u64, p: usize) -> usize
 /// The least simulator that has the greatest step number for process `p`, 0 to `shape.m - 1`.
 pub fn holder(shape: &Shape, word: u64, p: usize) -> usize
     requires { p < shape.now.n }
-    ensures value { result ≡ holder_of shape.now.m (step_in shape.now word) p }
-    ensures holds { IsHolder shape.now.m (step_in shape.now word) p result }
+    ensures value { result ≡ holder_of shape.now.m (step_in (sizes_of shape.now) word) p }
+    ensures holds { IsHolder shape.now.m (step_in (sizes_of shape.now) word) p result }
 {
     let mut holder = 0;
+    let mut greatest = step_of(shape, word, 0, p);
     for i in 1..shape.m {
-        if step_of(shape, word, i, p) > step_of(shape, word, holder, p) {
+        let step = step_of(shape, word, i, p);
+        if step > greatest {
             holder = i;
+            greatest = step;
         }
     }
     holder

@@ -2,7 +2,7 @@
 use Rattle.std.proofs.Common.{◌≡◌, ℕ, zero, suc, ◌+◌, ◌-◌, ◌*◌, ◌/◌, ◌%◌, ◌<◌, ◌≤◌, inl, inr, refl, sym, ap, ◌∙◌, arith}
 use Rattle.std.proofs.lemmas.Bool.{cases_lt}
 use Rattle.std.proofs.lemmas.Nat.{mul-add-lt, same_from_place, div-add-mod', mod_below, div_below}
-use Rattle.room_spec.specs.declared.spec.Shape.{Shape}
+use Rattle.room_spec.specs.Sizes.{Sizes}
 use Rattle.view_table.specs.declared.place.Place.{Place}
 use Rattle.view_table.specs.declared.place.Place.TheVariants.{Steps, Levels, View, Value, Out}
 use Rattle.view_table.specs.Places.{IsSimulator, IsProcess, IsPlace, IsPlaceAt, pairs, levels_from, views_from, values_from, outs_from, words_of, index_of}
@@ -14,49 +14,49 @@ in_rows row rows rounds k less range =
     let turned : row * rounds + (k - 1) < rounds * rows = mul-add-lt row rounds (k - 1) rows less (omega arith) in
     omega arith
 
-pub pair_within : (shape : Shape) (i j : ℕ) → IsSimulator shape i → IsProcess shape j → i * shape.n + j < pairs shape
-pair_within shape i j simulator process =
-    let turned : i * shape.n + j < shape.n * shape.m = mul-add-lt i shape.n j shape.m simulator process in
+pub pair_within : (sizes : Sizes) (i j : ℕ) → IsSimulator sizes i → IsProcess sizes j → i * sizes.n + j < pairs sizes
+pair_within sizes i j simulator process =
+    let turned : i * sizes.n + j < sizes.n * sizes.m = mul-add-lt i sizes.n j sizes.m simulator process in
     omega arith
 
 -- where the words of a place's kind begin, and where those of the next kind do
-abbrev starts : Shape → Place → ℕ
-starts shape Steps = 0
-starts shape (Levels j k) = levels_from shape
-starts shape (View i j k) = views_from shape
-starts shape (Value i j k) = values_from shape
-starts shape (Out i j) = outs_from shape
+abbrev starts : Sizes → Place → ℕ
+starts sizes Steps = 0
+starts sizes (Levels j k) = levels_from sizes
+starts sizes (View i j k) = views_from sizes
+starts sizes (Value i j k) = values_from sizes
+starts sizes (Out i j) = outs_from sizes
 
-abbrev ends : Shape → Place → ℕ
-ends shape Steps = levels_from shape
-ends shape (Levels j k) = views_from shape
-ends shape (View i j k) = values_from shape
-ends shape (Value i j k) = outs_from shape
-ends shape (Out i j) = words_of shape
+abbrev ends : Sizes → Place → ℕ
+ends sizes Steps = levels_from sizes
+ends sizes (Levels j k) = views_from sizes
+ends sizes (View i j k) = values_from sizes
+ends sizes (Value i j k) = outs_from sizes
+ends sizes (Out i j) = words_of sizes
 
-from_start : (shape : Shape) (place : Place) → starts shape place ≤ index_of shape place
+from_start : (sizes : Sizes) (place : Place) → starts sizes place ≤ index_of sizes place
 unfolding index_of
-from_start shape Steps = omega arith
-from_start shape (Levels j k) = omega arith
-from_start shape (View i j k) = omega arith
-from_start shape (Value i j k) = omega arith
-from_start shape (Out i j) = omega arith
+from_start sizes Steps = omega arith
+from_start sizes (Levels j k) = omega arith
+from_start sizes (View i j k) = omega arith
+from_start sizes (Value i j k) = omega arith
+from_start sizes (Out i j) = omega arith
 
-before_end : (shape : Shape) (place : Place) → IsPlace shape place → index_of shape place < ends shape place
+before_end : (sizes : Sizes) (place : Place) → IsPlace sizes place → index_of sizes place < ends sizes place
 unfolding index_of words_of
-before_end shape Steps range = omega arith
-before_end shape (Levels j k) range = omega (arith, in_rows j shape.n shape.rounds k range.0 range.1)
-before_end shape (View i j k) range = omega (arith, in_rows (i * shape.n + j) (pairs shape) shape.rounds k (pair_within shape i j range.0 range.1) range.2)
-before_end shape (Value i j k) range = omega (arith, in_rows (i * shape.n + j) (pairs shape) shape.rounds k (pair_within shape i j range.0 range.1) range.2)
-before_end shape (Out i j) range = omega (arith, pair_within shape i j range.0 range.1)
+before_end sizes Steps range = omega arith
+before_end sizes (Levels j k) range = omega (arith, in_rows j sizes.n sizes.rounds k range.0 range.1)
+before_end sizes (View i j k) range = omega (arith, in_rows (i * sizes.n + j) (pairs sizes) sizes.rounds k (pair_within sizes i j range.0 range.1) range.2)
+before_end sizes (Value i j k) range = omega (arith, in_rows (i * sizes.n + j) (pairs sizes) sizes.rounds k (pair_within sizes i j range.0 range.1) range.2)
+before_end sizes (Out i j) range = omega (arith, pair_within sizes i j range.0 range.1)
 
-pub within : (shape : Shape) (place : Place) → IsPlace shape place → index_of shape place < words_of shape
+pub within : (sizes : Sizes) (place : Place) → IsPlace sizes place → index_of sizes place < words_of sizes
 unfolding words_of
-within shape Steps range = omega (arith, before_end shape Steps range)
-within shape (Levels j k) range = omega (arith, before_end shape (Levels j k) range)
-within shape (View i j k) range = omega (arith, before_end shape (View i j k) range)
-within shape (Value i j k) range = omega (arith, before_end shape (Value i j k) range)
-within shape (Out i j) range = omega (arith, before_end shape (Out i j) range)
+within sizes Steps range = omega (arith, before_end sizes Steps range)
+within sizes (Levels j k) range = omega (arith, before_end sizes (Levels j k) range)
+within sizes (View i j k) range = omega (arith, before_end sizes (View i j k) range)
+within sizes (Value i j k) range = omega (arith, before_end sizes (Value i j k) range)
+within sizes (Out i j) range = omega (arith, before_end sizes (Out i j) range)
 
 -- ---- two places that share an index
 
@@ -65,45 +65,45 @@ same_round a b rounds k l first second same =
     let parts : (a ≡ b) × (k - 1 ≡ l - 1) = same_from_place a (k - 1) b (l - 1) rounds (omega arith) (omega arith) same in
     (parts.0, omega arith)
 
-distinct_kinds : (shape : Shape) (a b : Place) → IsPlace shape a → ends shape a ≤ starts shape b → index_of shape a ≡ index_of shape b → a ≡ b
-distinct_kinds shape a b in_range apart same = absurd (omega (arith, before_end shape a in_range, from_start shape b))
+distinct_kinds : (sizes : Sizes) (a b : Place) → IsPlace sizes a → ends sizes a ≤ starts sizes b → index_of sizes a ≡ index_of sizes b → a ≡ b
+distinct_kinds sizes a b in_range apart same = absurd (omega (arith, before_end sizes a in_range, from_start sizes b))
 
-pub distinct : (shape : Shape) (a b : Place) → IsPlace shape a → IsPlace shape b → index_of shape a ≡ index_of shape b → a ≡ b
+pub distinct : (sizes : Sizes) (a b : Place) → IsPlace sizes a → IsPlace sizes b → index_of sizes a ≡ index_of sizes b → a ≡ b
 unfolding index_of
-distinct shape Steps Steps in_a in_b same = refl
-distinct shape Steps (Levels j' k') in_a in_b same = distinct_kinds shape Steps (Levels j' k') in_a (omega arith) same
-distinct shape Steps (View i' j' k') in_a in_b same = distinct_kinds shape Steps (View i' j' k') in_a (omega arith) same
-distinct shape Steps (Value i' j' k') in_a in_b same = distinct_kinds shape Steps (Value i' j' k') in_a (omega arith) same
-distinct shape Steps (Out i' j') in_a in_b same = distinct_kinds shape Steps (Out i' j') in_a (omega arith) same
-distinct shape (Levels j k) Steps in_a in_b same = sym (distinct_kinds shape Steps (Levels j k) in_b (omega arith) (sym same))
-distinct shape (Levels j k) (Levels j' k') in_a in_b same =
-    let parts = same_round j j' shape.rounds k k' in_a.1 in_b.1 (omega arith) in
+distinct sizes Steps Steps in_a in_b same = refl
+distinct sizes Steps (Levels j' k') in_a in_b same = distinct_kinds sizes Steps (Levels j' k') in_a (omega arith) same
+distinct sizes Steps (View i' j' k') in_a in_b same = distinct_kinds sizes Steps (View i' j' k') in_a (omega arith) same
+distinct sizes Steps (Value i' j' k') in_a in_b same = distinct_kinds sizes Steps (Value i' j' k') in_a (omega arith) same
+distinct sizes Steps (Out i' j') in_a in_b same = distinct_kinds sizes Steps (Out i' j') in_a (omega arith) same
+distinct sizes (Levels j k) Steps in_a in_b same = sym (distinct_kinds sizes Steps (Levels j k) in_b (omega arith) (sym same))
+distinct sizes (Levels j k) (Levels j' k') in_a in_b same =
+    let parts = same_round j j' sizes.rounds k k' in_a.1 in_b.1 (omega arith) in
     cc
-distinct shape (Levels j k) (View i' j' k') in_a in_b same = distinct_kinds shape (Levels j k) (View i' j' k') in_a (omega arith) same
-distinct shape (Levels j k) (Value i' j' k') in_a in_b same = distinct_kinds shape (Levels j k) (Value i' j' k') in_a (omega arith) same
-distinct shape (Levels j k) (Out i' j') in_a in_b same = distinct_kinds shape (Levels j k) (Out i' j') in_a (omega arith) same
-distinct shape (View i j k) Steps in_a in_b same = sym (distinct_kinds shape Steps (View i j k) in_b (omega arith) (sym same))
-distinct shape (View i j k) (Levels j' k') in_a in_b same = sym (distinct_kinds shape (Levels j' k') (View i j k) in_b (omega arith) (sym same))
-distinct shape (View i j k) (View i' j' k') in_a in_b same =
-    let rows = same_round (i * shape.n + j) (i' * shape.n + j') shape.rounds k k' in_a.2 in_b.2 (omega arith) in
-    let parts = same_from_place i j i' j' shape.n in_a.1 in_b.1 rows.0 in
+distinct sizes (Levels j k) (View i' j' k') in_a in_b same = distinct_kinds sizes (Levels j k) (View i' j' k') in_a (omega arith) same
+distinct sizes (Levels j k) (Value i' j' k') in_a in_b same = distinct_kinds sizes (Levels j k) (Value i' j' k') in_a (omega arith) same
+distinct sizes (Levels j k) (Out i' j') in_a in_b same = distinct_kinds sizes (Levels j k) (Out i' j') in_a (omega arith) same
+distinct sizes (View i j k) Steps in_a in_b same = sym (distinct_kinds sizes Steps (View i j k) in_b (omega arith) (sym same))
+distinct sizes (View i j k) (Levels j' k') in_a in_b same = sym (distinct_kinds sizes (Levels j' k') (View i j k) in_b (omega arith) (sym same))
+distinct sizes (View i j k) (View i' j' k') in_a in_b same =
+    let rows = same_round (i * sizes.n + j) (i' * sizes.n + j') sizes.rounds k k' in_a.2 in_b.2 (omega arith) in
+    let parts = same_from_place i j i' j' sizes.n in_a.1 in_b.1 rows.0 in
     cc
-distinct shape (View i j k) (Value i' j' k') in_a in_b same = distinct_kinds shape (View i j k) (Value i' j' k') in_a (omega arith) same
-distinct shape (View i j k) (Out i' j') in_a in_b same = distinct_kinds shape (View i j k) (Out i' j') in_a (omega arith) same
-distinct shape (Value i j k) Steps in_a in_b same = sym (distinct_kinds shape Steps (Value i j k) in_b (omega arith) (sym same))
-distinct shape (Value i j k) (Levels j' k') in_a in_b same = sym (distinct_kinds shape (Levels j' k') (Value i j k) in_b (omega arith) (sym same))
-distinct shape (Value i j k) (View i' j' k') in_a in_b same = sym (distinct_kinds shape (View i' j' k') (Value i j k) in_b (omega arith) (sym same))
-distinct shape (Value i j k) (Value i' j' k') in_a in_b same =
-    let rows = same_round (i * shape.n + j) (i' * shape.n + j') shape.rounds k k' in_a.2 in_b.2 (omega arith) in
-    let parts = same_from_place i j i' j' shape.n in_a.1 in_b.1 rows.0 in
+distinct sizes (View i j k) (Value i' j' k') in_a in_b same = distinct_kinds sizes (View i j k) (Value i' j' k') in_a (omega arith) same
+distinct sizes (View i j k) (Out i' j') in_a in_b same = distinct_kinds sizes (View i j k) (Out i' j') in_a (omega arith) same
+distinct sizes (Value i j k) Steps in_a in_b same = sym (distinct_kinds sizes Steps (Value i j k) in_b (omega arith) (sym same))
+distinct sizes (Value i j k) (Levels j' k') in_a in_b same = sym (distinct_kinds sizes (Levels j' k') (Value i j k) in_b (omega arith) (sym same))
+distinct sizes (Value i j k) (View i' j' k') in_a in_b same = sym (distinct_kinds sizes (View i' j' k') (Value i j k) in_b (omega arith) (sym same))
+distinct sizes (Value i j k) (Value i' j' k') in_a in_b same =
+    let rows = same_round (i * sizes.n + j) (i' * sizes.n + j') sizes.rounds k k' in_a.2 in_b.2 (omega arith) in
+    let parts = same_from_place i j i' j' sizes.n in_a.1 in_b.1 rows.0 in
     cc
-distinct shape (Value i j k) (Out i' j') in_a in_b same = distinct_kinds shape (Value i j k) (Out i' j') in_a (omega arith) same
-distinct shape (Out i j) Steps in_a in_b same = sym (distinct_kinds shape Steps (Out i j) in_b (omega arith) (sym same))
-distinct shape (Out i j) (Levels j' k') in_a in_b same = sym (distinct_kinds shape (Levels j' k') (Out i j) in_b (omega arith) (sym same))
-distinct shape (Out i j) (View i' j' k') in_a in_b same = sym (distinct_kinds shape (View i' j' k') (Out i j) in_b (omega arith) (sym same))
-distinct shape (Out i j) (Value i' j' k') in_a in_b same = sym (distinct_kinds shape (Value i' j' k') (Out i j) in_b (omega arith) (sym same))
-distinct shape (Out i j) (Out i' j') in_a in_b same =
-    let parts = same_from_place i j i' j' shape.n in_a.1 in_b.1 (omega arith) in
+distinct sizes (Value i j k) (Out i' j') in_a in_b same = distinct_kinds sizes (Value i j k) (Out i' j') in_a (omega arith) same
+distinct sizes (Out i j) Steps in_a in_b same = sym (distinct_kinds sizes Steps (Out i j) in_b (omega arith) (sym same))
+distinct sizes (Out i j) (Levels j' k') in_a in_b same = sym (distinct_kinds sizes (Levels j' k') (Out i j) in_b (omega arith) (sym same))
+distinct sizes (Out i j) (View i' j' k') in_a in_b same = sym (distinct_kinds sizes (View i' j' k') (Out i j) in_b (omega arith) (sym same))
+distinct sizes (Out i j) (Value i' j' k') in_a in_b same = sym (distinct_kinds sizes (Value i' j' k') (Out i j) in_b (omega arith) (sym same))
+distinct sizes (Out i j) (Out i' j') in_a in_b same =
+    let parts = same_from_place i j i' j' sizes.n in_a.1 in_b.1 (omega arith) in
     cc
 
 -- ---- the place of an index
@@ -118,57 +118,57 @@ row_round at rows rounds less =
     let some : 0 < rounds = pos_of_product at rows rounds less in
     (div_below at rounds rows some less, omega arith, omega (arith, mod_below at rounds some), omega (arith, div-add-mod' at rounds))
 
-pair_parts : (shape : Shape) (row : ℕ) → row < pairs shape → (row / shape.n < shape.m) × (row % shape.n < shape.n) × (row / shape.n * shape.n + row % shape.n ≡ row)
-pair_parts shape row less =
-    let some : 0 < shape.n = pos_of_product row shape.m shape.n less in
-    (div_below row shape.n shape.m some less, mod_below row shape.n some, div-add-mod' row shape.n)
+pair_parts : (sizes : Sizes) (row : ℕ) → row < pairs sizes → (row / sizes.n < sizes.m) × (row % sizes.n < sizes.n) × (row / sizes.n * sizes.n + row % sizes.n ≡ row)
+pair_parts sizes row less =
+    let some : 0 < sizes.n = pos_of_product row sizes.m sizes.n less in
+    (div_below row sizes.n sizes.m some less, mod_below row sizes.n some, div-add-mod' row sizes.n)
 
-in_levels : (shape : Shape) (at : ℕ) → at < shape.n * shape.rounds → (place : Place) × IsPlaceAt shape place (levels_from shape + at)
+in_levels : (sizes : Sizes) (at : ℕ) → at < sizes.n * sizes.rounds → (place : Place) × IsPlaceAt sizes place (levels_from sizes + at)
 unfolding index_of
-in_levels shape at less =
-    let parts = row_round at shape.n shape.rounds less in
-    (Levels (at / shape.rounds) (at % shape.rounds + 1), record { in_range = (parts.0, (parts.1, parts.2)); index = omega arith })
+in_levels sizes at less =
+    let parts = row_round at sizes.n sizes.rounds less in
+    (Levels (at / sizes.rounds) (at % sizes.rounds + 1), record { in_range = (parts.0, (parts.1, parts.2)); index = omega arith })
 
-in_views : (shape : Shape) (at : ℕ) → at < pairs shape * shape.rounds → (place : Place) × IsPlaceAt shape place (views_from shape + at)
+in_views : (sizes : Sizes) (at : ℕ) → at < pairs sizes * sizes.rounds → (place : Place) × IsPlaceAt sizes place (views_from sizes + at)
 unfolding index_of
-in_views shape at less =
-    let parts = row_round at (pairs shape) shape.rounds less in
-    let row = at / shape.rounds in
-    let numbers = pair_parts shape row parts.0 in
-    let joined : (row / shape.n * shape.n + row % shape.n) * shape.rounds + (at % shape.rounds + 1 - 1) ≡ at = ap (λ r. r * shape.rounds + (at % shape.rounds + 1 - 1)) numbers.2 ∙ parts.3 in
-    (View (row / shape.n) (row % shape.n) (at % shape.rounds + 1), record { in_range = (numbers.0, numbers.1, (parts.1, parts.2)); index = omega arith })
+in_views sizes at less =
+    let parts = row_round at (pairs sizes) sizes.rounds less in
+    let row = at / sizes.rounds in
+    let numbers = pair_parts sizes row parts.0 in
+    let joined : (row / sizes.n * sizes.n + row % sizes.n) * sizes.rounds + (at % sizes.rounds + 1 - 1) ≡ at = ap (λ r. r * sizes.rounds + (at % sizes.rounds + 1 - 1)) numbers.2 ∙ parts.3 in
+    (View (row / sizes.n) (row % sizes.n) (at % sizes.rounds + 1), record { in_range = (numbers.0, numbers.1, (parts.1, parts.2)); index = omega arith })
 
-in_values : (shape : Shape) (at : ℕ) → at < pairs shape * shape.rounds → (place : Place) × IsPlaceAt shape place (values_from shape + at)
+in_values : (sizes : Sizes) (at : ℕ) → at < pairs sizes * sizes.rounds → (place : Place) × IsPlaceAt sizes place (values_from sizes + at)
 unfolding index_of
-in_values shape at less =
-    let parts = row_round at (pairs shape) shape.rounds less in
-    let row = at / shape.rounds in
-    let numbers = pair_parts shape row parts.0 in
-    let joined : (row / shape.n * shape.n + row % shape.n) * shape.rounds + (at % shape.rounds + 1 - 1) ≡ at = ap (λ r. r * shape.rounds + (at % shape.rounds + 1 - 1)) numbers.2 ∙ parts.3 in
-    (Value (row / shape.n) (row % shape.n) (at % shape.rounds + 1), record { in_range = (numbers.0, numbers.1, (parts.1, parts.2)); index = omega arith })
+in_values sizes at less =
+    let parts = row_round at (pairs sizes) sizes.rounds less in
+    let row = at / sizes.rounds in
+    let numbers = pair_parts sizes row parts.0 in
+    let joined : (row / sizes.n * sizes.n + row % sizes.n) * sizes.rounds + (at % sizes.rounds + 1 - 1) ≡ at = ap (λ r. r * sizes.rounds + (at % sizes.rounds + 1 - 1)) numbers.2 ∙ parts.3 in
+    (Value (row / sizes.n) (row % sizes.n) (at % sizes.rounds + 1), record { in_range = (numbers.0, numbers.1, (parts.1, parts.2)); index = omega arith })
 
-in_outs : (shape : Shape) (at : ℕ) → at < pairs shape → (place : Place) × IsPlaceAt shape place (outs_from shape + at)
+in_outs : (sizes : Sizes) (at : ℕ) → at < pairs sizes → (place : Place) × IsPlaceAt sizes place (outs_from sizes + at)
 unfolding index_of
-in_outs shape at less =
-    let numbers = pair_parts shape at less in
-    (Out (at / shape.n) (at % shape.n), record { in_range = (numbers.0, numbers.1); index = omega arith })
+in_outs sizes at less =
+    let numbers = pair_parts sizes at less in
+    (Out (at / sizes.n) (at % sizes.n), record { in_range = (numbers.0, numbers.1); index = omega arith })
 
 -- the number of a word is that of a kind's first word and a number more
-moved : (shape : Shape) (start at : ℕ) → start ≤ at → ((place : Place) × IsPlaceAt shape place (start + (at - start))) → (place : Place) × IsPlaceAt shape place at
-moved shape start at le found = (found.0, record { in_range = found.1.in_range; index = omega (arith, found.1.index) })
+moved : (sizes : Sizes) (start at : ℕ) → start ≤ at → ((place : Place) × IsPlaceAt sizes place (start + (at - start))) → (place : Place) × IsPlaceAt sizes place at
+moved sizes start at le found = (found.0, record { in_range = found.1.in_range; index = omega (arith, found.1.index) })
 
-pub some_place : (shape : Shape) (at : ℕ) → at < words_of shape → (place : Place) × IsPlaceAt shape place at
+pub some_place : (sizes : Sizes) (at : ℕ) → at < words_of sizes → (place : Place) × IsPlaceAt sizes place at
 unfolding index_of words_of
-some_place shape at less =
+some_place sizes at less =
     elim (cases_lt at 1) [
       | inl steps ↦ (Steps, record { in_range = tt; index = omega arith })
-      | inr later ↦ elim (cases_lt at (views_from shape)) [
-        | inl levels ↦ moved shape 1 at later (in_levels shape (at - 1) (omega arith))
-        | inr later ↦ elim (cases_lt at (values_from shape)) [
-          | inl views ↦ moved shape (views_from shape) at later (in_views shape (at - views_from shape) (omega arith))
-          | inr later ↦ elim (cases_lt at (outs_from shape)) [
-            | inl values ↦ moved shape (values_from shape) at later (in_values shape (at - values_from shape) (omega arith))
-            | inr later ↦ moved shape (outs_from shape) at later (in_outs shape (at - outs_from shape) (omega arith))
+      | inr later ↦ elim (cases_lt at (views_from sizes)) [
+        | inl levels ↦ moved sizes 1 at later (in_levels sizes (at - 1) (omega arith))
+        | inr later ↦ elim (cases_lt at (values_from sizes)) [
+          | inl views ↦ moved sizes (views_from sizes) at later (in_views sizes (at - views_from sizes) (omega arith))
+          | inr later ↦ elim (cases_lt at (outs_from sizes)) [
+            | inl values ↦ moved sizes (values_from sizes) at later (in_values sizes (at - values_from sizes) (omega arith))
+            | inr later ↦ moved sizes (outs_from sizes) at later (in_outs sizes (at - outs_from sizes) (omega arith))
           ]
         ]
       ]

@@ -1,17 +1,16 @@
 -- The places of rooms that were worked by hand.
-use Rattle.std.proofs.Common.{◌≡◌, refl, arith}
-use Rattle.room_spec.specs.declared.spec.Shape.{Shape}
+use Rattle.std.proofs.Common.{◌≡◌, refl}
+use Rattle.room_spec.specs.Sizes.{Sizes}
 use Rattle.view_table.specs.declared.place.Place.TheVariants.{Steps, Levels, View, Value, Out}
 use Rattle.view_table.specs.Places.{index_of, words_of}
 
 -- one process, one simulator, one round
-smallest : Shape
+smallest : Sizes
 smallest = record {
   n = 1;
   m = 1;
   bits = 1;
   rounds = 1;
-  limits = record { n_range = (omega arith, omega arith); m_range = (omega arith, omega arith); rounds_range = (omega arith, omega arith); width = refl; memory = omega arith };
 }
 
 smallest_steps : index_of smallest Steps ≡ 0
@@ -39,13 +38,12 @@ unfolding smallest words_of
 smallest_words = refl
 
 -- two processes, two simulators, one round
-two_by_two : Shape
+two_by_two : Sizes
 two_by_two = record {
   n = 2;
   m = 2;
   bits = 1;
   rounds = 1;
-  limits = record { n_range = (omega arith, omega arith); m_range = (omega arith, omega arith); rounds_range = (omega arith, omega arith); width = refl; memory = omega arith };
 }
 
 two_by_two_words : words_of two_by_two ≡ 15
@@ -53,13 +51,12 @@ unfolding two_by_two words_of
 two_by_two_words = refl
 
 -- the most words of any room: 16 processes, one simulator, 15 rounds
-longest : Shape
+longest : Sizes
 longest = record {
   n = 16;
   m = 1;
   bits = 4;
   rounds = 15;
-  limits = record { n_range = (omega arith, omega arith); m_range = (omega arith, omega arith); rounds_range = (omega arith, omega arith); width = refl; memory = omega arith };
 }
 
 longest_words : words_of longest ≡ 737
@@ -71,13 +68,12 @@ unfolding longest index_of
 longest_last = refl
 
 -- eight processes, four simulators, three rounds: a full word of step numbers
-full : Shape
+full : Sizes
 full = record {
   n = 8;
   m = 4;
   bits = 2;
   rounds = 3;
-  limits = record { n_range = (omega arith, omega arith); m_range = (omega arith, omega arith); rounds_range = (omega arith, omega arith); width = refl; memory = omega arith };
 }
 
 full_words : words_of full ≡ 249

@@ -1,57 +1,57 @@
 -- The places of a room's shared memory, and the index of each among the memory's words.
 use Rattle.std.specs.Prelude.{◌≡◌, ℕ, ◌+◌, ◌-◌, ◌*◌, ◌<◌, ◌≤◌, ⊤}
-use Rattle.room_spec.specs.declared.spec.Shape.{Shape}
+use Rattle.room_spec.specs.Sizes.{Sizes}
 use Rattle.view_table.specs.declared.place.Place.{Place}
 use Rattle.view_table.specs.declared.place.Place.TheVariants.{Steps, Levels, View, Value, Out}
 
-abbrev pub IsSimulator : Shape → ℕ → Type 0
-IsSimulator shape i = i < shape.m
+abbrev pub IsSimulator : Sizes → ℕ → Type 0
+IsSimulator sizes i = i < sizes.m
 
-abbrev pub IsProcess : Shape → ℕ → Type 0
-IsProcess shape j = j < shape.n
+abbrev pub IsProcess : Sizes → ℕ → Type 0
+IsProcess sizes j = j < sizes.n
 
 -- rounds are counted from 1
-abbrev pub IsRound : Shape → ℕ → Type 0
-IsRound shape k = (1 ≤ k) × (k ≤ shape.rounds)
+abbrev pub IsRound : Sizes → ℕ → Type 0
+IsRound sizes k = (1 ≤ k) × (k ≤ sizes.rounds)
 
 -- the numbers of a place are those of a simulator, a process and a round of the room
-abbrev pub IsPlace : Shape → Place → Type 0
-IsPlace shape Steps = ⊤
-IsPlace shape (Levels j k) = IsProcess shape j × IsRound shape k
-IsPlace shape (View i j k) = IsSimulator shape i × IsProcess shape j × IsRound shape k
-IsPlace shape (Value i j k) = IsSimulator shape i × IsProcess shape j × IsRound shape k
-IsPlace shape (Out i j) = IsSimulator shape i × IsProcess shape j
+abbrev pub IsPlace : Sizes → Place → Type 0
+IsPlace sizes Steps = ⊤
+IsPlace sizes (Levels j k) = IsProcess sizes j × IsRound sizes k
+IsPlace sizes (View i j k) = IsSimulator sizes i × IsProcess sizes j × IsRound sizes k
+IsPlace sizes (Value i j k) = IsSimulator sizes i × IsProcess sizes j × IsRound sizes k
+IsPlace sizes (Out i j) = IsSimulator sizes i × IsProcess sizes j
 
 -- ---- the words of each kind stand together
 
-abbrev pub pairs : Shape → ℕ
-pairs shape = shape.m * shape.n
+abbrev pub pairs : Sizes → ℕ
+pairs sizes = sizes.m * sizes.n
 
-abbrev pub levels_from : Shape → ℕ
-levels_from shape = 1
+abbrev pub levels_from : Sizes → ℕ
+levels_from sizes = 1
 
-abbrev pub views_from : Shape → ℕ
-views_from shape = levels_from shape + shape.n * shape.rounds
+abbrev pub views_from : Sizes → ℕ
+views_from sizes = levels_from sizes + sizes.n * sizes.rounds
 
-abbrev pub values_from : Shape → ℕ
-values_from shape = views_from shape + pairs shape * shape.rounds
+abbrev pub values_from : Sizes → ℕ
+values_from sizes = views_from sizes + pairs sizes * sizes.rounds
 
-abbrev pub outs_from : Shape → ℕ
-outs_from shape = values_from shape + pairs shape * shape.rounds
+abbrev pub outs_from : Sizes → ℕ
+outs_from sizes = values_from sizes + pairs sizes * sizes.rounds
 
 -- how many words there are
-unfoldable pub words_of : Shape → ℕ
-words_of shape = outs_from shape + pairs shape
+unfoldable pub words_of : Sizes → ℕ
+words_of sizes = outs_from sizes + pairs sizes
 
 -- the index of a place: in order of the simulators, then of the processes, then of the rounds
-unfoldable pub index_of : Shape → Place → ℕ
-index_of shape Steps = 0
-index_of shape (Levels j k) = levels_from shape + j * shape.rounds + (k - 1)
-index_of shape (View i j k) = views_from shape + (i * shape.n + j) * shape.rounds + (k - 1)
-index_of shape (Value i j k) = values_from shape + (i * shape.n + j) * shape.rounds + (k - 1)
-index_of shape (Out i j) = outs_from shape + (i * shape.n + j)
+unfoldable pub index_of : Sizes → Place → ℕ
+index_of sizes Steps = 0
+index_of sizes (Levels j k) = levels_from sizes + j * sizes.rounds + (k - 1)
+index_of sizes (View i j k) = views_from sizes + (i * sizes.n + j) * sizes.rounds + (k - 1)
+index_of sizes (Value i j k) = values_from sizes + (i * sizes.n + j) * sizes.rounds + (k - 1)
+index_of sizes (Out i j) = outs_from sizes + (i * sizes.n + j)
 
 -- a place of the room that has this index
-pub record IsPlaceAt (shape : Shape) (place : Place) (at : ℕ) : Type 0 where
-  pub in_range : IsPlace shape place
-  pub index : index_of shape place ≡ at
+pub record IsPlaceAt (sizes : Sizes) (place : Place) (at : ℕ) : Type 0 where
+  pub in_range : IsPlace sizes place
+  pub index : index_of sizes place ≡ at

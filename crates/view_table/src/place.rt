@@ -1,5 +1,6 @@
 //! The places of a room's shared memory.
 ghost use Rattle.std.specs.Prelude.{◌≡◌, ◌+◌, ◌-◌, ◌*◌, ◌<◌, ◌≤◌};
+ghost use Rattle.room_spec.specs.Sizes.{sizes_of};
 ghost use Rattle.view_table.specs.Places.{IsSimulator, IsProcess, IsRound, IsPlace, index_of, pairs, views_from, values_from, outs_from, words_of};
 
 use room_spec::Shape;
@@ -37,9 +38,9 @@ pub enum Place {
 /// a round of the room.
 #[tactic(auto, unfolding(crate::specs::Places::index_of, crate::specs::Places::words_of))]
 pub fn index(shape: &Shape, place: Place) -> usize
-    requires { IsPlace shape.now place }
-    ensures value { result ≡ index_of shape.now place }
-    ensures within { result < words_of shape.now }
+    requires { IsPlace (sizes_of shape.now) place }
+    ensures value { result ≡ index_of (sizes_of shape.now) place }
+    ensures within { result < words_of (sizes_of shape.now) }
 {
     match place {
         Place::Steps => 0,
@@ -61,7 +62,7 @@ pub fn index(shape: &Shape, place: Place) -> usize
 /// How many words a room has, at most 737.
 #[tactic(auto, unfolding(crate::specs::Places::words_of))]
 pub fn words(shape: &Shape) -> usize
-    ensures value { result ≡ words_of shape.now }
+    ensures value { result ≡ words_of (sizes_of shape.now) }
     ensures few { result ≤ 737 }
 {
     outs_from(shape) + pairs(shape)
@@ -69,10 +70,10 @@ pub fn words(shape: &Shape) -> usize
 
 /// The number of a simulator's process among those of all simulators.
 fn pair(shape: &Shape, simulator: usize, process: usize) -> usize
-    requires simulator { IsSimulator shape.now simulator }
-    requires process { IsProcess shape.now process }
+    requires simulator { IsSimulator (sizes_of shape.now) simulator }
+    requires process { IsProcess (sizes_of shape.now) process }
     ensures value { result ≡ simulator * shape.now.n + process }
-    ensures within { result < pairs shape.now }
+    ensures within { result < pairs (sizes_of shape.now) }
     ensures few { result < 64 }
 {
     simulator * shape.n + process
@@ -81,7 +82,7 @@ fn pair(shape: &Shape, simulator: usize, process: usize) -> usize
 /// The number of a round among the rounds of rows that each have all of them.
 fn in_round(shape: &Shape, row: usize, round: usize) -> usize
     requires few { row < 64 }
-    requires round { IsRound shape.now round }
+    requires round { IsRound (sizes_of shape.now) round }
     ensures value { result ≡ row * shape.now.rounds + (round - 1) }
     ensures few { result < 960 }
 {
@@ -89,7 +90,7 @@ fn in_round(shape: &Shape, row: usize, round: usize) -> usize
 }
 
 fn pairs(shape: &Shape) -> usize
-    ensures value { result ≡ pairs shape.now }
+    ensures value { result ≡ pairs (sizes_of shape.now) }
     ensures few { result ≤ 64 }
     ensures in_rounds { 2 * (result * shape.now.rounds) + result ≤ 496 }
 {
@@ -97,22 +98,22 @@ fn pairs(shape: &Shape) -> usize
 }
 
 fn views_from(shape: &Shape) -> usize
-    ensures value { result ≡ views_from shape.now }
+    ensures value { result ≡ views_from (sizes_of shape.now) }
     ensures few { result ≤ 241 }
 {
     1 + shape.n * shape.rounds
 }
 
 fn values_from(shape: &Shape) -> usize
-    ensures value { result ≡ values_from shape.now }
+    ensures value { result ≡ values_from (sizes_of shape.now) }
     ensures few { result ≤ 489 }
 {
     views_from(shape) + pairs(shape) * shape.rounds
 }
 
 fn outs_from(shape: &Shape) -> usize
-    ensures value { result ≡ outs_from shape.now }
-    ensures few { result + pairs shape.now ≤ 737 }
+    ensures value { result ≡ outs_from (sizes_of shape.now) }
+    ensures few { result + pairs (sizes_of shape.now) ≤ 737 }
 {
     values_from(shape) + pairs(shape) * shape.rounds
 }

@@ -2,22 +2,22 @@ use Rattle.sim_memory.proofs.Words.{word_fits, within_raised, word_field, word_s
 use Rattle.sim_memory.proofs.laws.memory_words.Goals as goal
 
 pub returns-clause-fits : goal.returns-clause-fits
-returns-clause-fits c = λ shape steps within. word_fits shape steps within
+returns-clause-fits c = λ sizes steps limits within. word_fits sizes steps limits within
 
 pub returns-clause-field : goal.returns-clause-field
-returns-clause-field c = λ shape steps within i p below inside. word_field shape steps within i p below inside
+returns-clause-field c = λ sizes steps limits within i p below inside. word_field sizes steps limits within i p below inside
 
 pub returns-clause-reads_back : goal.returns-clause-reads_back
-returns-clause-reads_back c = λ shape steps within. word_steps shape steps within
+returns-clause-reads_back c = λ sizes steps limits within. word_steps sizes steps limits within
 
 pub returns-clause-raised : goal.returns-clause-raised
-returns-clause-raised c = λ shape steps after i p below inside raised. word_raised shape steps after i p below inside raised
+returns-clause-raised c = λ sizes steps after i p below inside raised. word_raised sizes steps after i p below inside raised
 
 pub returns-clause-same : goal.returns-clause-same
-returns-clause-same c = λ shape steps others same. word_same shape steps others same
+returns-clause-same c = λ sizes steps others same. word_same sizes steps others same
 
 pub returns-clause-zero : goal.returns-clause-zero
-returns-clause-zero c = λ shape. word_zero shape
+returns-clause-zero c = λ sizes. word_zero sizes
 
 pub returns-clause-within : goal.returns-clause-within
-returns-clause-within c = λ shape steps after i p within raised room. within_raised shape steps after i p within raised room
+returns-clause-within c = λ sizes steps after i p within raised room. within_raised sizes steps after i p within raised room

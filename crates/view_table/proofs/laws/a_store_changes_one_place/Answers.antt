@@ -7,5 +7,5 @@ pub returns : goal.returns
 returns c = record {
   here = here;
   elsewhere = elsewhere;
-  count = λ shape words place word. length-set words (index_of shape place) word;
+  count = λ sizes words place word. length-set words (index_of sizes place) word;
 }

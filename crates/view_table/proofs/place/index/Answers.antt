@@ -1,4 +1,5 @@
 use Rattle.std.proofs.Common.{arith}
+use Rattle.room_spec.specs.Sizes.{sizes_of}
 use Rattle.view_table.specs.Places.{pairs, words_of}
 use Rattle.view_table.proofs.PlaceLemmas.{in_rows}
 use Rattle.view_table.proofs.place.index.Goals as goal
@@ -7,10 +8,10 @@ pub returns-in-View-clause-within : goal.returns-in-View-clause-within
 unfolding words_of
 returns-in-View-clause-within c =
     let range = rw c.in-View.is at c.requires in
-    omega (arith, in_rows c.pair.result (pairs c.args.shape.now) c.args.shape.now.rounds c.in-View.round c.pair.ensures.within range.2)
+    omega (arith, in_rows c.pair.result (pairs (sizes_of c.args.shape.now)) c.args.shape.now.rounds c.in-View.round c.pair.ensures.within range.2)
 
 pub returns-in-Value-clause-within : goal.returns-in-Value-clause-within
 unfolding words_of
 returns-in-Value-clause-within c =
     let range = rw c.in-Value.is at c.requires in
-    omega (arith, in_rows c.pair-in-Value.result (pairs c.args.shape.now) c.args.shape.now.rounds c.in-Value.round c.pair-in-Value.ensures.within range.2)
+    omega (arith, in_rows c.pair-in-Value.result (pairs (sizes_of c.args.shape.now)) c.args.shape.now.rounds c.in-Value.round c.pair-in-Value.ensures.within range.2)
