@@ -1,0 +1,6 @@
+pub mod Processes
+pub mod Gathering
+pub mod Ranging
+pub mod Keeping
+pub mod Stepping
+mod Worked

@@ -1,0 +1,113 @@
+-- Each word that a mind works on is one of its room.
+use Rattle.std.proofs.Common.{◌≡◌, ℕ, ◌<◌, ◌≤◌, Bool, true, false, cond, ltb, length, Option, Some, None, refl, sym, subst, arith}
+use Rattle.std.proofs.lemmas.List.FromFn.{length-map-range_with_len}
+use Rattle.room_spec.specs.Rooms.{RoomSpec, processes}
+use Rattle.room_spec.specs.Sizes.{sizes_in}
+use Rattle.level_cells.specs.Fields.{level_of, levels_of}
+use Rattle.view_table.specs.declared.place.Place.{Place}
+use Rattle.view_table.specs.declared.place.Place.TheVariants as places
+use Rattle.view_table.specs.Places.{IsPlace, words_of}
+use Rattle.view_table.proofs.PlaceLemmas as table
+use Rattle.safe_agreement.proofs.Clean.{resolved_to}
+use Rattle.sim_memory.specs.Steps.{step_in}
+use Rattle.sim_memory.proofs.Greatest.{holder_of_is, holder_merged, greatest_at}
+use Rattle.sim_memory.proofs.Rows.{merged_below}
+use Rattle.simulator.specs.declared.goal.Goal.{Goal}
+use Rattle.simulator.specs.declared.goal.Goal.TheVariants as goals
+use Rattle.simulator.specs.declared.line.Line.{Line}
+use Rattle.simulator.specs.declared.line.Line.TheVariants.{Rest, Raise, Snap, Show, Enter, Look, Leave, Ask, GetView, Values, Out}
+use Rattle.simulator.specs.declared.operation.Move.{Move}
+use Rattle.simulator.specs.declared.operation.Move.TheVariants.{OutOfTurns}
+use Rattle.simulator.specs.Minds.{MindState, is_unfinished, round_of, goal_at, current_goal, current_round, next_process}
+use Rattle.simulator.specs.Moves.{index_in, levels_index, view_index, value_index, row_in, holder_in, chosen_in, level_unit, leave_by, first_move_at, first_move, move_at, move_of, IsWithin}
+use Rattle.simulator.specs.Ranges.{IsGoal, IsOpenAt, IsMind}
+use Rattle.simulator.proofs.Processes.{next_is_left}
+
+-- ---- rounds, rows, holders, chosen simulators
+
+pub round_range : (rounds : ℕ) (goal : Goal) → IsGoal rounds goal → is_unfinished goal ≡ true → (1 ≤ round_of goal) × (round_of goal ≤ rounds)
+round_range rounds (goals.Write round value) range is = range
+round_range rounds (goals.Ask round) range is = range
+round_range rounds goals.Done range is = absurd cc
+round_range rounds goals.Spent range is = absurd cc
+
+pub row_most : (spec : RoomSpec) (word process : ℕ) → row_in spec word process ≤ spec.rounds
+row_most spec word process = merged_below spec.simulators (step_in (sizes_in spec) word) process spec.rounds (λ i below. omega arith)
+
+pub holder_below : (spec : RoomSpec) (word process : ℕ) → 0 < spec.simulators → holder_in spec word process < spec.simulators
+holder_below spec word process some = let is = holder_of_is spec.simulators (step_in (sizes_in spec) word) process some in is.below
+
+-- the row is what the holder has
+pub row_of_holder : (spec : RoomSpec) (word process : ℕ) → 0 < spec.simulators → row_in spec word process ≡ step_in (sizes_in spec) word (holder_in spec word process) process
+row_of_holder spec word process some = holder_merged spec.simulators (step_in (sizes_in spec) word) process (holder_in spec word process) (holder_of_is spec.simulators (step_in (sizes_in spec) word) process some)
+
+-- a simulator that has a write shows it
+pub row_at : (spec : RoomSpec) (word process i : ℕ) → i < spec.simulators → step_in (sizes_in spec) word i process ≤ row_in spec word process
+row_at spec word process i below = greatest_at spec.simulators (λ k. step_in (sizes_in spec) word k process) i below
+
+pub chosen_below : (spec : RoomSpec) (word chosen : ℕ) → chosen_in spec word ≡ Some chosen → chosen < spec.simulators
+chosen_below spec word chosen is =
+    let to = resolved_to (levels_of word spec.simulators) chosen is in
+    omega (arith, to.below, length-map-range_with_len (λ i. level_of word i) 0 spec.simulators)
+
+-- ---- the places of an open turn
+
+within_index : (spec : RoomSpec) (place : Place) → IsPlace (sizes_in spec) place → index_in spec place < words_of (sizes_in spec)
+within_index spec place range = table.within (sizes_in spec) place range
+
+current_range : (spec : RoomSpec) (mind : MindState) → IsMind spec mind → is_unfinished (current_goal mind) ≡ true → (1 ≤ current_round mind) × (current_round mind ≤ spec.rounds)
+current_range spec mind is unfinished = round_range spec.rounds (current_goal mind) (is.rounds mind.sweep is.sweep) unfinished
+
+levels_within : (spec : RoomSpec) (mind : MindState) → IsMind spec mind → is_unfinished (current_goal mind) ≡ true → levels_index spec mind < words_of (sizes_in spec)
+levels_within spec mind is unfinished = within_index spec (places.Levels mind.sweep (current_round mind)) (is.sweep, current_range spec mind is unfinished)
+
+view_within : (spec : RoomSpec) (simulator : ℕ) (mind : MindState) → IsMind spec mind → is_unfinished (current_goal mind) ≡ true → simulator < spec.simulators → view_index spec simulator mind < words_of (sizes_in spec)
+view_within spec simulator mind is unfinished below = within_index spec (places.View simulator mind.sweep (current_round mind)) (below, is.sweep, current_range spec mind is unfinished)
+
+value_within : (spec : RoomSpec) (mind : MindState) (process : ℕ) → IsMind spec mind → process < processes spec → 1 ≤ row_in spec mind.snapshot process → value_index spec mind process < words_of (sizes_in spec)
+value_within spec mind process is below shown =
+    let holder = holder_below spec mind.snapshot process (omega (arith, is.number)) in
+    within_index spec (places.Value (holder_in spec mind.snapshot process) process (row_in spec mind.snapshot process)) (holder, below, (shown, row_most spec mind.snapshot process))
+
+-- ---- moves
+
+leave_within : (saw_two : Bool) (index unit count : ℕ) → index < count → IsWithin (leave_by saw_two index unit) count
+leave_within true index unit count below = below
+leave_within false index unit count below = below
+
+first_within_at : (goal : Goal) (spec : RoomSpec) (simulator process : ℕ) → IsGoal spec.rounds goal → simulator < spec.simulators → process < processes spec → IsWithin (first_move_at goal spec simulator process) (words_of (sizes_in spec))
+first_within_at (goals.Write round value) spec simulator process range below within = within_index spec (places.Value simulator process round) (below, within, range)
+first_within_at (goals.Ask round) spec simulator process range below within = within_index spec (places.Levels process round) (within, range)
+first_within_at goals.Done spec simulator process range below within = tt
+first_within_at goals.Spent spec simulator process range below within = tt
+
+charged_within : (has_turns : Bool) (move : Move) (count : ℕ) → IsWithin move count → IsWithin (cond has_turns move OutOfTurns) count
+charged_within true move count within = within
+charged_within false move count within = tt
+
+first_within : (spec : RoomSpec) (mind : MindState) (next : Option ℕ) → IsMind spec mind → next_process mind.goals mind.sweep ≡ next → IsWithin (first_move next spec mind) (words_of (sizes_in spec))
+first_within spec mind None is found = tt
+first_within spec mind (Some process) is found =
+    let left = next_is_left mind.goals mind.sweep process (omega (arith, is.sweep, is.goals)) found in
+    let below : process < processes spec = omega (arith, left.below, is.goals) in
+    charged_within (ltb mind.turns spec.turns) (first_move_at (goal_at mind.goals process) spec mind.number process) (words_of (sizes_in spec))
+    (first_within_at (goal_at mind.goals process) spec mind.number process (is.rounds process below) is.number below)
+
+within_at : (line : Line) (spec : RoomSpec) (mind : MindState) → IsMind spec mind → IsOpenAt line spec mind → IsWithin (move_at line spec mind) (words_of (sizes_in spec))
+within_at Rest spec mind is at = first_within spec mind (next_process mind.goals mind.sweep) is refl
+within_at Raise spec mind is at = within_index spec places.Steps tt
+within_at Snap spec mind is at = within_index spec places.Steps tt
+within_at Show spec mind is at = view_within spec mind.number mind is at is.number
+within_at Enter spec mind is at = levels_within spec mind is at
+within_at Look spec mind is at = levels_within spec mind is at
+within_at (Leave saw_two) spec mind is at = leave_within saw_two (levels_index spec mind) (level_unit mind) (words_of (sizes_in spec)) (levels_within spec mind is at)
+within_at Ask spec mind is at = levels_within spec mind is at
+within_at (GetView chosen) spec mind is at = view_within spec chosen mind is at.0 at.1
+within_at Values spec mind is at = value_within spec mind (length mind.entries) is at.1 at.2
+within_at (Out decision) spec mind is at = within_index spec (places.Out mind.number mind.sweep) (is.number, is.sweep)
+
+pub within : (spec : RoomSpec) (mind : MindState) → IsMind spec mind → IsWithin (move_of spec mind) (words_of (sizes_in spec))
+within spec mind is = within_at mind.line spec mind is is.at
+
+pub within_of : (spec : RoomSpec) (mind : MindState) (move : Move) → move ≡ move_of spec mind → IsMind spec mind → IsWithin move (words_of (sizes_in spec))
+within_of spec mind move is mind_is = subst (λ m. IsWithin m (words_of (sizes_in spec))) (sym is) (within spec mind mind_is)

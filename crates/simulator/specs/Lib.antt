@@ -1,0 +1,5 @@
+pub mod Minds
+pub mod Turns
+pub mod Moves
+pub mod Ranges
+pub mod Sweeps

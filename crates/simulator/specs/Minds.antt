@@ -1,0 +1,94 @@
+-- What a simulator has in mind. It is the same whatever a snapshot of the simulated memory is taken to be, a word of its
+-- fields or a map of step numbers: S is the type of such a snapshot.
+use Rattle.std.specs.Prelude.{ℕ, ◌+◌, ◌%◌, Bool, true, false, List, [], length, map, Option, Some, None, slice_index, slice_index_or, take, drop, position}
+use Rattle.std.specs.List.{range_with_len, filter}
+use Rattle.std.specs.Option.{option_map}
+use Rattle.protocol_lang.specs.Meaning.{first_value}
+use Rattle.room_spec.specs.Rooms.{RoomSpec, processes}
+use Rattle.simulator.specs.declared.goal.Goal.{Goal}
+use Rattle.simulator.specs.declared.goal.Goal.TheVariants.{Write, Ask, Done, Spent}
+use Rattle.simulator.specs.declared.line.Line.{Line}
+use Rattle.simulator.specs.declared.line.Line.TheVariants.{Rest}
+
+-- number: which simulator it is. goals: what is left to do for each process. sweep: the process at which its sweep stands,
+-- on which its open turn works. turns: how many turns it has begun. steps, turn_steps: how many atomic steps it has taken
+-- in all, and in its open turn. line: its next step in that turn. snapshot: what it loaded of the simulated memory last.
+-- entries: the values that it has gathered for the snapshot of its process.
+pub record MindOf (S : Type 0) : Type 0 where
+  pub number : ℕ
+  pub goals : List Goal
+  pub sweep : ℕ
+  pub turns : ℕ
+  pub steps : ℕ
+  pub turn_steps : ℕ
+  pub line : Line
+  pub snapshot : S
+  pub entries : List (Option ℕ)
+
+-- ---- goals
+
+abbrev pub is_unfinished : Goal → Bool
+is_unfinished (Write round value) = true
+is_unfinished (Ask round) = true
+is_unfinished Done = false
+is_unfinished Spent = false
+
+abbrev pub round_of : Goal → ℕ
+round_of (Write round value) = round
+round_of (Ask round) = round
+round_of Done = 0
+round_of Spent = 0
+
+abbrev pub goal_at : List Goal → ℕ → Goal
+goal_at goals process = slice_index_or goals process Done
+
+-- how many processes are neither done nor spent
+abbrev pub unfinished_in : List Goal → ℕ
+unfinished_in goals = length (filter is_unfinished goals)
+
+abbrev pub or_else : Option ℕ → Option ℕ → Option ℕ
+or_else (Some one) other = Some one
+or_else None other = other
+
+-- the first unfinished process at or after the sweep's place, going round
+abbrev pub next_process : List Goal → ℕ → Option ℕ
+next_process goals sweep =
+    or_else (option_map (λ at. sweep + at) (position is_unfinished (drop sweep goals))) (position is_unfinished (take sweep goals))
+
+-- ---- minds
+
+-- the process and the round that a mind works on in its open turn
+abbrev pub current_goal : {S : Type 0} → MindOf S → Goal
+current_goal mind = goal_at mind.goals mind.sweep
+
+abbrev pub current_round : {S : Type 0} → MindOf S → ℕ
+current_round mind = round_of (current_goal mind)
+
+abbrev pub first_goal : RoomSpec → ℕ → Goal
+first_goal spec process = Write 1 (first_value spec.protocol (slice_index spec.inputs process) process (processes spec))
+
+-- every process has its first write to make
+abbrev pub first_goals : RoomSpec → List Goal
+first_goals spec = map (first_goal spec) (range_with_len 0 (processes spec))
+
+-- the mind of a simulator that has taken no step, with a snapshot that shows nothing
+abbrev pub opening_mind_of : {S : Type 0} → S → RoomSpec → ℕ → MindOf S
+opening_mind_of blank spec i = record {
+  number = i;
+  goals = first_goals spec;
+  sweep = i % processes spec;
+  turns = 0;
+  steps = 0;
+  turn_steps = 0;
+  line = Rest;
+  snapshot = blank;
+  entries = [];
+}
+
+-- ---- minds whose snapshot is a memory word
+
+abbrev pub MindState : Type 0
+MindState = MindOf ℕ
+
+abbrev pub opening_mind : RoomSpec → ℕ → MindState
+opening_mind spec i = opening_mind_of 0 spec i

@@ -1,0 +1,146 @@
+-- The operation on one word that a mind wants next, and the mind that its answer makes.
+use Rattle.std.specs.Prelude.{ℕ, ◌+◌, ◌*◌, ◌-◌, ◌%◌, ◌^◌, ◌<◌, Bool, true, false, List, length, Option, Some, None, slice_index, slice_set, nat_lt, if◌then◌else◌, ⊤}
+use Rattle.room_spec.specs.Rooms.{RoomSpec}
+use Rattle.room_spec.specs.Sizes.{sizes_in}
+use Rattle.level_cells.specs.Fields.{levels_of}
+use Rattle.view_table.specs.Places.{index_of}
+use Rattle.view_table.specs.declared.place.Place.{Place}
+use Rattle.view_table.specs.declared.place.Place.TheVariants as places
+use Rattle.safe_agreement.specs.Levels.{has_level, resolved_of}
+use Rattle.sim_memory.specs.Steps.{merged_of, holder_of, place_of, step_in}
+use Rattle.simulator.specs.declared.goal.Goal.{Goal}
+use Rattle.simulator.specs.declared.goal.Goal.TheVariants as goals
+use Rattle.simulator.specs.declared.line.Line.{Line}
+use Rattle.simulator.specs.declared.line.Line.TheVariants.{Rest, Raise, Snap, Show, Enter, Look, Leave, Ask, GetView, Values, Out}
+use Rattle.simulator.specs.declared.operation.Move.{Move}
+use Rattle.simulator.specs.declared.operation.Move.TheVariants.{Load, Store, Add, Sub, Finished, OutOfTurns}
+use Rattle.simulator.specs.Minds.{MindState, goal_at, current_round, next_process}
+use Rattle.simulator.specs.Turns.{TakenOf, counted, goes_on, snapped, asked, got_view, got_value, decided, opened}
+
+-- ---- words
+
+-- the index of a place of the room
+abbrev pub index_in : RoomSpec → Place → ℕ
+index_in spec place = index_of (sizes_in spec) place
+
+-- the indexes of the words that a mind works on in its open turn
+abbrev pub levels_index : RoomSpec → MindState → ℕ
+levels_index spec mind = index_in spec (places.Levels mind.sweep (current_round mind))
+
+abbrev pub view_index : RoomSpec → ℕ → MindState → ℕ
+view_index spec simulator mind = index_in spec (places.View simulator mind.sweep (current_round mind))
+
+-- one at the lowest bit of its own level, and of its own step number of the process
+abbrev pub level_unit : MindState → ℕ
+level_unit mind = 2 ^ (2 * mind.number)
+
+abbrev pub step_unit : RoomSpec → MindState → ℕ
+step_unit spec mind = 2 ^ place_of (sizes_in spec) mind.number mind.sweep
+
+-- ---- what a memory word shows
+
+-- how many writes of a process
+abbrev pub row_in : RoomSpec → ℕ → ℕ → ℕ
+row_in spec word process = merged_of spec.simulators (step_in (sizes_in spec) word) process
+
+-- the simulator that has stored the last of them
+abbrev pub holder_in : RoomSpec → ℕ → ℕ → ℕ
+holder_in spec word process = holder_of spec.simulators (step_in (sizes_in spec) word) process
+
+-- ---- moves
+
+-- the value that is to be loaded next: the last write that the snapshot shows of the next process
+abbrev pub value_index : RoomSpec → MindState → ℕ → ℕ
+value_index spec mind process = index_in spec (places.Value (holder_in spec mind.snapshot process) process (row_in spec mind.snapshot process))
+
+abbrev pub leave_by : Bool → ℕ → ℕ → Move
+leave_by true index unit = Sub index unit
+leave_by false index unit = Add index unit
+
+abbrev pub first_move_at : Goal → RoomSpec → ℕ → ℕ → Move
+first_move_at (goals.Write round value) spec simulator process = Store (index_in spec (places.Value simulator process round)) value
+first_move_at (goals.Ask round) spec simulator process = Load (index_in spec (places.Levels process round))
+first_move_at goals.Done spec simulator process = Finished
+first_move_at goals.Spent spec simulator process = Finished
+
+-- the first step of the next turn: finished comes before out of turns
+abbrev pub first_move : Option ℕ → RoomSpec → MindState → Move
+first_move None spec mind = Finished
+first_move (Some process) spec mind =
+    if nat_lt mind.turns spec.turns then first_move_at (goal_at mind.goals process) spec mind.number process else OutOfTurns
+
+abbrev pub move_at : Line → RoomSpec → MindState → Move
+move_at Rest spec mind = first_move (next_process mind.goals mind.sweep) spec mind
+move_at Raise spec mind = Add (index_in spec places.Steps) (step_unit spec mind)
+move_at Snap spec mind = Load (index_in spec places.Steps)
+move_at Show spec mind = Store (view_index spec mind.number mind) mind.snapshot
+move_at Enter spec mind = Add (levels_index spec mind) (level_unit mind)
+move_at Look spec mind = Load (levels_index spec mind)
+move_at (Leave saw_two) spec mind = leave_by saw_two (levels_index spec mind) (level_unit mind)
+move_at Ask spec mind = Load (levels_index spec mind)
+move_at (GetView chosen) spec mind = Load (view_index spec chosen mind)
+move_at Values spec mind = Load (value_index spec mind (length mind.entries))
+move_at (Out decision) spec mind = Store (index_in spec (places.Out mind.number mind.sweep)) (decision + 1)
+
+abbrev pub move_of : RoomSpec → MindState → Move
+move_of spec mind = move_at mind.line spec mind
+
+-- it is an operation on a word
+abbrev pub IsOperation : Move → Type 0
+IsOperation (Load index) = ⊤
+IsOperation (Store index number) = ⊤
+IsOperation (Add index number) = ⊤
+IsOperation (Sub index number) = ⊤
+IsOperation Finished = ⊥
+IsOperation OutOfTurns = ⊥
+
+-- its word is one of the first `count`
+abbrev pub IsWithin : Move → ℕ → Type 0
+IsWithin (Load index) count = index < count
+IsWithin (Store index number) count = index < count
+IsWithin (Add index number) count = index < count
+IsWithin (Sub index number) count = index < count
+IsWithin Finished count = ⊤
+IsWithin OutOfTurns count = ⊤
+
+-- ---- answers
+
+-- what a word of levels says
+abbrev pub chosen_in : RoomSpec → ℕ → Option ℕ
+chosen_in spec word = resolved_of (levels_of word spec.simulators)
+
+abbrev pub taken_at : Line → RoomSpec → MindState → ℕ → TakenOf ℕ
+taken_at Rest spec mind answer = opened (next_process mind.goals mind.sweep) (chosen_in spec answer) mind
+taken_at Raise spec mind answer = goes_on Snap mind
+taken_at Snap spec mind answer = snapped answer mind
+taken_at Show spec mind answer = goes_on Enter mind
+taken_at Enter spec mind answer = goes_on Look mind
+taken_at Look spec mind answer = goes_on (Leave (has_level 2 (levels_of answer spec.simulators))) mind
+taken_at (Leave saw_two) spec mind answer = goes_on Ask mind
+taken_at Ask spec mind answer = asked (chosen_in spec answer) mind
+taken_at (GetView chosen) spec mind answer = got_view (row_in spec answer) spec answer mind
+taken_at Values spec mind answer = got_value (row_in spec mind.snapshot) spec answer mind
+taken_at (Out decision) spec mind answer = decided mind
+
+-- the mind after its move was answered, and what has become of its turn
+abbrev pub taken : RoomSpec → MindState → ℕ → TakenOf ℕ
+taken spec mind answer = taken_at mind.line spec (counted mind) answer
+
+-- ---- moves on a list of words, in which a sum and a difference wrap at 2 ^ 64
+
+abbrev pub words_after : Move → List ℕ → List ℕ
+words_after (Load index) words = words
+words_after (Store index number) words = slice_set words index number
+words_after (Add index number) words = slice_set words index ((slice_index words index + number) % 2 ^ 64)
+words_after (Sub index number) words = slice_set words index ((slice_index words index + (2 ^ 64 - number)) % 2 ^ 64)
+words_after Finished words = words
+words_after OutOfTurns words = words
+
+-- what a move answers; only that of a load counts
+abbrev pub answer_of : Move → List ℕ → ℕ
+answer_of (Load index) words = slice_index words index
+answer_of (Store index number) words = number
+answer_of (Add index number) words = slice_index words index
+answer_of (Sub index number) words = slice_index words index
+answer_of Finished words = 0
+answer_of OutOfTurns words = 0

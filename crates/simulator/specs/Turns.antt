@@ -1,0 +1,93 @@
+-- The lines of a turn: what each makes of a mind. They too are the same whatever a snapshot is; S is its type.
+use Rattle.std.specs.Prelude.{ℕ, zero, suc, ◌+◌, ◌-◌, ◌%◌, List, [], ◌∷◌, ◌++◌, length, Option, Some, None, slice_index, slice_set, min, nat_lt, ◌==◌, if◌then◌else◌}
+use Rattle.protocol_lang.specs.Numbers.{greatest}
+use Rattle.protocol_lang.specs.Meaning.{next_action}
+use Rattle.protocol_lang.specs.declared.meaning.Action.{Action}
+use Rattle.protocol_lang.specs.declared.meaning.Action.TheVariants as actions
+use Rattle.room_spec.specs.Rooms.{RoomSpec, processes}
+use Rattle.simulator.specs.declared.goal.Goal.{Goal}
+use Rattle.simulator.specs.declared.goal.Goal.TheVariants as goals
+use Rattle.simulator.specs.declared.line.Line.{Line}
+use Rattle.simulator.specs.declared.line.Line.TheVariants.{Rest, Raise, Show, GetView, Values, Out}
+use Rattle.simulator.specs.declared.turn.Turn.{Turn}
+use Rattle.simulator.specs.declared.turn.Turn.TheVariants.{Still, Useful, Quiet}
+use Rattle.simulator.specs.Minds.{MindOf, goal_at, current_round}
+
+-- the mind after an atomic step, and what has become of its turn
+pub record TakenOf (S : Type 0) : Type 0 where
+  pub mind : MindOf S
+  pub turn : Turn
+
+-- one atomic step more
+abbrev pub counted : {S : Type 0} → MindOf S → MindOf S
+counted mind = record mind { steps = mind.steps + 1; turn_steps = mind.turn_steps + 1 }
+
+-- a turn begins, on this process
+abbrev pub begun : {S : Type 0} → ℕ → MindOf S → MindOf S
+begun process mind = record mind { sweep = process; turns = mind.turns + 1 }
+
+-- the turn goes on, at this line
+abbrev pub goes_on : {S : Type 0} → Line → MindOf S → TakenOf S
+goes_on line mind = record { mind = record mind { line = line }; turn = Still }
+
+-- The turn ends, with this goal for its process from now on; the sweep goes on by one process.
+abbrev pub ended : {S : Type 0} → Turn → Goal → MindOf S → TakenOf S
+ended turn goal mind = record {
+  mind = record mind { goals = slice_set mind.goals mind.sweep goal; sweep = (mind.sweep + 1) % length mind.goals; turn_steps = 0; line = Rest };
+  turn = turn;
+}
+
+-- The mind has loaded a snapshot of the simulated memory, to propose it.
+abbrev pub snapped : {S : Type 0} → S → MindOf S → TakenOf S
+snapped snapshot mind = goes_on Show (record mind { snapshot = snapshot })
+
+-- It has asked which proposal was chosen. Where none is yet, the turn is quiet.
+abbrev pub asked : {S : Type 0} → Option ℕ → MindOf S → TakenOf S
+asked None mind = ended Quiet (goals.Ask (current_round mind)) mind
+asked (Some chosen) mind = goes_on (GetView chosen) mind
+
+-- what the process does after the snapshot that was agreed on: where it asks for a write after its last round, it is spent
+abbrev pub after_write : ℕ → ℕ → ℕ → Goal
+after_write rounds round value = if nat_lt round rounds then goals.Write (round + 1) value else goals.Spent
+
+abbrev pub acted : {S : Type 0} → RoomSpec → Action → MindOf S → TakenOf S
+acted spec (actions.Write value) mind = ended Useful (after_write spec.rounds (current_round mind) value) mind
+acted spec (actions.Decide decision) mind = goes_on (Out decision) mind
+
+-- the entries, and nothing for each next process, of `more` at most, of which the row shows no write
+abbrev pub padded : (ℕ → ℕ) → ℕ → List (Option ℕ) → List (Option ℕ)
+padded row zero entries = entries
+padded row (suc more) entries = if row (length entries) == 0 then padded row more (entries ++ None ∷ []) else entries
+
+-- The mind goes on to the next process of which the row shows a write. After the last it asks the protocol.
+abbrev pub gathered_all : {S : Type 0} → RoomSpec → MindOf S → TakenOf S
+gathered_all spec mind =
+    if nat_lt (length mind.entries) (processes spec) then goes_on Values mind
+    else acted spec (next_action spec.protocol (slice_index spec.inputs mind.sweep) mind.sweep (current_round mind) mind.entries) mind
+
+abbrev pub gathered : {S : Type 0} → (ℕ → ℕ) → RoomSpec → List (Option ℕ) → MindOf S → TakenOf S
+gathered row spec entries mind =
+    gathered_all spec (record mind { entries = padded row (processes spec - length entries) entries })
+
+-- it has loaded the chosen proposal, whose row this is
+abbrev pub got_view : {S : Type 0} → (ℕ → ℕ) → RoomSpec → S → MindOf S → TakenOf S
+got_view row spec snapshot mind = gathered row spec [] (record mind { snapshot = snapshot })
+
+-- it has loaded the value of the next process; a number above the greatest value reads as that
+abbrev pub got_value : {S : Type 0} → (ℕ → ℕ) → RoomSpec → ℕ → MindOf S → TakenOf S
+got_value row spec value mind = gathered row spec (mind.entries ++ Some (min value greatest) ∷ []) mind
+
+-- it has stored the decision
+abbrev pub decided : {S : Type 0} → MindOf S → TakenOf S
+decided mind = ended Useful goals.Done mind
+
+-- The first step of a turn: the store of a write, or an ask, of which the answer is given.
+abbrev pub opened_at : {S : Type 0} → Goal → Option ℕ → MindOf S → TakenOf S
+opened_at (goals.Write round value) chosen mind = goes_on Raise mind
+opened_at (goals.Ask round) chosen mind = asked chosen mind
+opened_at goals.Done chosen mind = goes_on Rest mind
+opened_at goals.Spent chosen mind = goes_on Rest mind
+
+abbrev pub opened : {S : Type 0} → Option ℕ → Option ℕ → MindOf S → TakenOf S
+opened None chosen mind = goes_on Rest mind
+opened (Some process) chosen mind = opened_at (goal_at mind.goals process) chosen (begun process mind)

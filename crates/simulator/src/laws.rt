@@ -1,0 +1,59 @@
+//! Laws of minds, for a crate that has many of them step over one list of words. Each is what its
+//! function ensures.
+//!
+//! They speak of a mind as data, of the move that it wants, and of the mind that the move's answer
+//! makes.
+ghost use Rattle.std.specs.Prelude.{◌≡◌, ◌≢◌, ◌↔◌, ℕ, ◌+◌, ◌<◌, ◌≤◌, true, false};
+ghost use Rattle.room_spec.specs.Rooms.{RoomSpec, IsWithinLimits, processes};
+ghost use Rattle.room_spec.specs.Sizes.{sizes_in};
+ghost use Rattle.view_table.specs.Places.{words_of};
+ghost use Rattle.simulator.specs.declared.operation.Move.TheVariants as moves;
+ghost use Rattle.simulator.specs.declared.sweep.Ready.TheVariants as answers;
+ghost use Rattle.simulator.specs.declared.turn.Turn.TheVariants.{Still};
+ghost use Rattle.simulator.specs.Minds.{MindState, opening_mind, unfinished_in};
+ghost use Rattle.simulator.specs.Moves.{IsOperation, IsWithin, move_of, taken};
+ghost use Rattle.simulator.specs.Ranges.{IsMind};
+ghost use Rattle.simulator.specs.Sweeps.{is_resting, ready_of};
+
+/// Every simulator of a room begins with a mind.
+pub fn minds_open()
+    ensures { (spec : RoomSpec) (i : ℕ) → IsWithinLimits spec → i < spec.simulators → IsMind spec (opening_mind spec i) }
+{}
+
+/// A mind stays one over an operation, whatever the operation answers.
+pub fn minds_stay()
+    ensures { (spec : RoomSpec) (mind : MindState) (answer : ℕ) → IsMind spec mind → IsOperation (move_of spec mind) → IsMind spec (taken spec mind answer).mind }
+{}
+
+/// Each answer makes one atomic step more of the same simulator.
+pub fn steps_are_counted()
+    ensures steps { (spec : RoomSpec) (mind : MindState) (answer : ℕ) → (taken spec mind answer).mind.steps ≡ mind.steps + 1 }
+    ensures number { (spec : RoomSpec) (mind : MindState) (answer : ℕ) → (taken spec mind answer).mind.number ≡ mind.number }
+{}
+
+/// A turn has less than n + 10 atomic steps, and after its last none are counted.
+pub fn turns_are_short()
+    ensures in_turn { (spec : RoomSpec) (mind : MindState) → IsMind spec mind → mind.turn_steps < processes spec + 10 }
+    ensures ended { (spec : RoomSpec) (mind : MindState) (answer : ℕ) → (taken spec mind answer).turn ≢ Still → (taken spec mind answer).mind.turn_steps ≡ 0 }
+{}
+
+/// The word of a move is one of the room's.
+pub fn moves_are_within()
+    ensures { (spec : RoomSpec) (mind : MindState) → IsMind spec mind → IsWithin (move_of spec mind) (words_of (sizes_in spec)) }
+{}
+
+/// Whoever is ready for a step wants an operation, and so does everyone in an open turn. Whoever is
+/// told that its turns are used up wants `OutOfTurns`.
+pub fn step_means_operation()
+    ensures ready { (spec : RoomSpec) (mind : MindState) (quiet : ℕ) → IsMind spec mind → ready_of spec mind quiet ≡ answers.Step → IsOperation (move_of spec mind) }
+    ensures in_turn { (spec : RoomSpec) (mind : MindState) → is_resting mind.line ≡ false → IsOperation (move_of spec mind) }
+    ensures out_of_turns { (spec : RoomSpec) (mind : MindState) (quiet : ℕ) → IsMind spec mind → ready_of spec mind quiet ≡ answers.OutOfTurns → move_of spec mind ≡ moves.OutOfTurns }
+{}
+
+/// Between two turns a mind is finished exactly where no process is unfinished; else it wants an
+/// operation where a turn is left, and `OutOfTurns` where none is.
+pub fn rest_by_cases()
+    ensures finished { (spec : RoomSpec) (mind : MindState) → IsMind spec mind → (move_of spec mind ≡ moves.Finished) ↔ ((is_resting mind.line ≡ true) × (unfinished_in mind.goals ≡ 0)) }
+    ensures begins { (spec : RoomSpec) (mind : MindState) → IsMind spec mind → is_resting mind.line ≡ true → 0 < unfinished_in mind.goals → mind.turns < spec.turns → IsOperation (move_of spec mind) }
+    ensures runs_out { (spec : RoomSpec) (mind : MindState) → IsMind spec mind → is_resting mind.line ≡ true → 0 < unfinished_in mind.goals → spec.turns ≤ mind.turns → move_of spec mind ≡ moves.OutOfTurns }
+{}

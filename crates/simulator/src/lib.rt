@@ -1,0 +1,30 @@
+//! One simulator of a room: what it has in mind, which atomic step it takes next, and what it makes
+//! of the answer.
+//!
+//! A simulator goes round the simulated processes and works on one of them in each turn. It stores
+//! and counts the process's next write, proposes a snapshot to the safe agreement on it, and, once
+//! that is resolved, works out what the process does next. This is the simulation of E. Borowsky,
+//! E. Gafni, N. Lynch and S. Rajsbaum, "The BG distributed simulation algorithm", Distributed
+//! Computing 14(3), 2001. It is told here step by step: a mind says which operation on one word it
+//! wants next, and takes in what that operation answered.
+#![tactic(auto)]
+
+mod goal;
+pub mod laws;
+mod line;
+mod mind;
+mod next;
+mod operation;
+mod sweep;
+mod taking;
+#[cfg(test)]
+mod tests;
+mod turn;
+mod words;
+
+pub use goal::Goal;
+pub use line::Line;
+pub use mind::Mind;
+pub use operation::Move;
+pub use sweep::{Ready, Sweep};
+pub use turn::Turn;

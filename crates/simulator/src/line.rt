@@ -1,0 +1,30 @@
+//! Where a simulator stands in its turn.
+
+/// The atomic step that a simulator takes next, on the process at which its sweep stands.
+#[derive(Clone, Copy, Debug, PartialEq, Eq, Default)]
+pub enum Line {
+    /// None yet: it stands between two turns. A turn begins with the store of the process's next
+    /// write or, where that was made, with an ask.
+    #[default]
+    Rest,
+    /// Add one to its own step number of the process.
+    Raise,
+    /// Load the step numbers: a snapshot of the simulated memory.
+    Snap,
+    /// Store that snapshot as its proposal.
+    Show,
+    /// Enter the agreement: from level 0 to 1.
+    Enter,
+    /// Load the levels of the agreement.
+    Look,
+    /// Leave the agreement: to level 0 where it saw a level 2, and else to level 2.
+    Leave { saw_two: bool },
+    /// Load the levels of the agreement, to learn whose proposal was chosen.
+    Ask,
+    /// Load the proposal of the chosen simulator.
+    GetView { chosen: usize },
+    /// Load the value of the next process that the chosen proposal shows.
+    Values,
+    /// Store the decision.
+    Out { decision: u32 },
+}

@@ -1,0 +1,162 @@
+//! What a simulator has in mind.
+ghost use Rattle.std.specs.Prelude.{◌≡◌, ◌≢◌, ◌+◌, ◌<◌, ◌≤◌, true, length};
+ghost use Rattle.room_spec.specs.Rooms.{processes};
+ghost use Rattle.room_spec.specs.Sizes.{sizes_in};
+ghost use Rattle.view_table.specs.Places.{words_of};
+ghost use Rattle.simulator.specs.declared.turn.Turn.TheVariants.{Still};
+ghost use Rattle.simulator.specs.Minds.{opening_mind, unfinished_in};
+ghost use Rattle.simulator.specs.Moves.{IsOperation, IsWithin, move_of, taken};
+ghost use Rattle.simulator.specs.Ranges.{IsMind};
+ghost use Rattle.simulator.specs.Sweeps.{is_resting};
+
+use crate::goal::{Goal, first_goals, unfinished_in};
+use crate::line::Line;
+use crate::operation::Move;
+use crate::turn::Turn;
+use crate::words::{chosen_in, saw_two};
+use arrayvec::ArrayVec;
+use protocol_lang::View;
+use room_spec::Spec;
+use std::marker::Model;
+
+/// What a simulator knows of its processes, where its sweep stands, how many turns and atomic steps
+/// it has taken, and its place in an open turn. A mind is that of one room: each call is given that
+/// room's spec. No call takes memory.
+#[derive(Drop)]
+pub struct Mind {
+    pub(crate) number: usize,
+    pub(crate) goals: ArrayVec<Goal, 16>,
+    pub(crate) sweep: usize,
+    pub(crate) turns: u64,
+    pub(crate) steps: u64,
+    pub(crate) turn_steps: u64,
+    pub(crate) line: Line,
+    pub(crate) snapshot: u64,
+    pub(crate) entries: View,
+}
+
+impl Model for Mind {
+    ghost use Rattle.simulator.specs.Minds.{MindState};
+
+    ghost Value = { MindState };
+
+    ghost view = { λ m. record { number = m.number; goals = m.goals.items; sweep = m.sweep; turns = m.turns; steps = m.steps; turn_steps = m.turn_steps; line = m.line; snapshot = m.snapshot; entries = m.entries.items } };
+}
+
+impl Mind {
+    /// The mind of simulator `i` before its first step.
+    #[tactic(auto, using(crate::proofs::Keeping::opens_of))]
+    pub fn new(spec: &Spec, i: usize) -> Mind
+        requires { i < spec.now.simulators }
+        ensures value { result ≡ opening_mind spec.now i }
+        ensures is_mind { IsMind spec.now result }
+    {
+        let shape = spec.shape();
+        Mind {
+            number: i,
+            goals: first_goals(spec),
+            sweep: i % shape.n,
+            turns: 0,
+            steps: 0,
+            turn_steps: 0,
+            line: Line::Rest,
+            snapshot: 0,
+            entries: View::new(),
+        }
+    }
+
+    /// The atomic step that comes next. Where no process is unfinished it is `Finished`, and else,
+    /// where a turn would begin and all turns are used up, `OutOfTurns`.
+    #[tactic(auto, using(crate::proofs::Ranging::within_of))]
+    pub fn next_move(&self, spec: &Spec) -> Move
+        requires { IsMind spec.now self.now }
+        ensures value { result ≡ move_of spec.now self.now }
+        ensures within { IsWithin result (words_of (sizes_in spec.now)) }
+    {
+        self.move_at(spec, self.line)
+    }
+
+    /// Takes in what the atomic step answered, and says what has become of the turn. The answer
+    /// counts after a `Load` alone, and any answer will do: a step number above the room's rounds
+    /// reads as their number, and a value above 4294967295 as that.
+    #[tactic(auto, using(crate::proofs::Keeping::kept_of, crate::proofs::Stepping::bounded, crate::proofs::Stepping::rests))]
+    pub fn take(&mut self, spec: &Spec, answer: u64) -> Turn
+        requires is_mind { IsMind spec.now self.old }
+        requires operation { IsOperation (move_of spec.now self.old) }
+        ensures mind { self.new ≡ (taken spec.now self.old answer).mind }
+        ensures turn { result ≡ (taken spec.now self.old answer).turn }
+        ensures is_mind { IsMind spec.now self.new }
+        // A turn takes at most n + 10 atomic steps.
+        ensures bound { self.new.turn_steps < processes spec.now + 10 }
+        ensures ended { result ≢ Still → self.new.turn_steps ≡ 0 }
+    {
+        self.count_step();
+        match self.line {
+            Line::Rest => self.open(spec, answer),
+            Line::Raise => self.go_on(Line::Snap),
+            Line::Snap => self.snap(answer),
+            Line::Show => self.go_on(Line::Enter),
+            Line::Enter => self.go_on(Line::Look),
+            Line::Look => {
+                let saw_two = saw_two(spec, answer);
+                self.go_on(Line::Leave { saw_two })
+            }
+            Line::Leave { .. } => self.go_on(Line::Ask),
+            Line::Ask => self.ask(chosen_in(spec, answer)),
+            Line::GetView { .. } => self.get_view(spec, answer),
+            Line::Values => self.get_value(spec, answer),
+            Line::Out { .. } => self.end(Turn::Useful, Goal::Done),
+        }
+    }
+
+    /// Whether it stands between two turns.
+    pub fn resting(&self) -> bool
+        ensures { result ≡ is_resting self.now.line }
+    {
+        matches!(self.line, Line::Rest)
+    }
+
+    /// How many atomic steps it has taken.
+    pub fn steps_taken(&self) -> u64
+        ensures { result ≡ self.now.steps }
+    {
+        self.steps
+    }
+
+    /// How many turns it has begun, at most those that the room gives to each simulator.
+    pub fn turns_taken(&self) -> u64
+        ensures { result ≡ self.now.turns }
+    {
+        self.turns
+    }
+
+    /// How many atomic steps it has taken in its open turn, below n + 10; 0 between two turns.
+    pub fn turn_steps(&self) -> u64
+        ensures { result ≡ self.now.turn_steps }
+    {
+        self.turn_steps
+    }
+
+    /// For how many processes something is left to do, 0 to 16.
+    pub fn unfinished(&self) -> usize
+        ensures { result ≡ unfinished_in self.now.goals }
+    {
+        unfinished_in(self.goals.as_slice())
+    }
+}
+
+impl Default for Mind {
+    fn default() -> Mind {
+        Mind {
+            number: 0,
+            goals: ArrayVec::new(),
+            sweep: 0,
+            turns: 0,
+            steps: 0,
+            turn_steps: 0,
+            line: Line::Rest,
+            snapshot: 0,
+            entries: View::new(),
+        }
+    }
+}

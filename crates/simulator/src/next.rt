@@ -1,0 +1,203 @@
+//! The lines of a turn: the operation of each.
+ghost use Rattle.std.specs.Prelude.{◌≡◌, ◌+◌, ◌<◌, ◌≤◌, true, length};
+ghost use Rattle.room_spec.specs.Rooms.{processes};
+ghost use Rattle.room_spec.specs.Sizes.{sizes_in};
+ghost use Rattle.view_table.specs.Places.{words_of};
+ghost use Rattle.view_table.specs.declared.place.Place.TheVariants as places;
+ghost use Rattle.simulator.specs.declared.operation.Move.TheVariants as moves;
+ghost use Rattle.simulator.specs.Minds.{current_goal, current_round, is_unfinished, next_process};
+ghost use Rattle.simulator.specs.Moves.{first_move, first_move_at, index_in, leave_by, level_unit, levels_index, move_at, row_in, step_unit, value_index, view_index};
+ghost use Rattle.simulator.specs.Ranges.{IsGoal, IsMind, IsOpenAt};
+
+use crate::goal::{Goal, next_process};
+use crate::line::Line;
+use crate::mind::Mind;
+use crate::operation::Move;
+use crate::words::{index_in, last_write};
+use level_cells::one_at;
+use room_spec::Spec;
+use sim_memory::place;
+use view_table::Place;
+
+impl Mind {
+    /// The atomic step at this line.
+    pub(crate) fn move_at(&self, spec: &Spec, line: Line) -> Move
+        requires is_mind { IsMind spec.now self.now }
+        requires at { IsOpenAt line spec.now self.now }
+        ensures { result ≡ move_at line spec.now self.now }
+    {
+        match line {
+            Line::Rest => self.first_move(spec),
+            Line::Raise => self.raise_move(spec),
+            Line::Snap => self.snap_move(spec),
+            Line::Show => self.show_move(spec),
+            Line::Enter => self.enter_move(spec),
+            Line::Look | Line::Ask => self.look_move(spec),
+            Line::Leave { saw_two } => self.leave_move(spec, saw_two),
+            Line::GetView { chosen } => self.view_move(spec, chosen),
+            Line::Values => self.value_move(spec),
+            Line::Out { decision } => self.out_move(spec, decision),
+        }
+    }
+
+    /// The first step of the next turn.
+    fn first_move(&self, spec: &Spec) -> Move
+        requires { IsMind spec.now self.now }
+        ensures { result ≡ first_move (next_process self.now.goals self.now.sweep) spec.now self.now }
+    {
+        let Some(process) = next_process(self.goals.as_slice(), self.sweep) else {
+            return Move::Finished;
+        };
+        if self.turns >= spec.turns() {
+            return Move::OutOfTurns;
+        }
+        first_move_at(spec, self.number, process, self.goals[process])
+    }
+
+    fn raise_move(&self, spec: &Spec) -> Move
+        requires { IsMind spec.now self.now }
+        ensures { result ≡ moves.Add (index_in spec.now places.Steps) (step_unit spec.now self.now) }
+    {
+        let at = place(&spec.shape(), self.number, self.sweep);
+        Move::Add(index_in(spec, Place::Steps), one_at(at))
+    }
+
+    fn snap_move(&self, spec: &Spec) -> Move
+        ensures { result ≡ moves.Load (index_in spec.now places.Steps) }
+    {
+        Move::Load(index_in(spec, Place::Steps))
+    }
+
+    fn show_move(&self, spec: &Spec) -> Move
+        requires is_mind { IsMind spec.now self.now }
+        requires open { is_unfinished (current_goal self.now) ≡ true }
+        ensures { result ≡ moves.Store (view_index spec.now self.now.number self.now) self.now.snapshot }
+    {
+        Move::Store(self.view_index(spec, self.number), self.snapshot)
+    }
+
+    fn enter_move(&self, spec: &Spec) -> Move
+        requires is_mind { IsMind spec.now self.now }
+        requires open { is_unfinished (current_goal self.now) ≡ true }
+        ensures { result ≡ moves.Add (levels_index spec.now self.now) (level_unit self.now) }
+    {
+        Move::Add(self.levels_index(spec), one_at(2 * self.number))
+    }
+
+    fn look_move(&self, spec: &Spec) -> Move
+        requires is_mind { IsMind spec.now self.now }
+        requires open { is_unfinished (current_goal self.now) ≡ true }
+        ensures { result ≡ moves.Load (levels_index spec.now self.now) }
+    {
+        Move::Load(self.levels_index(spec))
+    }
+
+    fn leave_move(&self, spec: &Spec, saw_two: bool) -> Move
+        requires is_mind { IsMind spec.now self.now }
+        requires open { is_unfinished (current_goal self.now) ≡ true }
+        ensures { result ≡ leave_by saw_two (levels_index spec.now self.now) (level_unit self.now) }
+    {
+        let (index, unit) = (self.levels_index(spec), one_at(2 * self.number));
+        if saw_two {
+            Move::Sub(index, unit)
+        } else {
+            Move::Add(index, unit)
+        }
+    }
+
+    fn view_move(&self, spec: &Spec, chosen: usize) -> Move
+        requires is_mind { IsMind spec.now self.now }
+        requires open { is_unfinished (current_goal self.now) ≡ true }
+        requires simulator { chosen < spec.now.simulators }
+        ensures { result ≡ moves.Load (view_index spec.now chosen self.now) }
+    {
+        Move::Load(self.view_index(spec, chosen))
+    }
+
+    fn value_move(&self, spec: &Spec) -> Move
+        requires is_mind { IsMind spec.now self.now }
+        requires left { length self.now.entries < processes spec.now }
+        requires shown { 1 ≤ row_in spec.now self.now.snapshot (length self.now.entries) }
+        ensures { result ≡ moves.Load (value_index spec.now self.now (length self.now.entries)) }
+    {
+        let process = self.entries.len();
+        let (simulator, round) = last_write(spec, self.snapshot, process);
+        let value = Place::Value {
+            simulator,
+            process,
+            round,
+        };
+        Move::Load(index_in(spec, value))
+    }
+
+    fn out_move(&self, spec: &Spec, decision: u32) -> Move
+        requires { IsMind spec.now self.now }
+        ensures { result ≡ moves.Store (index_in spec.now (places.Out self.now.number self.now.sweep)) (decision + 1) }
+    {
+        let out = Place::Out {
+            simulator: self.number,
+            process: self.sweep,
+        };
+        Move::Store(index_in(spec, out), u64::from(decision) + 1)
+    }
+
+    /// The word of the agreement that its turn works on.
+    fn levels_index(&self, spec: &Spec) -> usize
+        requires is_mind { IsMind spec.now self.now }
+        requires open { is_unfinished (current_goal self.now) ≡ true }
+        ensures { result ≡ levels_index spec.now self.now }
+    {
+        let levels = Place::Levels {
+            process: self.sweep,
+            round: usize::from(self.round()),
+        };
+        index_in(spec, levels)
+    }
+
+    /// The word of a simulator's proposal to that agreement.
+    fn view_index(&self, spec: &Spec, simulator: usize) -> usize
+        requires is_mind { IsMind spec.now self.now }
+        requires open { is_unfinished (current_goal self.now) ≡ true }
+        requires simulator { simulator < spec.now.simulators }
+        ensures { result ≡ view_index spec.now simulator self.now }
+    {
+        let view = Place::View {
+            simulator,
+            process: self.sweep,
+            round: usize::from(self.round()),
+        };
+        index_in(spec, view)
+    }
+
+    /// The round of the process that its turn works on.
+    pub(crate) fn round(&self) -> u8
+        requires { self.now.sweep < length self.now.goals }
+        ensures { result ≡ current_round self.now }
+    {
+        self.goals[self.sweep].round()
+    }
+}
+
+fn first_move_at(spec: &Spec, simulator: usize, process: usize, goal: Goal) -> Move
+    requires simulator { simulator < spec.now.simulators }
+    requires process { process < processes spec.now }
+    requires round { IsGoal spec.now.rounds goal }
+    ensures { result ≡ first_move_at goal spec.now simulator process }
+{
+    match goal {
+        Goal::Write { round, value } => {
+            let round = usize::from(round);
+            let place = Place::Value {
+                simulator,
+                process,
+                round,
+            };
+            Move::Store(index_in(spec, place), u64::from(value))
+        }
+        Goal::Ask { round } => {
+            let round = usize::from(round);
+            Move::Load(index_in(spec, Place::Levels { process, round }))
+        }
+        Goal::Done | Goal::Spent => Move::Finished,
+    }
+}

@@ -1,0 +1,64 @@
+//! The words of a room, by its spec: where they stand, and what is read of them.
+ghost use Rattle.std.specs.Prelude.{◌≡◌, ◌<◌, ◌≤◌, ◌==◌};
+ghost use Rattle.room_spec.specs.Rooms.{processes};
+ghost use Rattle.room_spec.specs.Sizes.{sizes_in};
+ghost use Rattle.level_cells.specs.Fields.{levels_of};
+ghost use Rattle.safe_agreement.specs.Levels.{has_level, leave_of};
+ghost use Rattle.view_table.specs.Places.{IsPlace, words_of};
+ghost use Rattle.simulator.specs.Moves.{chosen_in, holder_in, index_in, row_in};
+
+use level_cells::levels;
+use room_spec::Spec;
+use safe_agreement::{leave_level, resolved};
+use sim_memory::{holder, step_of};
+use view_table::{Place, index};
+
+pub(crate) fn index_in(spec: &Spec, place: Place) -> usize
+    requires { IsPlace (sizes_in spec.now) place }
+    ensures value { result ≡ index_in spec.now place }
+    ensures within { result < words_of (sizes_in spec.now) }
+{
+    index(&spec.shape(), place)
+}
+
+/// Whether a memory word shows no write of the process.
+pub(crate) fn shows_none(spec: &Spec, word: u64, process: usize) -> bool
+    requires { process < processes spec.now }
+    ensures { result ≡ (row_in spec.now word process == 0) }
+{
+    let shape = spec.shape();
+    for i in 0..shape.m {
+        if step_of(&shape, word, i, process) > 0 {
+            return false;
+        }
+    }
+    true
+}
+
+/// The last write of the process that a memory word shows: the simulator that has stored it, and
+/// the round.
+pub(crate) fn last_write(spec: &Spec, word: u64, process: usize) -> (usize, usize)
+    requires { process < processes spec.now }
+    ensures holder { result.0 ≡ holder_in spec.now word process }
+    ensures below { result.0 < spec.now.simulators }
+    ensures row { result.1 ≡ row_in spec.now word process }
+    ensures range { result.1 ≤ spec.now.rounds }
+{
+    let shape = spec.shape();
+    let simulator = holder(&shape, word, process);
+    (simulator, step_of(&shape, word, simulator, process))
+}
+
+/// Whether some level is 2, by a word of levels.
+pub(crate) fn saw_two(spec: &Spec, word: u64) -> bool
+    ensures { result ≡ has_level 2 (levels_of word spec.now.simulators) }
+{
+    leave_level(levels(word, spec.m()).as_slice()) == 0
+}
+
+/// The simulator whose proposal was chosen, by a word of levels.
+pub(crate) fn chosen_in(spec: &Spec, word: u64) -> Option<usize>
+    ensures { result ≡ chosen_in spec.now word }
+{
+    resolved(levels(word, spec.m()).as_slice())
+}
