@@ -1,0 +1,14 @@
+pub mod Replays
+pub mod States
+pub mod Maps
+pub mod Tracks
+pub mod Snapshots
+pub mod Wording
+pub mod Lines
+pub mod Holding
+pub mod LineMinds
+pub mod LineWords
+pub mod LineTracks
+pub mod FieldLines
+pub mod FieldReplays
+pub mod FieldCalls

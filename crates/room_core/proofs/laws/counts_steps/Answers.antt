@@ -1,0 +1,5 @@
+use Rattle.room_core.proofs.Replays.{counts}
+use Rattle.room_core.proofs.laws.counts_steps.Goals as goal
+
+pub returns : goal.returns
+returns c = λ room limits one i below. counts room limits one i below

@@ -1,0 +1,5 @@
+use Rattle.room_core.proofs.Replays.{opens_run}
+use Rattle.room_core.proofs.laws.opens.Goals as goal
+
+pub returns : goal.returns
+returns c = λ spec. opens_run spec

@@ -1,0 +1,128 @@
+-- A room with its quiet counts, and what one call makes of it and answers.
+use Rattle.std.specs.Prelude.{ℕ, Bool, true, false, List, [], ◌∷◌, map, replicate, slice_index_or, slice_set, nat_le, if◌then◌else◌}
+use Rattle.std.specs.List.{range_with_len}
+use Rattle.room_spec.specs.Rooms.{RoomSpec}
+use Rattle.room_spec.specs.Sizes.{sizes_in}
+use Rattle.view_table.specs.Places.{words_of}
+use Rattle.simulator.specs.Turns.{TakenOf}
+use Rattle.simulator.specs.Moves.{move_of, taken, words_after, answer_of}
+use Rattle.simulator.specs.Sweeps.{SweepState, opening_sweep, ready_of, quiet_after}
+use Rattle.simulator.specs.declared.operation.Move.{Move}
+use Rattle.simulator.specs.declared.sweep.Ready.{Ready}
+use Rattle.simulator.specs.declared.sweep.Ready.TheVariants as ready
+use Rattle.room_core.specs.Rooms.{RoomData}
+use Rattle.room_core.specs.declared.reply.StepReply.{StepReply}
+use Rattle.room_core.specs.declared.reply.StepReply.TheVariants.{Stepped, Idle, OutOfTurns, Crashed, NoSimulator}
+use Rattle.room_core.specs.declared.reply.CrashReply.{CrashReply}
+use Rattle.room_core.specs.declared.reply.CrashReply.TheVariants as crash_replies
+
+pub record RoomState : Type 0 where
+  pub spec : RoomSpec
+  pub words : List ℕ
+  pub sweeps : List SweepState
+  pub crashed : List Bool
+
+-- the room without its quiet counts
+abbrev pub data_of : RoomState → RoomData
+data_of room = record { spec = room.spec; words = room.words; minds = map (λ sweep. sweep.mind) room.sweeps; crashed = room.crashed }
+
+abbrev pub opening_state : RoomSpec → RoomState
+opening_state spec = record {
+  spec = spec;
+  words = replicate (words_of (sizes_in spec)) 0;
+  sweeps = map (opening_sweep spec) (range_with_len 0 spec.simulators);
+  crashed = replicate spec.simulators false;
+}
+
+abbrev pub sweep_at : RoomState → ℕ → SweepState
+sweep_at room i = slice_index_or room.sweeps i (opening_sweep room.spec i)
+
+abbrev pub has_crashed : RoomState → ℕ → Bool
+has_crashed room i = slice_index_or room.crashed i false
+
+abbrev pub with_sweep : RoomState → ℕ → SweepState → RoomState
+with_sweep room i sweep = record room { sweeps = slice_set room.sweeps i sweep }
+
+-- ---- a step
+
+-- what a simulator's operation makes of it
+abbrev pub sweep_after : TakenOf ℕ → ℕ → SweepState
+sweep_after taken quiet = record { mind = taken.mind; quiet = quiet_after taken.turn quiet }
+
+abbrev pub operation_at : RoomState → ℕ → Move
+operation_at room i = move_of room.spec (sweep_at room i).mind
+
+abbrev pub taken_by : RoomState → ℕ → TakenOf ℕ
+taken_by room i = taken room.spec (sweep_at room i).mind (answer_of (operation_at room i) room.words)
+
+-- one atomic step
+abbrev pub moved : RoomState → ℕ → RoomState
+moved room i = record {
+  spec = room.spec;
+  words = words_after (operation_at room i) room.words;
+  sweeps = slice_set room.sweeps i (sweep_after (taken_by room i) (sweep_at room i).quiet);
+  crashed = room.crashed;
+}
+
+-- the quiet turns are counted anew
+abbrev pub woken : SweepState → SweepState
+woken sweep = record { mind = sweep.mind; quiet = 0 }
+
+abbrev pub reply_when : Ready → StepReply
+reply_when ready.Step = Stepped
+reply_when ready.Idle = Idle
+reply_when ready.OutOfTurns = OutOfTurns
+
+abbrev pub room_when : Ready → RoomState → ℕ → RoomState
+room_when ready.Step room i = moved room i
+room_when ready.Idle room i = with_sweep room i (woken (sweep_at room i))
+room_when ready.OutOfTurns room i = room
+
+abbrev pub ready_at : RoomState → ℕ → Ready
+ready_at room i = ready_of room.spec (sweep_at room i).mind (sweep_at room i).quiet
+
+abbrev pub step_reply : RoomState → ℕ → StepReply
+step_reply room i = if nat_le room.spec.simulators i then NoSimulator else if has_crashed room i then Crashed else reply_when (ready_at room i)
+
+abbrev pub room_after_step : RoomState → ℕ → RoomState
+room_after_step room i = if nat_le room.spec.simulators i then room else if has_crashed room i then room else room_when (ready_at room i) room i
+
+-- ---- a crash
+
+abbrev pub crash_reply : RoomState → ℕ → CrashReply
+crash_reply room i =
+    if nat_le room.spec.simulators i then crash_replies.NoSimulator else if has_crashed room i then crash_replies.AlreadyCrashed else crash_replies.Crashed
+
+-- a crash changes no word and no mind
+abbrev pub marked : RoomState → ℕ → RoomState
+marked room i = record room { crashed = slice_set room.crashed i true }
+
+abbrev pub room_after_crash : RoomState → ℕ → RoomState
+room_after_crash room i =
+    if nat_le room.spec.simulators i then room else if has_crashed room i then room else marked room i
+
+-- ---- lists of calls
+
+pub data Call : Type 0 where
+  Step : (simulator : ℕ) → Call
+  Crash : (simulator : ℕ) → Call
+
+pub data Reply : Type 0 where
+  Stepping : StepReply → Reply
+  Crashing : CrashReply → Reply
+
+abbrev pub reply_to : RoomState → Call → Reply
+reply_to room (Step i) = Stepping (step_reply room i)
+reply_to room (Crash i) = Crashing (crash_reply room i)
+
+abbrev pub room_after_call : RoomState → Call → RoomState
+room_after_call room (Step i) = room_after_step room i
+room_after_call room (Crash i) = room_after_crash room i
+
+abbrev pub replies_to : RoomState → List Call → List Reply
+replies_to room [] = []
+replies_to room (call ∷ calls) = reply_to room call ∷ replies_to (room_after_call room call) calls
+
+abbrev pub room_after_calls : RoomState → List Call → RoomState
+room_after_calls room [] = room
+room_after_calls room (call ∷ calls) = room_after_calls (room_after_call room call) calls

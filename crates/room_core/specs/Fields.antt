@@ -1,0 +1,186 @@
+-- The fields of a room, as maps named by numbers, with no word, bit or index in them; the line that a simulator takes on
+-- them; and their replay over a list of calls, with its replies.
+use Rattle.std.specs.Prelude.{ℕ, ◌+◌, ◌-◌, Bool, true, false, List, [], ◌∷◌, length, map, Option, Some, None, nat_le, ◌==◌, if◌then◌else◌}
+use Rattle.std.specs.List.{range_with_len}
+use Rattle.room_spec.specs.Rooms.{RoomSpec}
+use Rattle.safe_agreement.specs.Levels.{has_level, resolved_of}
+use Rattle.sim_memory.specs.Steps.{merged_of, holder_of}
+use Rattle.simulator.specs.declared.goal.Goal.{Goal}
+use Rattle.simulator.specs.declared.goal.Goal.TheVariants as goals
+use Rattle.simulator.specs.declared.line.Line.{Line}
+use Rattle.simulator.specs.declared.line.Line.TheVariants.{Rest, Raise, Snap, Show, Enter, Look, Leave, Ask, GetView, Values, Out}
+use Rattle.simulator.specs.declared.sweep.Ready.{Ready}
+use Rattle.simulator.specs.declared.sweep.Ready.TheVariants as ready
+use Rattle.simulator.specs.Minds.{MindOf, opening_mind_of, goal_at, current_round, next_process}
+use Rattle.simulator.specs.Turns.{TakenOf, counted, goes_on, snapped, asked, got_view, got_value, decided, opened}
+use Rattle.simulator.specs.Sweeps.{ready_of, quiet_after}
+use Rattle.room_core.specs.declared.reply.StepReply.{StepReply}
+use Rattle.room_core.specs.declared.reply.StepReply.TheVariants.{Crashed, NoSimulator}
+use Rattle.room_core.specs.declared.reply.CrashReply.{CrashReply}
+use Rattle.room_core.specs.declared.reply.CrashReply.TheVariants as crash_replies
+use Rattle.room_core.specs.Rooms.{Event, steps, crashes}
+use Rattle.room_core.specs.Calls.{Call, Step, Crash, Reply, Stepping, Crashing, reply_when}
+
+-- the step number of each simulator for each process: how often it has counted a write of the process
+abbrev pub StepMap : Type 0
+StepMap = ℕ → ℕ → ℕ
+
+-- By simulator i, process j and round k: the step numbers, the level of i in the agreement on (j, k), the step numbers that
+-- i proposes to it, the value of j's write in round k as i has it, and the decision of j plus one, or 0. Then for each
+-- simulator its mind, its quiet count, and whether it has crashed.
+pub record Fields : Type 0 where
+  pub step : StepMap
+  pub level : ℕ → ℕ → ℕ → ℕ
+  pub view : ℕ → ℕ → ℕ → StepMap
+  pub value : ℕ → ℕ → ℕ → ℕ
+  pub out : ℕ → ℕ → ℕ
+  pub mind : ℕ → MindOf StepMap
+  pub quiet : ℕ → ℕ
+  pub crashed : ℕ → Bool
+
+-- ---- maps with one entry changed
+
+abbrev pub changed : {A : Type 0} → (ℕ → A) → ℕ → A → ℕ → A
+changed map i entry other = if other == i then entry else map other
+
+abbrev pub changed_pair : {A : Type 0} → (ℕ → ℕ → A) → ℕ → ℕ → A → ℕ → ℕ → A
+changed_pair map i j entry = changed map i (changed (map i) j entry)
+
+abbrev pub changed_triple : {A : Type 0} → (ℕ → ℕ → ℕ → A) → ℕ → ℕ → ℕ → A → ℕ → ℕ → ℕ → A
+changed_triple map i j k entry = changed map i (changed_pair (map i) j k entry)
+
+-- ---- the opening fields
+
+abbrev pub no_steps : StepMap
+no_steps i p = 0
+
+abbrev pub opening_fields : RoomSpec → Fields
+opening_fields spec = record {
+  step = no_steps;
+  level = λ i j k. 0;
+  view = λ i j k. no_steps;
+  value = λ i j k. 0;
+  out = λ i j. 0;
+  mind = λ i. opening_mind_of no_steps spec i;
+  quiet = λ i. 0;
+  crashed = λ i. false;
+}
+
+-- ---- what the fields show
+
+-- the levels in the agreement on (j, k), in order of the simulators
+abbrev pub levels_at : RoomSpec → Fields → ℕ → ℕ → List ℕ
+levels_at spec fields j k = map (λ i. fields.level i j k) (range_with_len 0 spec.simulators)
+
+-- the simulator whose proposal was chosen in it, if one was
+abbrev pub chosen_at : RoomSpec → Fields → ℕ → ℕ → Option ℕ
+chosen_at spec fields j k = resolved_of (levels_at spec fields j k)
+
+-- how many writes of a process a snapshot shows, and the simulator that has stored the last of them
+abbrev pub row_of_steps : RoomSpec → StepMap → ℕ → ℕ
+row_of_steps spec snapshot p = merged_of spec.simulators snapshot p
+
+abbrev pub holder_of_steps : RoomSpec → StepMap → ℕ → ℕ
+holder_of_steps spec snapshot p = holder_of spec.simulators snapshot p
+
+-- the value that a snapshot shows of a process
+abbrev pub shown_value : RoomSpec → Fields → StepMap → ℕ → ℕ
+shown_value spec fields snapshot p = fields.value (holder_of_steps spec snapshot p) p (row_of_steps spec snapshot p)
+
+-- ---- one line of simulator i
+
+-- i has this mind now, and its turn has become this
+abbrev pub with_taken : Fields → ℕ → TakenOf StepMap → Fields
+with_taken fields i taken =
+    record fields { mind = changed fields.mind i taken.mind; quiet = changed fields.quiet i (quiet_after taken.turn (fields.quiet i)) }
+
+-- to the level 0 where it saw a level 2, and else to 2
+abbrev pub left_to : Bool → ℕ → ℕ
+left_to true level = level - 1
+left_to false level = level + 1
+
+-- the first line of a turn on process j
+abbrev pub first_line_at : Goal → RoomSpec → Fields → ℕ → ℕ → MindOf StepMap → Fields
+first_line_at (goals.Write k value) spec fields i j mind =
+    with_taken (record fields { value = changed_triple fields.value i j k value }) i (opened (Some j) None mind)
+first_line_at (goals.Ask k) spec fields i j mind = with_taken fields i (opened (Some j) (chosen_at spec fields j k) mind)
+first_line_at goals.Done spec fields i j mind = fields
+first_line_at goals.Spent spec fields i j mind = fields
+
+abbrev pub first_line : Option ℕ → RoomSpec → Fields → ℕ → MindOf StepMap → Fields
+first_line None spec fields i mind = fields
+first_line (Some j) spec fields i mind = first_line_at (goal_at mind.goals j) spec fields i j mind
+
+-- the lines, of a mind that counts this step; j and k are the process and the round of its turn
+abbrev pub line_on : Line → RoomSpec → Fields → ℕ → ℕ → ℕ → MindOf StepMap → Fields
+line_on Rest spec fields i j k mind = first_line (next_process mind.goals mind.sweep) spec fields i mind
+line_on Raise spec fields i j k mind = with_taken (record fields { step = changed_pair fields.step i j (fields.step i j + 1) }) i (goes_on Snap mind)
+line_on Snap spec fields i j k mind = with_taken fields i (snapped fields.step mind)
+line_on Show spec fields i j k mind = with_taken (record fields { view = changed_triple fields.view i j k mind.snapshot }) i (goes_on Enter mind)
+line_on Enter spec fields i j k mind = with_taken (record fields { level = changed_triple fields.level i j k (fields.level i j k + 1) }) i (goes_on Look mind)
+line_on Look spec fields i j k mind = with_taken fields i (goes_on (Leave (has_level 2 (levels_at spec fields j k))) mind)
+line_on (Leave saw_two) spec fields i j k mind = with_taken (record fields { level = changed_triple fields.level i j k (left_to saw_two (fields.level i j k)) }) i (goes_on Ask mind)
+line_on Ask spec fields i j k mind = with_taken fields i (asked (chosen_at spec fields j k) mind)
+line_on (GetView chosen) spec fields i j k mind = with_taken fields i (got_view (row_of_steps spec (fields.view chosen j k)) spec (fields.view chosen j k) mind)
+line_on Values spec fields i j k mind = with_taken fields i (got_value (row_of_steps spec mind.snapshot) spec (shown_value spec fields mind.snapshot (length mind.entries)) mind)
+line_on (Out decision) spec fields i j k mind = with_taken (record fields { out = changed_pair fields.out i j (decision + 1) }) i (decided mind)
+
+-- the fields after the line at which simulator i stands
+abbrev pub line : RoomSpec → Fields → ℕ → Fields
+line spec fields i = line_on (fields.mind i).line spec fields i (fields.mind i).sweep (current_round (fields.mind i)) (counted (fields.mind i))
+
+-- ---- events
+
+abbrev pub with_crash : Fields → ℕ → Fields
+with_crash fields i = record fields { crashed = changed fields.crashed i true }
+
+abbrev pub fields_after : RoomSpec → Fields → Event → Fields
+fields_after spec fields (steps i) = line spec fields i
+fields_after spec fields (crashes i) = with_crash fields i
+
+abbrev pub replay_fields : RoomSpec → Fields → List Event → Fields
+replay_fields spec fields [] = fields
+replay_fields spec fields (event ∷ events) = replay_fields spec (fields_after spec fields event) events
+
+-- ---- calls, which may be of a simulator that is crashed, idle or not there
+
+abbrev pub ready_in : RoomSpec → Fields → ℕ → Ready
+ready_in spec fields i = ready_of spec (fields.mind i) (fields.quiet i)
+
+abbrev pub fields_when : Ready → RoomSpec → Fields → ℕ → Fields
+fields_when ready.Step spec fields i = line spec fields i
+fields_when ready.Idle spec fields i = record fields { quiet = changed fields.quiet i 0 }
+fields_when ready.OutOfTurns spec fields i = fields
+
+abbrev pub step_reply_in : RoomSpec → Fields → ℕ → StepReply
+step_reply_in spec fields i =
+    if nat_le spec.simulators i then NoSimulator else if fields.crashed i then Crashed else reply_when (ready_in spec fields i)
+
+abbrev pub fields_after_step : RoomSpec → Fields → ℕ → Fields
+fields_after_step spec fields i =
+    if nat_le spec.simulators i then fields else if fields.crashed i then fields else fields_when (ready_in spec fields i) spec fields i
+
+abbrev pub crash_reply_in : RoomSpec → Fields → ℕ → CrashReply
+crash_reply_in spec fields i =
+    if nat_le spec.simulators i then crash_replies.NoSimulator else if fields.crashed i then crash_replies.AlreadyCrashed else crash_replies.Crashed
+
+abbrev pub fields_after_crash : RoomSpec → Fields → ℕ → Fields
+fields_after_crash spec fields i = if nat_le spec.simulators i then fields else if fields.crashed i then fields else with_crash fields i
+
+-- ---- lists of calls
+
+abbrev pub reply_in : RoomSpec → Fields → Call → Reply
+reply_in spec fields (Step i) = Stepping (step_reply_in spec fields i)
+reply_in spec fields (Crash i) = Crashing (crash_reply_in spec fields i)
+
+abbrev pub fields_after_call : RoomSpec → Fields → Call → Fields
+fields_after_call spec fields (Step i) = fields_after_step spec fields i
+fields_after_call spec fields (Crash i) = fields_after_crash spec fields i
+
+abbrev pub replies_in : RoomSpec → Fields → List Call → List Reply
+replies_in spec fields [] = []
+replies_in spec fields (call ∷ calls) = reply_in spec fields call ∷ replies_in spec (fields_after_call spec fields call) calls
+
+abbrev pub fields_after_calls : RoomSpec → Fields → List Call → Fields
+fields_after_calls spec fields [] = fields
+fields_after_calls spec fields (call ∷ calls) = fields_after_calls spec (fields_after_call spec fields call) calls

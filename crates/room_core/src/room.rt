@@ -1,0 +1,245 @@
+//! A room.
+ghost use Rattle.std.specs.Prelude.{◌≡◌, ◌<◌, ◌≤◌, false, length, map, replicate, slice_index, IfOk};
+ghost use Rattle.std.specs.List.{range_with_len};
+ghost use Rattle.room_spec.specs.Sizes.{sizes_in};
+ghost use Rattle.view_table.specs.Places.{words_of};
+ghost use Rattle.simulator.specs.Moves.{IsOperation, IsWithin, answer_of, move_of, taken, words_after};
+ghost use Rattle.simulator.specs.Ranges.{IsMind};
+ghost use Rattle.simulator.specs.Sweeps.{opening_sweep};
+ghost use Rattle.room_core.specs.Rooms.{HasLine, IsAlive, IsOneInterleaving};
+ghost use Rattle.room_core.specs.Fields.{Fields, crash_reply_in, fields_after_crash, fields_after_step, opening_fields, step_reply_in};
+ghost use Rattle.room_core.specs.Reading.{AreFieldsOf, Reads};
+ghost use Rattle.room_core.specs.Calls.{crash_reply, data_of, has_crashed, marked, moved, opening_state, operation_at, ready_at, room_after_crash, room_after_step, step_reply, sweep_after, sweep_at, with_sweep, woken};
+
+use crate::reply::{CrashReply, StepReply};
+use arrayvec::ArrayVec;
+use room_spec::Spec;
+use simulator::{Mind, Move, Ready, Sweep};
+use std::alloc::{AllocError, Global};
+use std::marker::Model;
+use view_table::words;
+
+/// A room: its words, a sweep for each simulator, and which simulators have crashed.
+#[derive(Drop)]
+pub struct RoomCore {
+    spec: Spec,
+    words: Vec<u64>,
+    sweeps: ArrayVec<Sweep, 8>,
+    crashed: ArrayVec<bool, 8>,
+}
+
+impl Model for RoomCore {
+    ghost use Rattle.std.specs.Coded.{codes};
+    ghost use Rattle.protocol_lang.specs.Codes.{expression_code};
+    ghost use Rattle.room_core.specs.Calls.{RoomState, data_of};
+    ghost use Rattle.room_core.specs.Rooms.{IsRoom};
+
+    ghost Value = { RoomState };
+
+    ghost coded = { Prim.hlevel (codes, expression_code) };
+
+    ghost view = { λ r. record { spec = r.spec; words = r.words.items; sweeps = r.sweeps.items; crashed = r.crashed.items } };
+
+    // Some list of atomic steps and crashes leads to it.
+    ghost invariant = { λ r. IsRoom (data_of (record { spec = r.spec; words = r.words.items; sweeps = r.sweeps.items; crashed = r.crashed.items })) };
+}
+
+impl RoomCore {
+    /// A room in which nobody has taken a step. Where memory is refused, the spec is dropped.
+    pub fn fresh(alloc: Global, spec: Spec) -> Result<RoomCore, AllocError>
+        ensures room { IfOk result (λ room. room ≡ opening_state spec) }
+        ensures fields { IfOk result (λ room. AreFieldsOf room (opening_fields spec)) }
+    {
+        let words = zeros(alloc, words(&spec.shape()))?;
+        let sweeps = opening_sweeps(&spec);
+        let crashed = nobody(spec.m());
+        Ok(RoomCore {
+            spec,
+            words,
+            sweeps,
+            crashed,
+        })
+    }
+
+    /// What the room was told when it was made.
+    pub fn spec(&self) -> &Spec
+        ensures value { result.now ≡ self.now.spec }
+        // One interleaving of its simulators' atomic steps, and of crashes, leads to this room.
+        ensures run { IsOneInterleaving (data_of self.now) }
+        // Its words, minds and marks of crashes stand for the fields to which that list leads.
+        ensures fields { (fields : Fields) × AreFieldsOf self.now fields × Reads (data_of self.now) fields }
+    {
+        &self.spec
+    }
+
+    /// The word at this index, which is below [`words`](view_table::words) of the room's shape.
+    pub fn word(&self, index: usize) -> u64
+        requires { index < words_of (sizes_in self.now.spec) }
+        ensures { result ≡ slice_index self.now.words index }
+    {
+        self.words[index]
+    }
+
+    /// What simulator `i` has in mind.
+    pub fn mind(&self, i: usize) -> &Mind
+        requires { i < self.now.spec.simulators }
+        ensures { result.now ≡ (sweep_at self.now i).mind }
+    {
+        self.sweeps[i].mind()
+    }
+
+    /// Whether simulator `i` has crashed.
+    pub fn is_crashed(&self, i: usize) -> bool
+        requires { i < self.now.spec.simulators }
+        ensures { result ≡ has_crashed self.now i }
+    {
+        self.crashed.as_slice()[i]
+    }
+
+    /// Lets simulator `i` take one atomic step, if it has one to take. At `Idle` its quiet turns are
+    /// counted anew; at the other replies but `Stepped` nothing changes.
+    pub fn step(&mut self, i: usize) -> StepReply
+        ensures reply { result ≡ step_reply self.old i }
+        ensures room { self.new ≡ room_after_step self.old i }
+        // In its fields it is one call of the replay, with its reply.
+        ensures fields { (fields : Fields) → AreFieldsOf self.old fields → (result ≡ step_reply_in self.old.spec fields i) × AreFieldsOf self.new (fields_after_step self.old.spec fields i) }
+    {
+        if i >= self.spec.m() {
+            return StepReply::NoSimulator;
+        }
+        if self.is_crashed(i) {
+            return StepReply::Crashed;
+        }
+        match self.ready(i) {
+            Ready::Step => {
+                self.advance(i);
+                StepReply::Stepped
+            }
+            Ready::Idle => {
+                self.wake(i);
+                StepReply::Idle
+            }
+            Ready::OutOfTurns => StepReply::OutOfTurns,
+        }
+    }
+
+    /// Crashes simulator `i`: from now on it takes no step. No word and no mind changes.
+    pub fn crash(&mut self, i: usize) -> CrashReply
+        ensures reply { result ≡ crash_reply self.old i }
+        ensures room { self.new ≡ room_after_crash self.old i }
+        // In its fields it is one call of the replay, with its reply.
+        ensures fields { (fields : Fields) → AreFieldsOf self.old fields → (result ≡ crash_reply_in self.old.spec fields i) × AreFieldsOf self.new (fields_after_crash self.old.spec fields i) }
+    {
+        if i >= self.spec.m() {
+            return CrashReply::NoSimulator;
+        }
+        if self.is_crashed(i) {
+            return CrashReply::AlreadyCrashed;
+        }
+        self.mark(i);
+        CrashReply::Crashed
+    }
+
+    fn ready(&self, i: usize) -> Ready
+        requires { i < self.now.spec.simulators }
+        ensures { result ≡ ready_at self.now i }
+    {
+        self.sweeps[i].ready(&self.spec)
+    }
+
+    fn next_move(&self, i: usize) -> Move
+        requires { i < self.now.spec.simulators }
+        ensures value { result ≡ operation_at self.now i }
+        ensures within { IsWithin result (words_of (sizes_in self.now.spec)) }
+    {
+        self.mind(i).next_move(&self.spec)
+    }
+
+    /// One atomic step of simulator `i`, which has one to take.
+    fn advance(&mut self, i: usize)
+        requires { HasLine (data_of self.old) i }
+        ensures { self.new ≡ moved self.old i }
+    {
+        let next = self.next_move(i);
+        let answer = perform(&mut self.words, next);
+        take(&mut self.sweeps[i], &self.spec, answer);
+    }
+
+    fn mark(&mut self, i: usize)
+        requires { IsAlive (data_of self.old) i }
+        ensures { self.new ≡ marked self.old i }
+    {
+        self.crashed[i] = true;
+    }
+
+    fn wake(&mut self, i: usize)
+        requires { i < self.old.spec.simulators }
+        ensures { self.new ≡ with_sweep self.old i (woken (sweep_at self.old i)) }
+    {
+        self.sweeps[i].wake();
+    }
+}
+
+/// Takes in what an operation answered, and notes what has become of the turn.
+fn take(sweep: &mut Sweep, spec: &Spec, answer: u64)
+    requires is_mind { IsMind spec.now sweep.old.mind }
+    requires operation { IsOperation (move_of spec.now sweep.old.mind) }
+    ensures { sweep.new ≡ sweep_after (taken spec.now sweep.old.mind answer) sweep.old.quiet }
+{
+    let turn = sweep.mind_mut().take(spec, answer);
+    sweep.note(turn);
+}
+
+/// Does the operation on the words, and answers it.
+fn perform(words: &mut Vec<u64>, next: Move) -> u64
+    requires { IsWithin next (length words.old.items) }
+    ensures words { words.new.items ≡ words_after next words.old.items }
+    ensures answer { result ≡ answer_of next words.old.items }
+{
+    match next {
+        Move::Load(index) => words[index],
+        Move::Store(index, number) => {
+            words[index] = number;
+            number
+        }
+        Move::Add(index, number) => {
+            let old = words[index];
+            words[index] = old.wrapping_add(number);
+            old
+        }
+        Move::Sub(index, number) => {
+            let old = words[index];
+            words[index] = old.wrapping_sub(number);
+            old
+        }
+        Move::Finished | Move::OutOfTurns => 0,
+    }
+}
+
+fn zeros(alloc: Global, count: usize) -> Result<Vec<u64>, AllocError>
+    ensures { IfOk result (λ words. words.items ≡ replicate count 0) }
+{
+    Ok(vec![in alloc; 0; count]?)
+}
+
+fn opening_sweeps(spec: &Spec) -> ArrayVec<Sweep, 8>
+    ensures { result.items ≡ map (opening_sweep spec.now) (range_with_len 0 spec.now.simulators) }
+{
+    let mut sweeps = ArrayVec::new();
+    for i in 0..spec.m() {
+        sweeps.push(Sweep::new(spec, i));
+    }
+    sweeps
+}
+
+/// Marks for so many simulators of whom nobody has crashed.
+fn nobody(m: usize) -> ArrayVec<bool, 8>
+    requires { m ≤ 8 }
+    ensures { result.items ≡ replicate m false }
+{
+    let mut crashed = ArrayVec::new();
+    for _ in 0..m {
+        crashed.push(false);
+    }
+    crashed
+}

@@ -1,0 +1,219 @@
+use super::*;
+use room_spec::read_block;
+use std::test::*;
+use view_table::words;
+
+const PAIR: &str =
+    "bgsim 1\nroom pair\ninputs 7 3\nsimulators 2\nrounds 1\nturns 100\nprotocol\nfirst input;\nelse decide min;\nend\n";
+
+const ONE: &str =
+    "bgsim 1\nroom one\ninputs 5\nsimulators 1\nrounds 1\nturns 10\nprotocol\nfirst input;\nelse decide mine;\nend\n";
+
+/// Its memory takes a whole word: 4 simulators, 8 processes, step numbers of 2 bits.
+const FULL: &str =
+    "bgsim 1\nroom full\ninputs 1 2 3 4 5 6 7 8\nsimulators 4\nrounds 3\nturns 100\nprotocol\nfirst input;else write mine;\nend\n";
+
+fn room(rt: &HostRuntime, text: &str) -> Result<RoomCore, Fail> {
+    match read_block(rt.alloc(), text.as_bytes()) {
+        Ok((spec, _)) => Ok(RoomCore::fresh(rt.alloc(), spec)?),
+        Err(_) => Err(Fail::from("a room")),
+    }
+}
+
+/// Lets simulator `i` take up to `count` steps. Gives how many it took, and the last reply.
+fn run(room: &mut RoomCore, i: usize, count: u64) -> (u64, StepReply) {
+    for taken in 0..count {
+        match room.step(i) {
+            StepReply::Stepped => {}
+            other => return (taken, other),
+        }
+    }
+    (count, StepReply::Stepped)
+}
+
+#[test]
+fn one_simulator_alone(rt: HostRuntime) -> Result<(), Fail> {
+    let mut room = room(&rt, ONE)?;
+    assert_eq!(rt; run(&mut room, 0, 100), (11, StepReply::Idle));
+    assert_eq!(rt; run(&mut room, 0, 100), (0, StepReply::Idle));
+    // The step number, the level, the proposal, the value, and the decision plus one.
+    for (index, word) in [(0, 1), (1, 2), (2, 1), (3, 5), (4, 6)] {
+        assert_eq!(rt; word_at(&room, index), Some(word));
+    }
+    Ok(())
+}
+
+#[test]
+fn one_after_the_other(rt: HostRuntime) -> Result<(), Fail> {
+    let mut room = room(&rt, PAIR)?;
+    assert_eq!(rt; run(&mut room, 0, 100), (23, StepReply::Idle));
+    assert_eq!(rt; run(&mut room, 1, 100), (23, StepReply::Idle));
+    // Simulator 1 came too late to both agreements, and left them to level 0 again.
+    assert_eq!(rt; word_at(&room, 1), Some(2));
+    assert_eq!(rt; word_at(&room, 2), Some(2));
+    Ok(())
+}
+
+#[test]
+fn a_crash_inside_an_agreement(rt: HostRuntime) -> Result<(), Fail> {
+    let mut room = room(&rt, PAIR)?;
+    assert_eq!(rt; run(&mut room, 0, 5), (5, StepReply::Stepped));
+    assert_eq!(rt; room.crash(0), CrashReply::Crashed);
+    assert_eq!(rt; run(&mut room, 1, 100), (20, StepReply::Idle));
+    // It asks again, since others might have come further, and is idle again.
+    assert_eq!(rt; run(&mut room, 1, 100), (1, StepReply::Idle));
+    Ok(())
+}
+
+#[test]
+fn a_crash_one_step_earlier(rt: HostRuntime) -> Result<(), Fail> {
+    let mut room = room(&rt, PAIR)?;
+    assert_eq!(rt; run(&mut room, 0, 4), (4, StepReply::Stepped));
+    assert_eq!(rt; room.crash(0), CrashReply::Crashed);
+    assert_eq!(rt; run(&mut room, 1, 100), (24, StepReply::Idle));
+    Ok(())
+}
+
+#[test]
+fn an_entry_into_a_finished_agreement(rt: HostRuntime) -> Result<(), Fail> {
+    let mut room = room(&rt, PAIR)?;
+    assert_eq!(rt; run(&mut room, 0, 4), (4, StepReply::Stepped));
+    assert_eq!(rt; run(&mut room, 1, 100), (24, StepReply::Idle));
+    assert_eq!(rt; run(&mut room, 0, 1), (1, StepReply::Stepped));
+    assert_eq!(rt; word_at(&room, 1), Some(9));
+    assert_eq!(rt; room.crash(0), CrashReply::Crashed);
+    Ok(())
+}
+
+#[test]
+fn a_snapshot_with_a_later_write_of_its_own(rt: HostRuntime) -> Result<(), Fail> {
+    let text =
+        "bgsim 1\nroom two\ninputs 5\nsimulators 2\nrounds 2\nturns 10\nprotocol\nfirst input;\nwhen round < 2 write mine + 1;\nelse decide max;\nend\n";
+    let mut room = room(&rt, text)?;
+    assert_eq!(rt; run(&mut room, 0, 2), (2, StepReply::Stepped));
+    assert_eq!(rt; run(&mut room, 1, 100), (21, StepReply::Idle));
+    assert_eq!(rt; run(&mut room, 0, 100), (19, StepReply::Idle));
+    Ok(())
+}
+
+#[test]
+fn two_crashes_in_one_agreement(rt: HostRuntime) -> Result<(), Fail> {
+    let text =
+        "bgsim 1\nroom one\ninputs 5\nsimulators 3\nrounds 1\nturns 10\nprotocol\nfirst input;\nelse decide mine;\nend\n";
+    let mut room = room(&rt, text)?;
+    for i in 0..2 {
+        assert_eq!(rt; run(&mut room, i, 5), (5, StepReply::Stepped));
+        assert_eq!(rt; room.crash(i), CrashReply::Crashed);
+    }
+    assert_eq!(rt; run(&mut room, 2, 100), (8, StepReply::Idle));
+    Ok(())
+}
+
+#[test]
+fn a_process_that_asks_for_one_write_more(rt: HostRuntime) -> Result<(), Fail> {
+    let text =
+        "bgsim 1\nroom one\ninputs 5\nsimulators 1\nrounds 1\nturns 10\nprotocol\nfirst input;\nelse write mine;\nend\n";
+    let mut room = room(&rt, text)?;
+    assert_eq!(rt; run(&mut room, 0, 100), (10, StepReply::Idle));
+    Ok(())
+}
+
+#[test]
+fn out_of_turns_and_then_nothing(rt: HostRuntime) -> Result<(), Fail> {
+    let text =
+        "bgsim 1\nroom pair\ninputs 7 3\nsimulators 2\nrounds 1\nturns 1\nprotocol\nfirst input;\nelse decide min;\nend\n";
+    let mut room = room(&rt, text)?;
+    assert_eq!(rt; run(&mut room, 0, 100), (11, StepReply::OutOfTurns));
+    assert_eq!(rt; run(&mut room, 0, 100), (0, StepReply::OutOfTurns));
+    Ok(())
+}
+
+#[test]
+fn nobody_left(rt: HostRuntime) -> Result<(), Fail> {
+    let mut room = room(&rt, PAIR)?;
+    assert_eq!(rt; room.crash(0), CrashReply::Crashed);
+    assert_eq!(rt; room.crash(1), CrashReply::Crashed);
+    assert_eq!(rt; room.crash(1), CrashReply::AlreadyCrashed);
+    assert_eq!(rt; room.step(0), StepReply::Crashed);
+    assert_eq!(rt; room.crash(2), CrashReply::NoSimulator);
+    assert_eq!(rt; room.step(2), StepReply::NoSimulator);
+    assert_eq!(rt; room.step(255), StepReply::NoSimulator);
+    Ok(())
+}
+
+#[test]
+fn whole_word(rt: HostRuntime) -> Result<(), Fail> {
+    let mut room = room(&rt, FULL)?;
+    for i in 0..4 {
+        assert_eq!(rt; run(&mut room, i, 1000), (380, StepReply::Idle));
+    }
+    assert_eq!(rt; word_at(&room, 0), Some(u64::MAX));
+    Ok(())
+}
+
+/// The word at this index, where there is one.
+fn word_at(room: &RoomCore, index: usize) -> Option<u64> {
+    if index < words(&room.spec().shape()) {
+        Some(room.word(index))
+    } else {
+        None
+    }
+}
+
+#[test]
+fn round_robin_in_every_shape_of_a_whole_word(rt: HostRuntime) -> Result<(), Fail> {
+    for (n, m, least, greatest) in [
+        (8usize, 8usize, 1usize, 1usize),
+        (16, 4, 1, 1),
+        (4, 8, 2, 3),
+        (8, 4, 2, 3),
+        (16, 2, 2, 3),
+        (2, 8, 8, 15),
+        (4, 4, 8, 15),
+        (8, 2, 8, 15),
+        (16, 1, 8, 15),
+    ] {
+        for rounds in least..=greatest {
+            let mut room = wide_room(&rt, n, m, rounds)?;
+            round_robin(&mut room, m);
+            for i in 0..m {
+                assert_eq!(rt;
+                    room.step(i),
+                    StepReply::Idle,
+                    "n {n}, m {m}, rounds {rounds}"
+                );
+            }
+            // Every simulator has counted every write of every process where all bits are set.
+            if rounds == 1 || rounds == 3 || rounds == 15 {
+                assert_eq!(rt; word_at(&room, 0), Some(u64::MAX));
+            }
+        }
+    }
+    Ok(())
+}
+
+fn wide_room(rt: &HostRuntime, n: usize, m: usize, rounds: usize) -> Result<RoomCore, Fail> {
+    let mut inputs = String::from_str(rt.alloc(), "inputs")?;
+    for _ in 0..n {
+        inputs.push_str(" 7")?;
+    }
+    let text = format!(in rt.alloc();
+        "bgsim 1\nroom wide\n{inputs}\nsimulators {m}\nrounds {rounds}\nturns 65535\nprotocol\nfirst input;else write mine;\nend\n"
+    )?;
+    room(rt, text.as_str())
+}
+
+/// Lets the simulators take one step each in turn, until none takes one.
+fn round_robin(room: &mut RoomCore, m: usize) {
+    for _ in 0..100000 {
+        let mut stepped = false;
+        for i in 0..m {
+            if room.step(i) == StepReply::Stepped {
+                stepped = true;
+            }
+        }
+        if !stepped {
+            return;
+        }
+    }
+}
