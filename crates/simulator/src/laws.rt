@@ -31,7 +31,7 @@ pub fn steps_are_counted()
     ensures number { (spec : RoomSpec) (mind : MindState) (answer : ℕ) → (taken spec mind answer).mind.number ≡ mind.number }
 {}
 
-/// A turn has less than n + 10 atomic steps, and after its last none are counted.
+/// An open turn has taken less than n + 10 atomic steps, and after its last none are counted.
 pub fn turns_are_short()
     ensures in_turn { (spec : RoomSpec) (mind : MindState) → IsMind spec mind → mind.turn_steps < processes spec + 10 }
     ensures ended { (spec : RoomSpec) (mind : MindState) (answer : ℕ) → (taken spec mind answer).turn ≢ Still → (taken spec mind answer).mind.turn_steps ≡ 0 }
