@@ -59,6 +59,10 @@ fn faults_of_bytes(rt: HostRuntime) {
         parse_bytes(rt.alloc(), &[b' '; 4097]).err(),
         Some(ParseFault::TooLong)
     );
+    assert_eq!(rt;
+        parse_bytes(rt.alloc(), &[b'='; 4097]).err(),
+        Some(ParseFault::TooLong)
+    );
     let mut digits = [b'1'; 206];
     digits[..6].copy_from_slice(b"first ");
     assert_eq!(rt;
@@ -104,6 +108,11 @@ fn limits_of_texts(rt: HostRuntime) -> Result<(), Fail> {
     )?;
     assert_eq!(rt;
         parse(rt.alloc(), &many).err(),
+        Some(ParseFault::TooManyRules)
+    );
+    let bad_behind = repeated(&rt, "first input;", "when 0 == 0 write 0;", 32, "when !")?;
+    assert_eq!(rt;
+        parse(rt.alloc(), &bad_behind).err(),
         Some(ParseFault::TooManyRules)
     );
     let most = repeated(
