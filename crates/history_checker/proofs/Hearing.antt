@@ -9,7 +9,8 @@ use Rattle.transcript.specs.Runs.{IsRun, IsFirstBreak}
 use Rattle.history_checker.specs.declared.process.Process.{Process}
 use Rattle.history_checker.specs.Processes.{Tracks, Follows}
 use Rattle.history_checker.specs.Verdicts.{Told, RoomState, StandsAfter, BreaksOn, events_of}
-use Rattle.history_checker.proofs.Runs.{slice_get-append, slice_get-push, IsRun-push, break-push, break-append}
+use Rattle.transcript.proofs.Runs.{slice_get-append, slice_get-push, IsRun-push}
+use Rattle.history_checker.proofs.Runs.{break-push, break-append}
 
 events-push : (told : List Told) (one : Told) (event : Event) → one.event ≡ event → events_of (told ++ one ∷ []) ≡ events_of told ++ event ∷ []
 events-push told one event is = map_push (λ o. o.event) told one ∙ ap (λ e. events_of told ++ e ∷ []) is

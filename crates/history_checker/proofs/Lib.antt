@@ -1,4 +1,3 @@
-pub mod Histories
 pub mod Tracking
 pub mod Runs
 pub mod Hearing

@@ -18,3 +18,4 @@ pub mod WorkedPrinting
 pub mod Shortest
 pub mod Printed
 pub mod Pieces
+pub mod Limits

@@ -93,7 +93,7 @@ abbrev is_apart : List Token → Bool
 is_apart [] = true
 is_apart (token ∷ more) = meets token more && is_apart more
 
-abbrev is_spellable : Token → Bool
+abbrev pub is_spellable : Token → Bool
 is_spellable (tokens.Number value) = leb value greatest
 is_spellable tokens.End = false
 is_spellable token = true
@@ -152,7 +152,7 @@ all_append : (xs ys : List Token) → list_all is_spellable xs ≡ true → list
 all_append [] ys left right = right
 all_append (x ∷ xs) ys left right = let parts = and_parts (is_spellable x) (list_all is_spellable xs) left in and_from _ _ parts.0 (all_append xs ys parts.1 right)
 
-all_parts : (xs ys : List Token) → list_all is_spellable (xs ++ ys) ≡ true → (list_all is_spellable xs ≡ true) × (list_all is_spellable ys ≡ true)
+pub all_parts : (xs ys : List Token) → list_all is_spellable (xs ++ ys) ≡ true → (list_all is_spellable xs ≡ true) × (list_all is_spellable ys ≡ true)
 all_parts [] ys all = (refl, all)
 all_parts (x ∷ xs) ys all =
     let parts = and_parts (is_spellable x) (list_all is_spellable (xs ++ ys)) all in
@@ -165,7 +165,7 @@ Spellable w = list_all is_spellable (expression_tokens w) ≡ true
 all_enclosed : (inner : List Token) → list_all is_spellable inner ≡ true → list_all is_spellable (enclosed_tokens inner) ≡ true
 all_enclosed inner all = all_append inner (tokens.Symbol symbols.Close ∷ []) all refl
 
-all_within : (inner : List Token) → list_all is_spellable (enclosed_tokens inner) ≡ true → list_all is_spellable inner ≡ true
+pub all_within : (inner : List Token) → list_all is_spellable (enclosed_tokens inner) ≡ true → list_all is_spellable inner ≡ true
 all_within inner all = (all_parts inner (tokens.Symbol symbols.Close ∷ []) all).0
 
 grouped_spellable : (stands : Bool) (w : Written) → Spellable w → Spellable (grouped_unless stands w)
@@ -283,7 +283,7 @@ spellable_token (tokens.Number value) bytes is = le-leb value greatest is.1
 spellable_token (tokens.Symbol symbol) bytes is = refl
 spellable_token tokens.End bytes is = absurd is
 
-spellable : (all : List Token) (text : List ℕ) → Spells all text → list_all is_spellable all ≡ true
+pub spellable : (all : List Token) (text : List ℕ) → Spells all text → list_all is_spellable all ≡ true
 spellable [] text is = refl
 spellable (token ∷ more) text is = and_from _ _ (spellable_token token is.1 is.5) (spellable more is.2 is.7)
 

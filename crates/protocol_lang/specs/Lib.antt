@@ -5,6 +5,7 @@ pub mod Stacks
 pub mod Trees
 pub mod Codes
 pub mod Meaning
+pub mod Limits
 pub mod Formulas
 pub mod Reading
 pub mod Grammar

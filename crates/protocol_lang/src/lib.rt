@@ -3,6 +3,7 @@
 
 mod fault;
 mod formula;
+pub mod laws;
 mod lexer;
 mod meaning;
 mod number;

@@ -153,7 +153,7 @@ woken_fields room fields i limits below are =
 
 -- ---- one call of a step
 
-same_ready : (room : RoomState) (fields : Fields) (i : ℕ) → IsWithinLimits room.spec → i < room.spec.simulators → AreFieldsOf room fields → ready_in room.spec fields i ≡ ready_at room i
+pub same_ready : (room : RoomState) (fields : Fields) (i : ℕ) → IsWithinLimits room.spec → i < room.spec.simulators → AreFieldsOf room fields → ready_in room.spec fields i ≡ ready_at room i
 same_ready room fields i limits below are =
     let mind : (sweep_at room i).mind ≡ worded (sizes_in room.spec) (fields.mind i) = sym (mind_here room i) ∙ (fields_stand room fields limits are).minds i below in
     sym (ap (λ (one : MindState). ready_of room.spec one (sweep_at room i).quiet) mind ∙ ap (λ (q : ℕ). ready_of room.spec (worded (sizes_in room.spec) (fields.mind i)) q) (sym (are.counts i below)))
@@ -330,7 +330,7 @@ same_spec_when room i ready.Step = refl
 same_spec_when room i ready.Idle = refl
 same_spec_when room i ready.OutOfTurns = refl
 
-same_spec : (room : RoomState) (call : Call) → (room_after_call room call).spec ≡ room.spec
+pub same_spec : (room : RoomState) (call : Call) → (room_after_call room call).spec ≡ room.spec
 same_spec room (Step i) =
     let P : RoomState → Type 0 = λ r. r.spec ≡ room.spec in
     spec_of P (leb room.spec.simulators i) room (cond (has_crashed room i) room (room_when (ready_at room i) room i)) refl
@@ -339,7 +339,7 @@ same_spec room (Crash i) =
     let P : RoomState → Type 0 = λ r. r.spec ≡ room.spec in
     spec_of P (leb room.spec.simulators i) room (cond (has_crashed room i) room (marked room i)) refl (spec_of P (has_crashed room i) room (marked room i) refl refl)
 
-call_in_fields : (room : RoomState) (fields : Fields) (call : Call) → IsWithinLimits room.spec → AreFieldsOf room fields → (reply_in room.spec fields call ≡ reply_to room call) × AreFieldsOf (room_after_call room call) (fields_after_call room.spec fields call)
+pub call_in_fields : (room : RoomState) (fields : Fields) (call : Call) → IsWithinLimits room.spec → AreFieldsOf room fields → (reply_in room.spec fields call ≡ reply_to room call) × AreFieldsOf (room_after_call room call) (fields_after_call room.spec fields call)
 call_in_fields room fields (Step i) limits are = let both = step_in_fields room fields i limits are in (ap Stepping both.0, both.1)
 call_in_fields room fields (Crash i) limits are = let both = crash_in_fields room fields i limits are in (ap Crashing both.0, both.1)
 

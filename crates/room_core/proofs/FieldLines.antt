@@ -26,12 +26,15 @@ pub record IsStoreOf (i : ℕ) (fields after : Fields) : Type 0 where
   pub crashed : after.crashed ≡ fields.crashed
   pub step : (a : ℕ) → a ≢ i → after.step a ≡ fields.step a
   pub level : (a : ℕ) → a ≢ i → after.level a ≡ fields.level a
+  pub view : (a : ℕ) → a ≢ i → after.view a ≡ fields.view a
+  pub value : (a : ℕ) → a ≢ i → after.value a ≡ fields.value a
+  pub out : (a : ℕ) → a ≢ i → after.out a ≡ fields.out a
 
 no_store : (fields : Fields) (i : ℕ) → IsStoreOf i fields fields
-no_store fields i = record { mind = refl; quiet = refl; crashed = refl; step = λ a other. refl; level = λ a other. refl }
+no_store fields i = record { mind = refl; quiet = refl; crashed = refl; step = λ a other. refl; level = λ a other. refl; view = λ a other. refl; value = λ a other. refl; out = λ a other. refl }
 
 first_store : (goal : Goal) (fields : Fields) (i j : ℕ) → IsStoreOf i fields (stored_first_at goal fields i j)
-first_store (goals.Write k value) fields i j = record { mind = refl; quiet = refl; crashed = refl; step = λ a other. refl; level = λ a other. refl }
+first_store (goals.Write k value) fields i j = record { mind = refl; quiet = refl; crashed = refl; step = λ a other. refl; level = λ a other. refl; view = λ a other. refl; value = λ a other. changed_else fields.value i (changed_pair (fields.value i) j k value) a other; out = λ a other. refl }
 first_store (goals.Ask k) fields i j = no_store fields i
 first_store goals.Done fields i j = no_store fields i
 first_store goals.Spent fields i j = no_store fields i
@@ -41,20 +44,20 @@ next_store None fields i mind = no_store fields i
 next_store (Some j) fields i mind = first_store (goal_at mind.goals j) fields i j
 
 level_store : (fields : Fields) (i j k level : ℕ) → IsStoreOf i fields (record fields { level = changed_triple fields.level i j k level })
-level_store fields i j k level = record { mind = refl; quiet = refl; crashed = refl; step = λ a other. refl; level = λ a other. changed_else fields.level i (changed_pair (fields.level i) j k level) a other }
+level_store fields i j k level = record { mind = refl; quiet = refl; crashed = refl; step = λ a other. refl; level = λ a other. changed_else fields.level i (changed_pair (fields.level i) j k level) a other; view = λ a other. refl; value = λ a other. refl; out = λ a other. refl }
 
 pub is_store : (line : Line) (fields : Fields) (i j k : ℕ) (mind : MindOf StepMap) → IsStoreOf i fields (stored_on line fields i j k mind)
 is_store Rest fields i j k mind = next_store (next_process mind.goals mind.sweep) fields i mind
-is_store Raise fields i j k mind = record { mind = refl; quiet = refl; crashed = refl; step = λ a other. changed_else fields.step i (changed (fields.step i) j (fields.step i j + 1)) a other; level = λ a other. refl }
+is_store Raise fields i j k mind = record { mind = refl; quiet = refl; crashed = refl; step = λ a other. changed_else fields.step i (changed (fields.step i) j (fields.step i j + 1)) a other; level = λ a other. refl; view = λ a other. refl; value = λ a other. refl; out = λ a other. refl }
 is_store Snap fields i j k mind = no_store fields i
-is_store Show fields i j k mind = record { mind = refl; quiet = refl; crashed = refl; step = λ a other. refl; level = λ a other. refl }
+is_store Show fields i j k mind = record { mind = refl; quiet = refl; crashed = refl; step = λ a other. refl; level = λ a other. refl; view = λ a other. changed_else fields.view i (changed_pair (fields.view i) j k mind.snapshot) a other; value = λ a other. refl; out = λ a other. refl }
 is_store Enter fields i j k mind = level_store fields i j k (fields.level i j k + 1)
 is_store Look fields i j k mind = no_store fields i
 is_store (Leave saw_two) fields i j k mind = level_store fields i j k (left_to saw_two (fields.level i j k))
 is_store Ask fields i j k mind = no_store fields i
 is_store (GetView chosen) fields i j k mind = no_store fields i
 is_store Values fields i j k mind = no_store fields i
-is_store (Out decision) fields i j k mind = record { mind = refl; quiet = refl; crashed = refl; step = λ a other. refl; level = λ a other. refl }
+is_store (Out decision) fields i j k mind = record { mind = refl; quiet = refl; crashed = refl; step = λ a other. refl; level = λ a other. refl; view = λ a other. refl; value = λ a other. refl; out = λ a other. changed_else fields.out i (changed (fields.out i) j (decision + 1)) a other }
 
 -- ---- the numbers of the fields
 
@@ -85,11 +88,11 @@ in_range_line Snap spec fields i mind at = at.range
 in_range_line Show spec fields i mind at =
     record { step = at.range.step; level = at.range.level; view = each_triple (AreWithin (sizes_in spec)) fields.view i mind.sweep (current_round mind) mind.snapshot at.snapshot at.range.view }
 in_range_line Enter spec fields i mind at =
-    let none = outside (current_goal mind) (fields.step i mind.sweep) (fields.level i mind.sweep) at.own in
+    let none = outside spec.rounds (current_goal mind) (fields.step i mind.sweep) (fields.level i mind.sweep) at.own in
     level_in_range spec fields at.range i mind.sweep (current_round mind) (fields.level i mind.sweep (current_round mind) + 1) (omega arith)
 in_range_line Look spec fields i mind at = at.range
 in_range_line (Leave saw_two) spec fields i mind at =
-    let one = inside (current_goal mind) (fields.step i mind.sweep) (fields.level i mind.sweep) at.own in
+    let one = inside spec.rounds (current_goal mind) (fields.step i mind.sweep) (fields.level i mind.sweep) at.own in
     level_in_range spec fields at.range i mind.sweep (current_round mind) (left_to saw_two (fields.level i mind.sweep (current_round mind))) (left_low saw_two (fields.level i mind.sweep (current_round mind)) one)
 in_range_line Ask spec fields i mind at = at.range
 in_range_line (GetView chosen) spec fields i mind at = at.range

@@ -33,7 +33,7 @@ use Rattle.room_core.proofs.FieldLines.{IsStoreOf, is_store, in_range_line, snap
 
 -- each mind tells of its fields, and all numbers are in range
 pub record Tracks (spec : RoomSpec) (fields : Fields) : Type 0 where
-  pub told : (i : ℕ) → ToldBy (fields.mind i) (fields.step i) (fields.level i)
+  pub told : (i : ℕ) → ToldBy spec.rounds (fields.mind i) (fields.step i) (fields.level i)
   pub range : AreInRange spec fields
   pub snapshot : (i : ℕ) → AreWithin (sizes_in spec) (fields.mind i).snapshot
 
@@ -58,22 +58,22 @@ stands_at room fields i shape for may =
       is_mind = is_mind;
       open_at = is_mind.at;
       moves = subst (λ (one : MindState). IsOperation (move_of room.spec one)) same may.moving;
-      others = beside mind (fields.step i) (fields.level i) (for.tracks.told i);
-      own = at_sweep mind (fields.step i) (fields.level i) (for.tracks.told i);
+      others = beside room.spec.rounds mind (fields.step i) (fields.level i) (for.tracks.told i);
+      own = at_sweep room.spec.rounds mind (fields.step i) (fields.level i) (for.tracks.told i);
       range = for.tracks.range;
       snapshot = for.tracks.snapshot i;
     }
 
 -- what a mind tells of its fields, where only those of i have changed
-told_others : (i : ℕ) (fields after : Fields) (mind : MindOf StepMap) → IsStoreOf i fields after → ToldBy mind (after.step i) (after.level i) → ((a : ℕ) → ToldBy (fields.mind a) (fields.step a) (fields.level a))
-    → (a : ℕ) → ToldBy (changed after.mind i mind a) (after.step a) (after.level a)
-told_others i fields after mind store own all a = dite (ℕ_discrete a i)
-    (λ (e : a ≡ i). subst (λ (one : MindOf StepMap). ToldBy one (after.step a) (after.level a)) (sym (changed_here after.mind i mind a e)) (subst (λ (b : ℕ). ToldBy mind (after.step b) (after.level b)) (sym e) own))
+told_others : (rounds i : ℕ) (fields after : Fields) (mind : MindOf StepMap) → IsStoreOf i fields after → ToldBy rounds mind (after.step i) (after.level i) → ((a : ℕ) → ToldBy rounds (fields.mind a) (fields.step a) (fields.level a))
+    → (a : ℕ) → ToldBy rounds (changed after.mind i mind a) (after.step a) (after.level a)
+told_others rounds i fields after mind store own all a = dite (ℕ_discrete a i)
+    (λ (e : a ≡ i). subst (λ (one : MindOf StepMap). ToldBy rounds one (after.step a) (after.level a)) (sym (changed_here after.mind i mind a e)) (subst (λ (b : ℕ). ToldBy rounds mind (after.step b) (after.level b)) (sym e) own))
     (λ (n : a ≢ i).
     let mind_is : changed after.mind i mind a ≡ fields.mind a = changed_else after.mind i mind a n ∙ ap (λ (minds : ℕ → MindOf StepMap). minds a) store.mind in
-    subst (λ (one : MindOf StepMap). ToldBy one (after.step a) (after.level a)) (sym mind_is)
-    (subst (λ (row : ℕ → ℕ). ToldBy (fields.mind a) row (after.level a)) (sym (store.step a n))
-    (subst (λ (row : ℕ → ℕ → ℕ). ToldBy (fields.mind a) (fields.step a) row) (sym (store.level a n)) (all a))))
+    subst (λ (one : MindOf StepMap). ToldBy rounds one (after.step a) (after.level a)) (sym mind_is)
+    (subst (λ (row : ℕ → ℕ). ToldBy rounds (fields.mind a) row (after.level a)) (sym (store.step a n))
+    (subst (λ (row : ℕ → ℕ → ℕ). ToldBy rounds (fields.mind a) (fields.step a) row) (sym (store.level a n)) (all a))))
 
 each_mind : (P : MindOf StepMap → Type 0) (i : ℕ) (fields after : Fields) (mind : MindOf StepMap) → IsStoreOf i fields after → P mind → ((a : ℕ) → P (fields.mind a)) → (a : ℕ) → P (changed after.mind i mind a)
 each_mind P i fields after mind store own all a = dite (ℕ_discrete a i)
@@ -92,7 +92,7 @@ tracks_line spec fields i at tracks =
     let store = is_store mind.line fields i mind.sweep (current_round mind) (counted mind) in
     let range = in_range_line mind.line spec fields i mind at in
     record {
-      told = told_others i fields after new store (told_line mind.line spec fields i mind at) tracks.told;
+      told = told_others spec.rounds i fields after new store (told_line mind.line spec fields i mind at) tracks.told;
       range = record { step = range.step; level = range.level; view = range.view };
       snapshot = each_mind (λ (one : MindOf StepMap). AreWithin (sizes_in spec) one.snapshot) i fields after new store (snapshot_line mind.line spec fields i mind at) tracks.snapshot;
     }
@@ -164,9 +164,9 @@ opening_words spec (places.View i j k) = word_zero (sizes_in spec)
 opening_words spec (places.Value i j k) = refl
 opening_words spec (places.Out i j) = refl
 
-opening_tells : (spec : RoomSpec) (numbers : List ℕ) (p : ℕ) → Tells (goal_at (map (first_goal spec) numbers) p) AtRest 0 (λ k. 0)
-opening_tells spec [] p = tt
-opening_tells spec (q ∷ numbers) zero = (refl, λ k after. refl)
+opening_tells : (spec : RoomSpec) (numbers : List ℕ) (p : ℕ) → Tells spec.rounds (goal_at (map (first_goal spec) numbers) p) AtRest 0 (λ k. 0)
+opening_tells spec [] p = record { counts = tt; levels = (λ k after. refl, λ k before one. absurd (omega (arith, one))) }
+opening_tells spec (q ∷ numbers) zero = record { counts = refl; levels = (λ k after. refl, λ k before one. absurd (omega (arith, one))) }
 opening_tells spec (q ∷ numbers) (suc p) = opening_tells spec numbers p
 
 pub opening_stands : (spec : RoomSpec) → StandsFor (opening spec) (opening_fields spec)
@@ -177,7 +177,7 @@ opening_stands spec = record {
       ∙ ap (λ (word : ℕ). opening_mind_of word spec i) (sym (word_zero (sizes_in spec)));
   crashed = λ i below. get_or-replicate spec.simulators i false false below;
   tracks = record {
-    told = λ i. told_at_rest (opening_mind_of no_steps spec i) (λ p. 0) (λ p k. 0) refl (λ p. opening_tells spec (range_with_len 0 (processes spec)) p);
+    told = λ i. told_at_rest spec.rounds (opening_mind_of no_steps spec i) (λ p. 0) (λ p k. 0) refl (λ p. opening_tells spec (range_with_len 0 (processes spec)) p);
     range = record { step = λ i p. omega arith; level = λ i j k. omega arith; view = λ i j k a p _ _. omega arith };
     snapshot = λ i a p _ _. omega arith;
   };

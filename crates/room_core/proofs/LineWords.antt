@@ -158,16 +158,16 @@ held_line Show spec fields i words mind whole at held =
     stored_view spec fields i words mind whole held at.below at.number mind.sweep (current_round mind) mind.snapshot at.is_mind.sweep round
 held_line Enter spec fields i words mind whole at held =
     let round = open_round spec mind at.is_mind at.open_at in
-    let none = outside (current_goal mind) (fields.step i mind.sweep) (fields.level i mind.sweep) at.own in
+    let none = outside spec.rounds (current_goal mind) (fields.step i mind.sweep) (fields.level i mind.sweep) at.own in
     raised_level spec fields i words mind whole held at.below at.number mind.sweep (current_round mind) at.is_mind.limits at.range.level (omega arith) at.is_mind.sweep round
 held_line Look spec fields i words mind whole at held = held
 held_line (Leave true) spec fields i words mind whole at held =
     let round = open_round spec mind at.is_mind at.open_at in
-    let one = inside (current_goal mind) (fields.step i mind.sweep) (fields.level i mind.sweep) at.own in
+    let one = inside spec.rounds (current_goal mind) (fields.step i mind.sweep) (fields.level i mind.sweep) at.own in
     lowered_level spec fields i words mind whole held at.below at.number mind.sweep (current_round mind) at.is_mind.limits at.range.level one at.is_mind.sweep round
 held_line (Leave false) spec fields i words mind whole at held =
     let round = open_round spec mind at.is_mind at.open_at in
-    let one = inside (current_goal mind) (fields.step i mind.sweep) (fields.level i mind.sweep) at.own in
+    let one = inside spec.rounds (current_goal mind) (fields.step i mind.sweep) (fields.level i mind.sweep) at.own in
     raised_level spec fields i words mind whole held at.below at.number mind.sweep (current_round mind) at.is_mind.limits at.range.level (omega arith) at.is_mind.sweep round
 held_line Ask spec fields i words mind whole at held = held
 held_line (GetView chosen) spec fields i words mind whole at held = held

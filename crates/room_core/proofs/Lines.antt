@@ -111,8 +111,8 @@ pub record StandsAt (line : Line) (spec : RoomSpec) (fields : Fields) (i : ℕ) 
   pub is_mind : IsMind spec (worded (sizes_in spec) mind)
   pub open_at : IsOpenAt line spec (worded (sizes_in spec) mind)
   pub moves : IsOperation (move_at line spec (worded (sizes_in spec) mind))
-  pub others : ToldBeside mind.sweep mind.goals (fields.step i) (fields.level i)
-  pub own : Tells (current_goal mind) (stage_of line) (fields.step i mind.sweep) (fields.level i mind.sweep)
+  pub others : ToldBeside spec.rounds mind.sweep mind.goals (fields.step i) (fields.level i)
+  pub own : Tells spec.rounds (current_goal mind) (stage_of line) (fields.step i mind.sweep) (fields.level i mind.sweep)
   pub range : AreInRange spec fields
   pub snapshot : AreWithin (sizes_in spec) mind.snapshot
 

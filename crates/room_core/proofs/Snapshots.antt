@@ -23,7 +23,7 @@ same_holder spec steps p limits within below =
     let some = limits.shape.m_range.0 in
     holder_same spec.simulators (processes spec) (step_in (sizes_in spec) (memory_word (sizes_in spec) steps)) steps p (omega arith) below (word_steps (sizes_in spec) steps limits.shape within)
 
-level_at : (level : ℕ → ℕ) (m i : ℕ) → ((k : ℕ) → level k ≤ 2) → i < m → level_of (packed level 2 m) i ≡ level i
+pub level_at : (level : ℕ → ℕ) (m i : ℕ) → ((k : ℕ) → level k ≤ 2) → i < m → level_of (packed level 2 m) i ≡ level i
 level_at level m i low below =
     let turned : 2 * i ≡ i * 2 = omega arith in
     ap (λ (at : ℕ). field_of (packed level 2 m) at 2) turned ∙ reads_back level 2 m i (λ k less. let b = low k in omega arith) below

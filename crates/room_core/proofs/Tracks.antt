@@ -1,7 +1,7 @@
 -- What a simulator's mind tells of its fields: how far it has counted each process, and where it stands in each agreement.
-use Rattle.std.proofs.Common.{◌≡◌, ◌≢◌, ℕ, suc, ◌+◌, ◌<◌, ◌≤◌, Bool, true, false, cond, eqb, ltb, List, length, get_or, set, refl, sym, ap, ◌∙◌, subst, arith}
+use Rattle.std.proofs.Common.{◌≡◌, ◌≢◌, ℕ, ◌+◌, ◌<◌, ◌≤◌, Bool, true, false, cond, eqb, ltb, List, length, get_or, set, refl, sym, ap, ◌∙◌, subst, arith}
 use Rattle.std.specs.Prelude.{⊤}
-use Rattle.std.proofs.lemmas.Bool.{eq-eqb, ne_eqb}
+use Rattle.std.proofs.lemmas.Bool.{eq-eqb, ne_eqb, ltb-false}
 use Rattle.std.proofs.lemmas.List.{get_or-set_same, get_or-set_other}
 use mathlib.Core.Logic.{dite}
 use native.Mathlib.Decide.{ℕ_discrete}
@@ -40,81 +40,160 @@ stage_of (Out decision) = Past
 abbrev pub IsZeroFrom : ℕ → (ℕ → ℕ) → Type 0
 IsZeroFrom round level = (k : ℕ) → round ≤ k → level k ≡ 0
 
+-- no level of an earlier round is 1
+abbrev pub NoOneBelow : ℕ → (ℕ → ℕ) → Type 0
+NoOneBelow round level = (k : ℕ) → k < round → level k ≢ 1
+
+-- what a goal for a process tells of its step number
+abbrev pub Counts : ℕ → Goal → Stage → ℕ → Type 0
+Counts rounds (goals.Write k value) AtRest step = step + 1 ≡ k
+Counts rounds (goals.Write k value) Stored step = step + 1 ≡ k
+Counts rounds (goals.Write k value) Counted step = step ≡ k
+Counts rounds (goals.Write k value) Inside step = step ≡ k
+Counts rounds (goals.Write k value) Past step = step ≡ k
+Counts rounds (goals.Ask k) AtRest step = step ≡ k
+Counts rounds (goals.Ask k) Stored step = ⊥
+Counts rounds (goals.Ask k) Counted step = ⊥
+Counts rounds (goals.Ask k) Inside step = ⊥
+Counts rounds (goals.Ask k) Past step = step ≡ k
+Counts rounds goals.Done AtRest step = ⊤
+Counts rounds goals.Done stage step = ⊥
+Counts rounds goals.Spent AtRest step = step ≡ rounds
+Counts rounds goals.Spent stage step = ⊥
+
+-- What a step number tells of the levels, whatever the goal: nobody has entered a later round, and the earlier rounds are left.
+abbrev pub Levels : Stage → ℕ → (ℕ → ℕ) → Type 0
+Levels AtRest step level = IsZeroFrom (step + 1) level × NoOneBelow (step + 1) level
+Levels Stored step level = IsZeroFrom (step + 1) level × NoOneBelow (step + 1) level
+Levels Counted step level = IsZeroFrom step level × NoOneBelow step level
+Levels Inside step level = IsZeroFrom (step + 1) level × NoOneBelow step level × (level step ≡ 1)
+Levels Past step level = IsZeroFrom (step + 1) level × NoOneBelow (step + 1) level
+
 -- what a goal for a process tells of its step number and levels
-abbrev pub Tells : Goal → Stage → ℕ → (ℕ → ℕ) → Type 0
-Tells (goals.Write k value) AtRest step level = (step + 1 ≡ k) × IsZeroFrom k level
-Tells (goals.Write k value) Stored step level = (step + 1 ≡ k) × IsZeroFrom k level
-Tells (goals.Write k value) Counted step level = (step ≡ k) × IsZeroFrom k level
-Tells (goals.Write k value) Inside step level = (step ≡ k) × (level k ≡ 1) × IsZeroFrom (suc k) level
-Tells (goals.Write k value) Past step level = (step ≡ k) × IsZeroFrom (suc k) level
-Tells (goals.Ask k) AtRest step level = (step ≡ k) × IsZeroFrom (suc k) level
-Tells (goals.Ask k) Stored step level = ⊥
-Tells (goals.Ask k) Counted step level = ⊥
-Tells (goals.Ask k) Inside step level = ⊥
-Tells (goals.Ask k) Past step level = (step ≡ k) × IsZeroFrom (suc k) level
-Tells goals.Done AtRest step level = ⊤
-Tells goals.Done stage step level = ⊥
-Tells goals.Spent AtRest step level = ⊤
-Tells goals.Spent stage step level = ⊥
+pub record Tells (rounds : ℕ) (goal : Goal) (stage : Stage) (step : ℕ) (level : ℕ → ℕ) : Type 0 where
+  pub counts : Counts rounds goal stage step
+  pub levels : Levels stage step level
 
--- ---- from line to line
-
-pub tells_raised : (goal : Goal) (step : ℕ) (level : ℕ → ℕ) → Tells goal Stored step level → Tells goal Counted (step + 1) level
-tells_raised (goals.Write k value) step level told = told
-tells_raised (goals.Ask k) step level told = absurd told
-tells_raised goals.Done step level told = absurd told
-tells_raised goals.Spent step level told = absurd told
-
-pub raised_below : (goal : Goal) (rounds step : ℕ) (level : ℕ → ℕ) → IsGoal rounds goal → Tells goal Stored step level → step < rounds
-raised_below (goals.Write k value) rounds step level range told = let e = told.0 in let b = range.1 in omega arith
-raised_below (goals.Ask k) rounds step level range told = absurd told
-raised_below goals.Done rounds step level range told = absurd told
-raised_below goals.Spent rounds step level range told = absurd told
+-- ---- levels, from line to line
 
 zero_changed : (from round : ℕ) (level : ℕ → ℕ) (entry : ℕ) → round < from → IsZeroFrom from level → IsZeroFrom from (changed level round entry)
 zero_changed from round level entry less none k after = changed_else level round entry k (λ e. omega arith) ∙ none k after
 
-pub outside : (goal : Goal) (step : ℕ) (level : ℕ → ℕ) → Tells goal Counted step level → level (round_of goal) ≡ 0
-outside (goals.Write k value) step level told = told.1 k (omega arith)
-outside (goals.Ask k) step level told = absurd told
-outside goals.Done step level told = absurd told
-outside goals.Spent step level told = absurd told
+none_changed : (below round : ℕ) (level : ℕ → ℕ) (entry : ℕ) → below ≤ round → NoOneBelow below level → NoOneBelow below (changed level round entry)
+none_changed below round level entry least none k before one = none k before (sym (changed_else level round entry k (λ e. omega arith)) ∙ one)
 
-pub tells_entered : (goal : Goal) (step : ℕ) (level : ℕ → ℕ) → Tells goal Counted step level → Tells goal Inside step (changed level (round_of goal) (level (round_of goal) + 1))
-tells_entered (goals.Write k value) step level told =
-    let none : level k ≡ 0 = told.1 k (omega arith) in
-    (told.0, changed_here level k (level k + 1) k refl ∙ ap (λ (x : ℕ). x + 1) none, zero_changed (suc k) k level (level k + 1) (omega arith) (λ r after. told.1 r (omega arith)))
-tells_entered (goals.Ask k) step level told = absurd told
-tells_entered goals.Done step level told = absurd told
-tells_entered goals.Spent step level told = absurd told
+none_left : (round : ℕ) (level : ℕ → ℕ) (entry : ℕ) → entry ≢ 1 → NoOneBelow round level → NoOneBelow (round + 1) (changed level round entry)
+none_left round level entry other none k before one = dite (ℕ_discrete k round)
+    (λ (e : k ≡ round). other (sym (changed_here level round entry k e) ∙ one))
+    (λ (n : k ≢ round). none k (omega arith) (sym (changed_else level round entry k n) ∙ one))
 
-pub inside : (goal : Goal) (step : ℕ) (level : ℕ → ℕ) → Tells goal Inside step level → level (round_of goal) ≡ 1
-inside (goals.Write k value) step level told = told.1
-inside (goals.Ask k) step level told = absurd told
-inside goals.Done step level told = absurd told
-inside goals.Spent step level told = absurd told
+levels_entered : (step round : ℕ) (level : ℕ → ℕ) → step ≡ round → Levels Counted step level → Levels Inside step (changed level round (level round + 1))
+levels_entered step round level same all =
+    let none : level round ≡ 0 = all.0 round (omega arith) in (
+      zero_changed (step + 1) round level (level round + 1) (omega arith) (λ k after. all.0 k (omega arith)),
+      none_changed step round level (level round + 1) (omega arith) all.1,
+      changed_here level round (level round + 1) step same ∙ ap (λ (x : ℕ). x + 1) none,
+    )
 
-pub tells_left : (goal : Goal) (step : ℕ) (level : ℕ → ℕ) (entry : ℕ) → Tells goal Inside step level → Tells goal Past step (changed level (round_of goal) entry)
-tells_left (goals.Write k value) step level entry told = (told.0, zero_changed (suc k) k level entry (omega arith) told.2)
-tells_left (goals.Ask k) step level entry told = absurd told
-tells_left goals.Done step level entry told = absurd told
-tells_left goals.Spent step level entry told = absurd told
+levels_left : (step round : ℕ) (level : ℕ → ℕ) (entry : ℕ) → step ≡ round → entry ≢ 1 → Levels Inside step level → Levels Past step (changed level round entry)
+levels_left step round level entry same other all = (
+  zero_changed (step + 1) round level entry (omega arith) all.0,
+  subst (λ (r : ℕ). NoOneBelow (step + 1) (changed level r entry)) same (none_left step level entry other all.1),
+)
 
-pub tells_asked : (goal : Goal) (step : ℕ) (level : ℕ → ℕ) → Tells goal Past step level → Tells (goals.Ask (round_of goal)) AtRest step level
-tells_asked (goals.Write k value) step level told = told
-tells_asked (goals.Ask k) step level told = told
-tells_asked goals.Done step level told = absurd told
-tells_asked goals.Spent step level told = absurd told
+-- ---- step numbers, from line to line
 
-tells_next_by : (b : Bool) (k value step : ℕ) (level : ℕ → ℕ) → step ≡ k → IsZeroFrom (suc k) level → Tells (cond b (goals.Write (k + 1) value) goals.Spent) AtRest step level
-tells_next_by true k value step level same none = (ap (λ (x : ℕ). x + 1) same, λ r after. none r (omega arith))
-tells_next_by false k value step level same none = tt
+counts_raised : (rounds : ℕ) (goal : Goal) (step : ℕ) → Counts rounds goal Stored step → Counts rounds goal Counted (step + 1)
+counts_raised rounds (goals.Write k value) step told = told
+counts_raised rounds (goals.Ask k) step told = absurd told
+counts_raised rounds goals.Done step told = absurd told
+counts_raised rounds goals.Spent step told = absurd told
 
-pub tells_written : (goal : Goal) (rounds value step : ℕ) (level : ℕ → ℕ) → Tells goal Past step level → Tells (after_write rounds (round_of goal) value) AtRest step level
-tells_written (goals.Write k old) rounds value step level told = tells_next_by (ltb k rounds) k value step level told.0 told.1
-tells_written (goals.Ask k) rounds value step level told = tells_next_by (ltb k rounds) k value step level told.0 told.1
-tells_written goals.Done rounds value step level told = absurd told
-tells_written goals.Spent rounds value step level told = absurd told
+counts_entered : (rounds : ℕ) (goal : Goal) (step : ℕ) → Counts rounds goal Counted step → Counts rounds goal Inside step
+counts_entered rounds (goals.Write k value) step told = told
+counts_entered rounds (goals.Ask k) step told = absurd told
+counts_entered rounds goals.Done step told = absurd told
+counts_entered rounds goals.Spent step told = absurd told
+
+counts_left : (rounds : ℕ) (goal : Goal) (step : ℕ) → Counts rounds goal Inside step → Counts rounds goal Past step
+counts_left rounds (goals.Write k value) step told = told
+counts_left rounds (goals.Ask k) step told = absurd told
+counts_left rounds goals.Done step told = absurd told
+counts_left rounds goals.Spent step told = absurd told
+
+-- the round of an open turn is one more than what is counted, and then the same
+pub stored_round : (rounds : ℕ) (goal : Goal) (step : ℕ) → Counts rounds goal Stored step → step + 1 ≡ round_of goal
+stored_round rounds (goals.Write k value) step told = told
+stored_round rounds (goals.Ask k) step told = absurd told
+stored_round rounds goals.Done step told = absurd told
+stored_round rounds goals.Spent step told = absurd told
+
+pub counted_round : (rounds : ℕ) (goal : Goal) (step : ℕ) → Counts rounds goal Counted step → step ≡ round_of goal
+counted_round rounds (goals.Write k value) step told = told
+counted_round rounds (goals.Ask k) step told = absurd told
+counted_round rounds goals.Done step told = absurd told
+counted_round rounds goals.Spent step told = absurd told
+
+pub inside_round : (rounds : ℕ) (goal : Goal) (step : ℕ) → Counts rounds goal Inside step → step ≡ round_of goal
+inside_round rounds (goals.Write k value) step told = told
+inside_round rounds (goals.Ask k) step told = absurd told
+inside_round rounds goals.Done step told = absurd told
+inside_round rounds goals.Spent step told = absurd told
+
+pub past_round : (rounds : ℕ) (goal : Goal) (step : ℕ) → Counts rounds goal Past step → step ≡ round_of goal
+past_round rounds (goals.Write k value) step told = told
+past_round rounds (goals.Ask k) step told = told
+past_round rounds goals.Done step told = absurd told
+past_round rounds goals.Spent step told = absurd told
+
+-- a goal with a round of its own is of one of the rounds
+pub round_most : (rounds : ℕ) (goal : Goal) → IsGoal rounds goal → round_of goal ≤ rounds
+round_most rounds (goals.Write k value) range = range.1
+round_most rounds (goals.Ask k) range = range.1
+round_most rounds goals.Done range = omega arith
+round_most rounds goals.Spent range = omega arith
+
+counts_next : (b : Bool) (rounds k value step : ℕ) → ltb k rounds ≡ b → k ≤ rounds → step ≡ k → Counts rounds (cond b (goals.Write (k + 1) value) goals.Spent) AtRest step
+counts_next true rounds k value step test most same = ap (λ (x : ℕ). x + 1) same
+counts_next false rounds k value step test most same = let last = ltb-false k rounds test in omega arith
+
+-- ---- both, from line to line
+
+pub tells_raised : (rounds : ℕ) (goal : Goal) (step : ℕ) (level : ℕ → ℕ) → Tells rounds goal Stored step level → Tells rounds goal Counted (step + 1) level
+tells_raised rounds goal step level told = record { counts = counts_raised rounds goal step told.counts; levels = told.levels }
+
+pub raised_below : (goal : Goal) (rounds step : ℕ) (level : ℕ → ℕ) → IsGoal rounds goal → Tells rounds goal Stored step level → step < rounds
+raised_below goal rounds step level range told = let e = stored_round rounds goal step told.counts in let b = round_most rounds goal range in omega arith
+
+pub outside : (rounds : ℕ) (goal : Goal) (step : ℕ) (level : ℕ → ℕ) → Tells rounds goal Counted step level → level (round_of goal) ≡ 0
+outside rounds goal step level told = let e = counted_round rounds goal step told.counts in told.levels.0 (round_of goal) (omega arith)
+
+pub tells_entered : (rounds : ℕ) (goal : Goal) (step : ℕ) (level : ℕ → ℕ) → Tells rounds goal Counted step level → Tells rounds goal Inside step (changed level (round_of goal) (level (round_of goal) + 1))
+tells_entered rounds goal step level told = record {
+  counts = counts_entered rounds goal step told.counts;
+  levels = levels_entered step (round_of goal) level (counted_round rounds goal step told.counts) told.levels;
+}
+
+pub inside : (rounds : ℕ) (goal : Goal) (step : ℕ) (level : ℕ → ℕ) → Tells rounds goal Inside step level → level (round_of goal) ≡ 1
+inside rounds goal step level told = ap level (sym (inside_round rounds goal step told.counts)) ∙ told.levels.2
+
+pub tells_left : (rounds : ℕ) (goal : Goal) (step : ℕ) (level : ℕ → ℕ) (entry : ℕ) → entry ≢ 1 → Tells rounds goal Inside step level → Tells rounds goal Past step (changed level (round_of goal) entry)
+tells_left rounds goal step level entry other told = record {
+  counts = counts_left rounds goal step told.counts;
+  levels = levels_left step (round_of goal) level entry (inside_round rounds goal step told.counts) other told.levels;
+}
+
+pub tells_asked : (rounds : ℕ) (goal : Goal) (step : ℕ) (level : ℕ → ℕ) → Tells rounds goal Past step level → Tells rounds (goals.Ask (round_of goal)) AtRest step level
+tells_asked rounds goal step level told = record { counts = past_round rounds goal step told.counts; levels = told.levels }
+
+pub tells_written : (rounds : ℕ) (goal : Goal) (value step : ℕ) (level : ℕ → ℕ) → IsGoal rounds goal → Tells rounds goal Past step level → Tells rounds (after_write rounds (round_of goal) value) AtRest step level
+tells_written rounds goal value step level range told = record {
+  counts = counts_next (ltb (round_of goal) rounds) rounds (round_of goal) value step refl (round_most rounds goal range) (past_round rounds goal step told.counts);
+  levels = told.levels;
+}
+
+pub tells_decided : (rounds : ℕ) (goal : Goal) (step : ℕ) (level : ℕ → ℕ) → Tells rounds goal Past step level → Tells rounds goals.Done AtRest step level
+tells_decided rounds goal step level told = record { counts = tt; levels = told.levels }
 
 -- ---- all processes of a mind
 
@@ -122,53 +201,53 @@ tells_written goals.Spent rounds value step level told = absurd told
 abbrev pub stage_for : {S : Type 0} → MindOf S → ℕ → Stage
 stage_for mind p = cond (eqb p mind.sweep) (stage_of mind.line) AtRest
 
-abbrev pub ToldBy : MindOf StepMap → (ℕ → ℕ) → (ℕ → ℕ → ℕ) → Type 0
-ToldBy mind step level = (p : ℕ) → Tells (goal_at mind.goals p) (stage_for mind p) (step p) (level p)
+abbrev pub ToldBy : ℕ → MindOf StepMap → (ℕ → ℕ) → (ℕ → ℕ → ℕ) → Type 0
+ToldBy rounds mind step level = (p : ℕ) → Tells rounds (goal_at mind.goals p) (stage_for mind p) (step p) (level p)
 
 -- the goals of all processes but j tell it, at rest
-abbrev pub ToldBeside : ℕ → List Goal → (ℕ → ℕ) → (ℕ → ℕ → ℕ) → Type 0
-ToldBeside j list step level = (p : ℕ) → p ≢ j → Tells (goal_at list p) AtRest (step p) (level p)
+abbrev pub ToldBeside : ℕ → ℕ → List Goal → (ℕ → ℕ) → (ℕ → ℕ → ℕ) → Type 0
+ToldBeside rounds j list step level = (p : ℕ) → p ≢ j → Tells rounds (goal_at list p) AtRest (step p) (level p)
 
-pub beside : (mind : MindOf StepMap) (step : ℕ → ℕ) (level : ℕ → ℕ → ℕ) → ToldBy mind step level → ToldBeside mind.sweep mind.goals step level
-beside mind step level told p other =
+pub beside : (rounds : ℕ) (mind : MindOf StepMap) (step : ℕ → ℕ) (level : ℕ → ℕ → ℕ) → ToldBy rounds mind step level → ToldBeside rounds mind.sweep mind.goals step level
+beside rounds mind step level told p other =
     let resting : stage_for mind p ≡ AtRest = ap (λ (b : Bool). cond b (stage_of mind.line) AtRest) (ne_eqb p mind.sweep other) in
-    subst (λ (stage : Stage). Tells (goal_at mind.goals p) stage (step p) (level p)) resting (told p)
+    subst (λ (stage : Stage). Tells rounds (goal_at mind.goals p) stage (step p) (level p)) resting (told p)
 
-pub at_sweep : (mind : MindOf StepMap) (step : ℕ → ℕ) (level : ℕ → ℕ → ℕ) → ToldBy mind step level → Tells (current_goal mind) (stage_of mind.line) (step mind.sweep) (level mind.sweep)
-at_sweep mind step level told =
+pub at_sweep : (rounds : ℕ) (mind : MindOf StepMap) (step : ℕ → ℕ) (level : ℕ → ℕ → ℕ) → ToldBy rounds mind step level → Tells rounds (current_goal mind) (stage_of mind.line) (step mind.sweep) (level mind.sweep)
+at_sweep rounds mind step level told =
     let here : stage_for mind mind.sweep ≡ stage_of mind.line = ap (λ (b : Bool). cond b (stage_of mind.line) AtRest) (eq-eqb mind.sweep mind.sweep refl) in
-    subst (λ (stage : Stage). Tells (current_goal mind) stage (step mind.sweep) (level mind.sweep)) here (told mind.sweep)
+    subst (λ (stage : Stage). Tells rounds (current_goal mind) stage (step mind.sweep) (level mind.sweep)) here (told mind.sweep)
 
-pub told_by : (mind : MindOf StepMap) (step : ℕ → ℕ) (level : ℕ → ℕ → ℕ) → ToldBeside mind.sweep mind.goals step level → Tells (current_goal mind) (stage_of mind.line) (step mind.sweep) (level mind.sweep) → ToldBy mind step level
-told_by mind step level others own p = dite (ℕ_discrete p mind.sweep)
+pub told_by : (rounds : ℕ) (mind : MindOf StepMap) (step : ℕ → ℕ) (level : ℕ → ℕ → ℕ) → ToldBeside rounds mind.sweep mind.goals step level → Tells rounds (current_goal mind) (stage_of mind.line) (step mind.sweep) (level mind.sweep) → ToldBy rounds mind step level
+told_by rounds mind step level others own p = dite (ℕ_discrete p mind.sweep)
     (λ (e : p ≡ mind.sweep).
     let here : stage_for mind p ≡ stage_of mind.line = ap (λ (b : Bool). cond b (stage_of mind.line) AtRest) (eq-eqb p mind.sweep e) in
-    subst (λ (stage : Stage). Tells (goal_at mind.goals p) stage (step p) (level p)) (sym here)
-    (subst (λ (q : ℕ). Tells (goal_at mind.goals q) (stage_of mind.line) (step q) (level q)) (sym e) own))
+    subst (λ (stage : Stage). Tells rounds (goal_at mind.goals p) stage (step p) (level p)) (sym here)
+    (subst (λ (q : ℕ). Tells rounds (goal_at mind.goals q) (stage_of mind.line) (step q) (level q)) (sym e) own))
     (λ (n : p ≢ mind.sweep).
     let resting : stage_for mind p ≡ AtRest = ap (λ (b : Bool). cond b (stage_of mind.line) AtRest) (ne_eqb p mind.sweep n) in
-    subst (λ (stage : Stage). Tells (goal_at mind.goals p) stage (step p) (level p)) (sym resting) (others p n))
+    subst (λ (stage : Stage). Tells rounds (goal_at mind.goals p) stage (step p) (level p)) (sym resting) (others p n))
 
 same_branches : {A : Type 0} (b : Bool) (x : A) → cond b x x ≡ x
 same_branches true x = refl
 same_branches false x = refl
 
 -- between two turns
-pub at_rest : (mind : MindOf StepMap) (step : ℕ → ℕ) (level : ℕ → ℕ → ℕ) → mind.line ≡ Rest → ToldBy mind step level → (p : ℕ) → Tells (goal_at mind.goals p) AtRest (step p) (level p)
-at_rest mind step level rest told p =
+pub at_rest : (rounds : ℕ) (mind : MindOf StepMap) (step : ℕ → ℕ) (level : ℕ → ℕ → ℕ) → mind.line ≡ Rest → ToldBy rounds mind step level → (p : ℕ) → Tells rounds (goal_at mind.goals p) AtRest (step p) (level p)
+at_rest rounds mind step level rest told p =
     let resting : stage_for mind p ≡ AtRest = ap (λ (line : Line). cond (eqb p mind.sweep) (stage_of line) AtRest) rest ∙ same_branches (eqb p mind.sweep) AtRest in
-    subst (λ (stage : Stage). Tells (goal_at mind.goals p) stage (step p) (level p)) resting (told p)
+    subst (λ (stage : Stage). Tells rounds (goal_at mind.goals p) stage (step p) (level p)) resting (told p)
 
-pub told_at_rest : (mind : MindOf StepMap) (step : ℕ → ℕ) (level : ℕ → ℕ → ℕ) → mind.line ≡ Rest → ((p : ℕ) → Tells (goal_at mind.goals p) AtRest (step p) (level p)) → ToldBy mind step level
-told_at_rest mind step level rest each p =
+pub told_at_rest : (rounds : ℕ) (mind : MindOf StepMap) (step : ℕ → ℕ) (level : ℕ → ℕ → ℕ) → mind.line ≡ Rest → ((p : ℕ) → Tells rounds (goal_at mind.goals p) AtRest (step p) (level p)) → ToldBy rounds mind step level
+told_at_rest rounds mind step level rest each p =
     let resting : stage_for mind p ≡ AtRest = ap (λ (line : Line). cond (eqb p mind.sweep) (stage_of line) AtRest) rest ∙ same_branches (eqb p mind.sweep) AtRest in
-    subst (λ (stage : Stage). Tells (goal_at mind.goals p) stage (step p) (level p)) (sym resting) (each p)
+    subst (λ (stage : Stage). Tells rounds (goal_at mind.goals p) stage (step p) (level p)) (sym resting) (each p)
 
-pub told_with_goal : (list : List Goal) (j : ℕ) (goal : Goal) (step : ℕ → ℕ) (level : ℕ → ℕ → ℕ) → j < length list → ToldBeside j list step level → Tells goal AtRest (step j) (level j) → (p : ℕ) → Tells (goal_at (set list j goal) p) AtRest (step p) (level p)
-told_with_goal list j goal step level below others own p = dite (ℕ_discrete p j)
+pub told_with_goal : (rounds : ℕ) (list : List Goal) (j : ℕ) (goal : Goal) (step : ℕ → ℕ) (level : ℕ → ℕ → ℕ) → j < length list → ToldBeside rounds j list step level → Tells rounds goal AtRest (step j) (level j) → (p : ℕ) → Tells rounds (goal_at (set list j goal) p) AtRest (step p) (level p)
+told_with_goal rounds list j goal step level below others own p = dite (ℕ_discrete p j)
     (λ (e : p ≡ j).
     let here : goal_at (set list j goal) p ≡ goal = ap (λ (q : ℕ). get_or (set list j goal) q goals.Done) e ∙ get_or-set_same list j goal goals.Done below in
-    subst (λ (g : Goal). Tells g AtRest (step p) (level p)) (sym here) (subst (λ (q : ℕ). Tells goal AtRest (step q) (level q)) (sym e) own))
+    subst (λ (g : Goal). Tells rounds g AtRest (step p) (level p)) (sym here) (subst (λ (q : ℕ). Tells rounds goal AtRest (step q) (level q)) (sym e) own))
     (λ (n : p ≢ j).
     let same : goal_at (set list j goal) p ≡ goal_at list p = get_or-set_other list j p goal goals.Done n in
-    subst (λ (g : Goal). Tells g AtRest (step p) (level p)) (sym same) (others p n))
+    subst (λ (g : Goal). Tells rounds g AtRest (step p) (level p)) (sym same) (others p n))

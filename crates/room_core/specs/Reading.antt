@@ -1,14 +1,15 @@
 -- What the words and minds of a room stand for: its fields.
 use Rattle.std.specs.Prelude.{◌≡◌, ℕ, ◌<◌, ◌≤◌, List}
 use Rattle.room_spec.specs.Sizes.{Sizes, sizes_in}
+use Rattle.level_cells.specs.Fields.{level_of}
 use Rattle.level_cells.specs.Packing.{packed}
 use Rattle.view_table.specs.Places.{IsSimulator, IsProcess, IsRound}
 use Rattle.view_table.specs.Words.{word_at}
 use Rattle.view_table.specs.declared.place.Place.TheVariants as places
-use Rattle.sim_memory.specs.Steps.{AreWithin, memory_word}
+use Rattle.sim_memory.specs.Steps.{AreSameSteps, AreWithin, memory_word, step_in}
 use Rattle.simulator.specs.Minds.{MindOf, MindState}
 use Rattle.room_core.specs.Rooms.{RoomData, IsOneInterleaving, mind_at, crashed_at}
-use Rattle.room_core.specs.Calls.{RoomState, data_of, sweep_at}
+use Rattle.room_core.specs.Calls.{RoomState, data_of, has_crashed, sweep_at}
 use Rattle.room_core.specs.Fields.{Fields, StepMap, opening_fields, replay_fields}
 
 -- a memory word has these step numbers
@@ -59,3 +60,48 @@ pub record AreFieldsOf (room : RoomState) (fields : Fields) : Type 0 where
   pub run : IsOneInterleaving (data_of room)
   pub leads : fields ≡ with_quiet (replay_fields room.spec (opening_fields room.spec) run.events) fields.quiet
   pub counts : (i : ℕ) → i < room.spec.simulators → fields.quiet i ≡ (sweep_at room i).quiet
+
+-- ---- the reading of a room
+
+-- a mind whose snapshot is given as its map
+abbrev pub unworded : Sizes → MindState → MindOf StepMap
+unworded sizes mind = record {
+  number = mind.number;
+  goals = mind.goals;
+  sweep = mind.sweep;
+  turns = mind.turns;
+  steps = mind.steps;
+  turn_steps = mind.turn_steps;
+  line = mind.line;
+  snapshot = step_in sizes mind.snapshot;
+  entries = mind.entries;
+}
+
+-- the fields that its words, minds and marks say
+abbrev pub fields_in : RoomState → Fields
+fields_in room = record {
+  step = step_in (sizes_in room.spec) (word_at (sizes_in room.spec) room.words places.Steps);
+  level = λ i j k. level_of (word_at (sizes_in room.spec) room.words (places.Levels j k)) i;
+  view = λ i j k. step_in (sizes_in room.spec) (word_at (sizes_in room.spec) room.words (places.View i j k));
+  value = λ i j k. word_at (sizes_in room.spec) room.words (places.Value i j k);
+  out = λ i j. word_at (sizes_in room.spec) room.words (places.Out i j);
+  mind = λ i. unworded (sizes_in room.spec) (sweep_at room i).mind;
+  quiet = λ i. (sweep_at room i).quiet;
+  crashed = λ i. has_crashed room i;
+}
+
+-- the same but for the snapshot, whose step numbers are the same
+pub record AreAlikeMinds (sizes : Sizes) (mind other : MindOf StepMap) : Type 0 where
+  pub snapshot : AreSameSteps sizes.m sizes.n mind.snapshot other.snapshot
+  pub rest : record mind { snapshot = other.snapshot } ≡ other
+
+-- the same at the numbers of each simulator, process and round
+pub record AgreeIn (sizes : Sizes) (fields other : Fields) : Type 0 where
+  pub step : AreSameSteps sizes.m sizes.n fields.step other.step
+  pub level : (i j k : ℕ) → IsSimulator sizes i → IsProcess sizes j → IsRound sizes k → fields.level i j k ≡ other.level i j k
+  pub view : (i j k : ℕ) → IsSimulator sizes i → IsProcess sizes j → IsRound sizes k → AreSameSteps sizes.m sizes.n (fields.view i j k) (other.view i j k)
+  pub value : (i j k : ℕ) → IsSimulator sizes i → IsProcess sizes j → IsRound sizes k → fields.value i j k ≡ other.value i j k
+  pub out : (i j : ℕ) → IsSimulator sizes i → IsProcess sizes j → fields.out i j ≡ other.out i j
+  pub mind : (i : ℕ) → IsSimulator sizes i → AreAlikeMinds sizes (fields.mind i) (other.mind i)
+  pub quiet : (i : ℕ) → IsSimulator sizes i → fields.quiet i ≡ other.quiet i
+  pub crashed : (i : ℕ) → IsSimulator sizes i → fields.crashed i ≡ other.crashed i

@@ -1,9 +1,20 @@
 //! Laws of rooms, for a crate that runs one over shared words. Each is what its function ensures.
-ghost use Rattle.std.specs.Prelude.{ℕ, ◌≡◌, ◌<◌, List};
-ghost use Rattle.room_spec.specs.Rooms.{RoomSpec, IsWithinLimits};
+ghost use Rattle.std.specs.Prelude.{ℕ, ◌≡◌, ◌≢◌, ◌⊎◌, ◌+◌, ◌<◌, ◌≤◌, List, Some};
+ghost use Rattle.room_spec.specs.Rooms.{RoomSpec, IsWithinLimits, processes};
+ghost use Rattle.safe_agreement.specs.Levels.{IsClean, least_two};
+ghost use Rattle.sim_memory.specs.Steps.{IsRowAtMost, row_of};
+ghost use Rattle.room_core.specs.Contents.{IsDue};
+ghost use Rattle.room_core.specs.Passed.{HasAgreed, asks, view_at};
+ghost use Rattle.protocol_lang.specs.Numbers.{greatest};
+ghost use Rattle.protocol_lang.specs.declared.meaning.Action.TheVariants.{Decide};
+ghost use Rattle.simulator.specs.Minds.{goal_at};
+ghost use Rattle.simulator.specs.declared.goal.Goal.TheVariants.{Spent};
+ghost use Rattle.room_core.specs.Moments.{IsMoment};
+ghost use Rattle.room_core.specs.Agreements.{AgreementsStay, IsFixedAt, IsInsideTurn, IsPassed};
 ghost use Rattle.room_core.specs.Calls.{Call, RoomState, replies_to, room_after_calls};
-ghost use Rattle.room_core.specs.Fields.{Fields, fields_after_calls, opening_fields, replay_fields, replies_in};
-ghost use Rattle.room_core.specs.Reading.{AreFieldsOf, Reads};
+ghost use Rattle.room_core.specs.Fields.{Fields, levels_at, row_of_steps, fields_after_call, fields_after_calls, opening_fields, replay_fields, replies_in};
+ghost use Rattle.room_spec.specs.Sizes.{sizes_in};
+ghost use Rattle.room_core.specs.Reading.{AgreeIn, AreFieldsOf, Reads, fields_in};
 ghost use Rattle.room_core.specs.Rooms.{HasLine, IsAlive, IsOneInterleaving, IsShaped, RoomData, crashed_by, mind_at, opening, stepped, times};
 
 /// The opening room is one interleaving, of no steps.
@@ -42,4 +53,80 @@ pub fn reads_as_fields()
 /// the room to which it leads.
 pub fn calls_as_fields()
     ensures { (room : RoomState) (fields : Fields) (calls : List Call) → IsWithinLimits room.spec → AreFieldsOf room fields → (replies_in room.spec fields calls ≡ replies_to room calls) × AreFieldsOf (room_after_calls room calls) (fields_after_calls room.spec fields calls) }
+{}
+
+/// What the words, minds and marks of a room say is what any fields say that it stands for.
+pub fn reads_in()
+    ensures { (room : RoomState) (fields : Fields) → IsWithinLimits room.spec → AreFieldsOf room fields → AgreeIn (sizes_in room.spec) (fields_in room) fields }
+{}
+
+/// A simulator is at level 1 only in the agreement on which its open turn works.
+pub fn inside_one_turn()
+    ensures { (room : RoomState) (fields : Fields) → IsWithinLimits room.spec → AreFieldsOf room fields → (i j k : ℕ) → fields.level i j k ≡ 1 → IsInsideTurn fields i j k }
+{}
+
+/// Every agreement that has been passed is fixed: one that is clean, one of a round before another
+/// that some simulator has counted, and all that one has counted that has stored a decision.
+pub fn passed_is_fixed()
+    ensures fixed { (room : RoomState) (fields : Fields) → IsWithinLimits room.spec → AreFieldsOf room fields → (j k : ℕ) → 1 ≤ k → IsPassed room.spec fields j k → IsFixedAt room.spec fields j k }
+    // A fixed one has a least simulator at level 2.
+    ensures least { (spec : RoomSpec) (fields : Fields) (j k : ℕ) → IsFixedAt spec fields j k → (h : ℕ) × (h < spec.simulators) × (least_two (levels_at spec fields j k) ≡ Some h) × (fields.level h j k ≡ 2) }
+{}
+
+/// A fixed agreement stays fixed over every call, and what it comes to stays the same.
+pub fn fixed_stays()
+    ensures { (room : RoomState) (fields : Fields) (call : Call) → IsWithinLimits room.spec → AreFieldsOf room fields → AgreementsStay room.spec fields (fields_after_call room.spec fields call) }
+{}
+
+/// An agreement that was left, and in which nobody is at level 1, is clean: only a simulator that
+/// stopped inside can hold it.
+pub fn left_is_clean()
+    ensures { (room : RoomState) (fields : Fields) → IsWithinLimits room.spec → AreFieldsOf room fields → (i j k : ℕ) → i < room.spec.simulators → 1 ≤ k → k < fields.step i j → ((a : ℕ) → a < room.spec.simulators → fields.level a j k ≢ 1) → IsClean (levels_at room.spec fields j k) }
+{}
+
+/// The proposals that stand, of whatever agreements, are snapshots of one simulated memory.
+pub fn snapshots()
+    // Each is the step numbers as they stood at some moment of the run.
+    ensures moments { (room : RoomState) (fields : Fields) → IsWithinLimits room.spec → (are : AreFieldsOf room fields) (i j k : ℕ) → i < room.spec.simulators → 1 ≤ k → fields.level i j k ≡ 2 → IsMoment room.spec are.run.events i j k (fields.view i j k) }
+    // Of any two rows that they show, one is at most the other.
+    ensures compare { (room : RoomState) (fields : Fields) → IsWithinLimits room.spec → AreFieldsOf room fields → (i j k h p r : ℕ) → i < room.spec.simulators → h < room.spec.simulators → 1 ≤ k → 1 ≤ r → fields.level i j k ≡ 2 → fields.level h p r ≡ 2 → IsRowAtMost (row_of room.spec.simulators (processes room.spec) (fields.view i j k)) (row_of room.spec.simulators (processes room.spec) (fields.view h p r)) ⊎ IsRowAtMost (row_of room.spec.simulators (processes room.spec) (fields.view h p r)) (row_of room.spec.simulators (processes room.spec) (fields.view i j k)) }
+    // Each shows of its own process exactly the writes up to the round of its agreement.
+    ensures own { (room : RoomState) (fields : Fields) → IsWithinLimits room.spec → AreFieldsOf room fields → (i j k : ℕ) → i < room.spec.simulators → 1 ≤ k → fields.level i j k ≡ 2 → row_of_steps room.spec (fields.view i j k) j ≡ k }
+{}
+
+/// Each write that was counted has the value
+/// that is due, the first by its input and each later one by what was agreed on before it, and so
+/// all simulators that have counted it have the same.
+pub fn writes_are_due()
+    ensures due { (room : RoomState) (fields : Fields) → IsWithinLimits room.spec → AreFieldsOf room fields → (i p r : ℕ) → i < room.spec.simulators → p < processes room.spec → 1 ≤ r → r ≤ fields.step i p → IsDue room.spec fields p r (fields.value i p r) }
+    ensures same { (room : RoomState) (fields : Fields) → IsWithinLimits room.spec → AreFieldsOf room fields → (i h p r : ℕ) → i < room.spec.simulators → h < room.spec.simulators → p < processes room.spec → 1 ≤ r → r ≤ fields.step i p → r ≤ fields.step h p → fields.value i p r ≡ fields.value h p r }
+{}
+
+/// A decision that is stored is what the process does after the snapshot
+/// of the last round that is counted, and all that are stored of a process are the same. A process
+/// that is spent has one more write to make.
+pub fn decisions_agree()
+    ensures due { (room : RoomState) (fields : Fields) → IsWithinLimits room.spec → AreFieldsOf room fields → (i p decision : ℕ) → i < room.spec.simulators → p < processes room.spec → fields.out i p ≡ decision + 1 → IsFixedAt room.spec fields p (fields.step i p) × (asks room.spec fields p (fields.step i p) ≡ Decide decision) }
+    ensures last { (room : RoomState) (fields : Fields) → IsWithinLimits room.spec → AreFieldsOf room fields → (i h p decision : ℕ) → i < room.spec.simulators → h < room.spec.simulators → p < processes room.spec → fields.out i p ≡ decision + 1 → fields.step h p ≤ fields.step i p }
+    ensures same { (room : RoomState) (fields : Fields) → IsWithinLimits room.spec → AreFieldsOf room fields → (i h p one two : ℕ) → i < room.spec.simulators → h < room.spec.simulators → p < processes room.spec → fields.out i p ≡ one + 1 → fields.out h p ≡ two + 1 → one ≡ two }
+    ensures spent { (room : RoomState) (fields : Fields) → IsWithinLimits room.spec → AreFieldsOf room fields → (i p : ℕ) → i < room.spec.simulators → p < processes room.spec → goal_at (fields.mind i).goals p ≡ Spent → (value : ℕ) × IsDue room.spec fields p (fields.step i p + 1) value }
+{}
+
+/// What a fixed agreement has come to, and what the process does after it,
+/// stays the same over every call.
+pub fn agreed_stays()
+    ensures view { (room : RoomState) (fields : Fields) (call : Call) → IsWithinLimits room.spec → AreFieldsOf room fields → (j k : ℕ) → 1 ≤ k → IsFixedAt room.spec fields j k → view_at room.spec (fields_after_call room.spec fields call) j k ≡ view_at room.spec fields j k }
+    ensures asks { (room : RoomState) (fields : Fields) (call : Call) → IsWithinLimits room.spec → AreFieldsOf room fields → (j k : ℕ) → 1 ≤ k → IsFixedAt room.spec fields j k → asks room.spec (fields_after_call room.spec fields call) j k ≡ asks room.spec fields j k }
+{}
+
+/// What makes the history of a room's fields a run: its rows are snapshots of one memory, and each
+/// write and decision is what the protocol asks for.
+pub fn rooms_agree()
+    ensures { (room : RoomState) (fields : Fields) → IsWithinLimits room.spec → AreFieldsOf room fields → HasAgreed room.spec fields }
+{}
+
+/// No value that is stored is above the greatest, and no decision.
+pub fn values_in_range()
+    ensures value { (room : RoomState) (fields : Fields) → IsWithinLimits room.spec → AreFieldsOf room fields → (i p r : ℕ) → fields.value i p r ≤ greatest }
+    ensures out { (room : RoomState) (fields : Fields) → IsWithinLimits room.spec → AreFieldsOf room fields → (i p : ℕ) → i < room.spec.simulators → p < processes room.spec → fields.out i p ≤ greatest + 1 }
 {}

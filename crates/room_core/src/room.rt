@@ -8,6 +8,7 @@ ghost use Rattle.simulator.specs.Ranges.{IsMind};
 ghost use Rattle.simulator.specs.Sweeps.{opening_sweep};
 ghost use Rattle.room_core.specs.Rooms.{HasLine, IsAlive, IsOneInterleaving};
 ghost use Rattle.room_core.specs.Fields.{Fields, crash_reply_in, fields_after_crash, fields_after_step, opening_fields, step_reply_in};
+ghost use Rattle.room_core.specs.Agreements.{AgreementsStay};
 ghost use Rattle.room_core.specs.Reading.{AreFieldsOf, Reads};
 ghost use Rattle.room_core.specs.Calls.{crash_reply, data_of, has_crashed, marked, moved, opening_state, operation_at, ready_at, room_after_crash, room_after_step, step_reply, sweep_after, sweep_at, with_sweep, woken};
 
@@ -103,6 +104,8 @@ impl RoomCore {
         ensures room { self.new ≡ room_after_step self.old i }
         // In its fields it is one call of the replay, with its reply.
         ensures fields { (fields : Fields) → AreFieldsOf self.old fields → (result ≡ step_reply_in self.old.spec fields i) × AreFieldsOf self.new (fields_after_step self.old.spec fields i) }
+        // What was agreed on stays.
+        ensures agreement { (fields : Fields) → AreFieldsOf self.old fields → AgreementsStay self.old.spec fields (fields_after_step self.old.spec fields i) }
     {
         if i >= self.spec.m() {
             return StepReply::NoSimulator;
@@ -129,6 +132,8 @@ impl RoomCore {
         ensures room { self.new ≡ room_after_crash self.old i }
         // In its fields it is one call of the replay, with its reply.
         ensures fields { (fields : Fields) → AreFieldsOf self.old fields → (result ≡ crash_reply_in self.old.spec fields i) × AreFieldsOf self.new (fields_after_crash self.old.spec fields i) }
+        // What was agreed on stays.
+        ensures agreement { (fields : Fields) → AreFieldsOf self.old fields → AgreementsStay self.old.spec fields (fields_after_crash self.old.spec fields i) }
     {
         if i >= self.spec.m() {
             return CrashReply::NoSimulator;

@@ -16,9 +16,9 @@ use Rattle.std.proofs.lemmas.Map.Made.{IsDistinct-from_count}
 use Rattle.std.proofs.lemmas.Map.Steps.{length-le_from_distinct_below}
 use Rattle.std.proofs.lemmas.Slice.Eq.{bytes_eq-Decides}
 use Rattle.protocol_lang.specs.Numbers.{number_of}
-use Rattle.room_spec.specs.Rooms.{AreFuses}
+use Rattle.room_spec.specs.Rooms.{AreFuses, is_value}
 use Rattle.room_spec.specs.Texts.{is_space, first_line, later_lines, fields_of, pieces_of}
-use Rattle.room_spec.specs.Blocks.{◌>>=◌, value_after, is_value, is_protocol, both, fuse_in, of_simulator, has_fuse, unrepeated, line_behind, told, told_next, onward, fuses_from}
+use Rattle.room_spec.specs.Blocks.{◌>>=◌, value_after, is_protocol, both, fuse_in, of_simulator, has_fuse, unrepeated, line_behind, told, told_next, onward, fuses_from}
 use Rattle.room_spec.specs.Grammar.{crash_line}
 use Rattle.room_spec.specs.declared.fault.SpecFault.{SpecFault}
 use Rattle.room_spec.specs.declared.fault.SpecFault.TheVariants.{BadLine, CrashLine, Repeated}

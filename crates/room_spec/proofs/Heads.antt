@@ -14,7 +14,8 @@ use Rattle.std.proofs.lemmas.Slice.Eq.{bytes_eq-Decides, starts_is}
 use Rattle.protocol_lang.specs.Numbers.{greatest, number_of}
 use Rattle.room_spec.specs.Names.{is_name}
 use Rattle.room_spec.specs.Texts.{is_space, first_line, later_lines, fields_of}
-use Rattle.room_spec.specs.Blocks.{◌>>=◌, value_after, version_line, named, name_line, with_number, numbers_of, inputs_of, is_value, are_inputs, in_range, inputs_line, up_to, number_line}
+use Rattle.room_spec.specs.Rooms.{is_value}
+use Rattle.room_spec.specs.Blocks.{◌>>=◌, value_after, version_line, named, name_line, with_number, numbers_of, inputs_of, are_inputs, in_range, inputs_line, up_to, number_line}
 use Rattle.room_spec.specs.declared.fault.SpecFault.{SpecFault}
 use Rattle.room_spec.specs.declared.fault.SpecFault.TheVariants.{BadLine, BadName, Inputs}
 use Rattle.room_spec.proofs.Lines.{passes_none, pass_none, pieces_cut, pieces_one}

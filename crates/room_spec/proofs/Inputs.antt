@@ -8,7 +8,8 @@ use Rattle.std.proofs.lemmas.Bool.{lt-leb, le-leb, and_parts, and_from, and_left
 use Rattle.std.proofs.lemmas.List.{append-nil, append_assoc, length-append}
 use Rattle.protocol_lang.specs.Numbers.{greatest, number_of}
 use Rattle.room_spec.specs.Texts.{is_space, fields_of, pieces_of}
-use Rattle.room_spec.specs.Blocks.{with_number, numbers_of, inputs_of, is_value, are_inputs, in_range}
+use Rattle.room_spec.specs.Rooms.{is_value}
+use Rattle.room_spec.specs.Blocks.{with_number, numbers_of, inputs_of, are_inputs, in_range}
 use Rattle.room_spec.specs.declared.fault.SpecFault.{SpecFault}
 use Rattle.room_spec.specs.declared.fault.SpecFault.TheVariants.{BadLine, Inputs}
 

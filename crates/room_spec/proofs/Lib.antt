@@ -7,7 +7,8 @@ pub mod Ends
 pub mod Numerals
 pub mod Heads
 pub mod Fuses
-pub mod Laws
+pub mod Readings
 pub mod Locality
 pub mod Memory
+pub mod Values
 pub mod Worked

@@ -12,17 +12,17 @@ use Rattle.protocol_lang.specs.Numbers.{number_of}
 use Rattle.protocol_lang.specs.Reading.{reading}
 use Rattle.protocol_lang.specs.declared.protocol.Protocol.{Protocol}
 use Rattle.protocol_lang.specs.declared.fault.ParseFault.{ParseFault}
-use Rattle.room_spec.specs.Rooms.{RoomSpec, bits_of}
+use Rattle.room_spec.specs.Rooms.{RoomSpec, bits_of, is_value}
 use Rattle.room_spec.specs.Names.{is_name}
 use Rattle.room_spec.specs.Texts.{is_line_end, first_line, later_lines, lines_of, fields_of, pieces_of}
-use Rattle.room_spec.specs.Blocks.{◌>>=◌, is_end, body_len, value_after, named, inputs_of, is_value, are_inputs, in_range, up_to, fitting, is_protocol, fuse_in, of_simulator, has_fuse, unrepeated, line_behind, told, told_next, onward, fuses_from, protocol_of, room_in, room_before, block_in}
+use Rattle.room_spec.specs.Blocks.{◌>>=◌, is_end, body_len, value_after, named, inputs_of, are_inputs, in_range, up_to, fitting, is_protocol, fuse_in, of_simulator, has_fuse, unrepeated, line_behind, told, told_next, onward, fuses_from, protocol_of, room_in, room_before, block_in}
 use Rattle.room_spec.specs.Grammar.{is_line, text_of, behind_protocol, are_before_end, EndsAt, line_of, IsLocal, IsOfText}
 use Rattle.room_spec.specs.declared.fault.SpecFault.{SpecFault}
 use Rattle.room_spec.specs.declared.fault.SpecFault.TheVariants.{Truncated, BadLine, BadName, BadProtocol, Inputs, Simulators, Rounds, Turns, TooWide, CrashLine, Repeated}
 use Rattle.room_spec.proofs.Lines.{are_lines, first_line-text_of, later_lines-text_of}
 use Rattle.room_spec.proofs.Ends.{with_line_end, front_to, lines_to_end, end_at, before_line, block_ends, block_nowhere, are_lines-before_end}
 use Rattle.room_spec.proofs.Fuses.{tells_protocol}
-use Rattle.room_spec.proofs.Laws.{from_text, from_fuses, from_turns, from_rounds, from_simulators, from_inputs, from_name}
+use Rattle.room_spec.proofs.Readings.{from_text, from_fuses, from_turns, from_rounds, from_simulators, from_inputs, from_name}
 
 -- ---- steps that may fail
 

@@ -1,14 +1,20 @@
 -- What holds of a block that was read, or of its fault, where memory may have been refused.
 use Rattle.std.proofs.Common.{◌≡◌, ℕ, ◌+◌, min, List, length, take, Option, Some, None, Result, Ok, Err, refl, sym, ◌∙◌, subst, inl, inr}
-use Rattle.std.specs.Prelude.{IfOk, IfErr}
+use Rattle.std.specs.Prelude.{IfOk, IfErr, MatchResult}
+use Rattle.std.specs.Result.{is_ok}
+use Rattle.protocol_lang.specs.Grammar.{IsText}
+use Rattle.protocol_lang.specs.Limits.{HasSmallNumerals}
+use Rattle.protocol_lang.specs.declared.protocol.Protocol.{Protocol}
+use Rattle.protocol_lang.specs.declared.fault.ParseFault.{ParseFault}
 use Rattle.protocol_lang.specs.declared.fault.ParseFault.TheVariants.{OutOfMemory}
+use Rattle.protocol_lang.proofs.Limits.{small_numerals}
 use Rattle.room_spec.specs.Rooms.{RoomSpec}
 use Rattle.room_spec.specs.Blocks.{body_len, room_in, room_before, block_in, OrMemory, UnlessMemory, out_of_memory}
 use Rattle.room_spec.specs.Grammar.{IsBlock, IsLocal, IsOfText}
 use Rattle.room_spec.specs.declared.fault.SpecFault.{SpecFault}
 use Rattle.room_spec.specs.declared.fault.SpecFault.TheVariants.{BadProtocol}
 use Rattle.room_spec.proofs.Heads.{bind_ok}
-use Rattle.room_spec.proofs.Laws.{block_found, block_again}
+use Rattle.room_spec.proofs.Readings.{block_found, block_again}
 use Rattle.room_spec.proofs.Locality.{block_local, block_of_text}
 
 abbrev read_as : RoomSpec → ℕ → Result (RoomSpec × ℕ) SpecFault
@@ -47,3 +53,8 @@ pub of_text_or : (text : List ℕ) (result : Result (RoomSpec × ℕ) SpecFault)
 of_text_or text (Ok read) e = tt
 of_text_or text (Err fault) (inl e) = unless fault (IsOfText text fault) (block_of_text text (Err fault) e)
 of_text_or text (Err fault) (inr e) = refused fault (IsOfText text fault) cc
+
+-- what is kept of a protocol that was read has small numerals
+pub kept_small : (P : ParseFault → Type 0) (text : List ℕ) (read : Result Protocol ParseFault) (kept : Result Protocol SpecFault) (protocol : Protocol) → IfOk read (IsText text) → MatchResult read (λ tree. kept ≡ Ok tree) P → is_ok kept ≡ is_ok read → kept ≡ Ok protocol → HasSmallNumerals protocol
+kept_small P text (Ok tree) kept protocol is same variant e = let equal : tree ≡ protocol = cc in subst HasSmallNumerals equal (small_numerals text tree is)
+kept_small P text (Err fault) kept protocol is same variant e = absurd (let never = rw e at variant in cc)

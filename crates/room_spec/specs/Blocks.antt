@@ -3,13 +3,13 @@ use Rattle.std.specs.Prelude.{◌≡◌, ◌⊎◌, ⊤, ℕ, zero, suc, ◌+◌
 use Rattle.std.specs.List.{list_all, list_any, position, starts_with, sum_by}
 use Rattle.std.specs.Option.{option_map, option_and_then}
 use Rattle.std.specs.Str.{bytes_eq}
-use Rattle.protocol_lang.specs.Numbers.{greatest, number_of}
+use Rattle.protocol_lang.specs.Numbers.{number_of}
 use Rattle.protocol_lang.specs.Reading.{reading}
 use Rattle.protocol_lang.specs.declared.protocol.Protocol.{Protocol}
 use Rattle.protocol_lang.specs.declared.fault.ParseFault.{ParseFault}
 use Rattle.protocol_lang.specs.declared.fault.ParseFault.TheVariants.{OutOfMemory}
 use Rattle.room_spec.specs.Names.{is_name}
-use Rattle.room_spec.specs.Rooms.{RoomSpec, bits_of}
+use Rattle.room_spec.specs.Rooms.{RoomSpec, bits_of, is_value}
 use Rattle.room_spec.specs.Texts.{first_line, later_lines, lines_of, fields_of}
 use Rattle.room_spec.specs.declared.fault.SpecFault.{SpecFault}
 use Rattle.room_spec.specs.declared.fault.SpecFault.TheVariants.{Truncated, BadLine, BadName, BadProtocol, Inputs, Simulators, Rounds, Turns, TooWide, CrashLine, Repeated}
@@ -67,9 +67,6 @@ numbers_of (field ∷ fields) = with_number (number_of field) (numbers_of fields
 abbrev pub inputs_of : List (List ℕ) → Option (List ℕ)
 inputs_of [] = None
 inputs_of (word ∷ fields) = if bytes_eq word (codes "inputs") then numbers_of fields else None
-
-abbrev pub is_value : ℕ → Bool
-is_value number = nat_le number greatest
 
 abbrev pub are_inputs : List ℕ → Bool
 are_inputs values = nat_le 1 (length values) && nat_le (length values) 16 && list_all is_value values

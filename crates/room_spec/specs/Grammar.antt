@@ -3,9 +3,9 @@ use Rattle.std.specs.Prelude.{◌≡◌, ◌≢◌, ℕ, All, ◌+◌, Bool, tru
 use Rattle.std.specs.List.{after_first, flat_map, join_with_byte, list_all}
 use Rattle.std.specs.Fmt.{decimal}
 use Rattle.protocol_lang.specs.Reading.{reading}
-use Rattle.room_spec.specs.Rooms.{RoomSpec, IsWithinLimits}
+use Rattle.room_spec.specs.Rooms.{RoomSpec, IsWithinLimits, is_value}
 use Rattle.room_spec.specs.Texts.{is_line_end, lines_of}
-use Rattle.room_spec.specs.Blocks.{is_end, is_value, is_protocol, block_in}
+use Rattle.room_spec.specs.Blocks.{is_end, is_protocol, block_in}
 use Rattle.room_spec.specs.declared.fault.SpecFault.{SpecFault}
 use Rattle.room_spec.specs.declared.fault.SpecFault.TheVariants.{Truncated, BadLine, BadName, BadProtocol, Inputs, Simulators, Rounds, Turns, TooWide, CrashLine, Repeated}
 
@@ -62,7 +62,6 @@ block_text room text = text_of (head_lines room) ++ (text ++ codes "end")
 -- the first `len` bytes of the input are a block that says this room; the protocol's text is whole lines, of which none is `end`
 pub record IsBlock (input : List ℕ) (room : RoomSpec) (len : ℕ) : Type 0 where
   pub limits : IsWithinLimits room
-  pub inputs : list_all is_value room.inputs ≡ true
   pub fuses : list_all (λ fuse. is_value fuse.1) room.fuses ≡ true
   pub lines : List (List ℕ)
   pub no_end : are_before_end lines ≡ true

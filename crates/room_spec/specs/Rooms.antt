@@ -1,7 +1,9 @@
 -- What a room is told when it is made, and how large it may be.
-use Rattle.std.specs.Prelude.{◌≡◌, ℕ, ◌*◌, ◌≤◌, true, List, length, map, Option, nat_eq, nat_lt, ◌==◌, if◌then◌else◌}
+use Rattle.std.specs.Prelude.{◌≡◌, ℕ, ◌*◌, ◌≤◌, Bool, true, List, length, map, Option, nat_eq, nat_le, nat_lt, ◌==◌, if◌then◌else◌}
 use Rattle.std.specs.List.{IsDistinct, find, list_all}
 use Rattle.std.specs.Option.{option_map}
+use Rattle.protocol_lang.specs.Numbers.{greatest}
+use Rattle.protocol_lang.specs.Limits.{HasSmallNumerals}
 use Rattle.protocol_lang.specs.declared.protocol.Protocol.{Protocol}
 use Rattle.room_spec.specs.Names.{is_name}
 
@@ -41,9 +43,14 @@ pub record AreFuses (fuses : List (ℕ × ℕ)) (m : ℕ) : Type 0 where
   pub below : list_all (λ fuse. nat_lt fuse.0 m) fuses ≡ true
   pub distinct : IsDistinct nat_eq (map (λ fuse. fuse.0) fuses)
 
+abbrev pub is_value : ℕ → Bool
+is_value number = nat_le number greatest
+
 -- the limits of every room
 pub record IsWithinLimits (spec : RoomSpec) : Type 0 where
   pub name : is_name spec.name ≡ true
   pub shape : IsShape (length spec.inputs) spec.simulators (bits_of spec.rounds) spec.rounds
   pub turns : (1 ≤ spec.turns) × (spec.turns ≤ 65535)
   pub fuses : AreFuses spec.fuses spec.simulators
+  pub values : list_all is_value spec.inputs ≡ true
+  pub numerals : HasSmallNumerals spec.protocol

@@ -3,6 +3,7 @@
 
 mod block;
 mod fault;
+pub mod laws;
 mod name;
 mod spec;
 mod text;

@@ -1,11 +1,13 @@
 -- The lines that say events.
-use Rattle.std.specs.Prelude.{◌≡◌, ◌≤◌, ℕ, true, List, [], ◌∷◌, length, map, Option, Some, None, IfSome, codes}
+use Rattle.std.specs.Prelude.{◌≡◌, ◌≤◌, ℕ, true, List, [], ◌∷◌, length, map, Option, Some, None, codes}
 use Rattle.std.specs.List.{AllByRecursion, join_with_byte}
 use Rattle.std.specs.Fmt.{decimal}
 use Rattle.protocol_lang.specs.Numbers.{greatest}
+use Rattle.protocol_lang.specs.Limits.{IsEntry}
 use Rattle.room_spec.specs.Names.{is_name}
 use Rattle.transcript.specs.declared.event.Event.{Event}
 use Rattle.transcript.specs.declared.event.Event.TheVariants.{Write, Snap, Decide}
+use Rattle.transcript.specs.Runs.{process_of}
 
 -- a value, or `.` for nothing
 abbrev pub entry_text : Option ℕ → List ℕ
@@ -21,14 +23,6 @@ event_fields (Decide p v) = decimal p ∷ codes "decide" ∷ decimal v ∷ []
 -- the line of an event in the room of this name: the fields, with one space between each two
 abbrev pub event_line : List ℕ → Event → List ℕ
 event_line name event = join_with_byte 32 (name ∷ event_fields event)
-
-abbrev pub process_of : Event → ℕ
-process_of (Write p v) = p
-process_of (Snap p row) = p
-process_of (Decide p v) = p
-
-abbrev pub IsEntry : Option ℕ → Type 0
-IsEntry entry = IfSome entry (λ value. value ≤ greatest)
 
 -- an entry for each of 1 to 16 processes
 pub record IsRow (entries : List (Option ℕ)) : Type 0 where

@@ -5,7 +5,7 @@ use protocol_lang::View;
 /// What one process did: it wrote `v`, it took the snapshot `row`, or it decided `v`. `p` is the
 /// process's number, from 0. The row has an entry for each process: the last value that it wrote,
 /// or nothing.
-#[derive(Drop)]
+#[derive(Debug, Drop, PartialEq, Eq)]
 pub enum Event {
     Write { p: u8, v: u32 },
     Snap { p: u8, row: View },

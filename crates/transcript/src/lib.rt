@@ -3,6 +3,7 @@
 
 mod event;
 mod fault;
+pub mod laws;
 mod line;
 #[cfg(test)]
 mod tests;

@@ -3,27 +3,45 @@ use std::test::*;
 
 #[test]
 fn values(rt: HostRuntime) -> Result<(), Fail> {
-    for (line, room, word, process, value) in [
-        ("one 0 write 5", "one", "write", 0, 5),
-        ("0-_z 15 write 4294967295", "0-_z", "write", 15, 4294967295),
+    for (line, room, said) in [
+        ("one 0 write 5", "one", Event::Write { p: 0, v: 5 }),
+        (
+            "0-_z 15 write 4294967295",
+            "0-_z",
+            Event::Write {
+                p: 15,
+                v: 4294967295,
+            },
+        ),
         (
             "abcdefghijklmnopqrstuvwxyz_-0123 9 decide 10",
             "abcdefghijklmnopqrstuvwxyz_-0123",
-            "decide",
-            9,
-            10,
+            Event::Decide { p: 9, v: 10 },
         ),
     ] {
         let (name, event) = read_line(line.as_bytes()).ok().ok_or("no event")?;
-        let said = match event {
-            Event::Write { p, v } => ("write", p, v),
-            Event::Decide { p, v } => ("decide", p, v),
-            Event::Snap { p, .. } => ("snap", p, 0),
-        };
         assert_eq!(rt; name.as_str(), room);
-        assert_eq!(rt; said.0, word, "in {line}");
-        assert_eq!(rt; said.1, process, "in {line}");
-        assert_eq!(rt; said.2, value, "in {line}");
+        assert_eq!(rt; event, said, "in {line}");
+    }
+    Ok(())
+}
+
+#[test]
+fn unlike_events(rt: HostRuntime) -> Result<(), Fail> {
+    let lines: [&[u8]; 6] = [
+        b"one 0 write 5",
+        b"one 1 write 5",
+        b"one 0 write 6",
+        b"one 0 decide 5",
+        b"one 0 snap 5",
+        b"one 0 snap .",
+    ];
+    for (i, line) in lines.iter().enumerate() {
+        let (_, event) = read_line(line).ok().ok_or("no event")?;
+        for (j, other) in lines.iter().enumerate() {
+            let (_, other) = read_line(other).ok().ok_or("no event")?;
+            assert_eq!(rt; event == other, i == j, "{i} and {j}");
+        }
     }
     Ok(())
 }

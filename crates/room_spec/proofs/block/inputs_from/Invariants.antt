@@ -2,7 +2,8 @@ use Rattle.std.proofs.Common.{◌≡◌, ◌≤◌, true, length}
 use Rattle.std.specs.Option.{option_copied}
 use Rattle.std.specs.List.{list_all}
 use Rattle.room_spec.specs.Texts.{is_space, fields_of, pieces_of}
-use Rattle.room_spec.specs.Blocks.{numbers_of, inputs_of, in_range, is_value}
+use Rattle.room_spec.specs.Rooms.{is_value}
+use Rattle.room_spec.specs.Blocks.{numbers_of, inputs_of, in_range}
 use Rattle.room_spec.proofs.Inputs.{outcome}
 use Rattle.room_spec.proofs.block.inputs_from.Given as goal
 

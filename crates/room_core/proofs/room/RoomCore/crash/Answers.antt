@@ -3,6 +3,7 @@ use Rattle.room_spec.specs.Rooms.{IsWithinLimits}
 use Rattle.room_core.specs.declared.reply.CrashReply.TheVariants.{Crashed, AlreadyCrashed, NoSimulator}
 use Rattle.room_core.specs.Calls.{RoomState}
 use Rattle.room_core.proofs.FieldCalls.{absent_crash, crashed_crash, alive_crashes, crash_by}
+use Rattle.room_core.proofs.Staying.{stay_crash}
 use Rattle.room_core.proofs.room.RoomCore.crash.Goals as goal
 
 pub returns-then-i-m-clause-fields : goal.returns-then-i-m-clause-fields
@@ -28,3 +29,18 @@ returns-clause-fields c =
     let below : c.args.i < room.spec.simulators = subst (λ (m : ℕ). c.args.i < m) count c.if-i-m.false in
     let to = alive_crashes room c.args.i below (sym c.is_crashed.ensures ∙ c.if-is_crashed.false) in
     crash_by room c.mark.new.self Crashed c.args.i limits (record { replied = to.replied; left = c.mark.ensures ∙ to.left })
+
+pub returns-then-i-m-clause-agreement : goal.returns-then-i-m-clause-agreement
+returns-then-i-m-clause-agreement c = λ fields are.
+    let limits = subst (λ (r : RoomState). IsWithinLimits r.spec) c.self.view_is c.self.invariant.shape.limits in
+    stay_crash c.args.self.now fields c.args.i limits are
+
+pub returns-then-is_crashed-clause-agreement : goal.returns-then-is_crashed-clause-agreement
+returns-then-is_crashed-clause-agreement c = λ fields are.
+    let limits = subst (λ (r : RoomState). IsWithinLimits r.spec) c.self.view_is c.self.invariant.shape.limits in
+    stay_crash c.args.self.now fields c.args.i limits are
+
+pub returns-clause-agreement : goal.returns-clause-agreement
+returns-clause-agreement c = λ fields are.
+    let limits = subst (λ (r : RoomState). IsWithinLimits r.spec) c.self.view_is c.self.invariant.shape.limits in
+    stay_crash c.args.self.now fields c.args.i limits are

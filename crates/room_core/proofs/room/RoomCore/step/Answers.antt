@@ -6,6 +6,7 @@ use Rattle.room_core.specs.Rooms.{HasLine}
 use Rattle.room_core.specs.Calls.{RoomState, data_of, has_crashed, ready_at}
 use Rattle.room_core.proofs.States.{has_line}
 use Rattle.room_core.proofs.FieldCalls.{absent_step, crashed_step, ready_step, step_by}
+use Rattle.room_core.proofs.Staying.{stay_step}
 use Rattle.room_core.proofs.room.RoomCore.step.Goals as goal
 
 pub returns-then-i-m-clause-fields : goal.returns-then-i-m-clause-fields
@@ -55,3 +56,28 @@ returns-in-OutOfTurns-clause-fields c =
     let count : c.m.result ≡ room.spec.simulators = c.m.ensures.value ∙ ap (λ (r : RoomState). r.spec.simulators) c.self.view_is in
     let below : c.args.i < room.spec.simulators = subst (λ (m : ℕ). c.args.i < m) count c.if-i-m.false in
     step_by room room OutOfTurns c.args.i limits (ready_step room c.args.i ready.OutOfTurns below (sym c.is_crashed.ensures ∙ c.if-is_crashed.false) (sym c.ready.ensures ∙ c.in-OutOfTurns.is))
+
+pub returns-then-i-m-clause-agreement : goal.returns-then-i-m-clause-agreement
+returns-then-i-m-clause-agreement c = λ fields are.
+    let limits = subst (λ (r : RoomState). IsWithinLimits r.spec) c.self.view_is c.self.invariant.shape.limits in
+    stay_step c.args.self.now fields c.args.i limits are
+
+pub returns-then-is_crashed-clause-agreement : goal.returns-then-is_crashed-clause-agreement
+returns-then-is_crashed-clause-agreement c = λ fields are.
+    let limits = subst (λ (r : RoomState). IsWithinLimits r.spec) c.self.view_is c.self.invariant.shape.limits in
+    stay_step c.args.self.now fields c.args.i limits are
+
+pub returns-in-Step-clause-agreement : goal.returns-in-Step-clause-agreement
+returns-in-Step-clause-agreement c = λ fields are.
+    let limits = subst (λ (r : RoomState). IsWithinLimits r.spec) c.self.view_is c.self.invariant.shape.limits in
+    stay_step c.args.self.now fields c.args.i limits are
+
+pub returns-in-Idle-clause-agreement : goal.returns-in-Idle-clause-agreement
+returns-in-Idle-clause-agreement c = λ fields are.
+    let limits = subst (λ (r : RoomState). IsWithinLimits r.spec) c.self.view_is c.self.invariant.shape.limits in
+    stay_step c.args.self.now fields c.args.i limits are
+
+pub returns-in-OutOfTurns-clause-agreement : goal.returns-in-OutOfTurns-clause-agreement
+returns-in-OutOfTurns-clause-agreement c = λ fields are.
+    let limits = subst (λ (r : RoomState). IsWithinLimits r.spec) c.self.view_is c.self.invariant.shape.limits in
+    stay_step c.args.self.now fields c.args.i limits are

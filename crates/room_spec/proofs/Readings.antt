@@ -12,10 +12,11 @@ use Rattle.protocol_lang.specs.Numbers.{greatest}
 use Rattle.protocol_lang.specs.Reading.{reading}
 use Rattle.protocol_lang.specs.declared.protocol.Protocol.{Protocol}
 use Rattle.protocol_lang.specs.declared.fault.ParseFault.{ParseFault}
+use Rattle.protocol_lang.proofs.Limits.{small_if_read}
 use Rattle.room_spec.specs.Names.{is_name, is_name_byte}
-use Rattle.room_spec.specs.Rooms.{RoomSpec, AreFuses, IsShape, IsWithinLimits, bits_of}
+use Rattle.room_spec.specs.Rooms.{RoomSpec, AreFuses, IsShape, IsWithinLimits, bits_of, is_value}
 use Rattle.room_spec.specs.Texts.{is_line_end, first_line, later_lines}
-use Rattle.room_spec.specs.Blocks.{◌>>=◌, is_end, body_len, version_line, name_line, is_value, are_inputs, inputs_line, number_line, fitting, onward, told_next, fuses_from, fuse_lines, protocol_of, room_in, block_in}
+use Rattle.room_spec.specs.Blocks.{◌>>=◌, is_end, body_len, version_line, name_line, are_inputs, inputs_line, number_line, fitting, onward, told_next, fuses_from, fuse_lines, protocol_of, room_in, block_in}
 use Rattle.room_spec.specs.Grammar.{line_end, is_line, text_of, are_before_end, crash_line, head_lines, block_text, IsInFront, IsBlock}
 use Rattle.room_spec.specs.declared.fault.SpecFault.{SpecFault}
 use Rattle.room_spec.specs.declared.fault.SpecFault.TheVariants.{Simulators, Rounds, Turns, TooWide}
@@ -79,7 +80,6 @@ from_name text = name_line text >>= λ name. from_inputs name.0 name.1
 -- the lines are those of a room's block
 pub record AreRoom (lines : List (List ℕ)) (room : RoomSpec) : Type 0 where
   pub limits : IsWithinLimits room
-  pub inputs : list_all is_value room.inputs ≡ true
   pub fuses : list_all (λ fuse. is_value fuse.1) room.fuses ≡ true
   pub more : List (List ℕ)
   pub parts : lines ≡ head_lines room ++ more
@@ -270,7 +270,7 @@ inputs_some : (values : List ℕ) → join_with_byte 32 (codes "inputs" ∷ map 
 inputs_some [] = cons_some _ _
 inputs_some (value ∷ values) = cons_some _ _
 
-inputs_range : (values : List ℕ) → are_inputs values ≡ true → (1 ≤ length values) × (length values ≤ 16)
+pub inputs_range : (values : List ℕ) → are_inputs values ≡ true → (1 ≤ length values) × (length values ≤ 16)
 inputs_range values are =
     let tests = and_parts (nat_le 1 (length values)) (nat_le (length values) 16) (and_parts _ (list_all is_value values) are).0 in
     (leb-true 1 (length values) tests.0, leb-true (length values) 16 tests.1)
@@ -291,7 +291,7 @@ found_inputs name text lines room is all read =
       both.5,
     )
 
-found_name : (text : List ℕ) (lines : List (List ℕ)) (room : RoomSpec) → text ≡ text_of lines → are_lines lines ≡ true → from_name text ≡ Ok room → Found room.name room.inputs room.simulators room.rounds room.turns lines (name_on room) room × IsWithinLimits room × (list_all is_value room.inputs ≡ true) × Keeps room.simulators room
+found_name : (text : List ℕ) (lines : List (List ℕ)) (room : RoomSpec) → text ≡ text_of lines → are_lines lines ≡ true → from_name text ≡ Ok room → Found room.name room.inputs room.simulators room.rounds room.turns lines (name_on room) room × IsWithinLimits room × Keeps room.simulators room
 found_name text lines room is all read =
     let line = bind_ok (name_line text) (λ name. from_inputs name.0 name.1) room read in
     let says = name_found text line.0 line.1 in
@@ -300,8 +300,7 @@ found_name text lines room is all read =
     let found = both.0 in (
       subst (λ (name : List ℕ). Found name room.inputs room.simulators room.rounds room.turns lines (name_on room) room) (sym found.name_is)
           (longer line.0.0 room.inputs room.simulators room.rounds room.turns lines taken.more (inputs_on room) (codes "room " ++ line.0.0) (codes "room " ++ room.name) room taken.parts (ap (λ (name : List ℕ). codes "room " ++ name) (sym found.name_is)) found),
-      record { name = subst (λ (name : List ℕ). is_name name ≡ true) (sym found.name_is) says.2; shape = both.2; turns = both.1; fuses = both.4.fuses },
-      both.3,
+      record { name = subst (λ (name : List ℕ). is_name name ≡ true) (sym found.name_is) says.2; shape = both.2; turns = both.1; fuses = both.4.fuses; values = both.3; numerals = small_if_read (text_of found.more) room.protocol found.protocol },
       both.4,
     )
 
@@ -314,8 +313,7 @@ room_found lines room all read =
     let both = found_name line.0 taken.more room taken.rest_is taken.whole line.2 in
     record {
       limits = both.1;
-      inputs = both.2;
-      fuses = both.3.values;
+      fuses = both.2.values;
       more = both.0.more;
       parts = one_more lines taken.more (name_on room) both.0.more (codes "bgsim 1") (codes "bgsim 1") taken.parts refl both.0.parts;
       protocol = both.0.protocol;
@@ -337,7 +335,6 @@ block_found text body room ends read =
     let len : length (block_text room (text_of found.more)) + 1 ≡ body + 4 = omega (arith, end.extent, ap length lines, length-append (text_of (head_lines room)) (text_of found.more), length-append (text_of (head_lines room)) (text_of found.more ++ codes "end"), length-append (text_of found.more) (codes "end")) in
     record {
       limits = found.limits;
-      inputs = found.inputs;
       fuses = found.fuses;
       lines = found.more;
       no_end = before_parts (head_lines room) found.more (subst (λ (l : List (List ℕ)). are_before_end l ≡ true) found.parts end.no_end);
@@ -432,13 +429,13 @@ fitting_again bits fits = rw (le-leb bits 64 fits) refl
 inputs_are : (values : List ℕ) → (1 ≤ length values) × (length values ≤ 16) → list_all is_value values ≡ true → are_inputs values ≡ true
 inputs_are values range all = and_from _ (list_all is_value values) (and_from (nat_le 1 (length values)) (nat_le (length values) 16) (le-leb 1 (length values) range.0) (le-leb (length values) 16 range.1)) all
 
-room_again : (room : RoomSpec) (more : List (List ℕ)) → IsWithinLimits room → list_all is_value room.inputs ≡ true → list_all (λ fuse. is_value fuse.1) room.fuses ≡ true → reading (text_of more) ≡ Ok room.protocol → room_in (text_of (head_lines room ++ more)) ≡ Ok room
-room_again room more limits inputs fuses protocol =
+room_again : (room : RoomSpec) (more : List (List ℕ)) → IsWithinLimits room → list_all (λ fuse. is_value fuse.1) room.fuses ≡ true → reading (text_of more) ≡ Ok room.protocol → room_in (text_of (head_lines room ++ more)) ≡ Ok room
+room_again room more limits fuses protocol =
     let memory : room.simulators * length room.inputs * bits_of room.rounds ≤ 64 = limits.shape.memory in
     steps room (text_of (head_lines room ++ more)) (text_of (name_on room ++ more)) (text_of (inputs_on room ++ more)) (text_of (simulators_on room ++ more)) (text_of (rounds_on room ++ more)) (text_of (turns_on room ++ more)) (text_of (fuses_on room ++ more)) (text_of more)
     (version_text (name_on room ++ more))
     (name_text room.name (inputs_on room ++ more) limits.name)
-    (inputs_text room.inputs (simulators_on room ++ more) (inputs_are room.inputs limits.shape.n_range inputs))
+    (inputs_text room.inputs (simulators_on room ++ more) (inputs_are room.inputs limits.shape.n_range limits.values))
     (number_text 4 (codes "simulators ") 8 Simulators room.simulators (rounds_on room ++ more) refl (omega arith) limits.shape.m_range)
     (number_text 5 (codes "rounds ") 15 Rounds room.rounds (turns_on room ++ more) refl (omega arith) limits.shape.rounds_range)
     (fitting_again (room.simulators * length room.inputs * bits_of room.rounds) memory)
@@ -457,11 +454,11 @@ fuses_no_end m (fuse ∷ fuses) more few below values all =
     let each = and_parts (is_value fuse.1) (list_all (λ f. is_value f.1) fuses) values in
     line_before (crash_line fuse) ((map crash_line fuses ++ codes "protocol" ∷ []) ++ more) (crash_line_is fuse m few under.0 each.0) refl (fuses_no_end m fuses more few under.1 each.1 all)
 
-head_no_end : (room : RoomSpec) (more : List (List ℕ)) → IsWithinLimits room → list_all is_value room.inputs ≡ true → list_all (λ fuse. is_value fuse.1) room.fuses ≡ true → are_before_end more ≡ true → are_before_end (head_lines room ++ more) ≡ true
-head_no_end room more limits inputs fuses all =
+head_no_end : (room : RoomSpec) (more : List (List ℕ)) → IsWithinLimits room → list_all (λ fuse. is_value fuse.1) room.fuses ≡ true → are_before_end more ≡ true → are_before_end (head_lines room ++ more) ≡ true
+head_no_end room more limits fuses all =
     line_before (codes "bgsim 1") (name_on room ++ more) refl refl
     (line_before (codes "room " ++ room.name) (inputs_on room ++ more) (name_line_is room.name limits.name) refl
-    (line_before (join_with_byte 32 (codes "inputs" ∷ map decimal room.inputs)) (simulators_on room ++ more) (inputs_line_is (codes "inputs") room.inputs refl inputs) (inputs_no_end room.inputs)
+    (line_before (join_with_byte 32 (codes "inputs" ∷ map decimal room.inputs)) (simulators_on room ++ more) (inputs_line_is (codes "inputs") room.inputs refl limits.values) (inputs_no_end room.inputs)
     (line_before (codes "simulators " ++ decimal room.simulators) (rounds_on room ++ more) (number_line_is (codes "simulators ") room.simulators refl (omega (arith, limits.shape.m_range.1))) refl
     (line_before (codes "rounds " ++ decimal room.rounds) (turns_on room ++ more) (number_line_is (codes "rounds ") room.rounds refl (omega (arith, limits.shape.rounds_range.1))) refl
     (line_before (codes "turns " ++ decimal room.turns) (fuses_on room ++ more) (number_line_is (codes "turns ") room.turns refl (omega (arith, limits.turns.1))) refl
@@ -479,4 +476,4 @@ block_again text room len block =
     let lines : text_of (head_lines room ++ block.lines) ≡ text_of (head_lines room) ++ text_of block.lines = flat_map-append (λ line. line ++ line_end) (head_lines room) block.lines in
     let whole : text ≡ text_of (head_lines room ++ block.lines) ++ (codes "end" ++ with_line_end front.0) = front.1 ∙ sym (regrouped (text_of (head_lines room)) (text_of block.lines) (codes "end") (with_line_end front.0)) ∙ ap (λ (t : List ℕ). t ++ (codes "end" ++ with_line_end front.0)) (sym lines) in
     let len_is : min (length (text_of (head_lines room ++ block.lines)) + 4) (length text) ≡ len = omega (arith, front.2, ap length lines, length-append (text_of (head_lines room)) (text_of block.lines), length-append (text_of (head_lines room)) (text_of block.lines ++ codes "end"), length-append (text_of block.lines) (codes "end")) in
-    read_to_end text (head_lines room ++ block.lines) front.0 room len whole (head_no_end room block.lines block.limits block.inputs block.fuses block.no_end) (room_again room block.lines block.limits block.inputs block.fuses block.protocol) len_is
+    read_to_end text (head_lines room ++ block.lines) front.0 room len whole (head_no_end room block.lines block.limits block.fuses block.no_end) (room_again room block.lines block.limits block.fuses block.protocol) len_is

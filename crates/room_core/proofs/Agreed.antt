@@ -1,0 +1,83 @@
+-- What a fixed agreement has come to, and what the process does after it, stays the same over every call.
+use Rattle.std.proofs.Common.{◌≡◌, ℕ, ◌<◌, ◌≤◌, Bool, true, false, cond, leb, refl, sym, ◌∙◌, subst}
+use Rattle.std.proofs.lemmas.Bool.{leb-false}
+use Rattle.room_spec.specs.Rooms.{RoomSpec, IsWithinLimits}
+use Rattle.simulator.specs.declared.sweep.Ready.{Ready}
+use Rattle.simulator.specs.declared.sweep.Ready.TheVariants as ready
+use Rattle.room_core.specs.Rooms.{RoomData, steps, IsShaped, HasLine}
+use Rattle.room_core.specs.Calls.{Call, Step, Crash, RoomState, data_of, has_crashed, ready_at}
+use Rattle.room_core.specs.Fields.{Fields, opening_fields, replay_fields, line, with_crash, ready_in, fields_when, fields_after_call}
+use Rattle.room_core.specs.Reading.{AreFieldsOf}
+use Rattle.room_core.specs.Agreements.{IsFixedAt}
+use Rattle.room_core.specs.Passed.{view_at, asks}
+use Rattle.room_core.specs.Contents.{HasSmallValues}
+use Rattle.room_core.proofs.SmallValues.{small_values}
+use Rattle.room_core.proofs.Replays.{shapes}
+use Rattle.room_core.proofs.States.{has_line}
+use Rattle.room_core.proofs.FieldReplays.{StandsFor, stands_for, event_stands}
+use Rattle.room_core.proofs.FieldCalls.{fields_stand, same_ready}
+use Rattle.room_core.proofs.Effects.{line_effect}
+use Rattle.room_core.proofs.Moments.{history_run}
+use Rattle.room_core.proofs.Sound.{IsSound, fields_sound}
+use Rattle.room_core.proofs.Staying.{stay_line}
+use Rattle.room_core.proofs.Known.{IsKnown, ViewsWithin, view_kept, asks_kept}
+use Rattle.room_core.proofs.Knowing.{views_within, fields_known, some_simulator, views, most, due_after}
+
+-- what agreements have come to stays
+pub record AgreedStays (spec : RoomSpec) (before after : Fields) : Type 0 where
+  pub view : (j k : ℕ) → 1 ≤ k → IsFixedAt spec before j k → view_at spec after j k ≡ view_at spec before j k
+  pub asks : (j k : ℕ) → 1 ≤ k → IsFixedAt spec before j k → asks spec after j k ≡ asks spec before j k
+
+agreed_line : (room : RoomData) (fields : Fields) (i : ℕ) → IsShaped room → StandsFor room fields → HasLine room i → HasSmallValues room.spec → ViewsWithin room.spec fields → IsKnown room.spec fields → IsSound room.spec fields → AgreedStays room.spec fields (line room.spec fields i)
+agreed_line room fields i shape for may small within known sound =
+    let spec = room.spec in
+    let after = line spec fields i in
+    let tracks' = (event_stands room fields (steps i) shape may for).tracks in
+    let effect = line_effect room fields i shape for may in
+    let stay = stay_line room fields i shape for may in
+    let some = some_simulator spec fields after i for.tracks tracks' small within known effect stay sound in
+    let same = views spec fields after i for.tracks tracks' small within known effect stay sound in
+    let grown = most spec fields after i for.tracks tracks' small within known effect stay sound in
+    let due = due_after spec fields after i for.tracks tracks' small within known effect stay sound in
+    record {
+      view = view_kept spec fields after some stay within known same grown due;
+      asks = asks_kept spec fields after some stay within known same grown due;
+    }
+
+agreed_other : (spec : RoomSpec) (fields : Fields) (quiet : ℕ → ℕ) (crashed : ℕ → Bool) → AgreedStays spec fields (record fields { quiet = quiet; crashed = crashed })
+agreed_other spec fields quiet crashed = record { view = λ j k first at. refl; asks = λ j k first at. refl }
+
+by_test : (P : Fields → Type 0) (b : Bool) (x y : Fields) → P x → (b ≡ false → P y) → P (cond b x y)
+by_test P true x y p q = p
+by_test P false x y p q = q refl
+
+-- ---- what each call keeps
+
+module _ (room : RoomState) (fields : Fields) (limits : IsWithinLimits room.spec) (are : AreFieldsOf room fields) (P : Fields → Type 0) (same : P fields)
+    (lines : (i : ℕ) → HasLine (data_of room) i → P (line room.spec fields i)) (others : (quiet : ℕ → ℕ) (crashed : ℕ → Bool) → P (record fields { quiet = quiet; crashed = crashed })) where
+  when_ready : (i : ℕ) (answer : Ready) → i < room.spec.simulators → has_crashed room i ≡ false → ready_at room i ≡ answer → P (fields_when answer room.spec fields i)
+  when_ready i ready.Step below alive is = lines i (has_line room i (shapes (data_of room) limits are.run) below alive is)
+  when_ready i ready.Idle below alive is = others _ fields.crashed
+  when_ready i ready.OutOfTurns below alive is = same
+
+  pub call_keeps : (call : Call) → P (fields_after_call room.spec fields call)
+  call_keeps (Step i) =
+      by_test P (leb room.spec.simulators i) fields (cond (fields.crashed i) fields (fields_when (ready_in room.spec fields i) room.spec fields i)) same
+      (λ present.
+      let below : i < room.spec.simulators = leb-false room.spec.simulators i present in
+      by_test P (fields.crashed i) fields (fields_when (ready_in room.spec fields i) room.spec fields i) same
+      (λ alive. when_ready i (ready_in room.spec fields i) below ((fields_stand room fields limits are).crashed i below ∙ alive) (sym (same_ready room fields i limits below are))))
+  call_keeps (Crash i) =
+      by_test P (leb room.spec.simulators i) fields (cond (fields.crashed i) fields (with_crash fields i)) same
+      (λ present. by_test P (fields.crashed i) fields (with_crash fields i) same (λ alive. others fields.quiet _))
+
+pub fields_within : (room : RoomState) (fields : Fields) → IsWithinLimits room.spec → AreFieldsOf room fields → ViewsWithin room.spec fields
+fields_within room fields limits are =
+    let base = replay_fields room.spec (opening_fields room.spec) are.run.events in
+    subst (λ (f : Fields). ViewsWithin room.spec f) (sym are.leads) (views_within room.spec are.run.events base (stands_for (data_of room) limits are.run).tracks (history_run (data_of room) limits are.run))
+
+pub agreed_call : (room : RoomState) (fields : Fields) (call : Call) → IsWithinLimits room.spec → AreFieldsOf room fields → AgreedStays room.spec fields (fields_after_call room.spec fields call)
+agreed_call room fields call limits are =
+    call_keeps room fields limits are (AgreedStays room.spec fields) (agreed_other room.spec fields fields.quiet fields.crashed)
+    (λ i may. agreed_line (data_of room) fields i (shapes (data_of room) limits are.run) (fields_stand room fields limits are) may (small_values room.spec limits) (fields_within room fields limits are) (fields_known room fields limits are) (fields_sound room fields limits are))
+    (λ quiet crashed. agreed_other room.spec fields quiet crashed) call

@@ -1,0 +1,189 @@
+-- A proposal that stands shows of its own process exactly the round of its agreement.
+use Rattle.std.proofs.Common.{◌≡◌, ◌≢◌, ◌⊎◌, ℕ, ◌<◌, ◌≤◌, List, [], ◌∷◌, ◌++◌, inl, inr, sym, ap, ◌∙◌, subst, arith}
+use Rattle.std.proofs.lemmas.Bool.{cases_lt}
+use mathlib.Core.Logic.{dite}
+use native.Mathlib.Decide.{ℕ_discrete}
+use Rattle.room_spec.specs.Rooms.{RoomSpec, IsWithinLimits, processes}
+use Rattle.safe_agreement.specs.Phases.{phase_level, IsFixed}
+use Rattle.sim_memory.specs.Steps.{merged_of, row_of, IsRowAtMost}
+use Rattle.sim_memory.proofs.Rows.{merged_at, merged_reached, merged_below, row_grows}
+use Rattle.room_core.specs.Rooms.{RoomData, Event, steps, crashes, MayHappen, IsShaped, IsOneInterleaving}
+use Rattle.room_core.specs.Calls.{RoomState, data_of}
+use Rattle.room_core.specs.Reading.{with_quiet, AreFieldsOf}
+use Rattle.room_core.specs.Moments.{IsMoment}
+use Rattle.room_core.specs.Fields.{StepMap, Fields, opening_fields, line, with_crash, fields_after, replay_fields, row_of_steps}
+use Rattle.room_core.proofs.FieldReplays.{Tracks, StandsFor, event_stands, stands_for}
+use Rattle.room_core.proofs.Stages.{Progress, Uncounted, Fresh, Scanned, Shown, Inside, Seen, Past, later, phase_of, phases_in, level_is}
+use Rattle.room_core.proofs.Effects.{Own, own_of, IsLineOf, line_effect}
+use Rattle.room_core.proofs.PhaseSteps.{advances}
+use Rattle.room_core.proofs.Prefixes.{over_run}
+use Rattle.room_core.proofs.Sound.{IsSound, fixed_on, twos_on, sound_kept, opening_sound}
+use Rattle.room_core.proofs.Fixing.{counted_is_fixed}
+use Rattle.room_core.proofs.Shown.{HasShown, progress_own, own_shown, own_scanned}
+use Rattle.room_core.proofs.Moments.{IsHistory, moments_compare, history_run}
+
+-- the map shows at most r writes of process p
+abbrev pub ShowsAtMost : RoomSpec → StepMap → ℕ → ℕ → Type 0
+ShowsAtMost spec map p r = (a : ℕ) → a < spec.simulators → map a p ≤ r
+
+-- A proposal shows no more than its round; or the agreement was fixed before it could stand.
+pub record IsExact (spec : RoomSpec) (fields : Fields) : Type 0 where
+  pub shown : (i p r : ℕ) → i < spec.simulators → 1 ≤ r → HasShown (progress_own (own_of fields i) p r) → ShowsAtMost spec (fields.view i p r) p r ⊎ (IsFixed spec.simulators (phases_in fields p r) × (fields.level i p r ≢ 2))
+  pub scanned : (i p r : ℕ) → i < spec.simulators → 1 ≤ r → progress_own (own_of fields i) p r ≡ Scanned → ShowsAtMost spec (fields.mind i).snapshot p r ⊎ IsFixed spec.simulators (phases_in fields p r)
+
+-- who hasn't proposed isn't at level 2
+pub scanned_level : (spec : RoomSpec) (fields : Fields) (i p r : ℕ) → Tracks spec fields → progress_own (own_of fields i) p r ≡ Scanned → fields.level i p r ≢ 2
+scanned_level spec fields i p r tracks is two =
+    let zero : fields.level i p r ≡ 0 = level_is spec.rounds (fields.mind i) (fields.step i) (fields.level i) (tracks.told i) p r ∙ ap (λ (q : Progress). phase_level (phase_of q (fields.level i p r))) is in
+    omega (arith, zero, two)
+
+two_shown : (progress : Progress) (level : ℕ) → phase_level (phase_of progress level) ≡ 2 → HasShown progress
+two_shown Uncounted level two = absurd (omega arith)
+two_shown Fresh level two = absurd (omega arith)
+two_shown Scanned level two = absurd (omega arith)
+two_shown Shown level two = tt
+two_shown Inside level two = tt
+two_shown (Seen saw) level two = tt
+two_shown Past level two = tt
+
+pub at_two : (spec : RoomSpec) (fields : Fields) (i p r : ℕ) → Tracks spec fields → fields.level i p r ≡ 2 → HasShown (progress_own (own_of fields i) p r)
+at_two spec fields i p r tracks two =
+    two_shown (progress_own (own_of fields i) p r) (fields.level i p r) (sym (level_is spec.rounds (fields.mind i) (fields.step i) (fields.level i) (tracks.told i) p r) ∙ two)
+
+module _ (spec : RoomSpec) (fields after : Fields) (i : ℕ) (tracks : Tracks spec fields) (tracks' : Tracks spec after) (effect : IsLineOf spec fields after i) (sound : IsSound spec fields) (exact : IsExact spec fields) where
+  still_fixed : (p r : ℕ) → IsFixed spec.simulators (phases_in fields p r) → IsFixed spec.simulators (phases_in after p r)
+  still_fixed p r fixed = fixed_on spec.simulators (phases_in fields p r) (phases_in after p r) (advances spec fields after i tracks effect p r) fixed
+
+  -- nobody comes to level 2 in a fixed agreement
+  still_out : (a p r : ℕ) → a < spec.simulators → IsFixed spec.simulators (phases_in fields p r) → fields.level a p r ≢ 2 → after.level a p r ≢ 2
+  still_out a p r below fixed out two =
+      let same = twos_on spec.simulators (phases_in fields p r) (phases_in after p r) (advances spec fields after i tracks effect p r) fixed in
+      out (level_is spec.rounds (fields.mind a) (fields.step a) (fields.level a) (tracks.told a) p r
+      ∙ (same a below).1 (sym (level_is spec.rounds (after.mind a) (after.step a) (after.level a) (tracks'.told a) p r) ∙ two))
+
+  pass_on : (a p r : ℕ) (view : StepMap) → a < spec.simulators → ShowsAtMost spec view p r ⊎ (IsFixed spec.simulators (phases_in fields p r) × (fields.level a p r ≢ 2)) → ShowsAtMost spec view p r ⊎ (IsFixed spec.simulators (phases_in after p r) × (after.level a p r ≢ 2))
+  pass_on a p r view below (inl most) = inl most
+  pass_on a p r view below (inr late) = inr (still_fixed p r late.0, still_out a p r below late.0 late.1)
+
+  with_level : (p r : ℕ) → progress_own (own_of fields i) p r ≡ Scanned → ShowsAtMost spec (fields.mind i).snapshot p r ⊎ IsFixed spec.simulators (phases_in fields p r)
+      → ShowsAtMost spec (fields.mind i).snapshot p r ⊎ (IsFixed spec.simulators (phases_in fields p r) × (fields.level i p r ≢ 2))
+  with_level p r is (inl most) = inl most
+  with_level p r is (inr fixed) = inr (fixed, scanned_level spec fields i p r tracks is)
+
+  by_shown : (p r : ℕ) → 1 ≤ r → (HasShown (progress_own (own_of fields i) p r) × (after.view i p r ≡ fields.view i p r)) ⊎ ((progress_own (own_of fields i) p r ≡ Scanned) × (after.view i p r ≡ (fields.mind i).snapshot))
+      → ShowsAtMost spec (after.view i p r) p r ⊎ (IsFixed spec.simulators (phases_in after p r) × (after.level i p r ≢ 2))
+  by_shown p r first (inl kept) =
+      subst (λ (view : StepMap). ShowsAtMost spec view p r ⊎ (IsFixed spec.simulators (phases_in after p r) × (after.level i p r ≢ 2))) (sym kept.1) (pass_on i p r (fields.view i p r) effect.below (exact.shown i p r effect.below first kept.0))
+  by_shown p r first (inr new) =
+      subst (λ (view : StepMap). ShowsAtMost spec view p r ⊎ (IsFixed spec.simulators (phases_in after p r) × (after.level i p r ≢ 2))) (sym new.1)
+      (pass_on i p r (fields.mind i).snapshot effect.below (with_level p r new.0 (exact.scanned i p r effect.below first new.0)))
+
+  -- a new snapshot: nobody has counted more than this round, or the agreement is fixed already
+  scan : (p r : ℕ) → 1 ≤ r → ShowsAtMost spec fields.step p r ⊎ IsFixed spec.simulators (phases_in fields p r)
+  scan p r first = by_most (cases_lt r (merged_of spec.simulators fields.step p))
+    where
+      by_most : (r < merged_of spec.simulators fields.step p) ⊎ (merged_of spec.simulators fields.step p ≤ r) → ShowsAtMost spec fields.step p r ⊎ IsFixed spec.simulators (phases_in fields p r)
+      by_most (inl more) =
+          let who = merged_reached spec.simulators fields.step p (let b = effect.below in omega arith) in
+          inr (counted_is_fixed spec fields who.0 p r tracks sound who.1 first (let e = who.2 in omega arith))
+      by_most (inr most) = inl (λ a below. let b = merged_at spec.simulators fields.step a p below in omega arith)
+
+  fixed_after : (p r : ℕ) (map : StepMap) → ShowsAtMost spec map p r ⊎ IsFixed spec.simulators (phases_in fields p r) → ShowsAtMost spec map p r ⊎ IsFixed spec.simulators (phases_in after p r)
+  fixed_after p r map (inl most) = inl most
+  fixed_after p r map (inr fixed) = inr (still_fixed p r fixed)
+
+  exact_line : IsExact spec after
+  exact_line = record {
+    shown = λ a p r below first shown. dite (ℕ_discrete a i)
+        (λ (e : a ≡ i).
+        subst (λ (b : ℕ). ShowsAtMost spec (after.view b p r) p r ⊎ (IsFixed spec.simulators (phases_in after p r) × (after.level b p r ≢ 2))) (sym e)
+        (by_shown p r first (own_shown spec fields (own_of fields i) p r (own_of after i) effect.own (subst (λ (b : ℕ). HasShown (progress_own (own_of after b) p r)) e shown))))
+        (λ (n : a ≢ i).
+        let same = effect.others a n in
+        subst (λ (view : StepMap). ShowsAtMost spec view p r ⊎ (IsFixed spec.simulators (phases_in after p r) × (after.level a p r ≢ 2))) (sym (ap (λ (own : Own). own.view p r) same))
+        (pass_on a p r (fields.view a p r) below (exact.shown a p r below first (subst (λ (own : Own). HasShown (progress_own own p r)) same shown))));
+    scanned = λ a p r below first is. dite (ℕ_discrete a i)
+        (λ (e : a ≡ i).
+        let new = own_scanned spec fields (own_of fields i) p r (own_of after i) effect.own (ap (λ (b : ℕ). progress_own (own_of after b) p r) (sym e) ∙ is) in
+        subst (λ (b : ℕ). ShowsAtMost spec (after.mind b).snapshot p r ⊎ IsFixed spec.simulators (phases_in after p r)) (sym e)
+        (subst (λ (map : StepMap). ShowsAtMost spec map p r ⊎ IsFixed spec.simulators (phases_in after p r)) (sym new.0) (fixed_after p r fields.step (scan p r first))))
+        (λ (n : a ≢ i).
+        let same = effect.others a n in
+        subst (λ (map : StepMap). ShowsAtMost spec map p r ⊎ IsFixed spec.simulators (phases_in after p r)) (sym (ap (λ (own : Own). own.mind.snapshot) same))
+        (fixed_after p r (fields.mind a).snapshot (exact.scanned a p r below first (ap (λ (own : Own). progress_own own p r) (sym same) ∙ is))));
+  }
+
+exact_crash : (spec : RoomSpec) (fields : Fields) (i : ℕ) → IsExact spec fields → IsExact spec (with_crash fields i)
+exact_crash spec fields i exact = record { shown = exact.shown; scanned = exact.scanned }
+
+abbrev pub ExactAfter : RoomSpec → List Event → Fields → Type 0
+ExactAfter spec events fields = IsSound spec fields × IsExact spec fields
+
+exact_kept : (room : RoomData) (fields : Fields) (done : List Event) (event : Event) → IsShaped room → MayHappen room event → StandsFor room fields → ExactAfter room.spec done fields → ExactAfter room.spec (done ++ event ∷ []) (fields_after room.spec fields event)
+exact_kept room fields done (steps i) shape may for both = (
+  sound_kept room fields done (steps i) shape may for both.0,
+  exact_line room.spec fields (line room.spec fields i) i for.tracks (event_stands room fields (steps i) shape may for).tracks (line_effect room fields i shape for may) both.0 both.1,
+)
+exact_kept room fields done (crashes i) shape may for both = (sound_kept room fields done (crashes i) shape may for both.0, exact_crash room.spec fields i both.1)
+
+opening_exact : (spec : RoomSpec) → IsExact spec (opening_fields spec)
+opening_exact spec = record {
+  shown = λ i p r below first shown. absurd (subst HasShown (later 0 r _ Past (omega arith)) shown);
+  scanned = λ i p r below first is. absurd (not_uncounted (sym (later 0 r _ Past (omega arith)) ∙ is));
+}
+  where
+    not_uncounted : ◌≡◌ {A = Progress} Uncounted Scanned → ⊥
+    not_uncounted e = cc
+
+pub exact_run : (room : RoomData) → IsWithinLimits room.spec → (one : IsOneInterleaving room) → IsExact room.spec (replay_fields room.spec (opening_fields room.spec) one.events)
+exact_run room limits one = (over_run ExactAfter exact_kept room limits one (opening_sound room.spec, opening_exact room.spec)).1
+
+-- ---- what that gives
+
+-- A proposal that stands shows of its own process as many writes as the agreement's round.
+pub own_entry : (spec : RoomSpec) (events : List Event) (fields : Fields) → Tracks spec fields → IsHistory spec events fields → IsExact spec fields → (i j k : ℕ) → i < spec.simulators → 1 ≤ k → fields.level i j k ≡ 2 → row_of_steps spec (fields.view i j k) j ≡ k
+own_entry spec events fields tracks history exact i j k below first two = by_exact (exact.shown i j k below first shown)
+  where
+    shown : HasShown (progress_own (own_of fields i) j k)
+    shown = at_two spec fields i j k tracks two
+
+    by_exact : ShowsAtMost spec (fields.view i j k) j k ⊎ (IsFixed spec.simulators (phases_in fields j k) × (fields.level i j k ≢ 2)) → row_of_steps spec (fields.view i j k) j ≡ k
+    by_exact (inl most) =
+        let own = (history.shown i j k below first shown).own in
+        let up = merged_below spec.simulators (fields.view i j k) j k most in
+        let least = merged_at spec.simulators (fields.view i j k) i j below in
+        omega (arith, own, up, least)
+    by_exact (inr late) = absurd (late.1 two)
+
+-- Any two proposals that stand show rows of which one is at most the other.
+pub rows_compare : (spec : RoomSpec) (events : List Event) (fields : Fields) → Tracks spec fields → IsHistory spec events fields → (i j k i' j' k' : ℕ) → i < spec.simulators → i' < spec.simulators → 1 ≤ k → 1 ≤ k' → fields.level i j k ≡ 2 → fields.level i' j' k' ≡ 2
+    → IsRowAtMost (row_of spec.simulators (processes spec) (fields.view i j k)) (row_of spec.simulators (processes spec) (fields.view i' j' k')) ⊎ IsRowAtMost (row_of spec.simulators (processes spec) (fields.view i' j' k')) (row_of spec.simulators (processes spec) (fields.view i j k))
+rows_compare spec events fields tracks history i j k i' j' k' below below' first first' two two' =
+    elim (moments_compare spec events i j k i' j' k' (fields.view i j k) (fields.view i' j' k') history.grows (history.shown i j k below first (at_two spec fields i j k tracks two)) (history.shown i' j' k' below' first' (at_two spec fields i' j' k' tracks two'))) [
+      | inl most ↦ inl (row_grows spec.simulators (processes spec) (fields.view i j k) (fields.view i' j' k') most)
+      | inr most ↦ inr (row_grows spec.simulators (processes spec) (fields.view i' j' k') (fields.view i j k) most)
+    ]
+
+-- ---- of every room with these fields
+
+module _ (room : RoomState) (fields : Fields) (limits : IsWithinLimits room.spec) (are : AreFieldsOf room fields) where
+  of_base : (P : Fields → Type 0) → P (with_quiet (replay_fields room.spec (opening_fields room.spec) are.run.events) fields.quiet) → P fields
+  of_base P is = subst P (sym are.leads) is
+
+  pub room_entry : (i j k : ℕ) → i < room.spec.simulators → 1 ≤ k → fields.level i j k ≡ 2 → row_of_steps room.spec (fields.view i j k) j ≡ k
+  room_entry =
+      of_base (λ (f : Fields). (i j k : ℕ) → i < room.spec.simulators → 1 ≤ k → f.level i j k ≡ 2 → row_of_steps room.spec (f.view i j k) j ≡ k)
+      (own_entry room.spec are.run.events (replay_fields room.spec (opening_fields room.spec) are.run.events) (stands_for (data_of room) limits are.run).tracks (history_run (data_of room) limits are.run) (exact_run (data_of room) limits are.run))
+
+  pub room_rows : (i j k i' j' k' : ℕ) → i < room.spec.simulators → i' < room.spec.simulators → 1 ≤ k → 1 ≤ k' → fields.level i j k ≡ 2 → fields.level i' j' k' ≡ 2
+      → IsRowAtMost (row_of room.spec.simulators (processes room.spec) (fields.view i j k)) (row_of room.spec.simulators (processes room.spec) (fields.view i' j' k')) ⊎ IsRowAtMost (row_of room.spec.simulators (processes room.spec) (fields.view i' j' k')) (row_of room.spec.simulators (processes room.spec) (fields.view i j k))
+  room_rows =
+      of_base (λ (f : Fields). (i j k i' j' k' : ℕ) → i < room.spec.simulators → i' < room.spec.simulators → 1 ≤ k → 1 ≤ k' → f.level i j k ≡ 2 → f.level i' j' k' ≡ 2
+      → IsRowAtMost (row_of room.spec.simulators (processes room.spec) (f.view i j k)) (row_of room.spec.simulators (processes room.spec) (f.view i' j' k')) ⊎ IsRowAtMost (row_of room.spec.simulators (processes room.spec) (f.view i' j' k')) (row_of room.spec.simulators (processes room.spec) (f.view i j k)))
+      (rows_compare room.spec are.run.events (replay_fields room.spec (opening_fields room.spec) are.run.events) (stands_for (data_of room) limits are.run).tracks (history_run (data_of room) limits are.run))
+
+  pub room_moments : (i j k : ℕ) → i < room.spec.simulators → 1 ≤ k → fields.level i j k ≡ 2 → IsMoment room.spec are.run.events i j k (fields.view i j k)
+  room_moments =
+      of_base (λ (f : Fields). (i j k : ℕ) → i < room.spec.simulators → 1 ≤ k → f.level i j k ≡ 2 → IsMoment room.spec are.run.events i j k (f.view i j k))
+      (λ i j k below first two.
+      (history_run (data_of room) limits are.run).shown i j k below first (at_two room.spec (replay_fields room.spec (opening_fields room.spec) are.run.events) i j k (stands_for (data_of room) limits are.run).tracks two))

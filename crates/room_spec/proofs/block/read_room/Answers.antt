@@ -1,0 +1,18 @@
+use Rattle.std.proofs.Common.{arith, refl}
+use Rattle.std.proofs.lemmas.Grind.{common_steps}
+use Rattle.room_spec.proofs.Heads.{inputs_found, inputs_are_values}
+use Rattle.room_spec.proofs.Readings.{inputs_range}
+use Rattle.room_spec.proofs.Memory.{kept_small}
+use Rattle.room_spec.proofs.block.read_room.Goals as goal
+
+pub invariant_of-result : goal.invariant_of-result
+invariant_of-result c =
+    let are = (inputs_found c.in_ok-name.rest.now (c.in_ok-inputs.inputs.items, c.in_ok-inputs.rest.now) c.in_ok-inputs.ensures).2 in
+    record {
+      name = grind (arith, common_steps);
+      shape = record { n_range = inputs_range c.in_ok-inputs.inputs.items are; m_range = c.in_ok-simulators.ensures.range; rounds_range = c.in_ok-rounds.ensures.range; width = refl; memory = rw (c.from.ensures, c.len.ensures.value, c.bits.ensures, c.from-2.ensures) at c.if-from-len-gt64.false };
+      turns = c.in_ok-turns.ensures.range;
+      fuses = c.in_ok-fuses.ensures.fuses;
+      values = inputs_are_values c.in_ok-inputs.inputs.items are;
+      numerals = kept_small _ c.in_ok-fuses.text.now c.parse_bytes.result c.map_err.result c.in_ok-protocol.protocol c.parse_bytes.ensures.found c.map_err.ensures.cases c.map_err.ensures.variant c.in_ok-protocol.was;
+    }

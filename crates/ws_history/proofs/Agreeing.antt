@@ -1,0 +1,76 @@
+-- Fields that are the same at each simulator, process and round have the same agreements.
+use Rattle.std.proofs.Common.{◌≡◌, ℕ, zero, suc, ◌-◌, ◌<◌, ◌≤◌, Bool, cond, eqb, List, length, map, get_or, Option, Some, None, refl, inl, inr, sym, ap, ◌∙◌, subst, arith}
+use Rattle.std.proofs.lemmas.Bool.{cases_lt, lt-ltb, le-ltb}
+use Rattle.std.proofs.lemmas.List.FromFn.{length-map-range_with_len}
+use Rattle.std.specs.Prelude.{not, position, unwrap_or, nat_le, nat_lt, ◌==◌, ◌&&◌, ◌||◌, slice_index}
+use Rattle.std.specs.List.{find, list_any, position_or_len, range_with_len}
+use Rattle.std.specs.Option.{option_map}
+use Rattle.protocol_lang.specs.Meaning.{next_action}
+use Rattle.room_spec.specs.Rooms.{RoomSpec, processes}
+use Rattle.room_spec.specs.Sizes.{sizes_in}
+use Rattle.safe_agreement.specs.Levels.{has_level, least_two}
+use Rattle.sim_memory.specs.Steps.{AreSameSteps}
+use Rattle.sim_memory.proofs.Rows.{merged_same, row_same}
+use Rattle.room_core.specs.Passed.{asks, decided_in, first_with, greatest_step, has_out, is_clean, is_out, is_passed, outs_at, row_at, shown, shown_by, shown_of, view_at, written}
+use Rattle.room_core.specs.Fields.{Fields, levels_at}
+use Rattle.room_core.specs.Reading.{AgreeIn}
+use Rattle.ws_history.proofs.Walking.{map_same}
+
+found_low : {A : Type 0} (p : A → Bool) (xs : List A) → 0 < length xs → unwrap_or (position p xs) 0 < length xs
+found_low p xs some = elim (cases_lt (position_or_len p xs) (length xs)) [
+  | inl less ↦ let yes_it = lt-ltb (position_or_len p xs) (length xs) less in rw yes_it less
+  | inr past ↦ let no_it = le-ltb (position_or_len p xs) (length xs) past in rw no_it some
+]
+
+module _ (spec : RoomSpec) (F G : Fields) (some : 0 < spec.simulators) (agree : AgreeIn (sizes_in spec) F G) where
+  pub same_greatest : (p : ℕ) → p < processes spec → greatest_step spec F p ≡ greatest_step spec G p
+  same_greatest p below = merged_same spec.simulators (processes spec) F.step G.step p below agree.step
+
+  same_outs : (j : ℕ) → j < processes spec → outs_at spec F j ≡ outs_at spec G j
+  same_outs j below = map_same _ _ 0 spec.simulators (λ i low high. agree.out i j (omega arith) below)
+
+  pub same_decided : (j : ℕ) → j < processes spec → decided_in spec F j ≡ decided_in spec G j
+  same_decided j below = ap (λ (l : List ℕ). option_map (λ (out : ℕ). out - 1) (find is_out l)) (same_outs j below)
+
+  same_levels : (j k : ℕ) → j < processes spec → 1 ≤ k → k ≤ spec.rounds → levels_at spec F j k ≡ levels_at spec G j k
+  same_levels j k below first last = map_same _ _ 0 spec.simulators (λ i low high. agree.level i j k (omega arith) below (first, last))
+
+  pub same_clean : (j k : ℕ) → j < processes spec → 1 ≤ k → k ≤ spec.rounds → is_clean spec F j k ≡ is_clean spec G j k
+  same_clean j k below first last = ap (λ (l : List ℕ). has_level 2 l && not (has_level 1 l)) (same_levels j k below first last)
+
+  pub same_passed : (j k : ℕ) → j < processes spec → 1 ≤ k → k ≤ spec.rounds → is_passed spec F j k ≡ is_passed spec G j k
+  same_passed j k below first last =
+      ap (λ (b : Bool). b || nat_lt k (greatest_step spec F j) || (has_out spec F j && (greatest_step spec F j == k))) (same_clean j k below first last)
+      ∙ ap (λ (g : ℕ). is_clean spec G j k || nat_lt k g || (has_out spec F j && (g == k))) (same_greatest j below)
+      ∙ ap (λ (l : List ℕ). is_clean spec G j k || nat_lt k (greatest_step spec G j) || (list_any is_out l && (greatest_step spec G j == k))) (same_outs j below)
+
+  view_same : (j k : ℕ) → j < processes spec → 1 ≤ k → k ≤ spec.rounds → AreSameSteps spec.simulators (processes spec) (view_at spec F j k) (view_at spec G j k)
+  view_same j k below first last =
+      let same : shown_of spec F j k ≡ shown_of spec G j k = ap (λ (l : List ℕ). unwrap_or (least_two l) 0) (same_levels j k below first last) in
+      let long = length-map-range_with_len (λ (i : ℕ). G.level i j k) 0 spec.simulators in
+      let low : shown_of spec G j k < spec.simulators = subst (λ (m : ℕ). shown_of spec G j k < m) long (found_low (λ (one : ℕ). one == 2) (levels_at spec G j k) (omega arith)) in
+      subst (λ (h : ℕ). AreSameSteps spec.simulators (processes spec) (F.view h j k) (G.view (shown_of spec G j k) j k)) (sym same)
+      (agree.view (shown_of spec G j k) j k low below (first, last))
+
+  pub same_row : (j k : ℕ) → j < processes spec → 1 ≤ k → k ≤ spec.rounds → row_at spec F j k ≡ row_at spec G j k
+  same_row j k below first last = row_same spec.simulators (processes spec) _ _ (view_same j k below first last)
+
+  pub same_written : (p r : ℕ) → p < processes spec → 1 ≤ r → r ≤ spec.rounds → written spec F p r ≡ written spec G p r
+  same_written p r below first last =
+      let steps = map_same (λ (i : ℕ). F.step i p) (λ (i : ℕ). G.step i p) 0 spec.simulators (λ i low high. agree.step i p (omega arith) below) in
+      let same : first_with spec F p r ≡ first_with spec G p r = ap (λ (l : List ℕ). unwrap_or (position (λ (step : ℕ). nat_le r step) l) 0) steps in
+      let long = length-map-range_with_len (λ (i : ℕ). G.step i p) 0 spec.simulators in
+      let low : first_with spec G p r < spec.simulators = subst (λ (m : ℕ). first_with spec G p r < m) long (found_low (λ (step : ℕ). nat_le r step) (map (λ (i : ℕ). G.step i p) (range_with_len 0 spec.simulators)) (omega arith)) in
+      ap (λ (h : ℕ). F.value h p r) same ∙ agree.value (first_with spec G p r) p r low below (first, last)
+
+  pub same_value : (p r : ℕ) → p < processes spec → r ≤ spec.rounds → shown spec F p r ≡ shown spec G p r
+  same_value p zero below last = refl
+  same_value p (suc r) below last = ap (λ (x : ℕ). cond (eqb (suc r) 0) None (Some x)) (same_written p (suc r) below (omega arith) last)
+
+  pub same_view : (row : List ℕ) → ((p : ℕ) → get_or row p 0 ≤ spec.rounds) → shown_by spec F row ≡ shown_by spec G row
+  same_view row low = map_same _ _ 0 (processes spec) (λ p least below. same_value p (get_or row p 0) (omega arith) (low p))
+
+  pub same_asks : (j k : ℕ) → j < processes spec → 1 ≤ k → k ≤ spec.rounds → ((p : ℕ) → get_or (row_at spec F j k) p 0 ≤ spec.rounds) → asks spec F j k ≡ asks spec G j k
+  same_asks j k below first last low =
+      ap (λ (l : List (Option ℕ)). next_action spec.protocol (slice_index spec.inputs j) j k l)
+      (same_view (row_at spec F j k) low ∙ ap (λ (row : List ℕ). shown_by spec G row) (same_row j k below first last))

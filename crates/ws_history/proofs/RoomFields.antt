@@ -1,0 +1,66 @@
+-- What a room reads as is what any fields say that it stands for.
+use Rattle.std.proofs.Common.{◌≡◌, ℕ, ◌+◌, ◌≤◌, get_or, min, ap, ◌∙◌, arith}
+use Rattle.protocol_lang.specs.Numbers.{greatest}
+use Rattle.room_spec.specs.Rooms.{IsWithinLimits}
+use Rattle.room_spec.specs.Sizes.{sizes_in}
+use Rattle.view_table.specs.Words.{word_at}
+use Rattle.view_table.specs.declared.place.Place.TheVariants as places
+use Rattle.sim_memory.specs.Steps.{step_in}
+use Rattle.sim_memory.proofs.Rows.{merged_below}
+use Rattle.sim_memory.proofs.Words.{step_below}
+use Rattle.room_core.specs.Passed.{greatest_step, row_at}
+use Rattle.room_core.specs.Calls.{RoomState}
+use Rattle.room_core.specs.Fields.{Fields}
+use Rattle.room_core.specs.Reading.{AgreeIn, AreFieldsOf}
+use Rattle.room_core.proofs.Decoding.{agrees}
+use Rattle.room_core.proofs.LowValues.{fields_low, out_low}
+use Rattle.ws_history.specs.Readings.{read_of, view_word}
+use Rattle.ws_history.specs.Sources.{history_of}
+use Rattle.ws_history.proofs.Ranges.{row_low}
+use Rattle.ws_history.specs.Reports.{crashed_in, states_of}
+use Rattle.ws_history.proofs.SameHistories.{same_history}
+use Rattle.ws_history.proofs.SameReports.{same_crashed, same_states}
+
+smaller : (x most : ℕ) → x ≤ most → min x most ≡ x
+smaller x most low = omega arith
+
+module _ (room : RoomState) where
+  pub low_rows : (j k p : ℕ) → get_or (row_at room.spec (read_of room) j k) p 0 ≤ room.spec.rounds
+  unfolding read_of
+  low_rows j k p = row_low (sizes_in room.spec) (view_word room j k) p
+
+  pub low_greatest : (p : ℕ) → greatest_step room.spec (read_of room) p ≤ room.spec.rounds
+  unfolding read_of
+  low_greatest p = merged_below room.spec.simulators (step_in (sizes_in room.spec) (word_at (sizes_in room.spec) room.words places.Steps)) p room.spec.rounds (λ i below. step_below (sizes_in room.spec) (word_at (sizes_in room.spec) room.words places.Steps) i p)
+
+  pub read_agrees : (fields : Fields) → IsWithinLimits room.spec → AreFieldsOf room fields → AgreeIn (sizes_in room.spec) (read_of room) fields
+  unfolding read_of
+  read_agrees fields limits are =
+      let a = agrees room fields limits are in
+      record {
+        step = a.step;
+        level = a.level;
+        view = a.view;
+        value = λ i j k simulator process round. ap (λ (x : ℕ). min x greatest) (a.value i j k simulator process round) ∙ smaller (fields.value i j k) greatest (fields_low room fields limits are i j k);
+        out = λ i j simulator process. ap (λ (x : ℕ). min x (greatest + 1)) (a.out i j simulator process) ∙ smaller (fields.out i j) (greatest + 1) (out_low room fields limits are i j simulator process);
+        mind = a.mind;
+        quiet = a.quiet;
+        crashed = a.crashed;
+      }
+
+  pub history_in : (fields : Fields) → IsWithinLimits room.spec → AreFieldsOf room fields → history_of room.spec (read_of room) ≡ history_of room.spec fields
+  history_in fields limits are =
+      let some = limits.shape.m_range.0 in
+      same_history room.spec (read_of room) fields (omega arith) (read_agrees fields limits are) low_rows low_greatest
+
+  pub states_in : (fields : Fields) → IsWithinLimits room.spec → AreFieldsOf room fields → states_of room.spec (read_of room) ≡ states_of room.spec fields
+  states_in fields limits are =
+      let some = limits.shape.m_range.0 in
+      let rounds = limits.shape.rounds_range.0 in
+      same_states room.spec (read_of room) fields (omega arith) rounds (read_agrees fields limits are) low_rows
+
+  pub crashed_are : (fields : Fields) → IsWithinLimits room.spec → AreFieldsOf room fields → crashed_in room.spec (read_of room) ≡ crashed_in room.spec fields
+  crashed_are fields limits are =
+      let some = limits.shape.m_range.0 in
+      let rounds = limits.shape.rounds_range.0 in
+      same_crashed room.spec (read_of room) fields (omega arith) rounds (read_agrees fields limits are) low_rows

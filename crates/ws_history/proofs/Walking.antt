@@ -1,0 +1,184 @@
+-- What the walk through the agreed snapshots with one running row has written.
+use Rattle.std.proofs.Common.{◌≡◌, ℕ, zero, suc, ◌+◌, ◌<◌, ◌≤◌, Bool, true, false, cond, List, [], ◌∷◌, ◌++◌, length, map, get_or, take, drop, Option, Ordering, Less, Equal, Greater, fold, refl, sym, ap, ◌∙◌, arith}
+use Rattle.std.proofs.lemmas.List.{append_assoc, take_more}
+use Rattle.std.proofs.lemmas.List.FromFn.{get_or-map-range_with_len}
+use Rattle.std.specs.Ordering.{match_ordering}
+use Rattle.std.specs.Prelude.{max, replicate, ⊤}
+use Rattle.std.specs.List.{range_with_len}
+use Rattle.room_spec.specs.Rooms.{processes}
+use Rattle.room_spec.specs.Sizes.{sizes_in}
+use Rattle.sim_memory.specs.Steps.{row_of, step_in}
+use Rattle.sim_memory.proofs.Rows.{row_length}
+use Rattle.sim_memory.proofs.Rows.{row_at as row_entry}
+use Rattle.transcript.specs.declared.event.Event.{Event}
+use Rattle.transcript.specs.declared.event.Event.TheVariants.{Snap}
+use Rattle.room_core.specs.Passed.{is_passed, row_at, shown, shown_by}
+use Rattle.room_core.specs.Calls.{RoomState}
+use Rattle.ws_history.specs.declared.snapshots.Agreed.{Agreed}
+use Rattle.ws_history.specs.Histories.{Snapshot, Source, block, blocks, by_process, decided, last_writes, new_writes, shown_before}
+use Rattle.ws_history.specs.Orders.{all_passed, inserted, key_cmp, key_of, passed_of}
+use Rattle.ws_history.specs.Placing.{agreed_at, shown_with}
+use Rattle.ws_history.specs.Readings.{read_of, view_word}
+use Rattle.ws_history.specs.Running.{IsSnapshotOf, block_on}
+use Rattle.ws_history.specs.Sources.{decision_after, source_of}
+
+-- ---- lists
+
+pub by_process_same : (f g : ℕ → List Event) (n : ℕ) → ((p : ℕ) → p < n → f p ≡ g p) → by_process f n ≡ by_process g n
+by_process_same f g zero same = refl
+by_process_same f g (suc n) same =
+    ap (λ (l : List Event). l ++ f n) (by_process_same f g n (λ p less. same p (omega arith))) ∙ ap (λ (l : List Event). by_process g n ++ l) (same n (omega arith))
+
+pub map_same : {A : Type 0} (f g : ℕ → A) (a n : ℕ) → ((p : ℕ) → a ≤ p → p < a + n → f p ≡ g p) → map f (range_with_len a n) ≡ map g (range_with_len a n)
+map_same f g a zero same = refl
+map_same {A = A} f g a (suc n) same =
+    ap (λ (x : A). x ∷ map f (range_with_len (a + 1) n)) (same a (omega arith) (omega arith))
+    ∙ ap (λ (l : List A). g a ∷ l) (map_same f g (a + 1) n (λ p low high. same p (omega arith) (omega arith)))
+
+pub all_zero : (a n : ℕ) → replicate {A = ℕ} n 0 ≡ map (λ (p : ℕ). 0) (range_with_len a n)
+all_zero a zero = refl
+all_zero a (suc n) = ap (λ (l : List ℕ). 0 ∷ l) (all_zero (a + 1) n)
+
+pub drop_at : {A : Type 0} (xs : List A) (i : ℕ) (d : A) → i < length xs → drop i xs ≡ get_or xs i d ∷ drop (i + 1) xs
+drop_at [] i d less = absurd (omega arith)
+drop_at (x ∷ xs) zero d less = refl
+drop_at {A = A} (x ∷ xs) (suc i) d less =
+    let turned : suc (i + 1) ≡ suc i + 1 = omega arith in
+    drop_at xs i d (omega arith) ∙ ap (λ (k : ℕ). get_or xs i d ∷ drop k (x ∷ xs)) turned
+
+pub map_at : {A B : Type 0} (f : A → B) (xs : List A) (i : ℕ) (d : A) (e : B) → i < length xs → get_or (map f xs) i e ≡ f (get_or xs i d)
+map_at f [] i d e less = absurd (omega arith)
+map_at f (x ∷ xs) zero d e less = refl
+map_at f (x ∷ xs) (suc i) d e less = map_at f xs i d e (omega arith)
+
+pub drop_past : {A : Type 0} (xs : List A) (i : ℕ) → length xs ≤ i → drop i xs ≡ []
+drop_past [] zero past = refl
+drop_past [] (suc i) past = refl
+drop_past (x ∷ xs) zero past = absurd (omega arith)
+drop_past (x ∷ xs) (suc i) past = drop_past xs i (omega arith)
+
+pub take_past : {A : Type 0} (xs : List A) (i : ℕ) → length xs ≤ i → take i xs ≡ xs
+take_past [] zero past = refl
+take_past [] (suc i) past = refl
+take_past (x ∷ xs) zero past = absurd (omega arith)
+take_past {A = A} (x ∷ xs) (suc i) past = ap (λ (l : List A). x ∷ l) (take_past xs i (omega arith))
+
+-- ---- whose snapshots they are
+
+abbrev pub Low : ℕ → List Snapshot → Type 0
+Low n [] = ⊤
+Low n (s ∷ rest) = (s.process < n) × Low n rest
+
+low_append : (n : ℕ) (xs ys : List Snapshot) → Low n xs → Low n ys → Low n (xs ++ ys)
+low_append n [] ys low other = other
+low_append n (s ∷ xs) ys low other = (low.0, low_append n xs ys low.1 other)
+
+low_put : (n : ℕ) (o : Ordering) (x y z : List Snapshot) → Low n x → Low n y → Low n z → Low n (match_ordering o x y z)
+low_put n Less x y z a b c = a
+low_put n Equal x y z a b c = b
+low_put n Greater x y z a b c = c
+
+low_inserted : (n : ℕ) (row : ℕ → ℕ → List ℕ) (xs : List Snapshot) (s : Snapshot) → Low n xs → s.process < n → Low n (inserted row xs s)
+low_inserted n row [] s low below = (below, tt)
+low_inserted n row (t ∷ rest) s low below =
+    low_put n (key_cmp (key_of row s) (key_of row t)) (s ∷ t ∷ rest) (s ∷ rest) (t ∷ inserted row rest s) (below, low) (below, low.1) (low.0, low_inserted n row rest s low.1 below)
+
+low_fold : (n : ℕ) (row : ℕ → ℕ → List ℕ) (xs before : List Snapshot) → Low n before → Low n xs → Low n (fold (inserted row) before xs)
+low_fold n row [] before low all = low
+low_fold n row (s ∷ xs) before low all = low_fold n row xs (inserted row before s) (low_inserted n row before s low all.0) all.1
+
+low_if : (n p r : ℕ) (b : Bool) → p < n → Low n (cond b (record { process = p; round = r } ∷ []) [])
+low_if n p r true below = (below, tt)
+low_if n p r false below = tt
+
+low_passed : (n p r : ℕ) (passed : ℕ → ℕ → Bool) → p < n → Low n (passed_of passed p r)
+low_passed n p zero passed below = tt
+low_passed n p (suc r) passed below = low_append n (passed_of passed p r) _ (low_passed n p r passed below) (low_if n p (r + 1) (passed p (r + 1)) below)
+
+low_all : (n k r : ℕ) (passed : ℕ → ℕ → Bool) → k ≤ n → Low n (all_passed passed k r)
+low_all n zero r passed within = tt
+low_all n (suc k) r passed within = low_append n (all_passed passed k r) (passed_of passed k r) (low_all n k r passed (omega arith)) (low_passed n k r passed (omega arith))
+
+low_at : (n : ℕ) (xs : List Snapshot) (i : ℕ) (d : Snapshot) → Low n xs → i < length xs → (get_or xs i d).process < n
+low_at n [] i d low less = absurd (omega arith)
+low_at n (s ∷ xs) zero d low less = low.0
+low_at n (s ∷ xs) (suc i) d low less = low_at n xs i d low.1 (omega arith)
+
+-- ---- what is shown
+
+shown_more : (src : Source) (earlier : List Snapshot) (s : Snapshot) (p : ℕ) → max (shown_before src earlier p) (get_or (src.row s.process s.round) p 0) ≡ shown_before src (earlier ++ s ∷ []) p
+shown_more src [] s p = max_zero (get_or (src.row s.process s.round) p 0)
+  where
+    max_zero : (x : ℕ) → max 0 x ≡ max x 0
+    max_zero x = omega arith
+shown_more src (t ∷ earlier) s p =
+    turned (get_or (src.row t.process t.round) p 0) (shown_before src earlier p) (get_or (src.row s.process s.round) p 0)
+    ∙ ap (λ (x : ℕ). max (get_or (src.row t.process t.round) p 0) x) (shown_more src earlier s p)
+  where
+    turned : (a b c : ℕ) → max (max a b) c ≡ max a (max b c)
+    turned a b c = omega arith
+
+module _ (room : RoomState) where
+  abbrev pub source : Source
+  source = source_of room.spec (read_of room)
+
+  view_row : (j k : ℕ) → row_of room.spec.simulators (processes room.spec) (step_in (sizes_in room.spec) (view_word room j k)) ≡ row_at room.spec (read_of room) j k
+  unfolding read_of
+  view_row j k = refl
+
+  pub row_read : (agreed : Agreed) → IsSnapshotOf room agreed → row_of room.spec.simulators (processes room.spec) (step_in (sizes_in room.spec) agreed.word) ≡ row_at room.spec (read_of room) agreed.process agreed.round
+  row_read agreed of =
+      ap (λ (a : Agreed). row_of room.spec.simulators (processes room.spec) (step_in (sizes_in room.spec) a.word)) of.is ∙ view_row agreed.process agreed.round
+
+  width : (j k : ℕ) → length (row_at room.spec (read_of room) j k) ≡ processes room.spec
+  width j k = row_length room.spec.simulators (processes room.spec) _
+
+  abbrev pub running : List Snapshot → List ℕ
+  running earlier = map (shown_before source earlier) (range_with_len 0 (processes room.spec))
+
+  running_at : (earlier : List Snapshot) (p : ℕ) → p < processes room.spec → get_or (running earlier) p 0 ≡ shown_before source earlier p
+  running_at earlier p less = get_or-map-range_with_len (shown_before source earlier) 0 (processes room.spec) p p 0 less (omega arith)
+
+  pub same_shown : (earlier : List Snapshot) (s : Snapshot) → shown_with (running earlier) (row_at room.spec (read_of room) s.process s.round) ≡ running (earlier ++ s ∷ [])
+  same_shown earlier s =
+      let row = row_at room.spec (read_of room) s.process s.round in
+      ap (λ (n : ℕ). map (λ (p : ℕ). max (get_or (running earlier) p 0) (get_or row p 0)) (range_with_len 0 n)) (width s.process s.round)
+      ∙ map_same _ _ 0 (processes room.spec) (λ p low high.
+      ap (λ (x : ℕ). max x (get_or row p 0)) (running_at earlier p (omega arith)) ∙ shown_more source earlier s p)
+
+  pub same_block : (earlier : List Snapshot) (s : Snapshot) → block_on room (running earlier) (agreed_at room s) ≡ block source (processes room.spec) earlier s
+  same_block earlier s =
+      let row = row_at room.spec (read_of room) s.process s.round in
+      let n = processes room.spec in
+      let end = decided s.process (decision_after room.spec (read_of room) s.process s.round) in
+      let writes = by_process_same (λ (p : ℕ). new_writes source p (get_or (running earlier) p 0) (get_or row p 0)) (λ (p : ℕ). new_writes source p (shown_before source earlier p) (get_or row p 0)) n
+      (λ p less. ap (λ (x : ℕ). new_writes source p x (get_or row p 0)) (running_at earlier p less)) in
+      let all = ap (λ (k : ℕ). map (λ (p : ℕ). shown room.spec (read_of room) p (get_or row p 0)) (range_with_len 0 k)) (width s.process s.round) in
+      ap (λ (l : List Event). (l ++ Snap s.process (record { items = shown_by room.spec (read_of room) row }) ∷ []) ++ end) writes
+      ∙ ap (λ (l : List (Option ℕ)). (by_process (λ (p : ℕ). new_writes source p (shown_before source earlier p) (get_or row p 0)) n ++ Snap s.process (record { items = l }) ∷ []) ++ end) (sym all)
+
+  pub is_snapshot : (i : ℕ) (d : Snapshot) → i < length source.order → IsSnapshotOf room (agreed_at room (get_or source.order i d))
+  is_snapshot i d less = record {
+    process = low_at (processes room.spec) source.order i d
+        (low_fold (processes room.spec) source.row (all_passed (is_passed room.spec (read_of room)) (processes room.spec) room.spec.rounds) [] tt
+        (low_all (processes room.spec) (processes room.spec) room.spec.rounds (is_passed room.spec (read_of room)) (omega arith))) less;
+    is = refl;
+  }
+
+  pub walk_on : (events : List Event) (i : ℕ) (d : Snapshot) → i < length source.order
+      → events ++ blocks source (processes room.spec) (take i source.order) (drop i source.order)
+      ≡ (events ++ block source (processes room.spec) (take i source.order) (get_or source.order i d)) ++ blocks source (processes room.spec) (take (i + 1) source.order) (drop (i + 1) source.order)
+  walk_on events i d less =
+      let n = processes room.spec in
+      let s = get_or source.order i d in
+      let earlier = take i source.order in
+      ap (λ (l : List Snapshot). events ++ blocks source n earlier l) (drop_at source.order i d less)
+      ∙ ap (λ (l : List Snapshot). events ++ (block source n earlier s ++ blocks source n l (drop (i + 1) source.order))) (sym (take_more source.order i d less))
+      ∙ sym (append_assoc events (block source n earlier s) (blocks source n (take (i + 1) source.order) (drop (i + 1) source.order)))
+
+  pub last_is : (greatest : List ℕ) → greatest ≡ row_of room.spec.simulators (processes room.spec) (read_of room).step
+      → by_process (λ (p : ℕ). new_writes source p (get_or (running source.order) p 0) (get_or greatest p 0)) (processes room.spec) ≡ last_writes source (processes room.spec)
+  last_is greatest is =
+      by_process_same _ _ (processes room.spec) (λ p less.
+      ap (λ (x : ℕ). new_writes source p x (get_or greatest p 0)) (running_at source.order p less)
+      ∙ ap (λ (x : ℕ). new_writes source p (shown_before source source.order p) x) (ap (λ (l : List ℕ). get_or l p 0) is ∙ row_entry room.spec.simulators (processes room.spec) (read_of room).step p less))

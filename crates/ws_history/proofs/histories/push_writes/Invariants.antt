@@ -1,0 +1,8 @@
+use Rattle.std.proofs.Common.{◌≡◌, ◌++◌, get_or}
+use Rattle.ws_history.specs.Histories.{by_process, new_writes}
+use Rattle.ws_history.specs.Readings.{read_of}
+use Rattle.ws_history.specs.Sources.{source_of}
+use Rattle.ws_history.proofs.histories.push_writes.Given as goal
+
+abbrev pub invariant-loop-p : goal.invariant-loop-p
+invariant-loop-p l = l.events.items ≡ l.initial.events.items ++ by_process (λ p. new_writes (source_of l.room.spec (read_of l.room)) p (get_or l.from p 0) (get_or l.upto p 0)) l.p

@@ -1,0 +1,15 @@
+use Rattle.std.proofs.Common.{◌≡◌, ◌++◌, [], take, drop}
+use Rattle.room_spec.specs.Rooms.{processes}
+use Rattle.ws_history.specs.Histories.{blocks}
+use Rattle.ws_history.specs.Readings.{read_of}
+use Rattle.ws_history.specs.Sources.{source_of}
+use Rattle.ws_history.proofs.Walking.{running}
+use Rattle.ws_history.proofs.histories.read_history.Given as goal
+
+abbrev pub invariant-loop-snapshot : goal.invariant-loop-snapshot
+invariant-loop-snapshot l = record {
+  so_far : l.events.items
+      ++ blocks (source_of l.room.spec (read_of l.room)) (processes l.room.spec) (take l.snapshot-index (source_of l.room.spec (read_of l.room)).order) (drop l.snapshot-index (source_of l.room.spec (read_of l.room)).order)
+      ≡ blocks (source_of l.room.spec (read_of l.room)) (processes l.room.spec) [] (source_of l.room.spec (read_of l.room)).order;
+  shown : l.shown.items ≡ running l.room (take l.snapshot-index (source_of l.room.spec (read_of l.room)).order);
+}

@@ -1,0 +1,49 @@
+-- The report of a room: where each process stands, which simulators have crashed, and the history.
+use Rattle.std.specs.Prelude.{ℕ, Bool, true, false, List, Option, Some, None, map, ◌==◌, ◌&&◌, if◌then◌else◌}
+use Rattle.std.specs.List.{filter, find, list_any, range_with_len}
+use Rattle.protocol_lang.specs.declared.meaning.Action.{Action}
+use Rattle.protocol_lang.specs.declared.meaning.Action.TheVariants as actions
+use Rattle.room_spec.specs.Rooms.{RoomSpec, processes}
+use Rattle.room_core.specs.Fields.{Fields}
+use Rattle.room_core.specs.Passed.{asks, decided_in, is_clean}
+use Rattle.ws_history.specs.declared.states.ProcessState.{ProcessState}
+use Rattle.ws_history.specs.declared.states.ProcessState.TheVariants.{Decided, Spent, Held, Going}
+
+abbrev pub is_write : Action → Bool
+is_write (actions.Write value) = true
+is_write (actions.Decide decision) = false
+
+-- the last snapshot of process j was agreed on, and asks for a write
+abbrev pub is_spent : RoomSpec → Fields → ℕ → Bool
+is_spent spec fields j = is_clean spec fields j spec.rounds && is_write (asks spec fields j spec.rounds)
+
+-- simulator i is at level 1 in an agreement on a snapshot of process j
+abbrev pub is_inside : RoomSpec → Fields → ℕ → ℕ → Bool
+is_inside spec fields i j = list_any (λ k. fields.level i j k == 1) (range_with_len 1 spec.rounds)
+
+-- the least simulator that has crashed there
+abbrev pub held_by : RoomSpec → Fields → ℕ → Option ℕ
+held_by spec fields j = find (λ i. fields.crashed i && is_inside spec fields i j) (range_with_len 0 spec.simulators)
+
+abbrev pub is_held : ProcessState → Bool
+is_held (Held i) = true
+is_held state = false
+
+abbrev pub held_or_going : Option ℕ → ProcessState
+held_or_going (Some i) = Held i
+held_or_going None = Going
+
+-- the first that fits
+abbrev pub state_by : Option ℕ → Bool → Option ℕ → ProcessState
+state_by (Some v) spent holder = Decided v
+state_by None spent holder = if spent then Spent else held_or_going holder
+
+abbrev pub state_of : RoomSpec → Fields → ℕ → ProcessState
+state_of spec fields j = state_by (decided_in spec fields j) (is_spent spec fields j) (held_by spec fields j)
+
+abbrev pub states_of : RoomSpec → Fields → List ProcessState
+states_of spec fields = map (state_of spec fields) (range_with_len 0 (processes spec))
+
+-- the simulators that have crashed, in order
+abbrev pub crashed_in : RoomSpec → Fields → List ℕ
+crashed_in spec fields = filter fields.crashed (range_with_len 0 spec.simulators)

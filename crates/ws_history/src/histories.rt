@@ -1,0 +1,175 @@
+//! The history of a room.
+ghost use Rattle.std.specs.Prelude.{◌≡◌, ℕ, ◌<◌, ◌≤◌, [], ◌∷◌, ◌++◌, IfOk, OnOk, length, replicate, slice_index};
+ghost use Rattle.room_spec.specs.Rooms.{processes};
+ghost use Rattle.ws_history.specs.Histories.{by_process, decided, new_writes};
+ghost use Rattle.room_core.specs.Fields.{Fields};
+ghost use Rattle.room_core.specs.Reading.{AreFieldsOf};
+ghost use Rattle.room_core.specs.Passed.{row_at, shown_by};
+ghost use Rattle.transcript.specs.Runs.{IsRun};
+ghost use Rattle.transcript.specs.declared.event.Event.TheVariants.{Snap};
+ghost use Rattle.ws_history.specs.Placing.{shown_with};
+ghost use Rattle.ws_history.specs.Readings.{read_of};
+ghost use Rattle.ws_history.specs.Sources.{decision_after, history_of, source_of};
+ghost use Rattle.ws_history.specs.Running.{IsSnapshotOf, block_on};
+
+use crate::reading::{
+    Row, decided_in, greatest_step, greatest_steps, number_of, process_count, row_of, shape_of,
+    shown_by, written,
+};
+use crate::snapshots::{Agreed, in_order};
+use room_core::RoomCore;
+use std::alloc::{AllocError, Global};
+use transcript::Event;
+
+/// The history of the room's processes: the snapshots that were agreed on, by the sum of their rows
+/// and then by process; before each the writes that it is the first to show, and after it the
+/// decision of its process, if that follows it; at the end the writes that none of them shows.
+pub fn history(alloc: Global, room: &RoomCore) -> Result<Vec<Event>, AllocError>
+    // It is that of the fields that the room's words say, with values above the greatest read as that.
+    ensures read { IfOk result (λ events. events.items ≡ history_of room.now.spec (read_of room.now)) }
+    // And that of any fields that the room stands for.
+    ensures fields { (fields : Fields) → AreFieldsOf room.now fields → IfOk result (λ events. events.items ≡ history_of room.now.spec fields) }
+    // It is a run of the processes on write-snapshot memory.
+    ensures run { IfOk result (λ events. IsRun room.now.spec events.items) }
+{
+    let _shape = shape_of(room);
+    let events = read_history(alloc, room)?;
+    Ok(events)
+}
+
+fn read_history(alloc: Global, room: &RoomCore) -> Result<Vec<Event>, AllocError>
+    ensures { IfOk result (λ events. events.items ≡ history_of room.now.spec (read_of room.now)) }
+{
+    let mut events = Vec::new(alloc);
+    let mut shown = nothing(process_count(room));
+    let order = in_order(room);
+    for snapshot in order.as_slice() {
+        push_block(&mut events, room, &mut shown, snapshot)?;
+    }
+    let greatest = greatest_steps(room);
+    push_writes(&mut events, room, shown.as_slice(), greatest.as_slice())?;
+    Ok(events)
+}
+
+/// No write of any of `n` processes.
+fn nothing(n: usize) -> Row
+    requires { n ≤ 16 }
+    ensures { result.items ≡ replicate n 0 }
+{
+    let mut row = Row::new();
+    for _ in 0..n {
+        row.push(0);
+    }
+    row
+}
+
+/// The writes that the snapshot is the first to show, the snapshot, and the decision after it if
+/// there is one. `shown` is what the earlier ones show, and then what it shows too.
+fn push_block(
+    events: &mut Vec<Event>,
+    room: &RoomCore,
+    shown: &mut Row,
+    snapshot: &Agreed,
+) -> Result<(), AllocError>
+    requires shown { length shown.old.items ≡ processes room.now.spec }
+    requires is { IsSnapshotOf room.now snapshot.now }
+    ensures events { OnOk result (events.new.items ≡ events.old.items ++ block_on room.now shown.old.items snapshot.now) }
+    ensures shown { OnOk result (shown.new.items ≡ shown_with shown.old.items (row_at room.now.spec (read_of room.now) snapshot.now.process snapshot.now.round)) }
+{
+    let row = row_of(room.spec(), snapshot.word);
+    push_writes(events, room, shown.as_slice(), row.as_slice())?;
+    *shown = with_row(shown.as_slice(), row.as_slice());
+    push_snap(events, room, snapshot.process, row.as_slice())?;
+    push_decision(events, room, snapshot)?;
+    Ok(())
+}
+
+/// The snapshot of process `p` that shows this row.
+fn push_snap(
+    events: &mut Vec<Event>,
+    room: &RoomCore,
+    p: usize,
+    row: &[usize],
+) -> Result<(), AllocError>
+    requires process { p < processes room.now.spec }
+    requires length { length row.now ≡ processes room.now.spec }
+    requires range { (q : ℕ) → slice_index row.now q ≤ room.now.spec.rounds }
+    ensures { OnOk result (events.new.items ≡ events.old.items ++ Snap p (record { items = shown_by room.now.spec (read_of room.now) row.now }) ∷ []) }
+{
+    events.push(Event::Snap {
+        p: number_of(room, p),
+        row: shown_by(room, row),
+    })?;
+    Ok(())
+}
+
+/// What is decided after the snapshot, if anything is.
+fn push_decision(
+    events: &mut Vec<Event>,
+    room: &RoomCore,
+    snapshot: &Agreed,
+) -> Result<(), AllocError>
+    requires { snapshot.now.process < processes room.now.spec }
+    ensures { OnOk result (events.new.items ≡ events.old.items ++ decided snapshot.now.process (decision_after room.now.spec (read_of room.now) snapshot.now.process snapshot.now.round)) }
+{
+    if greatest_step(room, snapshot.process) == snapshot.round {
+        if let Some(v) = decided_in(room, snapshot.process) {
+            events.push(Event::Decide {
+                p: number_of(room, snapshot.process),
+                v,
+            })?;
+        }
+    }
+    Ok(())
+}
+
+/// The writes of each process after the first `from` of it, up to `upto`.
+fn push_writes(
+    events: &mut Vec<Event>,
+    room: &RoomCore,
+    from: &[usize],
+    upto: &[usize],
+) -> Result<(), AllocError>
+    requires from { length from.now ≡ processes room.now.spec }
+    requires upto { length upto.now ≡ processes room.now.spec }
+    requires range { (p : ℕ) → slice_index upto.now p ≤ room.now.spec.rounds }
+    ensures { OnOk result (events.new.items ≡ events.old.items ++ by_process (λ p. new_writes (source_of room.now.spec (read_of room.now)) p (slice_index from.now p) (slice_index upto.now p)) (processes room.now.spec)) }
+{
+    for p in 0..process_count(room) {
+        push_writes_of(events, room, p, from[p], upto[p])?;
+    }
+    Ok(())
+}
+
+fn push_writes_of(
+    events: &mut Vec<Event>,
+    room: &RoomCore,
+    p: usize,
+    from: usize,
+    upto: usize,
+) -> Result<(), AllocError>
+    requires process { p < processes room.now.spec }
+    requires upto { upto ≤ room.now.spec.rounds }
+    ensures { OnOk result (events.new.items ≡ events.old.items ++ new_writes (source_of room.now.spec (read_of room.now)) p from upto) }
+{
+    for more in 0..upto.saturating_sub(from) {
+        events.push(Event::Write {
+            p: number_of(room, p),
+            v: written(room, p, from + 1 + more),
+        })?;
+    }
+    Ok(())
+}
+
+/// What is shown once this row is shown too.
+fn with_row(shown: &[usize], row: &[usize]) -> Row
+    requires same { length shown.now ≡ length row.now }
+    requires few { length row.now ≤ 16 }
+    ensures { result.items ≡ shown_with shown.now row.now }
+{
+    let mut all = Row::new();
+    for p in 0..row.len() {
+        all.push(shown[p].max(row[p]));
+    }
+    all
+}

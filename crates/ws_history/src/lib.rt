@@ -1,0 +1,17 @@
+//! What a simulated room has come to: the history of its processes on write-snapshot memory, and a
+//! report of where each of them stands.
+#![tactic(auto)]
+
+mod histories;
+pub mod laws;
+mod reading;
+mod reports;
+mod snapshots;
+mod states;
+
+pub use histories::history;
+pub use reports::report;
+pub use states::{ProcessState, Report};
+
+#[cfg(test)]
+mod tests;

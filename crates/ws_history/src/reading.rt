@@ -1,0 +1,360 @@
+//! What the words of a room say.
+ghost use Rattle.std.specs.Prelude.{◌≡◌, ℕ, ◌<◌, ◌≤◌, IfSome, length, min, slice_index};
+ghost use Rattle.protocol_lang.specs.Numbers.{greatest};
+ghost use Rattle.room_spec.specs.Rooms.{IsWithinLimits, processes};
+ghost use Rattle.room_spec.specs.Sizes.{sizes_in};
+ghost use Rattle.view_table.specs.Places.{IsPlace, IsRound};
+ghost use Rattle.view_table.specs.Words.{word_at};
+ghost use Rattle.safe_agreement.specs.Levels.{least_two};
+ghost use Rattle.sim_memory.specs.Steps.{merged_of, row_of, step_in};
+ghost use Rattle.room_core.specs.Passed.{asks, decided_in, first_with, greatest_step, has_out, is_clean, is_passed, row_at, shown, shown_by, shown_of, written};
+ghost use Rattle.room_core.specs.Calls.{data_of};
+ghost use Rattle.room_core.specs.Fields.{Fields, levels_at};
+ghost use Rattle.room_core.specs.Reading.{AreFieldsOf, Reads};
+ghost use Rattle.ws_history.specs.Readings.{read_of, view_word};
+
+use arrayvec::ArrayVec;
+use level_cells::levels;
+use protocol_lang::{Action, View, next};
+use room_core::RoomCore;
+use room_spec::{Shape, Spec};
+use sim_memory::{merged, step_of};
+use view_table::{Place, index};
+
+/// How many writes of each process something shows.
+pub(crate) type Row = ArrayVec<usize, 16>;
+
+/// The greatest decision plus one.
+const MOST: u64 = 4294967296;
+
+pub(crate) fn process_count(room: &RoomCore) -> usize
+    ensures value { result ≡ processes room.now.spec }
+    ensures range { (1 ≤ result) × (result ≤ 16) }
+{
+    room.spec().n()
+}
+
+pub(crate) fn simulator_count(room: &RoomCore) -> usize
+    ensures value { result ≡ room.now.spec.simulators }
+    ensures range { (1 ≤ result) × (result ≤ 8) }
+{
+    room.spec().m()
+}
+
+pub(crate) fn round_count(room: &RoomCore) -> usize
+    ensures value { result ≡ room.now.spec.rounds }
+    ensures range { (1 ≤ result) × (result ≤ 15) }
+{
+    room.spec().rounds()
+}
+
+/// The numbers of the room, which are within their limits. The room stands for some fields.
+pub(crate) fn shape_of(room: &RoomCore) -> Shape
+    ensures limits { IsWithinLimits room.now.spec }
+    ensures fields { (fields : Fields) × AreFieldsOf room.now fields × Reads (data_of room.now) fields }
+{
+    room.spec().shape()
+}
+
+/// The word at this place.
+fn word_at(room: &RoomCore, place: Place) -> u64
+    requires { IsPlace (sizes_in room.now.spec) place }
+    ensures { result ≡ word_at (sizes_in room.now.spec) room.now.words place }
+{
+    room.word(index(&room.spec().shape(), place))
+}
+
+/// The number, or the greatest value where it is above that.
+fn small(word: u64) -> u32
+    ensures { result ≡ min word greatest }
+{
+    word.min(4294967295) as u32
+}
+
+/// The number of a process, as events have it.
+pub(crate) fn number_of(room: &RoomCore, p: usize) -> u8
+    requires { p < processes room.now.spec }
+    ensures { result ≡ p }
+{
+    let n = process_count(room);
+    prove!(p < n);
+    p as u8
+}
+
+/// How many writes of process `p` simulator `i` has counted.
+#[tactic(auto, unfolding(crate::specs::Readings::read_of))]
+fn step(room: &RoomCore, i: usize, p: usize) -> usize
+    requires simulator { i < room.now.spec.simulators }
+    requires process { p < processes room.now.spec }
+    ensures value { result ≡ (read_of room.now).step i p }
+    ensures range { result ≤ room.now.spec.rounds }
+{
+    step_of(&room.spec().shape(), word_at(room, Place::Steps), i, p)
+}
+
+/// How many writes of process `p` a memory word shows.
+fn merged_in(spec: &Spec, word: u64, p: usize) -> usize
+    requires { p < processes spec.now }
+    ensures value { result ≡ merged_of spec.now.simulators (step_in (sizes_in spec.now) word) p }
+    ensures range { result ≤ spec.now.rounds }
+{
+    merged(&spec.shape(), word, p)
+}
+
+/// How many writes of process `p` have been made.
+#[tactic(auto, unfolding(crate::specs::Readings::read_of))]
+pub(crate) fn greatest_step(room: &RoomCore, p: usize) -> usize
+    requires { p < processes room.now.spec }
+    ensures value { result ≡ greatest_step room.now.spec (read_of room.now) p }
+    ensures range { result ≤ room.now.spec.rounds }
+{
+    merged_in(room.spec(), word_at(room, Place::Steps), p)
+}
+
+/// How many writes of each process a memory word shows.
+pub(crate) fn row_of(spec: &Spec, word: u64) -> Row
+    ensures value { result.items ≡ row_of spec.now.simulators (processes spec.now) (step_in (sizes_in spec.now) word) }
+    ensures count { length result.items ≡ processes spec.now }
+    ensures range { (p : ℕ) → slice_index result.items p ≤ spec.now.rounds }
+{
+    let mut row = Row::new();
+    for p in 0..spec.n() {
+        row.push(merged_in(spec, word, p));
+    }
+    row
+}
+
+/// How many writes of each process have been made.
+#[tactic(auto, unfolding(crate::specs::Readings::read_of))]
+pub(crate) fn greatest_steps(room: &RoomCore) -> Row
+    ensures value { result.items ≡ row_of room.now.spec.simulators (processes room.now.spec) (read_of room.now).step }
+    ensures count { length result.items ≡ processes room.now.spec }
+    ensures range { (p : ℕ) → slice_index result.items p ≤ room.now.spec.rounds }
+{
+    row_of(room.spec(), word_at(room, Place::Steps))
+}
+
+/// The levels in the agreement on process `j` and round `k`.
+#[tactic(auto, unfolding(crate::specs::Readings::read_of))]
+fn levels_at(room: &RoomCore, j: usize, k: usize) -> ArrayVec<u8, 8>
+    requires process { j < processes room.now.spec }
+    requires round { IsRound (sizes_in room.now.spec) k }
+    ensures value { result.items ≡ levels_at room.now.spec (read_of room.now) j k }
+    ensures count { length result.items ≡ room.now.spec.simulators }
+{
+    let word = word_at(
+        room,
+        Place::Levels {
+            process: j,
+            round: k,
+        },
+    );
+    levels(word, room.spec().m())
+}
+
+/// The level of simulator `i` in the agreement on process `j` and round `k`.
+pub(crate) fn level(room: &RoomCore, i: usize, j: usize, k: usize) -> u8
+    requires simulator { i < room.now.spec.simulators }
+    requires process { j < processes room.now.spec }
+    requires round { IsRound (sizes_in room.now.spec) k }
+    ensures { result ≡ (read_of room.now).level i j k }
+{
+    levels_at(room, j, k)[i]
+}
+
+/// The decision of process `j` plus one, as simulator `i` has it, or 0.
+#[tactic(auto, unfolding(crate::specs::Readings::read_of))]
+fn out(room: &RoomCore, i: usize, j: usize) -> u64
+    requires simulator { i < room.now.spec.simulators }
+    requires process { j < processes room.now.spec }
+    ensures value { result ≡ (read_of room.now).out i j }
+    ensures range { result ≤ 4294967296 }
+{
+    let word = word_at(
+        room,
+        Place::Out {
+            simulator: i,
+            process: j,
+        },
+    );
+    word.min(MOST)
+}
+
+/// The value of process `p`'s write in round `r`, as simulator `i` has it.
+#[tactic(auto, unfolding(crate::specs::Readings::read_of))]
+fn value(room: &RoomCore, i: usize, p: usize, r: usize) -> u32
+    requires simulator { i < room.now.spec.simulators }
+    requires process { p < processes room.now.spec }
+    requires round { IsRound (sizes_in room.now.spec) r }
+    ensures { result ≡ (read_of room.now).value i p r }
+{
+    small(word_at(
+        room,
+        Place::Value {
+            simulator: i,
+            process: p,
+            round: r,
+        },
+    ))
+}
+
+/// Whether simulator `i` has crashed.
+#[tactic(auto, unfolding(crate::specs::Readings::read_of))]
+pub(crate) fn has_crashed(room: &RoomCore, i: usize) -> bool
+    requires { i < room.now.spec.simulators }
+    ensures { result ≡ (read_of room.now).crashed i }
+{
+    room.is_crashed(i)
+}
+
+pub(crate) fn is_clean(room: &RoomCore, j: usize, k: usize) -> bool
+    requires process { j < processes room.now.spec }
+    requires round { IsRound (sizes_in room.now.spec) k }
+    ensures { result ≡ is_clean room.now.spec (read_of room.now) j k }
+{
+    let levels = levels_at(room, j, k);
+    levels.as_slice().contains(&2) && !levels.as_slice().contains(&1)
+}
+
+/// What process `j` has decided, if a simulator has stored it.
+pub(crate) fn decided_in(room: &RoomCore, j: usize) -> Option<u32>
+    requires { j < processes room.now.spec }
+    ensures { result ≡ decided_in room.now.spec (read_of room.now) j }
+{
+    for i in 0..simulator_count(room) {
+        let out = out(room, i, j);
+        if out != 0 {
+            return Some((out - 1) as u32);
+        }
+    }
+    None
+}
+
+pub(crate) fn has_out(room: &RoomCore, j: usize) -> bool
+    requires { j < processes room.now.spec }
+    ensures { result ≡ has_out room.now.spec (read_of room.now) j }
+{
+    for i in 0..simulator_count(room) {
+        if out(room, i, j) != 0 {
+            return true;
+        }
+    }
+    false
+}
+
+/// Whether a simulator has gone on from this agreement, or may go on now.
+pub(crate) fn is_passed(room: &RoomCore, j: usize, k: usize) -> bool
+    requires process { j < processes room.now.spec }
+    requires round { IsRound (sizes_in room.now.spec) k }
+    ensures { result ≡ is_passed room.now.spec (read_of room.now) j k }
+{
+    let greatest = greatest_step(room, j);
+    is_clean(room, j, k) || k < greatest || (has_out(room, j) && greatest == k)
+}
+
+/// The first simulator at level 2.
+fn first_two(levels: &[u8]) -> Option<usize>
+    ensures value { result ≡ least_two levels.now }
+    ensures below { IfSome result (λ simulator. simulator < length levels.now) }
+{
+    levels.iter().position(|level| *level == 2)
+}
+
+/// The least simulator at level 2 in this agreement, or 0.
+fn shown_of(room: &RoomCore, j: usize, k: usize) -> usize
+    requires process { j < processes room.now.spec }
+    requires round { IsRound (sizes_in room.now.spec) k }
+    ensures value { result ≡ shown_of room.now.spec (read_of room.now) j k }
+    ensures below { result < room.now.spec.simulators }
+{
+    let levels = levels_at(room, j, k);
+    let m = simulator_count(room);
+    prove!(m > 0);
+    match first_two(levels.as_slice()) {
+        Some(simulator) => simulator,
+        None => 0,
+    }
+}
+
+/// The memory word that this agreement shows.
+#[tactic(auto, unfolding(crate::specs::Readings::read_of))]
+pub(crate) fn view_at(room: &RoomCore, j: usize, k: usize) -> u64
+    requires process { j < processes room.now.spec }
+    requires round { IsRound (sizes_in room.now.spec) k }
+    ensures word { result ≡ view_word room.now j k }
+    ensures row { row_of room.now.spec.simulators (processes room.now.spec) (step_in (sizes_in room.now.spec) result) ≡ row_at room.now.spec (read_of room.now) j k }
+{
+    let simulator = shown_of(room, j, k);
+    word_at(
+        room,
+        Place::View {
+            simulator,
+            process: j,
+            round: k,
+        },
+    )
+}
+
+/// The least simulator that has counted write `r` of process `p`, or 0.
+fn first_with(room: &RoomCore, p: usize, r: usize) -> usize
+    requires { p < processes room.now.spec }
+    ensures value { result ≡ first_with room.now.spec (read_of room.now) p r }
+    ensures below { result < room.now.spec.simulators }
+{
+    for i in 0..simulator_count(room) {
+        if r <= step(room, i, p) {
+            return i;
+        }
+    }
+    0
+}
+
+/// The value of write `r` of process `p`.
+pub(crate) fn written(room: &RoomCore, p: usize, r: usize) -> u32
+    requires process { p < processes room.now.spec }
+    requires round { IsRound (sizes_in room.now.spec) r }
+    ensures { result ≡ written room.now.spec (read_of room.now) p r }
+{
+    value(room, first_with(room, p, r), p, r)
+}
+
+/// The last value of process `p` after `r` writes of it.
+fn shown(room: &RoomCore, p: usize, r: usize) -> Option<u32>
+    requires process { p < processes room.now.spec }
+    requires round { r ≤ room.now.spec.rounds }
+    ensures { result ≡ shown room.now.spec (read_of room.now) p r }
+{
+    if r == 0 {
+        None
+    } else {
+        Some(written(room, p, r))
+    }
+}
+
+/// What a row shows of each process.
+pub(crate) fn shown_by(room: &RoomCore, row: &[usize]) -> View
+    requires length { length row.now ≡ processes room.now.spec }
+    requires range { (p : ℕ) → slice_index row.now p ≤ room.now.spec.rounds }
+    ensures value { result.items ≡ shown_by room.now.spec (read_of room.now) row.now }
+    ensures length { length result.items ≡ processes room.now.spec }
+{
+    let mut view = View::new();
+    for p in 0..process_count(room) {
+        view.push(shown(room, p, row[p]));
+    }
+    view
+}
+
+/// What the protocol asks for after the snapshot of process `j` in round `k`.
+pub(crate) fn asks(room: &RoomCore, j: usize, k: usize) -> Action
+    requires process { j < processes room.now.spec }
+    requires round { IsRound (sizes_in room.now.spec) k }
+    ensures { result ≡ asks room.now.spec (read_of room.now) j k }
+{
+    let spec = room.spec();
+    let row = row_of(spec, view_at(room, j, k));
+    let view = shown_by(room, row.as_slice());
+    let rounds = round_count(room);
+    prove!(k <= rounds);
+    next(spec.protocol(), spec.input(j), j as u32, k as u32, &view)
+}

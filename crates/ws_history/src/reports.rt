@@ -1,0 +1,124 @@
+//! The report of a room.
+ghost use Rattle.std.specs.Prelude.{◌≡◌, ◌↔◌, ◌<◌, ◌≤◌, ℕ, IfOk, length, slice_index_or};
+ghost use Rattle.std.specs.List.{Contains, count_by};
+ghost use Rattle.room_spec.specs.Rooms.{processes};
+ghost use Rattle.room_core.specs.Fields.{Fields};
+ghost use Rattle.room_core.specs.Reading.{AreFieldsOf};
+ghost use Rattle.transcript.specs.Runs.{IsRun};
+ghost use Rattle.transcript.specs.declared.event.Event.TheVariants.{Decide};
+ghost use Rattle.ws_history.specs.declared.states.ProcessState.TheVariants.{Decided, Going};
+ghost use Rattle.ws_history.specs.Readings.{read_of};
+ghost use Rattle.ws_history.specs.Reports.{crashed_in, held_by, is_held, is_inside, is_spent, state_of, states_of};
+ghost use Rattle.ws_history.specs.Sources.{history_of};
+
+use crate::histories::history;
+use crate::reading::{
+    asks, decided_in, has_crashed, is_clean, level, process_count, round_count, shape_of,
+    simulator_count,
+};
+use crate::states::{ProcessState, Report};
+use arrayvec::ArrayVec;
+use protocol_lang::Action;
+use room_core::RoomCore;
+use std::alloc::{AllocError, Global};
+
+/// The report of a room: where each process stands, which simulators have crashed, and the history.
+pub fn report(alloc: Global, room: &RoomCore) -> Result<Report, AllocError>
+    // It is that of the fields that the room's words say, with values above the greatest read as that.
+    ensures states { IfOk result (λ report. report.states.items ≡ states_of room.now.spec (read_of room.now)) }
+    ensures crashed { IfOk result (λ report. report.crashed.items ≡ crashed_in room.now.spec (read_of room.now)) }
+    ensures history { IfOk result (λ report. report.history.items ≡ history_of room.now.spec (read_of room.now)) }
+    // And that of any fields that the room stands for.
+    ensures fields { (fields : Fields) → AreFieldsOf room.now fields → IfOk result (λ report. (report.states.items ≡ states_of room.now.spec fields) × (report.crashed.items ≡ crashed_in room.now.spec fields) × (report.history.items ≡ history_of room.now.spec fields)) }
+    // The history is a run of the processes on write-snapshot memory.
+    ensures run { IfOk result (λ report. IsRun room.now.spec report.history.items) }
+    // At most as many processes are held as simulators have crashed.
+    ensures held { IfOk result (λ report. count_by is_held report.states.items ≤ length report.crashed.items) }
+    // The history has each process's decision, and no other.
+    ensures decided { IfOk result (λ report. (j v : ℕ) → j < processes room.now.spec → (slice_index_or report.states.items j Going ≡ Decided v) ↔ Contains report.history.items (Decide j v)) }
+{
+    let _shape = shape_of(room);
+    let history = history(alloc, room)?;
+    let states = states_of(room);
+    let crashed = crashed_in(room);
+    Ok(Report {
+        states,
+        crashed,
+        history,
+    })
+}
+
+fn states_of(room: &RoomCore) -> ArrayVec<ProcessState, 16>
+    ensures { result.items ≡ states_of room.now.spec (read_of room.now) }
+{
+    let mut states = ArrayVec::new();
+    for j in 0..process_count(room) {
+        states.push(state_of(room, j));
+    }
+    states
+}
+
+/// The simulators that have crashed, in order of their numbers.
+fn crashed_in(room: &RoomCore) -> ArrayVec<u8, 8>
+    ensures { result.items ≡ crashed_in room.now.spec (read_of room.now) }
+{
+    let mut crashed = ArrayVec::new();
+    for i in 0..simulator_count(room) {
+        if has_crashed(room, i) {
+            crashed.push(i as u8);
+        }
+    }
+    crashed
+}
+
+fn state_of(room: &RoomCore, j: usize) -> ProcessState
+    requires { j < processes room.now.spec }
+    ensures { result ≡ state_of room.now.spec (read_of room.now) j }
+{
+    if let Some(v) = decided_in(room, j) {
+        return ProcessState::Decided(v);
+    }
+    if is_spent(room, j) {
+        return ProcessState::Spent;
+    }
+    match held_by(room, j) {
+        Some(i) => ProcessState::Held(i),
+        None => ProcessState::Going,
+    }
+}
+
+/// Whether its last snapshot was agreed on and asks for a write.
+fn is_spent(room: &RoomCore, j: usize) -> bool
+    requires { j < processes room.now.spec }
+    ensures { result ≡ is_spent room.now.spec (read_of room.now) j }
+{
+    let last = round_count(room);
+    is_clean(room, j, last) && matches!(asks(room, j, last), Action::Write(_))
+}
+
+/// The least simulator that has crashed inside an agreement on a snapshot of process `j`.
+fn held_by(room: &RoomCore, j: usize) -> Option<u8>
+    requires { j < processes room.now.spec }
+    ensures { result ≡ held_by room.now.spec (read_of room.now) j }
+{
+    for i in 0..simulator_count(room) {
+        if has_crashed(room, i) && is_inside(room, i, j) {
+            return Some(i as u8);
+        }
+    }
+    None
+}
+
+/// Whether simulator `i` is at level 1 in an agreement on a snapshot of process `j`.
+fn is_inside(room: &RoomCore, i: usize, j: usize) -> bool
+    requires simulator { i < room.now.spec.simulators }
+    requires process { j < processes room.now.spec }
+    ensures { result ≡ is_inside room.now.spec (read_of room.now) i j }
+{
+    for r in 0..round_count(room) {
+        if level(room, i, j, r + 1) == 1 {
+            return true;
+        }
+    }
+    false
+}

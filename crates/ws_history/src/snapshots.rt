@@ -1,0 +1,127 @@
+//! The snapshots of a room that were agreed on, in the order of its history.
+ghost use Rattle.std.specs.Prelude.{◌≡◌, ℕ, ◌+◌, ◌<◌, ◌≤◌, true, false, length, map, slice_index, slice_index_or};
+ghost use Rattle.std.specs.List.{sum};
+ghost use Rattle.room_spec.specs.Rooms.{processes};
+ghost use Rattle.room_spec.specs.Sizes.{sizes_in};
+ghost use Rattle.view_table.specs.Places.{IsRound};
+ghost use Rattle.room_core.specs.Passed.{is_passed};
+ghost use Rattle.ws_history.specs.Orders.{passed_of};
+ghost use Rattle.ws_history.specs.Placing.{agreed_at, all_placed, blank, is_before, placed, with_passed};
+ghost use Rattle.ws_history.specs.Readings.{read_of};
+ghost use Rattle.ws_history.specs.Sources.{source_of};
+
+use crate::reading::{is_passed, process_count, round_count, row_of, view_at};
+use arrayvec::ArrayVec;
+use room_core::RoomCore;
+
+/// The snapshot of a process after so many writes of its own: the memory word that it shows, and
+/// how many writes of all processes that word shows.
+#[derive(Clone, Copy, Default)]
+pub(crate) struct Agreed {
+    pub(crate) sum: usize,
+    pub(crate) process: usize,
+    pub(crate) round: usize,
+    pub(crate) word: u64,
+}
+
+/// A room has at most as many: 16 processes with 15 rounds each.
+pub(crate) type AllAgreed = ArrayVec<Agreed, 240>;
+
+/// The passed snapshots of a room, by the sum of their rows, and then by process.
+pub(crate) fn in_order(room: &RoomCore) -> AllAgreed
+    ensures { result.items ≡ map (agreed_at room.now) (source_of room.now.spec (read_of room.now)).order }
+{
+    let mut agreed = AllAgreed::new();
+    for process in 0..process_count(room) {
+        add_rounds(&mut agreed, room, process);
+    }
+    agreed
+}
+
+/// Puts the passed snapshots of this process in their places.
+fn add_rounds(agreed: &mut AllAgreed, room: &RoomCore, process: usize)
+    requires count { length agreed.old.items ≤ 225 }
+    requires process { process < processes room.now.spec }
+    ensures items { agreed.new.items ≡ all_placed room.now agreed.old.items (passed_of (is_passed room.now.spec (read_of room.now)) process room.now.spec.rounds) }
+    ensures count { length agreed.new.items ≤ length agreed.old.items + 15 }
+{
+    for r in 0..round_count(room) {
+        add(agreed, room, process, r + 1);
+    }
+}
+
+/// Puts the snapshot of this process and round in its place, if it is passed.
+fn add(agreed: &mut AllAgreed, room: &RoomCore, process: usize, round: usize)
+    requires count { length agreed.old.items < 240 }
+    requires process { process < processes room.now.spec }
+    requires round { IsRound (sizes_in room.now.spec) round }
+    ensures items { agreed.new.items ≡ with_passed room.now process round agreed.old.items }
+    ensures count { length agreed.new.items ≤ length agreed.old.items + 1 }
+{
+    if is_passed(room, process, round) {
+        insert(agreed, snapshot_at(room, process, round));
+    }
+}
+
+fn snapshot_at(room: &RoomCore, process: usize, round: usize) -> Agreed
+    requires process { process < processes room.now.spec }
+    requires round { IsRound (sizes_in room.now.spec) round }
+    ensures { result ≡ agreed_at room.now (record { process = process; round = round }) }
+{
+    let word = view_at(room, process, round);
+    let row = row_of(room.spec(), word);
+    let rounds = round_count(room);
+    prove!(rounds <= 15);
+    Agreed {
+        sum: sum(row.as_slice()),
+        process,
+        round,
+        word,
+    }
+}
+
+fn sum(row: &[usize]) -> usize
+    requires count { length row.now ≤ 16 }
+    requires range { (p : ℕ) → slice_index row.now p ≤ 15 }
+    ensures { result ≡ sum row.now }
+{
+    let mut sum = 0;
+    for entry in row {
+        sum += *entry;
+    }
+    sum
+}
+
+fn precedes(one: &Agreed, other: &Agreed) -> bool
+    ensures { result ≡ is_before one.now other.now }
+{
+    one.sum < other.sum || (one.sum == other.sum && one.process < other.process)
+}
+
+/// Puts a snapshot in its place; one with the same sum and process gives way.
+fn insert(agreed: &mut AllAgreed, snapshot: Agreed)
+    requires { length agreed.old.items < 240 }
+    ensures items { agreed.new.items ≡ placed agreed.old.items snapshot }
+    ensures count { length agreed.new.items ≤ length agreed.old.items + 1 }
+{
+    let at = place_of(agreed.as_slice(), &snapshot);
+    if at < agreed.len() && !precedes(&snapshot, &agreed[at]) {
+        agreed[at] = snapshot;
+    } else {
+        agreed.insert(at, snapshot);
+    }
+}
+
+/// The index of the first that doesn't precede it.
+fn place_of(agreed: &[Agreed], snapshot: &Agreed) -> usize
+    ensures before { (k : ℕ) → k < result → is_before (slice_index_or agreed.now k blank) snapshot.now ≡ true }
+    ensures here { result < length agreed.now → is_before (slice_index_or agreed.now result blank) snapshot.now ≡ false }
+    ensures within { result ≤ length agreed.now }
+{
+    for (i, one) in agreed.iter().enumerate() {
+        if !precedes(one, snapshot) {
+            return i;
+        }
+    }
+    agreed.len()
+}
