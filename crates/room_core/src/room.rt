@@ -6,7 +6,7 @@ ghost use Rattle.view_table.specs.Places.{words_of};
 ghost use Rattle.simulator.specs.Moves.{IsOperation, IsWithin, answer_of, move_of, taken, words_after};
 ghost use Rattle.simulator.specs.Ranges.{IsMind};
 ghost use Rattle.simulator.specs.Sweeps.{opening_sweep};
-ghost use Rattle.room_core.specs.Rooms.{HasLine, IsAlive, IsOneInterleaving};
+ghost use Rattle.room_core.specs.Rooms.{HasLine, IsAlive, IsOneInterleaving, IsRoom};
 ghost use Rattle.room_core.specs.Fields.{Fields, crash_reply_in, fields_after_crash, fields_after_step, opening_fields, step_reply_in};
 ghost use Rattle.room_core.specs.Agreements.{AgreementsStay};
 ghost use Rattle.room_core.specs.Reading.{AreFieldsOf, Reads};
@@ -60,6 +60,25 @@ impl RoomCore {
             sweeps,
             crashed,
         })
+    }
+
+    /// A room of these words, sweeps and marks of crashes, to which some list of atomic steps and
+    /// crashes leads.
+    pub fn from_parts(
+        spec: Spec,
+        words: Vec<u64>,
+        sweeps: ArrayVec<Sweep, 8>,
+        crashed: ArrayVec<bool, 8>,
+    ) -> RoomCore
+        requires { IsRoom (data_of (record { spec = spec; words = words.items; sweeps = sweeps.items; crashed = crashed.items })) }
+        ensures { result ≡ record { spec = spec; words = words.items; sweeps = sweeps.items; crashed = crashed.items } }
+    {
+        RoomCore {
+            spec,
+            words,
+            sweeps,
+            crashed,
+        }
     }
 
     /// What the room was told when it was made.

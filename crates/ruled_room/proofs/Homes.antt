@@ -1,0 +1,73 @@
+-- The sweeps that a keeper has, and their minds.
+use Rattle.std.proofs.Common.{◌≡◌, ℕ, zero, suc, ◌<◌, List, [], ◌∷◌, length, map, get_or, set, refl, sym, ap, ◌∙◌, subst, ⊎_elim, arith, Option, Some, None}
+use Rattle.std.specs.Prelude.{IsSome}
+use Rattle.std.proofs.lemmas.List.{map-set, get_or_read_under}
+use Rattle.std.proofs.lemmas.List.FromFn.{get_or-map-range_with_len, length-map-range_with_len}
+use Rattle.std.specs.Option.{option_map}
+use Rattle.room_spec.specs.Rooms.{RoomSpec, IsWithinLimits}
+use Rattle.simulator.specs.Minds.{MindState, opening_mind}
+use Rattle.simulator.specs.Ranges.{IsMind}
+use Rattle.simulator.specs.Sweeps.{SweepState, opening_sweep}
+use Rattle.simulator.proofs.Keeping.{opens}
+use Rattle.ruled_room.specs.Parts.{AreMinds, first_sweeps, minds_of}
+use Rattle.ruled_room.proofs.Sharing.{left_over, put_in}
+
+abbrev mind_of : Option SweepState → Option MindState
+mind_of sweep = option_map (λ s. s.mind) sweep
+
+pub minds-set : (sweeps : List (Option SweepState)) (i : ℕ) (sweep : Option SweepState) → minds_of (set sweeps i sweep) ≡ set (minds_of sweeps) i (mind_of sweep)
+minds-set sweeps i sweep = map-set mind_of sweeps i sweep
+
+pub mind_home : (sweeps : List (Option SweepState)) (i : ℕ) → get_or (minds_of sweeps) i None ≡ mind_of (get_or sweeps i None)
+mind_home [] i = refl
+mind_home (sweep ∷ sweeps) zero = refl
+mind_home (sweep ∷ sweeps) (suc i) = mind_home sweeps i
+
+pub are_minds_without : (spec : RoomSpec) (sweeps : List (Option SweepState)) (n : ℕ) → AreMinds spec sweeps → AreMinds spec (set sweeps n None)
+are_minds_without spec sweeps n are i sweep e = are i sweep (left_over sweeps n i sweep e).1
+
+pub are_minds_with : (spec : RoomSpec) (sweeps : List (Option SweepState)) (n : ℕ) (sweep : SweepState) → IsMind spec sweep.mind → sweep.mind.number ≡ n → AreMinds spec sweeps → AreMinds spec (set sweeps n (Some sweep))
+are_minds_with spec sweeps n sweep is number are i other e = ⊎_elim
+    (λ (t : (i ≡ n) × (sweep ≡ other)). (subst (λ (s : SweepState). IsMind spec s.mind) t.1 is, ap (λ (s : SweepState). s.mind.number) (sym t.1) ∙ number ∙ sym t.0))
+    (λ (t : get_or sweeps i None ≡ Some other). are i other t)
+    (put_in sweeps n i sweep other e)
+
+pub some_below : {X : Type 0} (l : List (Option X)) (i : ℕ) (x : X) → get_or l i None ≡ Some x → i < length l
+some_below [] i x e = absurd (cc)
+some_below (y ∷ l) zero x e = omega arith
+some_below (y ∷ l) (suc i) x e = let h = some_below l i x e in omega arith
+
+pub home_below : {X : Type 0} (l : List (Option X)) (i : ℕ) → IsSome (get_or l i None) → i < length l
+home_below [] i h = absurd (cc)
+home_below (y ∷ l) zero h = omega arith
+home_below (y ∷ l) (suc i) h = let b = home_below l i h in omega arith
+
+-- one of those at home is read
+pub read_home : (sweeps read : List (Option SweepState)) (i : ℕ) (found : Option SweepState) (sweep : SweepState) → read ≡ sweeps → i < length sweeps → found ≡ get_or read i found → found ≡ Some sweep → get_or sweeps i None ≡ Some sweep
+read_home sweeps read i found sweep same below is there =
+    sym (get_or_read_under sweeps i (length sweeps) found None (is ∙ ap (λ (l : List (Option SweepState)). get_or l i found) same) below refl) ∙ there
+
+-- ---- at the start
+
+pub first_homes : (spec : RoomSpec) (numbers : List ℕ) → minds_of (map (λ i. Some (opening_sweep spec i)) numbers) ≡ map Some (map (opening_mind spec) numbers)
+first_homes spec [] = refl
+first_homes spec (i ∷ numbers) = ap (λ (l : List (Option MindState)). Some (opening_mind spec i) ∷ l) (first_homes spec numbers)
+
+pub first_count : (spec : RoomSpec) → length (first_sweeps spec) ≡ spec.simulators
+first_count spec = length-map-range_with_len (λ i. Some (opening_sweep spec i)) 0 spec.simulators
+
+pub first_are_minds : (spec : RoomSpec) → IsWithinLimits spec → AreMinds spec (first_sweeps spec)
+first_are_minds spec limits i sweep e =
+    let below : i < spec.simulators = let b = some_below (first_sweeps spec) i sweep e in let n = first_count spec in omega arith in
+    let opens-as : Some (opening_sweep spec i) ≡ Some sweep = sym (get_or-map-range_with_len (λ k. Some (opening_sweep spec k)) 0 spec.simulators i i None below (omega arith)) ∙ e in
+    let same : opening_sweep spec i ≡ sweep = cc in
+    (subst (λ (s : SweepState). IsMind spec s.mind) same (opens spec i limits below), ap (λ (s : SweepState). s.mind.number) (sym same))
+
+-- ---- at the end
+
+abbrev mind_in_sweep : SweepState → MindState
+mind_in_sweep sweep = sweep.mind
+
+pub whole_homes : (sweeps : List SweepState) → minds_of (map Some sweeps) ≡ map Some (map mind_in_sweep sweeps)
+whole_homes [] = refl
+whole_homes (sweep ∷ sweeps) = ap (λ (l : List (Option MindState)). Some sweep.mind ∷ l) (whole_homes sweeps)

@@ -1,0 +1,4 @@
+pub mod Moving
+pub mod Sharing
+pub mod Ends
+pub mod Homes

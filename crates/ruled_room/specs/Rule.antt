@@ -1,0 +1,45 @@
+-- The rule of a room's table.
+use Rattle.std.specs.Prelude.{◌≡◌, ℕ, suc, false, List, ◌⊎◌, length, take, replicate, Some, None, slice_index}
+use mathlib.Core.Option.{some}
+use lib.ListN.{get_elem?}
+use Rattle.atomic_table.specs.Table.{State}
+use Rattle.room_spec.specs.Rooms.{RoomSpec}
+use Rattle.room_spec.specs.Sizes.{sizes_in}
+use Rattle.view_table.specs.Places.{words_of}
+use Rattle.simulator.specs.Minds.{MindState}
+use Rattle.room_core.specs.Rooms.{RoomData, IsOneInterleaving}
+use Rattle.ruled_room.specs.declared.rule.View.{View}
+use Rattle.ruled_room.specs.Views.{mind_in, nobody}
+
+-- the first seat holds no mind yet
+abbrev pub newcomer : RoomSpec → View
+newcomer spec = nobody spec
+
+-- how many words the room has; the table has one more, which says whether the room has begun
+abbrev pub word_count : RoomSpec → ℕ
+word_count spec = words_of (sizes_in spec)
+
+-- each mind that a seat holds is the mind of its number, and no other seat holds it
+abbrev pub Holds : (ℕ → ℕ) → List MindState → List View → Type 0
+Holds owner minds views = (k : ℕ) (view : View) (i : ℕ) (mind : MindState) → get_elem? views k ≡ some view → mind_in view i ≡ Some mind → (owner i ≡ k) × (get_elem? minds i ≡ some mind)
+
+-- the room of the table's first words and these minds, where nobody has crashed
+abbrev pub room_of : RoomSpec → List ℕ → List MindState → RoomData
+room_of spec words minds = record { spec = spec; words = take (word_count spec) words; minds = minds; crashed = replicate spec.simulators false }
+
+-- before the first step no seat holds a mind, and all words are 0
+pub record IsBlank (spec : RoomSpec) (words : List ℕ) (views : List View) : Type 0 where
+  pub zeros : words ≡ replicate (suc (word_count spec)) 0
+  pub nobody : (k : ℕ) (view : View) (i : ℕ) → get_elem? views k ≡ some view → mind_in view i ≡ None
+
+-- after it the words and the minds are those of one interleaving of the simulators' steps
+pub record IsRunning (spec : RoomSpec) (words : List ℕ) (views : List View) : Type 0 where
+  pub minds : List MindState
+  pub owner : ℕ → ℕ
+  pub begun : slice_index words (word_count spec) ≡ 1
+  pub long : length words ≡ suc (word_count spec)
+  pub run : IsOneInterleaving (room_of spec words minds)
+  pub held : Holds owner minds views
+
+abbrev pub Kept : {S : Type 0} → RoomSpec → State S View → Type 0
+Kept spec table = IsBlank spec table.words table.views ⊎ IsRunning spec table.words table.views
