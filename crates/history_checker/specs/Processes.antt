@@ -6,7 +6,7 @@ use Rattle.protocol_lang.specs.declared.meaning.Action.TheVariants as actions
 use Rattle.room_spec.specs.Rooms.{RoomSpec, processes}
 use Rattle.transcript.specs.declared.event.Event.{Event}
 use Rattle.transcript.specs.declared.event.Event.TheVariants as events
-use Rattle.transcript.specs.Runs.{event_by, is_write_by, is_snap_by, latest, last_write, action_due, MayFollow}
+use Rattle.transcript.specs.Runs.{event_by, is_write_by, is_snap_by, latest, last_write, action_due, IsEnabled}
 use Rattle.history_checker.specs.declared.process.Turn.{Turn}
 use Rattle.history_checker.specs.declared.process.Turn.TheVariants.{Write, Snap, Decide, Over}
 use Rattle.history_checker.specs.declared.process.Process.{Process}
@@ -48,4 +48,4 @@ pub record Tracks (spec : RoomSpec) (all : List Process) (history : List Event) 
 abbrev pub Follows : RoomSpec → Event → List Process → Bool → List Process → Type 0
 Follows spec event old answer new =
     (before : List Event) → Tracks spec old before
-    → MatchBool answer (MayFollow spec before event × Tracks spec new (before ++ event ∷ [])) (MayFollow spec before event → ⊥)
+    → MatchBool answer (IsEnabled spec before event × Tracks spec new (before ++ event ∷ [])) (IsEnabled spec before event → ⊥)

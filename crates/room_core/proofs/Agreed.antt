@@ -4,8 +4,8 @@ use Rattle.std.proofs.lemmas.Bool.{leb-false}
 use Rattle.room_spec.specs.Rooms.{RoomSpec, IsWithinLimits}
 use Rattle.simulator.specs.declared.sweep.Ready.{Ready}
 use Rattle.simulator.specs.declared.sweep.Ready.TheVariants as ready
-use Rattle.room_core.specs.Rooms.{RoomData, steps, IsShaped, HasLine}
-use Rattle.room_core.specs.Calls.{Call, Step, Crash, RoomState, data_of, has_crashed, ready_at}
+use Rattle.room_core.specs.Rooms.{Configuration, steps, IsShaped, HasLine}
+use Rattle.room_core.specs.Calls.{Call, Step, Crash, RoomState, configuration_of, has_crashed, ready_at}
 use Rattle.room_core.specs.Fields.{Fields, opening_fields, replay_fields, line, with_crash, ready_in, fields_when, fields_after_call}
 use Rattle.room_core.specs.Reading.{AreFieldsOf}
 use Rattle.room_core.specs.Agreements.{IsFixedAt}
@@ -28,7 +28,7 @@ pub record AgreedStays (spec : RoomSpec) (before after : Fields) : Type 0 where
   pub view : (j k : ℕ) → 1 ≤ k → IsFixedAt spec before j k → view_at spec after j k ≡ view_at spec before j k
   pub asks : (j k : ℕ) → 1 ≤ k → IsFixedAt spec before j k → asks spec after j k ≡ asks spec before j k
 
-agreed_line : (room : RoomData) (fields : Fields) (i : ℕ) → IsShaped room → StandsFor room fields → HasLine room i → HasSmallValues room.spec → ViewsWithin room.spec fields → IsKnown room.spec fields → IsSound room.spec fields → AgreedStays room.spec fields (line room.spec fields i)
+agreed_line : (room : Configuration) (fields : Fields) (i : ℕ) → IsShaped room → StandsFor room fields → HasLine room i → HasSmallValues room.spec → ViewsWithin room.spec fields → IsKnown room.spec fields → IsSound room.spec fields → AgreedStays room.spec fields (line room.spec fields i)
 agreed_line room fields i shape for may small within known sound =
     let spec = room.spec in
     let after = line spec fields i in
@@ -54,9 +54,9 @@ by_test P false x y p q = q refl
 -- ---- what each call keeps
 
 module _ (room : RoomState) (fields : Fields) (limits : IsWithinLimits room.spec) (are : AreFieldsOf room fields) (P : Fields → Type 0) (same : P fields)
-    (lines : (i : ℕ) → HasLine (data_of room) i → P (line room.spec fields i)) (others : (quiet : ℕ → ℕ) (crashed : ℕ → Bool) → P (record fields { quiet = quiet; crashed = crashed })) where
+    (lines : (i : ℕ) → HasLine (configuration_of room) i → P (line room.spec fields i)) (others : (quiet : ℕ → ℕ) (crashed : ℕ → Bool) → P (record fields { quiet = quiet; crashed = crashed })) where
   when_ready : (i : ℕ) (answer : Ready) → i < room.spec.simulators → has_crashed room i ≡ false → ready_at room i ≡ answer → P (fields_when answer room.spec fields i)
-  when_ready i ready.Step below alive is = lines i (has_line room i (shapes (data_of room) limits are.run) below alive is)
+  when_ready i ready.Step below alive is = lines i (has_line room i (shapes (configuration_of room) limits are.run) below alive is)
   when_ready i ready.Idle below alive is = others _ fields.crashed
   when_ready i ready.OutOfTurns below alive is = same
 
@@ -73,11 +73,11 @@ module _ (room : RoomState) (fields : Fields) (limits : IsWithinLimits room.spec
 
 pub fields_within : (room : RoomState) (fields : Fields) → IsWithinLimits room.spec → AreFieldsOf room fields → ViewsWithin room.spec fields
 fields_within room fields limits are =
-    let base = replay_fields room.spec (opening_fields room.spec) are.run.events in
-    subst (λ (f : Fields). ViewsWithin room.spec f) (sym are.leads) (views_within room.spec are.run.events base (stands_for (data_of room) limits are.run).tracks (history_run (data_of room) limits are.run))
+    let base = replay_fields room.spec (opening_fields room.spec) are.run.schedule in
+    subst (λ (f : Fields). ViewsWithin room.spec f) (sym are.leads) (views_within room.spec are.run.schedule base (stands_for (configuration_of room) limits are.run).tracks (history_run (configuration_of room) limits are.run))
 
 pub agreed_call : (room : RoomState) (fields : Fields) (call : Call) → IsWithinLimits room.spec → AreFieldsOf room fields → AgreedStays room.spec fields (fields_after_call room.spec fields call)
 agreed_call room fields call limits are =
     call_keeps room fields limits are (AgreedStays room.spec fields) (agreed_other room.spec fields fields.quiet fields.crashed)
-    (λ i may. agreed_line (data_of room) fields i (shapes (data_of room) limits are.run) (fields_stand room fields limits are) may (small_values room.spec limits) (fields_within room fields limits are) (fields_known room fields limits are) (fields_sound room fields limits are))
+    (λ i may. agreed_line (configuration_of room) fields i (shapes (configuration_of room) limits are.run) (fields_stand room fields limits are) may (small_values room.spec limits) (fields_within room fields limits are) (fields_known room fields limits are) (fields_sound room fields limits are))
     (λ quiet crashed. agreed_other room.spec fields quiet crashed) call

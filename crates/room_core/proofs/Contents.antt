@@ -14,7 +14,7 @@ use Rattle.sim_memory.specs.Steps.{row_of}
 use Rattle.sim_memory.proofs.Rows.{row_at}
 use Rattle.sim_memory.proofs.Greatest.{holder_of_is, holder_merged}
 use Rattle.simulator.specs.Turns.{padded}
-use Rattle.room_core.specs.Fields.{StepMap, Fields, row_of_steps, holder_of_steps, shown_value}
+use Rattle.room_core.specs.Fields.{StepMap, Fields, entry_of_steps, holder_of_steps, shown_value}
 use Rattle.room_core.specs.Passed.{first_with, written, asks}
 use Rattle.room_core.specs.Contents.{or_zero, entry_of, shown_by, IsDue, first_write, next_write, IsSmallEntry, AreSmall}
 
@@ -74,12 +74,12 @@ written_is spec fields i p r due below below' first counted =
     due_only spec fields p r (fields.value i p r) (written spec fields p r) (due i p r below below' first counted) (due (first_with spec fields p r) p r has.0 below' first has.1)
 
 -- the value that is loaded of a process, of a snapshot that is at most the step numbers
-pub shown_value_is : (spec : RoomSpec) (fields : Fields) (snapshot : StepMap) (p : ℕ) → ValuesLow spec fields → ValuesDue spec fields → 0 < spec.simulators → p < processes spec → ((a : ℕ) → a < spec.simulators → snapshot a p ≤ fields.step a p) → 1 ≤ row_of_steps spec snapshot p
-    → Some (min (shown_value spec fields snapshot p) greatest) ≡ entry_of spec fields p (row_of_steps spec snapshot p)
+pub shown_value_is : (spec : RoomSpec) (fields : Fields) (snapshot : StepMap) (p : ℕ) → ValuesLow spec fields → ValuesDue spec fields → 0 < spec.simulators → p < processes spec → ((a : ℕ) → a < spec.simulators → snapshot a p ≤ fields.step a p) → 1 ≤ entry_of_steps spec snapshot p
+    → Some (min (shown_value spec fields snapshot p) greatest) ≡ entry_of spec fields p (entry_of_steps spec snapshot p)
 shown_value_is spec fields snapshot p small due some below within first =
     let holder = holder_of_is spec.simulators snapshot p some in
     let h = holder_of_steps spec snapshot p in
-    let r = row_of_steps spec snapshot p in
+    let r = entry_of_steps spec snapshot p in
     let has : r ≤ fields.step h p = let e = holder_merged spec.simulators snapshot p h holder in let b = within h holder.below in omega arith in
     let least = small h p r holder.below below first has in
     let cut : min (fields.value h p r) greatest ≡ fields.value h p r = omega arith in
@@ -125,23 +125,23 @@ padded_first row all (suc more) entries room none are =
 pub length_of_shown : (spec : RoomSpec) (fields : Fields) (snapshot : StepMap) → length (shown_by spec fields snapshot) ≡ processes spec
 length_of_shown spec fields snapshot = length-map-range_with_len (λ p. entry_of spec fields p (get_or (row_of spec.simulators (processes spec) snapshot) p 0)) 0 (processes spec)
 
-pub shown_at : (spec : RoomSpec) (fields : Fields) (snapshot : StepMap) (p : ℕ) → p < processes spec → get_or (shown_by spec fields snapshot) p None ≡ entry_of spec fields p (row_of_steps spec snapshot p)
+pub shown_at : (spec : RoomSpec) (fields : Fields) (snapshot : StepMap) (p : ℕ) → p < processes spec → get_or (shown_by spec fields snapshot) p None ≡ entry_of spec fields p (entry_of_steps spec snapshot p)
 shown_at spec fields snapshot p below =
     get_or-map-range_with_len (λ q. entry_of spec fields q (get_or (row_of spec.simulators (processes spec) snapshot) q 0)) 0 (processes spec) p p None below (omega arith)
     ∙ ap (λ (row : ℕ). entry_of spec fields p row) (row_at spec.simulators (processes spec) snapshot p below)
 
-pub shown_none : (spec : RoomSpec) (fields : Fields) (snapshot : StepMap) (p : ℕ) → p < processes spec → row_of_steps spec snapshot p ≡ 0 → get_or (shown_by spec fields snapshot) p None ≡ None
+pub shown_none : (spec : RoomSpec) (fields : Fields) (snapshot : StepMap) (p : ℕ) → p < processes spec → entry_of_steps spec snapshot p ≡ 0 → get_or (shown_by spec fields snapshot) p None ≡ None
 shown_none spec fields snapshot p below is = shown_at spec fields snapshot p below ∙ ap (λ (row : ℕ). entry_of spec fields p row) is
 
 -- two fields show the same, where they have written the same
-pub shown_same : (spec : RoomSpec) (fields after : Fields) (snapshot : StepMap) → ((p : ℕ) → p < processes spec → row_of_steps spec snapshot p ≢ 0 → written spec after p (row_of_steps spec snapshot p) ≡ written spec fields p (row_of_steps spec snapshot p)) → shown_by spec after snapshot ≡ shown_by spec fields snapshot
+pub shown_same : (spec : RoomSpec) (fields after : Fields) (snapshot : StepMap) → ((p : ℕ) → p < processes spec → entry_of_steps spec snapshot p ≢ 0 → written spec after p (entry_of_steps spec snapshot p) ≡ written spec fields p (entry_of_steps spec snapshot p)) → shown_by spec after snapshot ≡ shown_by spec fields snapshot
 shown_same spec fields after snapshot same =
     ext_get_or None (shown_by spec after snapshot) (shown_by spec fields snapshot) (length_of_shown spec after snapshot ∙ sym (length_of_shown spec fields snapshot))
     (λ p within.
     let long = length_of_shown spec after snapshot in
     let below : p < processes spec = omega arith in
-    shown_at spec after snapshot p below ∙ by_row p below (eqb (row_of_steps spec snapshot p) 0) refl ∙ sym (shown_at spec fields snapshot p below))
+    shown_at spec after snapshot p below ∙ by_row p below (eqb (entry_of_steps spec snapshot p) 0) refl ∙ sym (shown_at spec fields snapshot p below))
   where
-    by_row : (p : ℕ) → p < processes spec → (b : Bool) → eqb (row_of_steps spec snapshot p) 0 ≡ b → cond b None (Some (written spec after p (row_of_steps spec snapshot p))) ≡ cond b None (Some (written spec fields p (row_of_steps spec snapshot p)))
+    by_row : (p : ℕ) → p < processes spec → (b : Bool) → eqb (entry_of_steps spec snapshot p) 0 ≡ b → cond b None (Some (written spec after p (entry_of_steps spec snapshot p))) ≡ cond b None (Some (written spec fields p (entry_of_steps spec snapshot p)))
     by_row p below true is = refl
     by_row p below false is = ap Some (same p below (eqb-false _ _ is))

@@ -16,9 +16,9 @@ use Rattle.simulator.specs.declared.turn.Turn.TheVariants.{Useful, Quiet}
 use Rattle.simulator.specs.Minds.{MindOf, goal_at, current_goal, current_round, is_unfinished, round_of, next_process}
 use Rattle.simulator.specs.Turns.{TakenOf, counted, begun, goes_on, ended, snapped, asked, acted, decided, padded, after_write, opened_at}
 use Rattle.simulator.specs.Moves.{IsOperation, first_move_at, first_move}
-use Rattle.room_core.specs.Fields.{StepMap, Fields, changed, changed_pair, levels_at, chosen_at, row_of_steps, shown_value, with_taken, left_to, line}
+use Rattle.room_core.specs.Fields.{StepMap, Fields, changed, changed_pair, levels_at, chosen_at, entry_of_steps, shown_value, with_taken, left_to, line}
 use Rattle.room_core.specs.Reading.{worded}
-use Rattle.room_core.specs.Rooms.{RoomData, IsShaped, HasLine}
+use Rattle.room_core.specs.Rooms.{Configuration, IsShaped, HasLine}
 use Rattle.room_core.proofs.FieldReplays.{StandsFor, stands_at, line_is}
 use Rattle.room_core.proofs.Maps.{changed_here, changed_else}
 use Rattle.room_core.proofs.Snapshots.{same_row}
@@ -78,9 +78,9 @@ pub record IsAsking (spec : RoomSpec) (own : Own) (asking : MindOf StepMap) : Ty
 -- a mind that has just loaded the proposal that was chosen, or a value, and has made of it what entries it can
 pub data Loads (spec : RoomSpec) (fields : Fields) (own : Own) : MindOf StepMap → Type 0 where
   loads_view : (chosen : ℕ) → IsTurn spec own (GetView chosen) → chosen < spec.simulators
-      → Loads spec fields own (record (counted own.mind) { snapshot = fields.view chosen (process_on own) (round_on own); entries = padded (row_of_steps spec (fields.view chosen (process_on own) (round_on own))) (processes spec - 0) [] })
-  loads_value : IsTurn spec own Values → length own.mind.entries < processes spec → 1 ≤ row_of_steps spec own.mind.snapshot (length own.mind.entries)
-      → Loads spec fields own (record (counted own.mind) { entries = padded (row_of_steps spec own.mind.snapshot) (processes spec - length (own.mind.entries ++ Some (min (shown_value spec fields own.mind.snapshot (length own.mind.entries)) greatest) ∷ [])) (own.mind.entries ++ Some (min (shown_value spec fields own.mind.snapshot (length own.mind.entries)) greatest) ∷ []) })
+      → Loads spec fields own (record (counted own.mind) { snapshot = fields.view chosen (process_on own) (round_on own); entries = padded (entry_of_steps spec (fields.view chosen (process_on own) (round_on own))) (processes spec - 0) [] })
+  loads_value : IsTurn spec own Values → length own.mind.entries < processes spec → 1 ≤ entry_of_steps spec own.mind.snapshot (length own.mind.entries)
+      → Loads spec fields own (record (counted own.mind) { entries = padded (entry_of_steps spec own.mind.snapshot) (processes spec - length (own.mind.entries ++ Some (min (shown_value spec fields own.mind.snapshot (length own.mind.entries)) greatest) ∷ [])) (own.mind.entries ++ Some (min (shown_value spec fields own.mind.snapshot (length own.mind.entries)) greatest) ∷ []) })
 
 pub record IsReading (spec : RoomSpec) (fields : Fields) (own : Own) (reading : MindOf StepMap) : Type 0 where
   pub goals : reading.goals ≡ own.mind.goals
@@ -255,14 +255,14 @@ module _ (spec : RoomSpec) (fields : Fields) (i : ℕ) where
   effect_on (GetView chosen) is at =
       let mind = fields.mind i in
       let view = fields.view chosen mind.sweep (current_round mind) in
-      let reading : MindOf StepMap = record (counted mind) { snapshot = view; entries = padded (row_of_steps spec view) (processes spec - length {A = Option ℕ} []) [] } in
+      let reading : MindOf StepMap = record (counted mind) { snapshot = view; entries = padded (entry_of_steps spec view) (processes spec - length {A = Option ℕ} []) [] } in
       let count = past_round spec.rounds (current_goal mind) (fields.step i mind.sweep) at.own.counts in
       gathered_effect reading (ltb (length reading.entries) (processes spec)) (action_of spec reading)
       (reads_at (GetView chosen) reading is at refl refl refl refl at.open_at.0 count (loads_view chosen (is_turn (GetView chosen) is at.open_at.0 at) at.open_at.1)) refl refl
   effect_on Values is at =
       let mind = fields.mind i in
       let more = mind.entries ++ Some (min (shown_value spec fields mind.snapshot (length mind.entries)) greatest) ∷ [] in
-      let reading : MindOf StepMap = record (counted mind) { entries = padded (row_of_steps spec mind.snapshot) (processes spec - length more) more } in
+      let reading : MindOf StepMap = record (counted mind) { entries = padded (entry_of_steps spec mind.snapshot) (processes spec - length more) more } in
       let count = past_round spec.rounds (current_goal mind) (fields.step i mind.sweep) at.own.counts in
       gathered_effect reading (ltb (length reading.entries) (processes spec)) (action_of spec reading)
       (reads_at Values reading is at refl refl refl refl at.open_at.0 count (loads_value (is_turn Values is at.open_at.0 at) at.open_at.1 (subst (λ (row : ℕ). 1 ≤ row) (same_row spec mind.snapshot (length mind.entries) at.is_mind.limits at.snapshot at.open_at.1) at.open_at.2))) refl refl
@@ -300,7 +300,7 @@ pub record IsLineOf (spec : RoomSpec) (fields after : Fields) (i : ℕ) : Type 0
   pub own : Effect spec fields (own_of fields i) (own_of after i)
   pub others : (a : ℕ) → a ≢ i → own_of after a ≡ own_of fields a
 
-pub line_effect : (room : RoomData) (fields : Fields) (i : ℕ) → IsShaped room → StandsFor room fields → HasLine room i → IsLineOf room.spec fields (line room.spec fields i) i
+pub line_effect : (room : Configuration) (fields : Fields) (i : ℕ) → IsShaped room → StandsFor room fields → HasLine room i → IsLineOf room.spec fields (line room.spec fields i) i
 line_effect room fields i shape for may =
     let mind = fields.mind i in
     let at = stands_at room fields i shape for may in

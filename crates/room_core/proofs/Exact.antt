@@ -7,11 +7,11 @@ use Rattle.room_spec.specs.Rooms.{RoomSpec, IsWithinLimits, processes}
 use Rattle.safe_agreement.specs.Phases.{phase_level, IsFixed}
 use Rattle.sim_memory.specs.Steps.{merged_of, row_of, IsRowAtMost}
 use Rattle.sim_memory.proofs.Rows.{merged_at, merged_reached, merged_below, row_grows}
-use Rattle.room_core.specs.Rooms.{RoomData, Event, steps, crashes, MayHappen, IsShaped, IsOneInterleaving}
-use Rattle.room_core.specs.Calls.{RoomState, data_of}
+use Rattle.room_core.specs.Rooms.{Configuration, ScheduleEvent, steps, crashes, MayHappen, IsShaped, IsOneInterleaving}
+use Rattle.room_core.specs.Calls.{RoomState, configuration_of}
 use Rattle.room_core.specs.Reading.{with_quiet, AreFieldsOf}
 use Rattle.room_core.specs.Moments.{IsMoment}
-use Rattle.room_core.specs.Fields.{StepMap, Fields, opening_fields, line, with_crash, fields_after, replay_fields, row_of_steps}
+use Rattle.room_core.specs.Fields.{StepMap, Fields, opening_fields, line, with_crash, fields_after, replay_fields, entry_of_steps}
 use Rattle.room_core.proofs.FieldReplays.{Tracks, StandsFor, event_stands, stands_for}
 use Rattle.room_core.proofs.Stages.{Progress, Uncounted, Fresh, Scanned, Shown, Inside, Seen, Past, later, phase_of, phases_in, level_is}
 use Rattle.room_core.proofs.Effects.{Own, own_of, IsLineOf, line_effect}
@@ -116,10 +116,10 @@ module _ (spec : RoomSpec) (fields after : Fields) (i : ℕ) (tracks : Tracks sp
 exact_crash : (spec : RoomSpec) (fields : Fields) (i : ℕ) → IsExact spec fields → IsExact spec (with_crash fields i)
 exact_crash spec fields i exact = record { shown = exact.shown; scanned = exact.scanned }
 
-abbrev pub ExactAfter : RoomSpec → List Event → Fields → Type 0
-ExactAfter spec events fields = IsSound spec fields × IsExact spec fields
+abbrev pub ExactAfter : RoomSpec → List ScheduleEvent → Fields → Type 0
+ExactAfter spec schedule fields = IsSound spec fields × IsExact spec fields
 
-exact_kept : (room : RoomData) (fields : Fields) (done : List Event) (event : Event) → IsShaped room → MayHappen room event → StandsFor room fields → ExactAfter room.spec done fields → ExactAfter room.spec (done ++ event ∷ []) (fields_after room.spec fields event)
+exact_kept : (room : Configuration) (fields : Fields) (done : List ScheduleEvent) (event : ScheduleEvent) → IsShaped room → MayHappen room event → StandsFor room fields → ExactAfter room.spec done fields → ExactAfter room.spec (done ++ event ∷ []) (fields_after room.spec fields event)
 exact_kept room fields done (steps i) shape may for both = (
   sound_kept room fields done (steps i) shape may for both.0,
   exact_line room.spec fields (line room.spec fields i) i for.tracks (event_stands room fields (steps i) shape may for).tracks (line_effect room fields i shape for may) both.0 both.1,
@@ -135,19 +135,19 @@ opening_exact spec = record {
     not_uncounted : ◌≡◌ {A = Progress} Uncounted Scanned → ⊥
     not_uncounted e = cc
 
-pub exact_run : (room : RoomData) → IsWithinLimits room.spec → (one : IsOneInterleaving room) → IsExact room.spec (replay_fields room.spec (opening_fields room.spec) one.events)
+pub exact_run : (room : Configuration) → IsWithinLimits room.spec → (one : IsOneInterleaving room) → IsExact room.spec (replay_fields room.spec (opening_fields room.spec) one.schedule)
 exact_run room limits one = (over_run ExactAfter exact_kept room limits one (opening_sound room.spec, opening_exact room.spec)).1
 
 -- ---- what that gives
 
 -- A proposal that stands shows of its own process as many writes as the agreement's round.
-pub own_entry : (spec : RoomSpec) (events : List Event) (fields : Fields) → Tracks spec fields → IsHistory spec events fields → IsExact spec fields → (i j k : ℕ) → i < spec.simulators → 1 ≤ k → fields.level i j k ≡ 2 → row_of_steps spec (fields.view i j k) j ≡ k
-own_entry spec events fields tracks history exact i j k below first two = by_exact (exact.shown i j k below first shown)
+pub own_entry : (spec : RoomSpec) (schedule : List ScheduleEvent) (fields : Fields) → Tracks spec fields → IsHistory spec schedule fields → IsExact spec fields → (i j k : ℕ) → i < spec.simulators → 1 ≤ k → fields.level i j k ≡ 2 → entry_of_steps spec (fields.view i j k) j ≡ k
+own_entry spec schedule fields tracks history exact i j k below first two = by_exact (exact.shown i j k below first shown)
   where
     shown : HasShown (progress_own (own_of fields i) j k)
     shown = at_two spec fields i j k tracks two
 
-    by_exact : ShowsAtMost spec (fields.view i j k) j k ⊎ (IsFixed spec.simulators (phases_in fields j k) × (fields.level i j k ≢ 2)) → row_of_steps spec (fields.view i j k) j ≡ k
+    by_exact : ShowsAtMost spec (fields.view i j k) j k ⊎ (IsFixed spec.simulators (phases_in fields j k) × (fields.level i j k ≢ 2)) → entry_of_steps spec (fields.view i j k) j ≡ k
     by_exact (inl most) =
         let own = (history.shown i j k below first shown).own in
         let up = merged_below spec.simulators (fields.view i j k) j k most in
@@ -156,10 +156,10 @@ own_entry spec events fields tracks history exact i j k below first two = by_exa
     by_exact (inr late) = absurd (late.1 two)
 
 -- Any two proposals that stand show rows of which one is at most the other.
-pub rows_compare : (spec : RoomSpec) (events : List Event) (fields : Fields) → Tracks spec fields → IsHistory spec events fields → (i j k i' j' k' : ℕ) → i < spec.simulators → i' < spec.simulators → 1 ≤ k → 1 ≤ k' → fields.level i j k ≡ 2 → fields.level i' j' k' ≡ 2
+pub rows_compare : (spec : RoomSpec) (schedule : List ScheduleEvent) (fields : Fields) → Tracks spec fields → IsHistory spec schedule fields → (i j k i' j' k' : ℕ) → i < spec.simulators → i' < spec.simulators → 1 ≤ k → 1 ≤ k' → fields.level i j k ≡ 2 → fields.level i' j' k' ≡ 2
     → IsRowAtMost (row_of spec.simulators (processes spec) (fields.view i j k)) (row_of spec.simulators (processes spec) (fields.view i' j' k')) ⊎ IsRowAtMost (row_of spec.simulators (processes spec) (fields.view i' j' k')) (row_of spec.simulators (processes spec) (fields.view i j k))
-rows_compare spec events fields tracks history i j k i' j' k' below below' first first' two two' =
-    elim (moments_compare spec events i j k i' j' k' (fields.view i j k) (fields.view i' j' k') history.grows (history.shown i j k below first (at_two spec fields i j k tracks two)) (history.shown i' j' k' below' first' (at_two spec fields i' j' k' tracks two'))) [
+rows_compare spec schedule fields tracks history i j k i' j' k' below below' first first' two two' =
+    elim (moments_compare spec schedule i j k i' j' k' (fields.view i j k) (fields.view i' j' k') history.grows (history.shown i j k below first (at_two spec fields i j k tracks two)) (history.shown i' j' k' below' first' (at_two spec fields i' j' k' tracks two'))) [
       | inl most ↦ inl (row_grows spec.simulators (processes spec) (fields.view i j k) (fields.view i' j' k') most)
       | inr most ↦ inr (row_grows spec.simulators (processes spec) (fields.view i' j' k') (fields.view i j k) most)
     ]
@@ -167,23 +167,23 @@ rows_compare spec events fields tracks history i j k i' j' k' below below' first
 -- ---- of every room with these fields
 
 module _ (room : RoomState) (fields : Fields) (limits : IsWithinLimits room.spec) (are : AreFieldsOf room fields) where
-  of_base : (P : Fields → Type 0) → P (with_quiet (replay_fields room.spec (opening_fields room.spec) are.run.events) fields.quiet) → P fields
+  of_base : (P : Fields → Type 0) → P (with_quiet (replay_fields room.spec (opening_fields room.spec) are.run.schedule) fields.quiet) → P fields
   of_base P is = subst P (sym are.leads) is
 
-  pub room_entry : (i j k : ℕ) → i < room.spec.simulators → 1 ≤ k → fields.level i j k ≡ 2 → row_of_steps room.spec (fields.view i j k) j ≡ k
+  pub room_entry : (i j k : ℕ) → i < room.spec.simulators → 1 ≤ k → fields.level i j k ≡ 2 → entry_of_steps room.spec (fields.view i j k) j ≡ k
   room_entry =
-      of_base (λ (f : Fields). (i j k : ℕ) → i < room.spec.simulators → 1 ≤ k → f.level i j k ≡ 2 → row_of_steps room.spec (f.view i j k) j ≡ k)
-      (own_entry room.spec are.run.events (replay_fields room.spec (opening_fields room.spec) are.run.events) (stands_for (data_of room) limits are.run).tracks (history_run (data_of room) limits are.run) (exact_run (data_of room) limits are.run))
+      of_base (λ (f : Fields). (i j k : ℕ) → i < room.spec.simulators → 1 ≤ k → f.level i j k ≡ 2 → entry_of_steps room.spec (f.view i j k) j ≡ k)
+      (own_entry room.spec are.run.schedule (replay_fields room.spec (opening_fields room.spec) are.run.schedule) (stands_for (configuration_of room) limits are.run).tracks (history_run (configuration_of room) limits are.run) (exact_run (configuration_of room) limits are.run))
 
   pub room_rows : (i j k i' j' k' : ℕ) → i < room.spec.simulators → i' < room.spec.simulators → 1 ≤ k → 1 ≤ k' → fields.level i j k ≡ 2 → fields.level i' j' k' ≡ 2
       → IsRowAtMost (row_of room.spec.simulators (processes room.spec) (fields.view i j k)) (row_of room.spec.simulators (processes room.spec) (fields.view i' j' k')) ⊎ IsRowAtMost (row_of room.spec.simulators (processes room.spec) (fields.view i' j' k')) (row_of room.spec.simulators (processes room.spec) (fields.view i j k))
   room_rows =
       of_base (λ (f : Fields). (i j k i' j' k' : ℕ) → i < room.spec.simulators → i' < room.spec.simulators → 1 ≤ k → 1 ≤ k' → f.level i j k ≡ 2 → f.level i' j' k' ≡ 2
       → IsRowAtMost (row_of room.spec.simulators (processes room.spec) (f.view i j k)) (row_of room.spec.simulators (processes room.spec) (f.view i' j' k')) ⊎ IsRowAtMost (row_of room.spec.simulators (processes room.spec) (f.view i' j' k')) (row_of room.spec.simulators (processes room.spec) (f.view i j k)))
-      (rows_compare room.spec are.run.events (replay_fields room.spec (opening_fields room.spec) are.run.events) (stands_for (data_of room) limits are.run).tracks (history_run (data_of room) limits are.run))
+      (rows_compare room.spec are.run.schedule (replay_fields room.spec (opening_fields room.spec) are.run.schedule) (stands_for (configuration_of room) limits are.run).tracks (history_run (configuration_of room) limits are.run))
 
-  pub room_moments : (i j k : ℕ) → i < room.spec.simulators → 1 ≤ k → fields.level i j k ≡ 2 → IsMoment room.spec are.run.events i j k (fields.view i j k)
+  pub room_moments : (i j k : ℕ) → i < room.spec.simulators → 1 ≤ k → fields.level i j k ≡ 2 → IsMoment room.spec are.run.schedule i j k (fields.view i j k)
   room_moments =
-      of_base (λ (f : Fields). (i j k : ℕ) → i < room.spec.simulators → 1 ≤ k → f.level i j k ≡ 2 → IsMoment room.spec are.run.events i j k (f.view i j k))
+      of_base (λ (f : Fields). (i j k : ℕ) → i < room.spec.simulators → 1 ≤ k → f.level i j k ≡ 2 → IsMoment room.spec are.run.schedule i j k (f.view i j k))
       (λ i j k below first two.
-      (history_run (data_of room) limits are.run).shown i j k below first (at_two room.spec (replay_fields room.spec (opening_fields room.spec) are.run.events) i j k (stands_for (data_of room) limits are.run).tracks two))
+      (history_run (configuration_of room) limits are.run).shown i j k below first (at_two room.spec (replay_fields room.spec (opening_fields room.spec) are.run.schedule) i j k (stands_for (configuration_of room) limits are.run).tracks two))

@@ -22,8 +22,8 @@ use Rattle.room_core.specs.declared.reply.StepReply.{StepReply}
 use Rattle.room_core.specs.declared.reply.CrashReply.{CrashReply}
 use Rattle.room_core.specs.declared.reply.StepReply.TheVariants.{Crashed, NoSimulator}
 use Rattle.room_core.specs.declared.reply.CrashReply.TheVariants as crash_replies
-use Rattle.room_core.specs.Rooms.{RoomData, Event, steps, crashes, opening, stepped, crashed_by, HasLine, IsAlive, IsOneInterleaving, IsRoom, IsShaped}
-use Rattle.room_core.specs.Calls.{RoomState, data_of, opening_state, sweep_at, has_crashed, with_sweep, sweep_after, taken_by, moved, woken, reply_when, room_when, ready_at, step_reply, room_after_step, crash_reply, marked, room_after_crash, Call, Step, Crash, Stepping, Crashing, reply_to, room_after_call, replies_to, room_after_calls}
+use Rattle.room_core.specs.Rooms.{Configuration, ScheduleEvent, steps, crashes, opening, stepped, crashed_by, HasLine, IsAlive, IsOneInterleaving, IsRoom, IsShaped}
+use Rattle.room_core.specs.Calls.{RoomState, configuration_of, opening_state, sweep_at, has_crashed, with_sweep, sweep_after, taken_by, moved, woken, reply_when, room_when, ready_at, step_reply, room_after_step, crash_reply, marked, room_after_crash, Call, Step, Crash, Stepping, Crashing, reply_to, room_after_call, replies_to, room_after_calls}
 use Rattle.room_core.specs.Fields.{StepMap, Fields, changed, opening_fields, first_line_at, first_line, line_on, line, with_crash, fields_after, replay_fields, ready_in, fields_when, step_reply_in, fields_after_step, crash_reply_in, fields_after_crash, reply_in, fields_after_call, replies_in, fields_after_calls}
 use Rattle.room_core.specs.Reading.{worded, with_quiet, AreFieldsOf, Reads}
 use Rattle.room_core.proofs.Replays.{replay-snoc, legal-snoc, shapes}
@@ -70,7 +70,7 @@ line_leads : (spec : RoomSpec) (fields base : Fields) (i : ℕ) → fields ≡ w
 line_leads spec fields base i leads = subst (λ (f : Fields). line spec f i ≡ with_quiet (line spec base i) (line spec f i).quiet) (sym leads) (line_quiet spec base fields.quiet i)
 
 -- the fields stand for the room, whatever the quiet counts are
-with_counts : (room : RoomData) (fields : Fields) (quiet : ℕ → ℕ) → StandsFor room fields → StandsFor room (with_quiet fields quiet)
+with_counts : (room : Configuration) (fields : Fields) (quiet : ℕ → ℕ) → StandsFor room fields → StandsFor room (with_quiet fields quiet)
 with_counts room fields quiet for = record {
   held = for.held;
   minds = for.minds;
@@ -78,29 +78,29 @@ with_counts room fields quiet for = record {
   tracks = record { told = for.tracks.told; range = record { step = for.tracks.range.step; level = for.tracks.range.level; view = for.tracks.range.view }; snapshot = for.tracks.snapshot };
 }
 
-pub fields_stand : (room : RoomState) (fields : Fields) → IsWithinLimits room.spec → AreFieldsOf room fields → StandsFor (data_of room) fields
+pub fields_stand : (room : RoomState) (fields : Fields) → IsWithinLimits room.spec → AreFieldsOf room fields → StandsFor (configuration_of room) fields
 fields_stand room fields limits are =
-    let base = replay_fields room.spec (opening_fields room.spec) are.run.events in
-    subst (StandsFor (data_of room)) (sym are.leads) (with_counts (data_of room) base fields.quiet (stands_for (data_of room) limits are.run))
+    let base = replay_fields room.spec (opening_fields room.spec) are.run.schedule in
+    subst (StandsFor (configuration_of room)) (sym are.leads) (with_counts (configuration_of room) base fields.quiet (stands_for (configuration_of room) limits are.run))
 
 -- ---- one event more
 
-fields-snoc : (spec : RoomSpec) (fields : Fields) (events : List Event) (event : Event) → replay_fields spec fields (events ++ event ∷ []) ≡ fields_after spec (replay_fields spec fields events) event
+fields-snoc : (spec : RoomSpec) (fields : Fields) (schedule : List ScheduleEvent) (event : ScheduleEvent) → replay_fields spec fields (schedule ++ event ∷ []) ≡ fields_after spec (replay_fields spec fields schedule) event
 fields-snoc spec fields [] event = refl
-fields-snoc spec fields (first ∷ events) event = fields-snoc spec (fields_after spec fields first) events event
+fields-snoc spec fields (first ∷ schedule) event = fields-snoc spec (fields_after spec fields first) schedule event
 
-moved_run : (room : RoomState) (i : ℕ) → IsOneInterleaving (data_of room) → HasLine (data_of room) i → IsOneInterleaving (data_of (moved room i))
+moved_run : (room : RoomState) (i : ℕ) → IsOneInterleaving (configuration_of room) → HasLine (configuration_of room) i → IsOneInterleaving (configuration_of (moved room i))
 moved_run room i one may = record {
-  events = one.events ++ steps i ∷ [];
-  legal = legal-snoc (opening room.spec) one.events (steps i) one.legal (subst (λ (q : RoomData). HasLine q i) (sym one.leads) may);
-  leads = replay-snoc (opening room.spec) one.events (steps i) ∙ ap (λ (q : RoomData). stepped q i) one.leads ∙ sym (moved_data room i);
+  schedule = one.schedule ++ steps i ∷ [];
+  legal = legal-snoc (opening room.spec) one.schedule (steps i) one.legal (subst (λ (q : Configuration). HasLine q i) (sym one.leads) may);
+  leads = replay-snoc (opening room.spec) one.schedule (steps i) ∙ ap (λ (q : Configuration). stepped q i) one.leads ∙ sym (moved_data room i);
 }
 
 -- the turn of simulator i, in its fields
 abbrev taken_in : RoomSpec → Fields → ℕ → TakenOf StepMap
 taken_in spec fields i = taken_on (fields.mind i).line spec fields (fields.mind i).sweep (current_round (fields.mind i)) (counted (fields.mind i))
 
-line_counts : (room : RoomState) (fields : Fields) (i : ℕ) → IsShaped (data_of room) → StandsFor (data_of room) fields → HasLine (data_of room) i → ((a : ℕ) → a < room.spec.simulators → fields.quiet a ≡ (sweep_at room a).quiet)
+line_counts : (room : RoomState) (fields : Fields) (i : ℕ) → IsShaped (configuration_of room) → StandsFor (configuration_of room) fields → HasLine (configuration_of room) i → ((a : ℕ) → a < room.spec.simulators → fields.quiet a ≡ (sweep_at room a).quiet)
     → (a : ℕ) → a < room.spec.simulators → (line room.spec fields i).quiet a ≡ (sweep_at (moved room i) a).quiet
 line_counts room fields i shape for may counts a less =
     let below = may.alive.below in
@@ -110,9 +110,9 @@ line_counts room fields i shape for may counts a less =
     let own = sweep_after (taken_by room i) (sweep_at room i).quiet in
     let place : i < length room.sweeps = let count = sweep_count room shape in omega arith in
     let turn : (taken_by room i).turn ≡ (taken_in room.spec fields i).turn =
-    ap (λ (one : MindState). (taken room.spec one (answer_of (move_of room.spec one) room.words)).turn) (sym (mind_here room i)) ∙ ap (λ (one : TakenOf ℕ). one.turn) (taken_is (data_of room) fields i shape for may) in
+    ap (λ (one : MindState). (taken room.spec one (answer_of (move_of room.spec one) room.words)).turn) (sym (mind_here room i)) ∙ ap (λ (one : TakenOf ℕ). one.turn) (taken_is (configuration_of room) fields i shape for may) in
     let quiet = quiet_after (taken_in room.spec fields i).turn (after.quiet i) in
-    let is : (line room.spec fields i).quiet a ≡ changed after.quiet i quiet a = ap (λ (f : Fields). f.quiet a) (line_is (data_of room) fields i shape for may) in
+    let is : (line room.spec fields i).quiet a ≡ changed after.quiet i quiet a = ap (λ (f : Fields). f.quiet a) (line_is (configuration_of room) fields i shape for may) in
     is ∙ dite (ℕ_discrete a i)
     (λ (e : a ≡ i).
     changed_here after.quiet i quiet a e
@@ -124,15 +124,15 @@ line_counts room fields i shape for may counts a less =
     changed_else after.quiet i quiet a n ∙ ap (λ (q : ℕ → ℕ). q a) kept ∙ counts a less
     ∙ sym (ap (λ (sweep : SweepState). sweep.quiet) (get_or-set_other room.sweeps i a own (opening_sweep room.spec a) n)))
 
-moved_fields : (room : RoomState) (fields : Fields) (i : ℕ) → IsWithinLimits room.spec → AreFieldsOf room fields → HasLine (data_of room) i → AreFieldsOf (moved room i) (line room.spec fields i)
+moved_fields : (room : RoomState) (fields : Fields) (i : ℕ) → IsWithinLimits room.spec → AreFieldsOf room fields → HasLine (configuration_of room) i → AreFieldsOf (moved room i) (line room.spec fields i)
 unfolding moved_run
 moved_fields room fields i limits are may =
-    let base = replay_fields room.spec (opening_fields room.spec) are.run.events in
+    let base = replay_fields room.spec (opening_fields room.spec) are.run.schedule in
     let after = line room.spec fields i in
     record {
       run = moved_run room i are.run may;
-      leads = line_leads room.spec fields base i are.leads ∙ ap (λ (f : Fields). with_quiet f after.quiet) (sym (fields-snoc room.spec (opening_fields room.spec) are.run.events (steps i)));
-      counts = line_counts room fields i (shapes (data_of room) limits are.run) (fields_stand room fields limits are) may are.counts;
+      leads = line_leads room.spec fields base i are.leads ∙ ap (λ (f : Fields). with_quiet f after.quiet) (sym (fields-snoc room.spec (opening_fields room.spec) are.run.schedule (steps i)));
+      counts = line_counts room fields i (shapes (configuration_of room) limits are.run) (fields_stand room fields limits are) may are.counts;
     }
 
 -- ---- a simulator that is told that it is idle
@@ -140,9 +140,9 @@ moved_fields room fields i limits are may =
 woken_fields : (room : RoomState) (fields : Fields) (i : ℕ) → IsWithinLimits room.spec → i < room.spec.simulators → AreFieldsOf room fields → AreFieldsOf (with_sweep room i (woken (sweep_at room i))) (record fields { quiet = changed fields.quiet i 0 })
 woken_fields room fields i limits below are =
     let own = woken (sweep_at room i) in
-    let place : i < length room.sweeps = let count = sweep_count room (shapes (data_of room) limits are.run) in omega arith in
+    let place : i < length room.sweeps = let count = sweep_count room (shapes (configuration_of room) limits are.run) in omega arith in
     record {
-      run = record { events = are.run.events; legal = are.run.legal; leads = are.run.leads ∙ sym (woken_data room i) };
+      run = record { schedule = are.run.schedule; legal = are.run.legal; leads = are.run.leads ∙ sym (woken_data room i) };
       leads = ap (λ (f : Fields). with_quiet f (changed fields.quiet i 0)) are.leads;
       counts = λ a less. dite (ℕ_discrete a i)
           (λ (e : a ≡ i).
@@ -160,7 +160,7 @@ same_ready room fields i limits below are =
 
 module _ (room : RoomState) (fields : Fields) (i : ℕ) (limits : IsWithinLimits room.spec) (are : AreFieldsOf room fields) where
   when_ready : (answer : Ready) → i < room.spec.simulators → has_crashed room i ≡ false → ready_at room i ≡ answer → AreFieldsOf (room_when answer room i) (fields_when answer room.spec fields i)
-  when_ready ready.Step below alive is = moved_fields room fields i limits are (has_line room i (shapes (data_of room) limits are.run) below alive is)
+  when_ready ready.Step below alive is = moved_fields room fields i limits are (has_line room i (shapes (configuration_of room) limits are.run) below alive is)
   when_ready ready.Idle below alive is = woken_fields room fields i limits below are
   when_ready ready.OutOfTurns below alive is = are
 
@@ -191,17 +191,17 @@ step_in_fields room fields i limits are = any_step room fields i limits are (leb
 
 -- ---- one call of a crash
 
-crashed_fields : (room : RoomState) (fields : Fields) (i : ℕ) → IsAlive (data_of room) i → AreFieldsOf room fields → AreFieldsOf (record room { crashed = set room.crashed i true }) (with_crash fields i)
+crashed_fields : (room : RoomState) (fields : Fields) (i : ℕ) → IsAlive (configuration_of room) i → AreFieldsOf room fields → AreFieldsOf (record room { crashed = set room.crashed i true }) (with_crash fields i)
 crashed_fields room fields i may are =
     let one = are.run in
-    let base = replay_fields room.spec (opening_fields room.spec) one.events in
+    let base = replay_fields room.spec (opening_fields room.spec) one.schedule in
     record {
       run = record {
-        events = one.events ++ crashes i ∷ [];
-        legal = legal-snoc (opening room.spec) one.events (crashes i) one.legal (subst (λ (q : RoomData). IsAlive q i) (sym one.leads) may);
-        leads = replay-snoc (opening room.spec) one.events (crashes i) ∙ ap (λ (q : RoomData). crashed_by q i) one.leads;
+        schedule = one.schedule ++ crashes i ∷ [];
+        legal = legal-snoc (opening room.spec) one.schedule (crashes i) one.legal (subst (λ (q : Configuration). IsAlive q i) (sym one.leads) may);
+        leads = replay-snoc (opening room.spec) one.schedule (crashes i) ∙ ap (λ (q : Configuration). crashed_by q i) one.leads;
       };
-      leads = ap (λ (f : Fields). with_crash f i) are.leads ∙ ap (λ (f : Fields). with_quiet f fields.quiet) (sym (fields-snoc room.spec (opening_fields room.spec) one.events (crashes i)));
+      leads = ap (λ (f : Fields). with_crash f i) are.leads ∙ ap (λ (f : Fields). with_quiet f fields.quiet) (sym (fields-snoc room.spec (opening_fields room.spec) one.schedule (crashes i)));
       counts = are.counts;
     }
 
@@ -228,18 +228,18 @@ crash_in_fields room fields i limits are = any_crash room fields i limits are (l
 
 pub opening_in_fields : (spec : RoomSpec) → AreFieldsOf (opening_state spec) (opening_fields spec)
 opening_in_fields spec = record {
-  run = record { events = []; legal = tt; leads = sym (opening_data spec) };
+  run = record { schedule = []; legal = tt; leads = sym (opening_data spec) };
   leads = refl;
   counts = λ i below. sym (ap (λ (sweep : SweepState). sweep.quiet) (get_or-map-range_with_len (opening_sweep spec) 0 spec.simulators i i (opening_sweep spec i) below (omega arith)));
 }
 
 -- a room's own fields
-pub has_fields : (room : RoomState) → IsRoom (data_of room) → (fields : Fields) × AreFieldsOf room fields × Reads (data_of room) fields
+pub has_fields : (room : RoomState) → IsRoom (configuration_of room) → (fields : Fields) × AreFieldsOf room fields × Reads (configuration_of room) fields
 has_fields room is =
     let limits = is.shape.limits in
     let quiet : ℕ → ℕ = λ i. (sweep_at room i).quiet in
-    let fields : Fields = replay_fields room.spec (opening_fields room.spec) is.run.events in
-    let read = reads (data_of room) limits is.run in
+    let fields : Fields = replay_fields room.spec (opening_fields room.spec) is.run.schedule in
+    let read = reads (configuration_of room) limits is.run in
     (with_quiet fields quiet, record { run = is.run; leads = refl; counts = λ i below. refl }, record { words = record { step = read.words.step; level = read.words.level; levels = read.words.levels; view = read.words.view; value = read.words.value; out = read.words.out }; minds = read.minds; crashed = read.crashed })
 
 -- ---- what the calls ensure

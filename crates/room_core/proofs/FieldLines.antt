@@ -13,7 +13,7 @@ use Rattle.simulator.specs.declared.line.Line.{Line}
 use Rattle.simulator.specs.declared.line.Line.TheVariants.{Rest, Raise, Snap, Show, Enter, Look, Leave, Ask, GetView, Values, Out}
 use Rattle.simulator.specs.Minds.{MindOf, goal_at, current_goal, current_round, next_process}
 use Rattle.simulator.specs.Turns.{counted, begun, goes_on, asked, acted, padded, gathered, opened_at}
-use Rattle.room_core.specs.Fields.{StepMap, Fields, changed, changed_pair, changed_triple, left_to, chosen_at, row_of_steps, shown_value}
+use Rattle.room_core.specs.Fields.{StepMap, Fields, changed, changed_pair, changed_triple, left_to, chosen_at, entry_of_steps, shown_value}
 use Rattle.room_core.proofs.Maps.{changed_else, each_pair, each_triple}
 use Rattle.room_core.proofs.Tracks.{raised_below, outside, inside}
 use Rattle.room_core.proofs.Lines.{stored_first_at, stored_first, stored_on, taken_first_at, taken_first, taken_on, AreInRange, StandsAt}
@@ -146,7 +146,7 @@ snapshot_line (Leave saw_two) spec fields i mind at = at.snapshot
 snapshot_line Ask spec fields i mind at = asked_within spec (counted mind) at.snapshot (chosen_at spec fields mind.sweep (current_round mind))
 snapshot_line (GetView chosen) spec fields i mind at =
     let view = fields.view chosen mind.sweep (current_round mind) in
-    gathered_within spec (row_of_steps spec view) [] (record (counted mind) { snapshot = view }) (at.range.view chosen mind.sweep (current_round mind))
+    gathered_within spec (entry_of_steps spec view) [] (record (counted mind) { snapshot = view }) (at.range.view chosen mind.sweep (current_round mind))
 snapshot_line Values spec fields i mind at =
-    gathered_within spec (row_of_steps spec mind.snapshot) (mind.entries ++ Some (min (shown_value spec fields mind.snapshot (length mind.entries)) greatest) ∷ []) (counted mind) at.snapshot
+    gathered_within spec (entry_of_steps spec mind.snapshot) (mind.entries ++ Some (min (shown_value spec fields mind.snapshot (length mind.entries)) greatest) ∷ []) (counted mind) at.snapshot
 snapshot_line (Out decision) spec fields i mind at = at.snapshot

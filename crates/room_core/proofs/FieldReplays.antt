@@ -17,7 +17,7 @@ use Rattle.simulator.specs.Minds.{MindOf, MindState, goal_at, current_round, fir
 use Rattle.simulator.specs.Turns.{TakenOf, counted}
 use Rattle.simulator.specs.Moves.{IsOperation, move_of, taken, words_after, answer_of}
 use Rattle.simulator.specs.Ranges.{IsMind}
-use Rattle.room_core.specs.Rooms.{RoomData, Event, steps, crashes, opening, mind_at, crashed_at, answer_to, stepped, crashed_by, HasLine, MayHappen, after_event, replay, IsLegal, IsOneInterleaving, IsShaped}
+use Rattle.room_core.specs.Rooms.{Configuration, ScheduleEvent, steps, crashes, opening, mind_at, crashed_at, answer_to, stepped, crashed_by, HasLine, MayHappen, after_event, replay, IsLegal, IsOneInterleaving, IsShaped}
 use Rattle.room_core.specs.Fields.{StepMap, Fields, changed, no_steps, opening_fields, with_taken, line, with_crash, fields_after, replay_fields}
 use Rattle.room_core.specs.Reading.{worded, Reads}
 use Rattle.room_core.proofs.Replays.{shape_after, opening_shape}
@@ -38,7 +38,7 @@ pub record Tracks (spec : RoomSpec) (fields : Fields) : Type 0 where
   pub snapshot : (i : ℕ) → AreWithin (sizes_in spec) (fields.mind i).snapshot
 
 -- the room stands for these fields
-pub record StandsFor (room : RoomData) (fields : Fields) : Type 0 where
+pub record StandsFor (room : Configuration) (fields : Fields) : Type 0 where
   pub held : Hold (sizes_in room.spec) room.words fields
   pub minds : (i : ℕ) → i < room.spec.simulators → mind_at room i ≡ worded (sizes_in room.spec) (fields.mind i)
   pub crashed : (i : ℕ) → i < room.spec.simulators → crashed_at room i ≡ fields.crashed i
@@ -46,7 +46,7 @@ pub record StandsFor (room : RoomData) (fields : Fields) : Type 0 where
 
 -- ---- one line
 
-pub stands_at : (room : RoomData) (fields : Fields) (i : ℕ) → IsShaped room → StandsFor room fields → HasLine room i → StandsAt (fields.mind i).line room.spec fields i (fields.mind i)
+pub stands_at : (room : Configuration) (fields : Fields) (i : ℕ) → IsShaped room → StandsFor room fields → HasLine room i → StandsAt (fields.mind i).line room.spec fields i (fields.mind i)
 stands_at room fields i shape for may =
     let below = may.alive.below in
     let mind = fields.mind i in
@@ -98,13 +98,13 @@ tracks_line spec fields i at tracks =
     }
 
 -- the turn of the mind that took its answer in is that of the line
-pub taken_is : (room : RoomData) (fields : Fields) (i : ℕ) → IsShaped room → StandsFor room fields → HasLine room i
+pub taken_is : (room : Configuration) (fields : Fields) (i : ℕ) → IsShaped room → StandsFor room fields → HasLine room i
     → taken room.spec (mind_at room i) (answer_to room i) ≡ worded_taken (sizes_in room.spec) (taken_on (fields.mind i).line room.spec fields (fields.mind i).sweep (current_round (fields.mind i)) (counted (fields.mind i)))
 taken_is room fields i shape for may =
     ap (λ (one : MindState). taken room.spec one (answer_of (move_of room.spec one) room.words)) (for.minds i may.alive.below)
     ∙ same_taken (fields.mind i).line room.spec fields i room.words (fields.mind i) (stands_at room fields i shape for may) for.held
 
-parts_stand : (room : RoomData) (fields : Fields) (i : ℕ) → IsShaped room → HasLine room i → StandsFor room fields → StandsFor (stepped room i) (fields_by room.spec fields i)
+parts_stand : (room : Configuration) (fields : Fields) (i : ℕ) → IsShaped room → HasLine room i → StandsFor room fields → StandsFor (stepped room i) (fields_by room.spec fields i)
 parts_stand room fields i shape may for =
     let below = may.alive.below in
     let mind = fields.mind i in
@@ -128,14 +128,14 @@ parts_stand room fields i shape may for =
     }
 
 -- a line is its two parts, where the simulator has one to take
-pub line_is : (room : RoomData) (fields : Fields) (i : ℕ) → IsShaped room → StandsFor room fields → HasLine room i → line room.spec fields i ≡ fields_by room.spec fields i
+pub line_is : (room : Configuration) (fields : Fields) (i : ℕ) → IsShaped room → StandsFor room fields → HasLine room i → line room.spec fields i ≡ fields_by room.spec fields i
 line_is room fields i shape for may =
     let at = stands_at room fields i shape for may in
     line_parts (fields.mind i).line room.spec fields i (fields.mind i).sweep (current_round (fields.mind i)) (fields.mind i) at.moves
 
 -- ---- one event, and a list of them
 
-pub event_stands : (room : RoomData) (fields : Fields) (event : Event) → IsShaped room → MayHappen room event → StandsFor room fields → StandsFor (after_event room event) (fields_after room.spec fields event)
+pub event_stands : (room : Configuration) (fields : Fields) (event : ScheduleEvent) → IsShaped room → MayHappen room event → StandsFor room fields → StandsFor (after_event room event) (fields_after room.spec fields event)
 event_stands room fields (steps i) shape may for = subst (λ (after : Fields). StandsFor (stepped room i) after) (sym (line_is room fields i shape for may)) (parts_stand room fields i shape may for)
 event_stands room fields (crashes i) shape may for =
     let place : i < length room.crashed = let count = shape.crashed in let below = may.below in omega arith in
@@ -148,12 +148,12 @@ event_stands room fields (crashes i) shape may for =
       tracks = record { told = for.tracks.told; range = record { step = for.tracks.range.step; level = for.tracks.range.level; view = for.tracks.range.view }; snapshot = for.tracks.snapshot };
     }
 
-replay_stands : (room : RoomData) (fields : Fields) (events : List Event) → IsShaped room → IsLegal room events → StandsFor room fields → StandsFor (replay room events) (replay_fields room.spec fields events)
+replay_stands : (room : Configuration) (fields : Fields) (schedule : List ScheduleEvent) → IsShaped room → IsLegal room schedule → StandsFor room fields → StandsFor (replay room schedule) (replay_fields room.spec fields schedule)
 replay_stands room fields [] shape legal for = for
-replay_stands room fields (steps i ∷ events) shape legal for =
-    replay_stands (stepped room i) (line room.spec fields i) events (shape_after room (steps i) legal.0 shape) legal.1 (event_stands room fields (steps i) shape legal.0 for)
-replay_stands room fields (crashes i ∷ events) shape legal for =
-    replay_stands (crashed_by room i) (with_crash fields i) events (shape_after room (crashes i) legal.0 shape) legal.1 (event_stands room fields (crashes i) shape legal.0 for)
+replay_stands room fields (steps i ∷ schedule) shape legal for =
+    replay_stands (stepped room i) (line room.spec fields i) schedule (shape_after room (steps i) legal.0 shape) legal.1 (event_stands room fields (steps i) shape legal.0 for)
+replay_stands room fields (crashes i ∷ schedule) shape legal for =
+    replay_stands (crashed_by room i) (with_crash fields i) schedule (shape_after room (crashes i) legal.0 shape) legal.1 (event_stands room fields (crashes i) shape legal.0 for)
 
 -- ---- the opening
 
@@ -185,12 +185,12 @@ opening_stands spec = record {
 
 -- ---- every room that is one interleaving
 
-pub stands_for : (room : RoomData) → IsWithinLimits room.spec → (one : IsOneInterleaving room) → StandsFor room (replay_fields room.spec (opening_fields room.spec) one.events)
+pub stands_for : (room : Configuration) → IsWithinLimits room.spec → (one : IsOneInterleaving room) → StandsFor room (replay_fields room.spec (opening_fields room.spec) one.schedule)
 stands_for room limits one =
-    subst (λ (q : RoomData). StandsFor q (replay_fields room.spec (opening_fields room.spec) one.events)) one.leads
-    (replay_stands (opening room.spec) (opening_fields room.spec) one.events (opening_shape room.spec limits) one.legal (opening_stands room.spec))
+    subst (λ (q : Configuration). StandsFor q (replay_fields room.spec (opening_fields room.spec) one.schedule)) one.leads
+    (replay_stands (opening room.spec) (opening_fields room.spec) one.schedule (opening_shape room.spec limits) one.legal (opening_stands room.spec))
 
-reads_of : (room : RoomData) (fields : Fields) → StandsFor room fields → Reads room fields
+reads_of : (room : Configuration) (fields : Fields) → StandsFor room fields → Reads room fields
 reads_of room fields for = record {
   words = record {
     step = record { within = λ i p _ _. for.tracks.range.step i p; same = for.held places.Steps tt };
@@ -204,6 +204,6 @@ reads_of room fields for = record {
   crashed = for.crashed;
 }
 
--- Every such room stands for the fields to which its list of events leads.
-pub reads : (room : RoomData) → IsWithinLimits room.spec → (one : IsOneInterleaving room) → Reads room (replay_fields room.spec (opening_fields room.spec) one.events)
-reads room limits one = reads_of room (replay_fields room.spec (opening_fields room.spec) one.events) (stands_for room limits one)
+-- Every such room stands for the fields to which its list of schedule leads.
+pub reads : (room : Configuration) → IsWithinLimits room.spec → (one : IsOneInterleaving room) → Reads room (replay_fields room.spec (opening_fields room.spec) one.schedule)
+reads room limits one = reads_of room (replay_fields room.spec (opening_fields room.spec) one.schedule) (stands_for room limits one)

@@ -3,7 +3,7 @@ use Rattle.std.proofs.Common.{◌≡◌, ◌≢◌, ◌⊎◌, ℕ, ◌+◌, ◌
 use Rattle.std.specs.List.{range_with_len}
 use Rattle.std.proofs.lemmas.List.{take_all}
 use Rattle.std.proofs.lemmas.List.FromFn.{get_or-map-range_with_len}
-use Rattle.room_core.specs.Calls.{RoomState, data_of}
+use Rattle.room_core.specs.Calls.{RoomState, configuration_of}
 use Rattle.room_core.specs.Reading.{AreFieldsOf}
 use Rattle.room_core.specs.Moments.{fields_at}
 use Rattle.room_core.proofs.SmallValues.{small_values}
@@ -22,7 +22,7 @@ use Rattle.simulator.specs.declared.goal.Goal.TheVariants as goals
 use Rattle.simulator.specs.declared.line.Line.{Line}
 use Rattle.simulator.specs.declared.line.Line.TheVariants.{Rest, Raise, GetView, Values, Out}
 use Rattle.simulator.specs.Minds.{goal_at, current_goal, current_round, round_of, first_goal}
-use Rattle.room_core.specs.Rooms.{RoomData, Event, steps, crashes, MayHappen, IsShaped, IsOneInterleaving}
+use Rattle.room_core.specs.Rooms.{Configuration, ScheduleEvent, steps, crashes, MayHappen, IsShaped, IsOneInterleaving}
 use Rattle.room_core.specs.Fields.{Fields, levels_at, opening_fields, line, fields_after, replay_fields}
 use Rattle.room_core.specs.Agreements.{IsFixedAt, AgreementsStay}
 use Rattle.room_core.specs.Contents.{IsDue, first_write, next_write, HasSmallValues}
@@ -331,18 +331,18 @@ opening_known spec small = record {
 
 -- ---- each event
 
-pub views_within : (spec : RoomSpec) (events : List Event) (fields : Fields) → Tracks spec fields → IsHistory spec events fields → ViewsWithin spec fields
-views_within spec events fields tracks history h p k below first two a q within within' =
+pub views_within : (spec : RoomSpec) (schedule : List ScheduleEvent) (fields : Fields) → Tracks spec fields → IsHistory spec schedule fields → ViewsWithin spec fields
+views_within spec schedule fields tracks history h p k below first two a q within within' =
     let moment = history.shown h p k below first (at_two spec fields h p k tracks two) in
     let at = moment.same a q within within' in
-    let grown = history.grows moment.time (length events) moment.early (omega arith) a q within within' in
-    let end : (fields_at spec events (length events)).step a q ≡ fields.step a q = ap (λ (prefix : List Event). (replay_fields spec (opening_fields spec) prefix).step a q) (take_all (length events) events (omega arith)) ∙ ap (λ (f : Fields). f.step a q) history.leads in
+    let grown = history.grows moment.time (length schedule) moment.early (omega arith) a q within within' in
+    let end : (fields_at spec schedule (length schedule)).step a q ≡ fields.step a q = ap (λ (prefix : List ScheduleEvent). (replay_fields spec (opening_fields spec) prefix).step a q) (take_all (length schedule) schedule (omega arith)) ∙ ap (λ (f : Fields). f.step a q) history.leads in
     omega (arith, at, grown, end)
 
-abbrev pub KnownAfter : RoomSpec → List Event → Fields → Type 0
-KnownAfter spec events fields = IsHistory spec events fields × IsSound spec fields × (HasSmallValues spec → IsKnown spec fields)
+abbrev pub KnownAfter : RoomSpec → List ScheduleEvent → Fields → Type 0
+KnownAfter spec schedule fields = IsHistory spec schedule fields × IsSound spec fields × (HasSmallValues spec → IsKnown spec fields)
 
-pub known_kept : (room : RoomData) (fields : Fields) (done : List Event) (event : Event) → IsShaped room → MayHappen room event → StandsFor room fields → KnownAfter room.spec done fields → KnownAfter room.spec (done ++ event ∷ []) (fields_after room.spec fields event)
+pub known_kept : (room : Configuration) (fields : Fields) (done : List ScheduleEvent) (event : ScheduleEvent) → IsShaped room → MayHappen room event → StandsFor room fields → KnownAfter room.spec done fields → KnownAfter room.spec (done ++ event ∷ []) (fields_after room.spec fields event)
 known_kept room fields done (steps i) shape may for both = (
   history_kept room fields done (steps i) shape may for both.0,
   sound_kept room fields done (steps i) shape may for both.1,
@@ -354,12 +354,12 @@ known_kept room fields done (crashes i) shape may for both = (
   λ small. known_other room.spec fields fields.quiet _ (let b = may.below in omega arith) for.tracks (views_within room.spec done fields for.tracks both.0) (both.2 small),
 )
 
-pub known_run : (room : RoomData) → IsWithinLimits room.spec → HasSmallValues room.spec → (one : IsOneInterleaving room) → IsKnown room.spec (replay_fields room.spec (opening_fields room.spec) one.events)
+pub known_run : (room : Configuration) → IsWithinLimits room.spec → HasSmallValues room.spec → (one : IsOneInterleaving room) → IsKnown room.spec (replay_fields room.spec (opening_fields room.spec) one.schedule)
 known_run room limits small one = (over_run KnownAfter known_kept room limits one (opening_history room.spec, opening_sound room.spec, λ small. opening_known room.spec small)).2 small
 
 pub fields_known : (room : RoomState) (fields : Fields) → IsWithinLimits room.spec → AreFieldsOf room fields → IsKnown room.spec fields
 fields_known room fields limits are =
-    let base = replay_fields room.spec (opening_fields room.spec) are.run.events in
-    let tracks = (stands_for (data_of room) limits are.run).tracks in
-    let within = views_within room.spec are.run.events base tracks (history_run (data_of room) limits are.run) in
-    subst (IsKnown room.spec) (sym are.leads) (known_other room.spec base fields.quiet base.crashed (let b = limits.shape.m_range.0 in omega arith) tracks within (known_run (data_of room) limits (small_values room.spec limits) are.run))
+    let base = replay_fields room.spec (opening_fields room.spec) are.run.schedule in
+    let tracks = (stands_for (configuration_of room) limits are.run).tracks in
+    let within = views_within room.spec are.run.schedule base tracks (history_run (configuration_of room) limits are.run) in
+    subst (IsKnown room.spec) (sym are.leads) (known_other room.spec base fields.quiet base.crashed (let b = limits.shape.m_range.0 in omega arith) tracks within (known_run (configuration_of room) limits (small_values room.spec limits) are.run))

@@ -13,7 +13,7 @@ use Rattle.sim_memory.proofs.Rows.{merged_reached}
 use Rattle.simulator.specs.declared.goal.Goal.TheVariants as goals
 use Rattle.simulator.specs.declared.line.Line.TheVariants.{Raise, GetView, Values, Out}
 use Rattle.simulator.specs.Minds.{MindOf, goal_at, current_goal, current_round}
-use Rattle.room_core.specs.Fields.{StepMap, Fields, levels_at, row_of_steps, shown_value}
+use Rattle.room_core.specs.Fields.{StepMap, Fields, levels_at, entry_of_steps, shown_value}
 use Rattle.room_core.specs.Agreements.{IsFixedAt, AgreementsStay}
 use Rattle.room_core.specs.Passed.{view_at, first_with, written, asks}
 use Rattle.room_core.specs.Contents.{or_zero, shown_by, IsDue, first_write, next_write, AreSmall}
@@ -83,8 +83,8 @@ module _ (spec : RoomSpec) (fields : Fields) (within : ViewsWithin spec fields) 
         fixed = at.fixed;
         first = at.first;
         view = sym (ap (λ (o : Option ℕ). fields.view (or_zero o) mind.sweep (current_round mind)) at.is);
-        so_far = padded_first (row_of_steps spec view) all (processes spec - 0) [] (omega (arith, long)) (λ p less' none. shown_none spec fields view p (omega (arith, long, less')) none) refl;
-        small = padded_small (row_of_steps spec view) (processes spec - 0) [] tt;
+        so_far = padded_first (entry_of_steps spec view) all (processes spec - 0) [] (omega (arith, long)) (λ p less' none. shown_none spec fields view p (omega (arith, long, less')) none) refl;
+        small = padded_small (entry_of_steps spec view) (processes spec - 0) [] tt;
       }
   loaded_by reading (loads_value turn less row) =
       let mind = fields.mind i in
@@ -100,9 +100,9 @@ module _ (spec : RoomSpec) (fields : Fields) (within : ViewsWithin spec fields) 
         fixed = at.fixed;
         first = at.first;
         view = at.view;
-        so_far = padded_first (row_of_steps spec mind.snapshot) all (processes spec - length (mind.entries ++ entry ∷ [])) (mind.entries ++ entry ∷ []) (omega (arith, long, long', less))
+        so_far = padded_first (entry_of_steps spec mind.snapshot) all (processes spec - length (mind.entries ++ entry ∷ [])) (mind.entries ++ entry ∷ []) (omega (arith, long, long', less))
             (λ q less' none. shown_none spec fields mind.snapshot q (omega (arith, long, less')) none) (first_more mind.entries all entry (omega (arith, long, less)) at.so_far is);
-        small = padded_small (row_of_steps spec mind.snapshot) (processes spec - length (mind.entries ++ entry ∷ [])) (mind.entries ++ entry ∷ []) (small_more mind.entries entry at.small (min_low (shown_value spec fields mind.snapshot p)));
+        small = padded_small (entry_of_steps spec mind.snapshot) (processes spec - length (mind.entries ++ entry ∷ [])) (mind.entries ++ entry ∷ []) (small_more mind.entries entry at.small (min_low (shown_value spec fields mind.snapshot p)));
       }
 
   pub loaded : (reading : MindOf StepMap) → IsReading spec fields (own_of fields i) reading → IsGathered spec fields reading.sweep (current_round reading) reading.snapshot reading.entries
@@ -147,7 +147,7 @@ module _ (spec : RoomSpec) (fields after : Fields) (some : 0 < spec.simulators) 
       let who = merged_reached spec.simulators snapshot p some in
       let has = low who.0 p who.1 below' in
       let e = who.2 in
-      written_kept who.0 p (row_of_steps spec snapshot p) who.1 below' (omega arith) (omega arith))
+      written_kept who.0 p (entry_of_steps spec snapshot p) who.1 below' (omega arith) (omega arith))
 
   pub all_kept : (p k : ℕ) → 1 ≤ k → IsFixedAt spec fields p k → shown_by spec after (view_at spec after p k) ≡ shown_by spec fields (view_at spec fields p k)
   all_kept p k first at = ap (λ (map : StepMap). shown_by spec after map) (view_kept p k first at) ∙ shown_kept (view_at spec fields p k) (view_within spec fields within p k first at)

@@ -20,9 +20,9 @@ use Rattle.simulator.specs.declared.line.Line.TheVariants.{Rest, Raise, Snap, Sh
 use Rattle.simulator.specs.declared.operation.Move.TheVariants.{OutOfTurns}
 use Rattle.simulator.specs.Minds.{MindOf, goal_at, current_round, next_process}
 use Rattle.simulator.specs.Turns.{counted, begun, goes_on, snapped, asked, got_view, got_value, opened_at, opened}
-use Rattle.simulator.specs.Moves.{IsOperation, index_in, row_in, holder_in, first_move_at, first_move, move_at, chosen_in, taken_at, answer_of}
+use Rattle.simulator.specs.Moves.{IsOperation, index_in, entry_in, holder_in, first_move_at, first_move, move_at, chosen_in, taken_at, answer_of}
 use Rattle.simulator.specs.Ranges.{IsMind}
-use Rattle.room_core.specs.Fields.{StepMap, Fields, chosen_at, row_of_steps, holder_of_steps, shown_value}
+use Rattle.room_core.specs.Fields.{StepMap, Fields, chosen_at, entry_of_steps, holder_of_steps, shown_value}
 use Rattle.room_core.specs.Reading.{worded}
 use Rattle.room_core.proofs.Snapshots.{same_row, same_holder, same_levels, same_chosen}
 use Rattle.room_core.proofs.Wording.{worded_taken, asked_worded, opened_worded, gathered_worded}
@@ -61,7 +61,7 @@ module _ (spec : RoomSpec) (fields : Fields) (words : List ℕ) (mind : MindOf S
 
 -- ---- what is read of a snapshot
 
-row_at_most : (spec : RoomSpec) (steps : StepMap) (p : ℕ) → AreWithin (sizes_in spec) steps → p < processes spec → row_of_steps spec steps p ≤ spec.rounds
+row_at_most : (spec : RoomSpec) (steps : StepMap) (p : ℕ) → AreWithin (sizes_in spec) steps → p < processes spec → entry_of_steps spec steps p ≤ spec.rounds
 row_at_most spec steps p within below = merged_below spec.simulators steps p spec.rounds (λ i less. within i p less below)
 
 holder_below : (spec : RoomSpec) (steps : StepMap) (p : ℕ) → IsWithinLimits spec → holder_of_steps spec steps p < spec.simulators
@@ -73,16 +73,16 @@ holder_below spec steps p limits =
     omega arith
 
 -- the value that a snapshot as a word shows of a process
-value_at_place : (spec : RoomSpec) (fields : Fields) (words : List ℕ) (steps : StepMap) (p : ℕ) → IsWithinLimits spec → AreWithin (sizes_in spec) steps → Hold (sizes_in spec) words fields → p < processes spec → 1 ≤ row_in spec (memory_word (sizes_in spec) steps) p
-    → slice_index words (index_in spec (places.Value (holder_in spec (memory_word (sizes_in spec) steps) p) p (row_in spec (memory_word (sizes_in spec) steps) p))) ≡ shown_value spec fields steps p
+value_at_place : (spec : RoomSpec) (fields : Fields) (words : List ℕ) (steps : StepMap) (p : ℕ) → IsWithinLimits spec → AreWithin (sizes_in spec) steps → Hold (sizes_in spec) words fields → p < processes spec → 1 ≤ entry_in spec (memory_word (sizes_in spec) steps) p
+    → slice_index words (index_in spec (places.Value (holder_in spec (memory_word (sizes_in spec) steps) p) p (entry_in spec (memory_word (sizes_in spec) steps) p))) ≡ shown_value spec fields steps p
 value_at_place spec fields words steps p limits within held below shown =
     let row = same_row spec steps p limits within below in
     let holder = same_holder spec steps p limits within below in
     let most = row_at_most spec steps p within below in
-    let some : 1 ≤ row_of_steps spec steps p = omega arith in
+    let some : 1 ≤ entry_of_steps spec steps p = omega arith in
     ap (λ (r : ℕ). slice_index words (index_in spec (places.Value (holder_in spec (memory_word (sizes_in spec) steps) p) p r))) row
-    ∙ ap (λ (h : ℕ). slice_index words (index_in spec (places.Value h p (row_of_steps spec steps p)))) holder
-    ∙ held (places.Value (holder_of_steps spec steps p) p (row_of_steps spec steps p)) (holder_below spec steps p limits, below, (some, most))
+    ∙ ap (λ (h : ℕ). slice_index words (index_in spec (places.Value h p (entry_of_steps spec steps p)))) holder
+    ∙ held (places.Value (holder_of_steps spec steps p) p (entry_of_steps spec steps p)) (holder_below spec steps p limits, below, (some, most))
 
 length_with_one : (entries : List (Option ℕ)) (value : Option ℕ) → length (entries ++ value ∷ []) ≡ length entries + 1
 length_with_one entries value = let one : List (Option ℕ) = value ∷ [] in length-append entries one
@@ -114,12 +114,12 @@ same_taken (GetView chosen) spec fields i words mind at held =
     let view = fields.view chosen j k in
     let within = at.range.view chosen j k in
     let round = open_round spec mind at.is_mind at.open_at.0 in
-    ap (λ (word : ℕ). got_view (row_in spec word) spec word (counted (worded (sizes_in spec) mind))) (held (places.View chosen j k) (at.open_at.1, at.is_mind.sweep, round))
-    ∙ gathered_worded (sizes_in spec) spec (row_in spec (memory_word (sizes_in spec) view)) (row_of_steps spec view) [] (record (counted mind) { snapshot = view }) (omega arith) (λ p below. same_row spec view p at.is_mind.limits within below)
+    ap (λ (word : ℕ). got_view (entry_in spec word) spec word (counted (worded (sizes_in spec) mind))) (held (places.View chosen j k) (at.open_at.1, at.is_mind.sweep, round))
+    ∙ gathered_worded (sizes_in spec) spec (entry_in spec (memory_word (sizes_in spec) view)) (entry_of_steps spec view) [] (record (counted mind) { snapshot = view }) (omega arith) (λ p below. same_row spec view p at.is_mind.limits within below)
 same_taken Values spec fields i words mind at held =
     let p = length mind.entries in
     let longer = length_with_one mind.entries (Some (min (shown_value spec fields mind.snapshot p) greatest)) in
     let below : p < processes spec = at.open_at.1 in
-    ap (λ (value : ℕ). got_value (row_in spec (memory_word (sizes_in spec) mind.snapshot)) spec value (counted (worded (sizes_in spec) mind))) (value_at_place spec fields words mind.snapshot p at.is_mind.limits at.snapshot held below at.open_at.2)
-    ∙ gathered_worded (sizes_in spec) spec (row_in spec (memory_word (sizes_in spec) mind.snapshot)) (row_of_steps spec mind.snapshot) (mind.entries ++ Some (min (shown_value spec fields mind.snapshot p) greatest) ∷ []) (counted mind) (omega arith) (λ q less. same_row spec mind.snapshot q at.is_mind.limits at.snapshot less)
+    ap (λ (value : ℕ). got_value (entry_in spec (memory_word (sizes_in spec) mind.snapshot)) spec value (counted (worded (sizes_in spec) mind))) (value_at_place spec fields words mind.snapshot p at.is_mind.limits at.snapshot held below at.open_at.2)
+    ∙ gathered_worded (sizes_in spec) spec (entry_in spec (memory_word (sizes_in spec) mind.snapshot)) (entry_of_steps spec mind.snapshot) (mind.entries ++ Some (min (shown_value spec fields mind.snapshot p) greatest) ∷ []) (counted mind) (omega arith) (λ q less. same_row spec mind.snapshot q at.is_mind.limits at.snapshot less)
 same_taken (Out decision) spec fields i words mind at held = refl

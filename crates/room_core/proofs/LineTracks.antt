@@ -19,7 +19,7 @@ use Rattle.simulator.specs.Minds.{MindOf, goal_at, current_goal, current_round, 
 use Rattle.simulator.specs.Turns.{TakenOf, counted, begun, goes_on, ended, asked, acted, after_write, padded, gathered, opened_at}
 use Rattle.simulator.specs.Ranges.{IsGoal, IsMind}
 use Rattle.simulator.specs.Moves.{IsOperation, first_move_at, first_move}
-use Rattle.room_core.specs.Fields.{StepMap, Fields, changed, changed_pair, changed_triple, left_to, levels_at, chosen_at, row_of_steps, shown_value}
+use Rattle.room_core.specs.Fields.{StepMap, Fields, changed, changed_pair, changed_triple, left_to, levels_at, chosen_at, entry_of_steps, shown_value}
 use Rattle.room_core.specs.Reading.{worded}
 use Rattle.room_core.proofs.Maps.{changed_here, changed_else}
 use Rattle.room_core.proofs.Tracks.{AtRest, Stored, Past, stage_of, Tells, ToldBy, ToldBeside, told_by, told_at_rest, told_with_goal, tells_raised, inside, tells_entered, tells_left, tells_asked, tells_written, tells_decided}
@@ -132,8 +132,8 @@ told_line (Leave saw_two) spec fields i mind at =
 told_line Ask spec fields i mind at =
     asked_told spec (fields.step i) (fields.level i) (chosen_at spec fields mind.sweep (current_round mind)) (counted mind) (sweep_below spec mind at.is_mind) at.others at.own
 told_line (GetView chosen) spec fields i mind at =
-    gathered_told spec (fields.step i) (fields.level i) (row_of_steps spec (fields.view chosen mind.sweep (current_round mind))) [] (record (counted mind) { snapshot = fields.view chosen mind.sweep (current_round mind) }) (sweep_below spec mind at.is_mind) (goal_range spec mind at.is_mind) at.others at.own
+    gathered_told spec (fields.step i) (fields.level i) (entry_of_steps spec (fields.view chosen mind.sweep (current_round mind))) [] (record (counted mind) { snapshot = fields.view chosen mind.sweep (current_round mind) }) (sweep_below spec mind at.is_mind) (goal_range spec mind at.is_mind) at.others at.own
 told_line Values spec fields i mind at =
-    gathered_told spec (fields.step i) (fields.level i) (row_of_steps spec mind.snapshot) (mind.entries ++ Some (min (shown_value spec fields mind.snapshot (length mind.entries)) greatest) ∷ []) (counted mind) (sweep_below spec mind at.is_mind) (goal_range spec mind at.is_mind) at.others at.own
+    gathered_told spec (fields.step i) (fields.level i) (entry_of_steps spec mind.snapshot) (mind.entries ++ Some (min (shown_value spec fields mind.snapshot (length mind.entries)) greatest) ∷ []) (counted mind) (sweep_below spec mind at.is_mind) (goal_range spec mind at.is_mind) at.others at.own
 told_line (Out decision) spec fields i mind at =
     ended_told spec (fields.step i) (fields.level i) Useful goals.Done (counted mind) (sweep_below spec mind at.is_mind) at.others (tells_decided spec.rounds (current_goal mind) (fields.step i mind.sweep) (fields.level i mind.sweep) at.own)

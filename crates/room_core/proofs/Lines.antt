@@ -15,7 +15,7 @@ use Rattle.simulator.specs.Minds.{MindOf, goal_at, current_goal, current_round, 
 use Rattle.simulator.specs.Turns.{TakenOf, counted, goes_on, snapped, asked, got_view, got_value, decided, opened}
 use Rattle.simulator.specs.Moves.{IsOperation, first_move_at, first_move, move_at}
 use Rattle.simulator.specs.Ranges.{IsGoal, IsOpenAt, IsMind}
-use Rattle.room_core.specs.Fields.{StepMap, Fields, changed_pair, changed_triple, levels_at, chosen_at, row_of_steps, shown_value, with_taken, left_to, first_line_at, first_line, line_on}
+use Rattle.room_core.specs.Fields.{StepMap, Fields, changed_pair, changed_triple, levels_at, chosen_at, entry_of_steps, shown_value, with_taken, left_to, first_line_at, first_line, line_on}
 use Rattle.room_core.specs.Reading.{worded}
 use Rattle.room_core.proofs.Tracks.{Tells, ToldBeside, stage_of}
 
@@ -63,8 +63,8 @@ taken_on Enter spec fields j k mind = goes_on Look mind
 taken_on Look spec fields j k mind = goes_on (Leave (has_level 2 (levels_at spec fields j k))) mind
 taken_on (Leave saw_two) spec fields j k mind = goes_on Ask mind
 taken_on Ask spec fields j k mind = asked (chosen_at spec fields j k) mind
-taken_on (GetView chosen) spec fields j k mind = got_view (row_of_steps spec (fields.view chosen j k)) spec (fields.view chosen j k) mind
-taken_on Values spec fields j k mind = got_value (row_of_steps spec mind.snapshot) spec (shown_value spec fields mind.snapshot (length mind.entries)) mind
+taken_on (GetView chosen) spec fields j k mind = got_view (entry_of_steps spec (fields.view chosen j k)) spec (fields.view chosen j k) mind
+taken_on Values spec fields j k mind = got_value (entry_of_steps spec mind.snapshot) spec (shown_value spec fields mind.snapshot (length mind.entries)) mind
 taken_on (Out decision) spec fields j k mind = decided mind
 
 -- ---- they make up the line

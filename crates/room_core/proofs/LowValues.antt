@@ -10,8 +10,8 @@ use Rattle.room_spec.specs.Rooms.{RoomSpec, IsWithinLimits, processes}
 use Rattle.room_spec.proofs.Values.{next_in_room}
 use Rattle.simulator.specs.declared.goal.Goal.TheVariants as goals
 use Rattle.simulator.specs.Minds.{goal_at}
-use Rattle.room_core.specs.Rooms.{RoomData, Event, steps, crashes, MayHappen, IsShaped}
-use Rattle.room_core.specs.Calls.{RoomState, data_of}
+use Rattle.room_core.specs.Rooms.{Configuration, ScheduleEvent, steps, crashes, MayHappen, IsShaped}
+use Rattle.room_core.specs.Calls.{RoomState, configuration_of}
 use Rattle.room_core.specs.Fields.{Fields, changed_pair, line, fields_after}
 use Rattle.room_core.specs.Reading.{AreFieldsOf}
 use Rattle.room_core.specs.Passed.{row_at, shown, shown_by, asks, written}
@@ -60,10 +60,10 @@ module _ (spec : RoomSpec) (fields : Fields) (own : Own) (low : (p k value : ℕ
 abbrev pub AllLow : Fields → Type 0
 AllLow fields = (i p r : ℕ) → fields.value i p r ≤ greatest
 
-abbrev pub LowAfter : RoomSpec → List Event → Fields → Type 0
-LowAfter spec events fields = KnownAfter spec events fields × (HasSmallValues spec → AllLow fields)
+abbrev pub LowAfter : RoomSpec → List ScheduleEvent → Fields → Type 0
+LowAfter spec schedule fields = KnownAfter spec schedule fields × (HasSmallValues spec → AllLow fields)
 
-low_kept : (room : RoomData) (fields : Fields) (done : List Event) (event : Event) → IsShaped room → MayHappen room event → StandsFor room fields → LowAfter room.spec done fields → LowAfter room.spec (done ++ event ∷ []) (fields_after room.spec fields event)
+low_kept : (room : Configuration) (fields : Fields) (done : List ScheduleEvent) (event : ScheduleEvent) → IsShaped room → MayHappen room event → StandsFor room fields → LowAfter room.spec done fields → LowAfter room.spec (done ++ event ∷ []) (fields_after room.spec fields event)
 low_kept room fields done (steps i) shape may for both = (
   known_kept room fields done (steps i) shape may for both.0,
   λ small a p r.
@@ -81,7 +81,7 @@ low_kept room fields done (crashes i) shape may for both = (known_kept room fiel
 pub fields_low : (room : RoomState) (fields : Fields) → IsWithinLimits room.spec → AreFieldsOf room fields → AllLow fields
 fields_low room fields limits are =
     subst AllLow (sym are.leads)
-    ((over_run LowAfter low_kept (data_of room) limits are.run
+    ((over_run LowAfter low_kept (configuration_of room) limits are.run
     ((opening_history room.spec, opening_sound room.spec, λ small. opening_known room.spec small), λ small i p r. omega arith)).1 (small_values room.spec limits))
 
 -- ---- decisions

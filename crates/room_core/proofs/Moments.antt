@@ -6,7 +6,7 @@ use mathlib.Core.Logic.{dite}
 use native.Mathlib.Decide.{ℕ_discrete}
 use Rattle.room_spec.specs.Rooms.{RoomSpec, IsWithinLimits, processes}
 use Rattle.sim_memory.specs.Steps.{AreAtMost, AreSameSteps}
-use Rattle.room_core.specs.Rooms.{RoomData, Event, steps, crashes, MayHappen, IsShaped, IsOneInterleaving}
+use Rattle.room_core.specs.Rooms.{Configuration, ScheduleEvent, steps, crashes, MayHappen, IsShaped, IsOneInterleaving}
 use Rattle.room_core.specs.Fields.{StepMap, Fields, opening_fields, line, with_crash, fields_after, replay_fields}
 use Rattle.room_core.specs.Moments.{fields_at, IsMoment}
 use Rattle.room_core.proofs.FieldReplays.{StandsFor}
@@ -17,77 +17,77 @@ use Rattle.room_core.proofs.Shown.{HasShown, progress_own, own_shown, own_scanne
 
 -- ---- prefixes
 
-at_before : (spec : RoomSpec) (events : List Event) (event : Event) (time : ℕ) → time ≤ length events → fields_at spec (events ++ event ∷ []) time ≡ fields_at spec events time
-at_before spec events event time early = ap (λ (prefix : List Event). replay_fields spec (opening_fields spec) prefix) (take-append-le time events (event ∷ []) early)
+at_before : (spec : RoomSpec) (schedule : List ScheduleEvent) (event : ScheduleEvent) (time : ℕ) → time ≤ length schedule → fields_at spec (schedule ++ event ∷ []) time ≡ fields_at spec schedule time
+at_before spec schedule event time early = ap (λ (prefix : List ScheduleEvent). replay_fields spec (opening_fields spec) prefix) (take-append-le time schedule (event ∷ []) early)
 
-at_end : (spec : RoomSpec) (events : List Event) (time : ℕ) → length events ≤ time → fields_at spec events time ≡ replay_fields spec (opening_fields spec) events
-at_end spec events time late = ap (λ (prefix : List Event). replay_fields spec (opening_fields spec) prefix) (take_all time events late)
+at_end : (spec : RoomSpec) (schedule : List ScheduleEvent) (time : ℕ) → length schedule ≤ time → fields_at spec schedule time ≡ replay_fields spec (opening_fields spec) schedule
+at_end spec schedule time late = ap (λ (prefix : List ScheduleEvent). replay_fields spec (opening_fields spec) prefix) (take_all time schedule late)
 
-length-snoc : (events : List Event) (event : Event) → length (events ++ event ∷ []) ≡ length events + 1
-length-snoc events event = length-append events (event ∷ [])
+length-snoc : (schedule : List ScheduleEvent) (event : ScheduleEvent) → length (schedule ++ event ∷ []) ≡ length schedule + 1
+length-snoc schedule event = length-append schedule (event ∷ [])
 
-moment_more : (spec : RoomSpec) (events : List Event) (event : Event) (i j k : ℕ) (map : StepMap) → IsMoment spec events i j k map → IsMoment spec (events ++ event ∷ []) i j k map
-moment_more spec events event i j k map moment = record {
+moment_more : (spec : RoomSpec) (schedule : List ScheduleEvent) (event : ScheduleEvent) (i j k : ℕ) (map : StepMap) → IsMoment spec schedule i j k map → IsMoment spec (schedule ++ event ∷ []) i j k map
+moment_more spec schedule event i j k map moment = record {
   time = moment.time;
-  early = let long = length-snoc events event in let e = moment.early in omega arith;
-  same = λ a p below below'. moment.same a p below below' ∙ ap (λ (fields : Fields). fields.step a p) (sym (at_before spec events event moment.time moment.early));
+  early = let long = length-snoc schedule event in let e = moment.early in omega arith;
+  same = λ a p below below'. moment.same a p below below' ∙ ap (λ (fields : Fields). fields.step a p) (sym (at_before spec schedule event moment.time moment.early));
   own = moment.own;
 }
 
 -- the step numbers at hand, before one more event
-moment_now : (spec : RoomSpec) (events : List Event) (event : Event) (fields : Fields) (i j k : ℕ) → replay_fields spec (opening_fields spec) events ≡ fields → fields.step i j ≡ k → IsMoment spec (events ++ event ∷ []) i j k fields.step
-moment_now spec events event fields i j k leads own = record {
-  time = length events;
-  early = let long = length-snoc events event in omega arith;
-  same = λ a p below below'. ap (λ (f : Fields). f.step a p) (sym (at_before spec events event (length events) (omega arith) ∙ at_end spec events (length events) (omega arith) ∙ leads));
+moment_now : (spec : RoomSpec) (schedule : List ScheduleEvent) (event : ScheduleEvent) (fields : Fields) (i j k : ℕ) → replay_fields spec (opening_fields spec) schedule ≡ fields → fields.step i j ≡ k → IsMoment spec (schedule ++ event ∷ []) i j k fields.step
+moment_now spec schedule event fields i j k leads own = record {
+  time = length schedule;
+  early = let long = length-snoc schedule event in omega arith;
+  same = λ a p below below'. ap (λ (f : Fields). f.step a p) (sym (at_before spec schedule event (length schedule) (omega arith) ∙ at_end spec schedule (length schedule) (omega arith) ∙ leads));
   own = own;
 }
 
 -- ---- step numbers never fall
 
-abbrev pub Grow : RoomSpec → List Event → Type 0
-Grow spec events = (s t : ℕ) → s ≤ t → t ≤ length events → AreAtMost spec.simulators (processes spec) (fields_at spec events s).step (fields_at spec events t).step
+abbrev pub Grow : RoomSpec → List ScheduleEvent → Type 0
+Grow spec schedule = (s t : ℕ) → s ≤ t → t ≤ length schedule → AreAtMost spec.simulators (processes spec) (fields_at spec schedule s).step (fields_at spec schedule t).step
 
-grow_more : (spec : RoomSpec) (events : List Event) (event : Event) (fields after : Fields) → replay_fields spec (opening_fields spec) events ≡ fields → replay_fields spec (opening_fields spec) (events ++ event ∷ []) ≡ after
-    → AreAtMost spec.simulators (processes spec) fields.step after.step → Grow spec events → Grow spec (events ++ event ∷ [])
-grow_more spec events event fields after leads leads' one grows s t before within a p below below' = by_last (cases_lt (length events) t)
+grow_more : (spec : RoomSpec) (schedule : List ScheduleEvent) (event : ScheduleEvent) (fields after : Fields) → replay_fields spec (opening_fields spec) schedule ≡ fields → replay_fields spec (opening_fields spec) (schedule ++ event ∷ []) ≡ after
+    → AreAtMost spec.simulators (processes spec) fields.step after.step → Grow spec schedule → Grow spec (schedule ++ event ∷ [])
+grow_more spec schedule event fields after leads leads' one grows s t before within a p below below' = by_last (cases_lt (length schedule) t)
   where
-    all : List Event
-    all = events ++ event ∷ []
+    all : List ScheduleEvent
+    all = schedule ++ event ∷ []
 
-    long : length (events ++ event ∷ []) ≡ length events + 1
-    long = length-snoc events event
+    long : length (schedule ++ event ∷ []) ≡ length schedule + 1
+    long = length-snoc schedule event
 
-    by_first : length events < t → (length events < s) ⊎ (s ≤ length events) → (fields_at spec (events ++ event ∷ []) s).step a p ≤ (fields_at spec (events ++ event ∷ []) t).step a p
+    by_first : length schedule < t → (length schedule < s) ⊎ (s ≤ length schedule) → (fields_at spec (schedule ++ event ∷ []) s).step a p ≤ (fields_at spec (schedule ++ event ∷ []) t).step a p
     by_first late (inl late') =
         let same : s ≡ t = let l = long in omega arith in
-        let e : (fields_at spec (events ++ event ∷ []) s).step a p ≡ (fields_at spec (events ++ event ∷ []) t).step a p = ap (λ (time : ℕ). (fields_at spec (events ++ event ∷ []) time).step a p) same in
+        let e : (fields_at spec (schedule ++ event ∷ []) s).step a p ≡ (fields_at spec (schedule ++ event ∷ []) t).step a p = ap (λ (time : ℕ). (fields_at spec (schedule ++ event ∷ []) time).step a p) same in
         omega arith
     by_first late (inr early) =
-        let is : (fields_at spec (events ++ event ∷ []) s).step a p ≡ (fields_at spec events s).step a p = ap (λ (f : Fields). f.step a p) (at_before spec events event s early) in
-        let rest : (fields_at spec events s).step a p ≤ (fields_at spec events (length events)).step a p = grows s (length events) early (omega arith) a p below below' in
-        let mid : (fields_at spec events (length events)).step a p ≡ fields.step a p = ap (λ (f : Fields). f.step a p) (at_end spec events (length events) (omega arith) ∙ leads) in
+        let is : (fields_at spec (schedule ++ event ∷ []) s).step a p ≡ (fields_at spec schedule s).step a p = ap (λ (f : Fields). f.step a p) (at_before spec schedule event s early) in
+        let rest : (fields_at spec schedule s).step a p ≤ (fields_at spec schedule (length schedule)).step a p = grows s (length schedule) early (omega arith) a p below below' in
+        let mid : (fields_at spec schedule (length schedule)).step a p ≡ fields.step a p = ap (λ (f : Fields). f.step a p) (at_end spec schedule (length schedule) (omega arith) ∙ leads) in
         let last : fields.step a p ≤ after.step a p = one a p below below' in
-        let end : (fields_at spec (events ++ event ∷ []) t).step a p ≡ after.step a p = ap (λ (f : Fields). f.step a p) (at_end spec (events ++ event ∷ []) t (let l = long in omega arith) ∙ leads') in
+        let end : (fields_at spec (schedule ++ event ∷ []) t).step a p ≡ after.step a p = ap (λ (f : Fields). f.step a p) (at_end spec (schedule ++ event ∷ []) t (let l = long in omega arith) ∙ leads') in
         omega (arith, is, rest, mid, last, end)
 
-    by_last : (length events < t) ⊎ (t ≤ length events) → (fields_at spec (events ++ event ∷ []) s).step a p ≤ (fields_at spec (events ++ event ∷ []) t).step a p
-    by_last (inl late) = by_first late (cases_lt (length events) s)
+    by_last : (length schedule < t) ⊎ (t ≤ length schedule) → (fields_at spec (schedule ++ event ∷ []) s).step a p ≤ (fields_at spec (schedule ++ event ∷ []) t).step a p
+    by_last (inl late) = by_first late (cases_lt (length schedule) s)
     by_last (inr early) =
-        let is : (fields_at spec (events ++ event ∷ []) s).step a p ≡ (fields_at spec events s).step a p = ap (λ (f : Fields). f.step a p) (at_before spec events event s (omega arith)) in
-        let is' : (fields_at spec (events ++ event ∷ []) t).step a p ≡ (fields_at spec events t).step a p = ap (λ (f : Fields). f.step a p) (at_before spec events event t early) in
-        let rest : (fields_at spec events s).step a p ≤ (fields_at spec events t).step a p = grows s t before early a p below below' in
+        let is : (fields_at spec (schedule ++ event ∷ []) s).step a p ≡ (fields_at spec schedule s).step a p = ap (λ (f : Fields). f.step a p) (at_before spec schedule event s (omega arith)) in
+        let is' : (fields_at spec (schedule ++ event ∷ []) t).step a p ≡ (fields_at spec schedule t).step a p = ap (λ (f : Fields). f.step a p) (at_before spec schedule event t early) in
+        let rest : (fields_at spec schedule s).step a p ≤ (fields_at spec schedule t).step a p = grows s t before early a p below below' in
         omega (arith, is, is', rest)
 
 -- ---- what is kept
 
-pub record IsHistory (spec : RoomSpec) (events : List Event) (fields : Fields) : Type 0 where
-  pub leads : replay_fields spec (opening_fields spec) events ≡ fields
-  pub grows : Grow spec events
-  pub shown : (i p r : ℕ) → i < spec.simulators → 1 ≤ r → HasShown (progress_own (own_of fields i) p r) → IsMoment spec events i p r (fields.view i p r)
-  pub scanned : (i p r : ℕ) → i < spec.simulators → 1 ≤ r → progress_own (own_of fields i) p r ≡ Scanned → IsMoment spec events i p r (fields.mind i).snapshot
+pub record IsHistory (spec : RoomSpec) (schedule : List ScheduleEvent) (fields : Fields) : Type 0 where
+  pub leads : replay_fields spec (opening_fields spec) schedule ≡ fields
+  pub grows : Grow spec schedule
+  pub shown : (i p r : ℕ) → i < spec.simulators → 1 ≤ r → HasShown (progress_own (own_of fields i) p r) → IsMoment spec schedule i p r (fields.view i p r)
+  pub scanned : (i p r : ℕ) → i < spec.simulators → 1 ≤ r → progress_own (own_of fields i) p r ≡ Scanned → IsMoment spec schedule i p r (fields.mind i).snapshot
 
-module _ (spec : RoomSpec) (done : List Event) (event : Event) (fields after : Fields) (i : ℕ) (leads' : replay_fields spec (opening_fields spec) (done ++ event ∷ []) ≡ after) (effect : IsLineOf spec fields after i) (history : IsHistory spec done fields) where
+module _ (spec : RoomSpec) (done : List ScheduleEvent) (event : ScheduleEvent) (fields after : Fields) (i : ℕ) (leads' : replay_fields spec (opening_fields spec) (done ++ event ∷ []) ≡ after) (effect : IsLineOf spec fields after i) (history : IsHistory spec done fields) where
   steps_most : AreAtMost spec.simulators (processes spec) fields.step after.step
   steps_most a p below below' = dite (ℕ_discrete a i)
       (λ (e : a ≡ i). subst (λ (b : ℕ). fields.step b p ≤ after.step b p) (sym e) (own_grows spec fields (own_of fields i) (own_of after i) p effect.own))
@@ -120,7 +120,7 @@ module _ (spec : RoomSpec) (done : List Event) (event : Event) (fields after : F
         (moment_more spec done event a p r (fields.mind a).snapshot (history.scanned a p r below first (ap (λ (own : Own). progress_own own p r) (sym same) ∙ is))));
   }
 
-history_crash : (spec : RoomSpec) (done : List Event) (fields : Fields) (i : ℕ) → IsHistory spec done fields → IsHistory spec (done ++ crashes i ∷ []) (with_crash fields i)
+history_crash : (spec : RoomSpec) (done : List ScheduleEvent) (fields : Fields) (i : ℕ) → IsHistory spec done fields → IsHistory spec (done ++ crashes i ∷ []) (with_crash fields i)
 history_crash spec done fields i history =
     let leads' : replay_fields spec (opening_fields spec) (done ++ crashes i ∷ []) ≡ with_crash fields i = replay_fields-snoc spec (opening_fields spec) done (crashes i) ∙ ap (λ (f : Fields). with_crash f i) history.leads in
     record {
@@ -130,7 +130,7 @@ history_crash spec done fields i history =
       scanned = λ a p r below first is. moment_more spec done (crashes i) a p r (fields.mind a).snapshot (history.scanned a p r below first is);
     }
 
-pub history_kept : (room : RoomData) (fields : Fields) (done : List Event) (event : Event) → IsShaped room → MayHappen room event → StandsFor room fields → IsHistory room.spec done fields → IsHistory room.spec (done ++ event ∷ []) (fields_after room.spec fields event)
+pub history_kept : (room : Configuration) (fields : Fields) (done : List ScheduleEvent) (event : ScheduleEvent) → IsShaped room → MayHappen room event → StandsFor room fields → IsHistory room.spec done fields → IsHistory room.spec (done ++ event ∷ []) (fields_after room.spec fields event)
 history_kept room fields done (steps i) shape may for history =
     let leads' = replay_fields-snoc room.spec (opening_fields room.spec) done (steps i) ∙ ap (λ (f : Fields). line room.spec f i) history.leads in
     history_line room.spec done (steps i) fields (line room.spec fields i) i leads' (line_effect room fields i shape for may) history
@@ -150,7 +150,7 @@ opening_history spec = record {
     not_uncounted : ◌≡◌ {A = Progress} Uncounted Scanned → ⊥
     not_uncounted e = cc
 
-pub history_run : (room : RoomData) → IsWithinLimits room.spec → (one : IsOneInterleaving room) → IsHistory room.spec one.events (replay_fields room.spec (opening_fields room.spec) one.events)
+pub history_run : (room : Configuration) → IsWithinLimits room.spec → (one : IsOneInterleaving room) → IsHistory room.spec one.schedule (replay_fields room.spec (opening_fields room.spec) one.schedule)
 history_run room limits one = over_run IsHistory history_kept room limits one (opening_history room.spec)
 
 -- ---- any two moments compare
@@ -158,9 +158,9 @@ history_run room limits one = over_run IsHistory history_kept room limits one (o
 same_most : (m n : ℕ) (one two : StepMap) → AreSameSteps m n one two → AreAtMost m n one two
 same_most m n one two same a p below below' = let e = same a p below below' in omega (arith, e)
 
-pub moments_compare : (spec : RoomSpec) (events : List Event) (i j k i' j' k' : ℕ) (one two : StepMap) → Grow spec events → IsMoment spec events i j k one → IsMoment spec events i' j' k' two
+pub moments_compare : (spec : RoomSpec) (schedule : List ScheduleEvent) (i j k i' j' k' : ℕ) (one two : StepMap) → Grow spec schedule → IsMoment spec schedule i j k one → IsMoment spec schedule i' j' k' two
     → AreAtMost spec.simulators (processes spec) one two ⊎ AreAtMost spec.simulators (processes spec) two one
-moments_compare spec events i j k i' j' k' one two grows first second = by_time (cases_lt first.time second.time)
+moments_compare spec schedule i j k i' j' k' one two grows first second = by_time (cases_lt first.time second.time)
   where
     by_time : (first.time < second.time) ⊎ (second.time ≤ first.time) → AreAtMost spec.simulators (processes spec) one two ⊎ AreAtMost spec.simulators (processes spec) two one
     by_time (inl less) = inl (λ a p below below'.

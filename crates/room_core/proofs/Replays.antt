@@ -1,4 +1,4 @@
--- Lists of events: they go on, and what every room that one leads to keeps.
+-- Lists of schedule: they go on, and what every room that one leads to keeps.
 use Rattle.std.proofs.Common.{◌≡◌, ◌≢◌, ℕ, suc, ◌+◌, ◌<◌, Bool, true, false, cond, eqb, eq-eqb, ne_eqb, List, [], ◌∷◌, ◌++◌, length, get_or, set, refl, sym, ap, ◌∙◌, subst, arith}
 use Rattle.std.proofs.lemmas.List.{length-set, length-replicate, get_or-set_same, get_or-set_other}
 use Rattle.std.proofs.lemmas.List.FromFn.{get_or-map-range_with_len, length-map-range_with_len}
@@ -14,34 +14,34 @@ use Rattle.simulator.specs.declared.operation.Move.{Move}
 use Rattle.simulator.specs.declared.operation.Move.TheVariants.{Load, Store, Add, Sub, Finished, OutOfTurns}
 use Rattle.simulator.proofs.Keeping.{kept, opens}
 use Rattle.simulator.proofs.Stepping.{keeps_number, steps_by_one}
-use Rattle.room_core.specs.Rooms.{RoomData, Event, steps, crashes, opening, mind_at, answer_to, stepped, crashed_by, IsAlive, HasLine, MayHappen, after_event, replay, IsLegal, IsOneInterleaving, IsShaped, IsRoom, times}
+use Rattle.room_core.specs.Rooms.{Configuration, ScheduleEvent, steps, crashes, opening, mind_at, answer_to, stepped, crashed_by, IsAlive, HasLine, MayHappen, after_event, replay, IsLegal, IsOneInterleaving, IsShaped, IsRoom, times}
 
 -- ---- a longer list
 
-pub replay-snoc : (room : RoomData) (events : List Event) (event : Event) → replay room (events ++ event ∷ []) ≡ after_event (replay room events) event
+pub replay-snoc : (room : Configuration) (schedule : List ScheduleEvent) (event : ScheduleEvent) → replay room (schedule ++ event ∷ []) ≡ after_event (replay room schedule) event
 replay-snoc room [] event = refl
-replay-snoc room (first ∷ events) event = replay-snoc (after_event room first) events event
+replay-snoc room (first ∷ schedule) event = replay-snoc (after_event room first) schedule event
 
-pub legal-snoc : (room : RoomData) (events : List Event) (event : Event) → IsLegal room events → MayHappen (replay room events) event → IsLegal room (events ++ event ∷ [])
+pub legal-snoc : (room : Configuration) (schedule : List ScheduleEvent) (event : ScheduleEvent) → IsLegal room schedule → MayHappen (replay room schedule) event → IsLegal room (schedule ++ event ∷ [])
 legal-snoc room [] event legal may = (may, tt)
-legal-snoc room (first ∷ events) event legal may = (legal.0, legal-snoc (after_event room first) events event legal.1 may)
+legal-snoc room (first ∷ schedule) event legal may = (legal.0, legal-snoc (after_event room first) schedule event legal.1 may)
 
 pub opens_run : (spec : RoomSpec) → IsOneInterleaving (opening spec)
-opens_run spec = record { events = []; legal = tt; leads = refl }
+opens_run spec = record { schedule = []; legal = tt; leads = refl }
 
 -- One interleaving goes on by one atomic step, and by one crash.
-pub under_line : (room : RoomData) (i : ℕ) → IsOneInterleaving room → HasLine room i → IsOneInterleaving (stepped room i)
+pub under_line : (room : Configuration) (i : ℕ) → IsOneInterleaving room → HasLine room i → IsOneInterleaving (stepped room i)
 under_line room i one may = record {
-  events = one.events ++ steps i ∷ [];
-  legal = legal-snoc (opening room.spec) one.events (steps i) one.legal (subst (λ (q : RoomData). HasLine q i) (sym one.leads) may);
-  leads = replay-snoc (opening room.spec) one.events (steps i) ∙ ap (λ (q : RoomData). stepped q i) one.leads;
+  schedule = one.schedule ++ steps i ∷ [];
+  legal = legal-snoc (opening room.spec) one.schedule (steps i) one.legal (subst (λ (q : Configuration). HasLine q i) (sym one.leads) may);
+  leads = replay-snoc (opening room.spec) one.schedule (steps i) ∙ ap (λ (q : Configuration). stepped q i) one.leads;
 }
 
-pub under_crash : (room : RoomData) (i : ℕ) → IsOneInterleaving room → IsAlive room i → IsOneInterleaving (crashed_by room i)
+pub under_crash : (room : Configuration) (i : ℕ) → IsOneInterleaving room → IsAlive room i → IsOneInterleaving (crashed_by room i)
 under_crash room i one may = record {
-  events = one.events ++ crashes i ∷ [];
-  legal = legal-snoc (opening room.spec) one.events (crashes i) one.legal (subst (λ (q : RoomData). IsAlive q i) (sym one.leads) may);
-  leads = replay-snoc (opening room.spec) one.events (crashes i) ∙ ap (λ (q : RoomData). crashed_by q i) one.leads;
+  schedule = one.schedule ++ crashes i ∷ [];
+  legal = legal-snoc (opening room.spec) one.schedule (crashes i) one.legal (subst (λ (q : Configuration). IsAlive q i) (sym one.leads) may);
+  leads = replay-snoc (opening room.spec) one.schedule (crashes i) ∙ ap (λ (q : Configuration). crashed_by q i) one.leads;
 }
 
 -- ---- shapes
@@ -74,7 +74,7 @@ minds_set P m spec minds i mind below here else k h = dite (ℕ_discrete k i)
     (λ (e : k ≡ i). subst (λ (j : ℕ). P j (get_or (set minds i mind) j (opening_mind spec j))) (sym e) (subst (P i) (sym (get_or-set_same minds i mind (opening_mind spec i) below)) here))
     (λ (n : k ≢ i). subst (P k) (sym (get_or-set_other minds i k mind (opening_mind spec k) n)) (else k h))
 
-pub shape_after : (room : RoomData) (event : Event) → MayHappen room event → IsShaped room → IsShaped (after_event room event)
+pub shape_after : (room : Configuration) (event : ScheduleEvent) → MayHappen room event → IsShaped room → IsShaped (after_event room event)
 shape_after room (steps i) may shape =
     let below : i < room.spec.simulators = may.alive.below in
     let place : i < length room.minds = let count = shape.minds in omega arith in
@@ -96,19 +96,19 @@ shape_after room (crashes i) may shape = record {
   numbers = shape.numbers;
 }
 
-shape_replay : (room : RoomData) (events : List Event) → IsLegal room events → IsShaped room → IsShaped (replay room events)
+shape_replay : (room : Configuration) (schedule : List ScheduleEvent) → IsLegal room schedule → IsShaped room → IsShaped (replay room schedule)
 shape_replay room [] legal shape = shape
-shape_replay room (event ∷ events) legal shape = shape_replay (after_event room event) events legal.1 (shape_after room event legal.0 shape)
+shape_replay room (event ∷ schedule) legal shape = shape_replay (after_event room event) schedule legal.1 (shape_after room event legal.0 shape)
 
-pub shapes : (room : RoomData) → IsWithinLimits room.spec → IsOneInterleaving room → IsShaped room
-shapes room limits one = subst IsShaped one.leads (shape_replay (opening room.spec) one.events one.legal (opening_shape room.spec limits))
+pub shapes : (room : Configuration) → IsWithinLimits room.spec → IsOneInterleaving room → IsShaped room
+shapes room limits one = subst IsShaped one.leads (shape_replay (opening room.spec) one.schedule one.legal (opening_shape room.spec limits))
 
-pub is_room : (room : RoomData) → IsWithinLimits room.spec → IsOneInterleaving room → IsRoom room
+pub is_room : (room : Configuration) → IsWithinLimits room.spec → IsOneInterleaving room → IsRoom room
 is_room room limits one = record { run = one; shape = shapes room limits one }
 
 -- ---- each simulator stands in the list as often as its mind counts steps
 
-counted_at : (room : RoomData) (event : Event) (i : ℕ) → MayHappen room event → IsShaped room → (mind_at (after_event room event) i).steps ≡ times i (event ∷ []) + (mind_at room i).steps
+counted_at : (room : Configuration) (event : ScheduleEvent) (i : ℕ) → MayHappen room event → IsShaped room → (mind_at (after_event room event) i).steps ≡ times i (event ∷ []) + (mind_at room i).steps
 counted_at room (crashes j) i may shape = omega arith
 counted_at room (steps j) i may shape =
     let place : j < length room.minds = let count = shape.minds in let h = may.alive.below in omega arith in
@@ -125,25 +125,25 @@ counted_at room (steps j) i may shape =
     let counts : times i (steps j ∷ []) ≡ 0 = ap (λ (b : Bool). cond b 1 0) (ne_eqb j i (λ e. n (sym e))) in
     omega (arith, own, counts))
 
-times_more : (i : ℕ) (event : Event) (events : List Event) → times i (event ∷ events) ≡ times i (event ∷ []) + times i events
-times_more i (crashes j) events = omega arith
-times_more i (steps j) events = by_test (eqb j i) (times i events)
+times_more : (i : ℕ) (event : ScheduleEvent) (schedule : List ScheduleEvent) → times i (event ∷ schedule) ≡ times i (event ∷ []) + times i schedule
+times_more i (crashes j) schedule = omega arith
+times_more i (steps j) schedule = by_test (eqb j i) (times i schedule)
   where
     by_test : (b : Bool) (n : ℕ) → cond b (suc n) n ≡ cond b 1 0 + n
     by_test true n = omega arith
     by_test false n = omega arith
 
-counts_replay : (room : RoomData) (events : List Event) (i : ℕ) → IsLegal room events → IsShaped room → (mind_at (replay room events) i).steps ≡ times i events + (mind_at room i).steps
+counts_replay : (room : Configuration) (schedule : List ScheduleEvent) (i : ℕ) → IsLegal room schedule → IsShaped room → (mind_at (replay room schedule) i).steps ≡ times i schedule + (mind_at room i).steps
 counts_replay room [] i legal shape = omega arith
-counts_replay room (event ∷ events) i legal shape =
-    let rest = counts_replay (after_event room event) events i legal.1 (shape_after room event legal.0 shape) in
+counts_replay room (event ∷ schedule) i legal shape =
+    let rest = counts_replay (after_event room event) schedule i legal.1 (shape_after room event legal.0 shape) in
     let here = counted_at room event i legal.0 shape in
-    let more = times_more i event events in
+    let more = times_more i event schedule in
     omega (arith, rest, here, more)
 
-pub counts : (room : RoomData) → IsWithinLimits room.spec → (one : IsOneInterleaving room) (i : ℕ) → i < room.spec.simulators → (mind_at room i).steps ≡ times i one.events
+pub counts : (room : Configuration) → IsWithinLimits room.spec → (one : IsOneInterleaving room) (i : ℕ) → i < room.spec.simulators → (mind_at room i).steps ≡ times i one.schedule
 counts room limits one i below =
-    let all = counts_replay (opening room.spec) one.events i one.legal (opening_shape room.spec limits) in
-    let end : (mind_at (replay (opening room.spec) one.events) i).steps ≡ (mind_at room i).steps = ap (λ (q : RoomData). (mind_at q i).steps) one.leads in
+    let all = counts_replay (opening room.spec) one.schedule i one.legal (opening_shape room.spec limits) in
+    let end : (mind_at (replay (opening room.spec) one.schedule) i).steps ≡ (mind_at room i).steps = ap (λ (q : Configuration). (mind_at q i).steps) one.leads in
     let none : (mind_at (opening room.spec) i).steps ≡ 0 = ap (λ (mind : MindState). mind.steps) (opening_at room.spec i below) in
     omega (arith, all, end, none)

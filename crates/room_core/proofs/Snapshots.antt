@@ -12,10 +12,10 @@ use Rattle.safe_agreement.specs.Levels.{resolved_of}
 use Rattle.sim_memory.specs.Steps.{AreWithin, memory_word, step_in}
 use Rattle.sim_memory.proofs.Rows.{merged_same, holder_same}
 use Rattle.sim_memory.proofs.Words.{word_steps}
-use Rattle.simulator.specs.Moves.{row_in, holder_in, chosen_in}
-use Rattle.room_core.specs.Fields.{StepMap, Fields, row_of_steps, holder_of_steps, chosen_at}
+use Rattle.simulator.specs.Moves.{entry_in, holder_in, chosen_in}
+use Rattle.room_core.specs.Fields.{StepMap, Fields, entry_of_steps, holder_of_steps, chosen_at}
 
-pub same_row : (spec : RoomSpec) (steps : StepMap) (p : ℕ) → IsWithinLimits spec → AreWithin (sizes_in spec) steps → p < processes spec → row_in spec (memory_word (sizes_in spec) steps) p ≡ row_of_steps spec steps p
+pub same_row : (spec : RoomSpec) (steps : StepMap) (p : ℕ) → IsWithinLimits spec → AreWithin (sizes_in spec) steps → p < processes spec → entry_in spec (memory_word (sizes_in spec) steps) p ≡ entry_of_steps spec steps p
 same_row spec steps p limits within below = merged_same spec.simulators (processes spec) (step_in (sizes_in spec) (memory_word (sizes_in spec) steps)) steps p below (word_steps (sizes_in spec) steps limits.shape within)
 
 pub same_holder : (spec : RoomSpec) (steps : StepMap) (p : ℕ) → IsWithinLimits spec → AreWithin (sizes_in spec) steps → p < processes spec → holder_in spec (memory_word (sizes_in spec) steps) p ≡ holder_of_steps spec steps p

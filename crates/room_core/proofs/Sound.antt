@@ -11,8 +11,8 @@ use Rattle.safe_agreement.proofs.Steps.{stays_fixed, keeps_twos, same_fixed, sam
 use Rattle.safe_agreement.proofs.Replays.{clean_is_fixed, same_of_same}
 use Rattle.std.specs.List.{range_with_len}
 use Rattle.simulator.specs.Minds.{goal_at, first_goal}
-use Rattle.room_core.specs.Rooms.{RoomData, Event, steps, crashes, MayHappen, IsShaped, IsOneInterleaving}
-use Rattle.room_core.specs.Calls.{RoomState, data_of}
+use Rattle.room_core.specs.Rooms.{Configuration, ScheduleEvent, steps, crashes, MayHappen, IsShaped, IsOneInterleaving}
+use Rattle.room_core.specs.Calls.{RoomState, configuration_of}
 use Rattle.room_core.specs.Reading.{with_quiet, AreFieldsOf}
 use Rattle.room_core.proofs.Prefixes.{over_run}
 use Rattle.room_core.specs.Fields.{Fields, levels_at, chosen_at, line, with_crash, fields_after, opening_fields, replay_fields}
@@ -76,10 +76,10 @@ module _ (spec : RoomSpec) (fields after : Fields) (i : ℕ) (tracks : Tracks sp
 sound_crash : (spec : RoomSpec) (fields : Fields) (i : ℕ) → IsSound spec fields → IsSound spec (with_crash fields i)
 sound_crash spec fields i sound = record { beside = sound.beside; resolved = sound.resolved; outs = sound.outs }
 
-abbrev pub SoundAfter : RoomSpec → List Event → Fields → Type 0
-SoundAfter spec events fields = IsSound spec fields
+abbrev pub SoundAfter : RoomSpec → List ScheduleEvent → Fields → Type 0
+SoundAfter spec schedule fields = IsSound spec fields
 
-pub sound_kept : (room : RoomData) (fields : Fields) (done : List Event) (event : Event) → IsShaped room → MayHappen room event → StandsFor room fields → IsSound room.spec fields → IsSound room.spec (fields_after room.spec fields event)
+pub sound_kept : (room : Configuration) (fields : Fields) (done : List ScheduleEvent) (event : ScheduleEvent) → IsShaped room → MayHappen room event → StandsFor room fields → IsSound room.spec fields → IsSound room.spec (fields_after room.spec fields event)
 sound_kept room fields done (steps i) shape may for sound = sound_line room.spec fields (line room.spec fields i) i for.tracks (line_effect room fields i shape for may) sound
 sound_kept room fields done (crashes i) shape may for sound = sound_crash room.spec fields i sound
 
@@ -100,7 +100,7 @@ opening_sound spec = record {
 
 -- ---- every room that is one interleaving
 
-pub sound_run : (room : RoomData) → IsWithinLimits room.spec → (one : IsOneInterleaving room) → IsSound room.spec (replay_fields room.spec (opening_fields room.spec) one.events)
+pub sound_run : (room : Configuration) → IsWithinLimits room.spec → (one : IsOneInterleaving room) → IsSound room.spec (replay_fields room.spec (opening_fields room.spec) one.schedule)
 sound_run room limits one = over_run SoundAfter sound_kept room limits one (opening_sound room.spec)
 
 sound_counts : (spec : RoomSpec) (fields : Fields) (quiet : ℕ → ℕ) → IsSound spec fields → IsSound spec (with_quiet fields quiet)
@@ -108,5 +108,5 @@ sound_counts spec fields quiet sound = record { beside = sound.beside; resolved 
 
 pub fields_sound : (room : RoomState) (fields : Fields) → IsWithinLimits room.spec → AreFieldsOf room fields → IsSound room.spec fields
 fields_sound room fields limits are =
-    let base = replay_fields room.spec (opening_fields room.spec) are.run.events in
-    subst (IsSound room.spec) (sym are.leads) (sound_counts room.spec base fields.quiet (sound_run (data_of room) limits are.run))
+    let base = replay_fields room.spec (opening_fields room.spec) are.run.schedule in
+    subst (IsSound room.spec) (sym are.leads) (sound_counts room.spec base fields.quiet (sound_run (configuration_of room) limits are.run))

@@ -11,7 +11,7 @@ use Rattle.simulator.specs.Sweeps.{SweepState, opening_sweep}
 use Rattle.simulator.specs.declared.sweep.Ready.TheVariants.{Step}
 use Rattle.simulator.proofs.Stepping.{moves}
 use Rattle.room_core.specs.Rooms.{IsRoom, IsShaped, HasLine, mind_at, opening, stepped, crashed_by}
-use Rattle.room_core.specs.Calls.{RoomState, data_of, sweep_at, has_crashed, opening_state, operation_at, ready_at, moved, taken_by, sweep_after, with_sweep, woken}
+use Rattle.room_core.specs.Calls.{RoomState, configuration_of, sweep_at, has_crashed, opening_state, operation_at, ready_at, moved, taken_by, sweep_after, with_sweep, woken}
 use Rattle.room_core.proofs.Replays.{is_room, opens_run, under_line, under_crash}
 
 abbrev mind_of : SweepState → MindState
@@ -22,10 +22,10 @@ mind_in [] i default = refl
 mind_in (sweep ∷ sweeps) zero default = refl
 mind_in (sweep ∷ sweeps) (suc i) default = mind_in sweeps i default
 
-pub mind_here : (room : RoomState) (i : ℕ) → mind_at (data_of room) i ≡ (sweep_at room i).mind
+pub mind_here : (room : RoomState) (i : ℕ) → mind_at (configuration_of room) i ≡ (sweep_at room i).mind
 mind_here room i = mind_in room.sweeps i (opening_sweep room.spec i)
 
-pub moved_data : (room : RoomState) (i : ℕ) → data_of (moved room i) ≡ stepped (data_of room) i
+pub moved_data : (room : RoomState) (i : ℕ) → configuration_of (moved room i) ≡ stepped (configuration_of room) i
 moved_data room i =
     let here = sym (mind_here room i) in
     let words = ap (λ (mind : MindState). words_after (move_of room.spec mind) room.words) here in
@@ -34,7 +34,7 @@ moved_data room i =
     λ k. record { spec = room.spec; words = words k; minds = minds k; crashed = room.crashed }
 
 -- one that counts its quiet turns anew has the same in mind
-pub woken_data : (room : RoomState) (i : ℕ) → data_of (with_sweep room i (woken (sweep_at room i))) ≡ data_of room
+pub woken_data : (room : RoomState) (i : ℕ) → configuration_of (with_sweep room i (woken (sweep_at room i))) ≡ configuration_of room
 woken_data room i =
     let put = map-set mind_of room.sweeps i (woken (sweep_at room i)) in
     let same : set (map mind_of room.sweeps) i (sweep_at room i).mind ≡ map mind_of room.sweeps = ap (λ (mind : MindState). set (map mind_of room.sweeps) i mind) (sym (mind_here room i)) ∙ set-get_or (map mind_of room.sweeps) i (opening_mind room.spec i) in
@@ -44,7 +44,7 @@ opening_minds : (spec : RoomSpec) (numbers : List ℕ) → map mind_of (map (ope
 opening_minds spec [] = refl
 opening_minds spec (i ∷ numbers) = ap (λ (minds : List MindState). opening_mind spec i ∷ minds) (opening_minds spec numbers)
 
-pub opening_data : (spec : RoomSpec) → data_of (opening_state spec) ≡ opening spec
+pub opening_data : (spec : RoomSpec) → configuration_of (opening_state spec) ≡ opening spec
 opening_data spec = λ k. record {
   spec = spec;
   words = (opening spec).words;
@@ -64,25 +64,25 @@ refilled {A = A} (b ∷ before) (a ∷ after) same = ap (λ (items : List A). a 
 pub refill-set : {A : Type 0} (items : List A) (i : ℕ) (item : A) → refill (length items) items (slice_set items i item) ≡ slice_set items i item
 refill-set items i item = refilled items (set items i item) (length-set items i item)
 
-pub sweep_count : (room : RoomState) → IsShaped (data_of room) → length room.sweeps ≡ room.spec.simulators
+pub sweep_count : (room : RoomState) → IsShaped (configuration_of room) → length room.sweeps ≡ room.spec.simulators
 sweep_count room shape = sym (length-map room.sweeps mind_of) ∙ shape.minds
 
 -- a sweep that was read is the one there
-pub read_sweep : (room : RoomState) (sweeps : List SweepState) (i : ℕ) (sweep : SweepState) → IsShaped (data_of room) → sweeps ≡ room.sweeps → i < room.spec.simulators → sweep ≡ get_or sweeps i sweep → sweep ≡ sweep_at room i
+pub read_sweep : (room : RoomState) (sweeps : List SweepState) (i : ℕ) (sweep : SweepState) → IsShaped (configuration_of room) → sweeps ≡ room.sweeps → i < room.spec.simulators → sweep ≡ get_or sweeps i sweep → sweep ≡ sweep_at room i
 read_sweep room sweeps i sweep shape same below is =
     let count = sweep_count room shape in
     get_or_read_under room.sweeps i (length room.sweeps) sweep (opening_sweep room.spec i) (is ∙ ap (λ (l : List SweepState). get_or l i sweep) same) (omega arith) refl
 
-pub mind_ok : (room : RoomState) (i : ℕ) → IsShaped (data_of room) → i < room.spec.simulators → IsMind room.spec (sweep_at room i).mind
+pub mind_ok : (room : RoomState) (i : ℕ) → IsShaped (configuration_of room) → i < room.spec.simulators → IsMind room.spec (sweep_at room i).mind
 mind_ok room i shape below = subst (IsMind room.spec) (mind_here room i) (shape.each i below)
 
-pub crash_room : (room : RoomState) (marks : List Bool) (i : ℕ) → IsRoom (data_of room) → i < room.spec.simulators → has_crashed room i ≡ false → marks ≡ room.crashed
-    → IsRoom (data_of (record room { crashed = refill (length room.crashed) room.crashed (slice_set marks i true) }))
+pub crash_room : (room : RoomState) (marks : List Bool) (i : ℕ) → IsRoom (configuration_of room) → i < room.spec.simulators → has_crashed room i ≡ false → marks ≡ room.crashed
+    → IsRoom (configuration_of (record room { crashed = refill (length room.crashed) room.crashed (slice_set marks i true) }))
 crash_room room marks i is below alive same =
-    let P : List Bool → Type 0 = λ l. IsRoom (data_of (record room { crashed = l })) in
-    let one = under_crash (data_of room) i is.run (record { below = below; alive = alive }) in
+    let P : List Bool → Type 0 = λ l. IsRoom (configuration_of (record room { crashed = l })) in
+    let one = under_crash (configuration_of room) i is.run (record { below = below; alive = alive }) in
     let left : slice_set room.crashed i true ≡ refill (length room.crashed) room.crashed (slice_set marks i true) = sym (refill-set room.crashed i true) ∙ ap (λ (l : List Bool). refill (length room.crashed) room.crashed (slice_set l i true)) (sym same) in
-    subst P left (is_room (crashed_by (data_of room) i) is.shape.limits one)
+    subst P left (is_room (crashed_by (configuration_of room) i) is.shape.limits one)
 
 -- the room in which this sweep was put
 abbrev put : RoomState → List ℕ → List SweepState → ℕ → SweepState → RoomState
@@ -93,16 +93,16 @@ put_is room words sweeps i sweep same =
     let left = ap (λ (l : List SweepState). refill (length room.sweeps) room.sweeps (slice_set l i sweep)) same ∙ refill-set room.sweeps i sweep in
     λ k. record { spec = room.spec; words = words; sweeps = left k; crashed = room.crashed }
 
-pub woken_is : (room : RoomState) (sweeps : List SweepState) (i : ℕ) (read after : SweepState) → IsShaped (data_of room) → sweeps ≡ room.sweeps → i < room.spec.simulators → read ≡ get_or sweeps i read
+pub woken_is : (room : RoomState) (sweeps : List SweepState) (i : ℕ) (read after : SweepState) → IsShaped (configuration_of room) → sweeps ≡ room.sweeps → i < room.spec.simulators → read ≡ get_or sweeps i read
     → after ≡ woken (get_or sweeps i read) → put room room.words sweeps i after ≡ with_sweep room i (woken (sweep_at room i))
 woken_is room sweeps i read after shape same below is left =
     let there = sym is ∙ read_sweep room sweeps i read shape same below is in
     put_is room room.words sweeps i after same ∙ ap (λ (sweep : SweepState). with_sweep room i sweep) (left ∙ ap woken there)
 
-pub woken_room : (room : RoomState) (i : ℕ) → IsRoom (data_of room) → IsRoom (data_of (with_sweep room i (woken (sweep_at room i))))
+pub woken_room : (room : RoomState) (i : ℕ) → IsRoom (configuration_of room) → IsRoom (configuration_of (with_sweep room i (woken (sweep_at room i))))
 woken_room room i is = subst IsRoom (sym (woken_data room i)) is
 
-pub moved_is : (room : RoomState) (words : List ℕ) (sweeps : List SweepState) (i : ℕ) (read after : SweepState) (answer : ℕ) → IsShaped (data_of room) → sweeps ≡ room.sweeps → i < room.spec.simulators → read ≡ get_or sweeps i read
+pub moved_is : (room : RoomState) (words : List ℕ) (sweeps : List SweepState) (i : ℕ) (read after : SweepState) (answer : ℕ) → IsShaped (configuration_of room) → sweeps ≡ room.sweeps → i < room.spec.simulators → read ≡ get_or sweeps i read
     → words ≡ words_after (operation_at room i) room.words → answer ≡ answer_of (operation_at room i) room.words
     → after ≡ sweep_after (taken room.spec (get_or sweeps i read).mind answer) (get_or sweeps i read).quiet → put room words sweeps i after ≡ moved room i
 moved_is room words sweeps i read after answer shape same below is done answered left =
@@ -112,21 +112,21 @@ moved_is room words sweeps i read after answer shape same below is done answered
     ∙ ap (λ (a : ℕ). sweep_after (taken room.spec (sweep_at room i).mind a) (sweep_at room i).quiet) answered in
     put_is room words sweeps i after same ∙ (λ k. record { spec = room.spec; words = done k; sweeps = slice_set room.sweeps i (sweep k); crashed = room.crashed })
 
-pub has_line : (room : RoomState) (i : ℕ) → IsShaped (data_of room) → i < room.spec.simulators → has_crashed room i ≡ false → ready_at room i ≡ Step → HasLine (data_of room) i
+pub has_line : (room : RoomState) (i : ℕ) → IsShaped (configuration_of room) → i < room.spec.simulators → has_crashed room i ≡ false → ready_at room i ≡ Step → HasLine (configuration_of room) i
 has_line room i shape below alive ready = record {
   alive = record { below = below; alive = alive };
   moving = subst (λ (mind : MindState). IsOperation (move_of room.spec mind)) (sym (mind_here room i)) (moves room.spec (sweep_at room i).mind (sweep_at room i).quiet (mind_ok room i shape below) ready);
 }
 
-pub operates : (room : RoomState) (i : ℕ) → HasLine (data_of room) i → IsOperation (operation_at room i)
+pub operates : (room : RoomState) (i : ℕ) → HasLine (configuration_of room) i → IsOperation (operation_at room i)
 operates room i may = subst (λ (mind : MindState). IsOperation (move_of room.spec mind)) (mind_here room i) may.moving
 
-pub moved_room : (room : RoomState) (i : ℕ) → IsRoom (data_of room) → HasLine (data_of room) i → IsRoom (data_of (moved room i))
+pub moved_room : (room : RoomState) (i : ℕ) → IsRoom (configuration_of room) → HasLine (configuration_of room) i → IsRoom (configuration_of (moved room i))
 moved_room room i is may =
-    subst IsRoom (sym (moved_data room i)) (is_room (stepped (data_of room) i) is.shape.limits (under_line (data_of room) i is.run may))
+    subst IsRoom (sym (moved_data room i)) (is_room (stepped (configuration_of room) i) is.shape.limits (under_line (configuration_of room) i is.run may))
 
 pub fresh_room : (spec : RoomSpec) (words : List ℕ) (sweeps : List SweepState) (crashed : List Bool) → IsWithinLimits spec
-    → words ≡ (opening_state spec).words → sweeps ≡ (opening_state spec).sweeps → crashed ≡ (opening_state spec).crashed → IsRoom (data_of (record { spec = spec; words = words; sweeps = sweeps; crashed = crashed }))
+    → words ≡ (opening_state spec).words → sweeps ≡ (opening_state spec).sweeps → crashed ≡ (opening_state spec).crashed → IsRoom (configuration_of (record { spec = spec; words = words; sweeps = sweeps; crashed = crashed }))
 fresh_room spec words sweeps crashed limits same_words same_sweeps same_crashed =
     let left : record { spec = spec; words = words; sweeps = sweeps; crashed = crashed } ≡ opening_state spec = λ k. record { spec = spec; words = same_words k; sweeps = same_sweeps k; crashed = same_crashed k } in
-    subst (λ (r : RoomState). IsRoom (data_of r)) (sym left) (subst IsRoom (sym (opening_data spec)) (is_room (opening spec) limits (opens_run spec)))
+    subst (λ (r : RoomState). IsRoom (configuration_of r)) (sym left) (subst IsRoom (sym (opening_data spec)) (is_room (opening spec) limits (opens_run spec)))

@@ -7,8 +7,8 @@ use Rattle.safe_agreement.specs.Phases.{phase_level, IsFixed, HaveSameTwos}
 use Rattle.safe_agreement.proofs.Replays.{same_least_two, same_of_same}
 use Rattle.simulator.specs.declared.sweep.Ready.{Ready}
 use Rattle.simulator.specs.declared.sweep.Ready.TheVariants as ready
-use Rattle.room_core.specs.Rooms.{RoomData, steps, IsShaped, HasLine}
-use Rattle.room_core.specs.Calls.{Call, Step, Crash, RoomState, data_of, has_crashed, ready_at}
+use Rattle.room_core.specs.Rooms.{Configuration, steps, IsShaped, HasLine}
+use Rattle.room_core.specs.Calls.{Call, Step, Crash, RoomState, configuration_of, has_crashed, ready_at}
 use Rattle.room_core.specs.Fields.{Fields, line, with_crash, ready_in, fields_when, fields_after_step, fields_after_crash, fields_after_call}
 use Rattle.room_core.specs.Reading.{AreFieldsOf}
 use Rattle.room_core.specs.Agreements.{AgreementsStay}
@@ -43,7 +43,7 @@ stay_by spec fields after tracks tracks' fixed twos = record {
 pub stay_same : (spec : RoomSpec) (fields : Fields) → Tracks spec fields → AgreementsStay spec fields fields
 stay_same spec fields tracks = stay_by spec fields fields tracks tracks (λ p r fixed. fixed) (λ p r fixed. same_of_same spec.simulators (phases_in fields p r) (phases_in fields p r) (λ a below. refl))
 
-pub stay_line : (room : RoomData) (fields : Fields) (i : ℕ) → IsShaped room → StandsFor room fields → HasLine room i → AgreementsStay room.spec fields (line room.spec fields i)
+pub stay_line : (room : Configuration) (fields : Fields) (i : ℕ) → IsShaped room → StandsFor room fields → HasLine room i → AgreementsStay room.spec fields (line room.spec fields i)
 stay_line room fields i shape for may =
     let spec = room.spec in
     let after = line spec fields i in
@@ -72,8 +72,8 @@ module _ (room : RoomState) (fields : Fields) (i : ℕ) (limits : IsWithinLimits
 
   when_ready : (answer : Ready) → i < room.spec.simulators → has_crashed room i ≡ false → ready_at room i ≡ answer → Stay (fields_when answer room.spec fields i)
   when_ready ready.Step below alive is =
-      let shape = shapes (data_of room) limits are.run in
-      stay_line (data_of room) fields i shape (fields_stand room fields limits are) (has_line room i shape below alive is)
+      let shape = shapes (configuration_of room) limits are.run in
+      stay_line (configuration_of room) fields i shape (fields_stand room fields limits are) (has_line room i shape below alive is)
   when_ready ready.Idle below alive is = with_others room.spec fields _ fields.crashed same
   when_ready ready.OutOfTurns below alive is = same
 

@@ -10,7 +10,7 @@ use Rattle.simulator.specs.Sweeps.{SweepState, opening_sweep, ready_of, quiet_af
 use Rattle.simulator.specs.declared.operation.Move.{Move}
 use Rattle.simulator.specs.declared.sweep.Ready.{Ready}
 use Rattle.simulator.specs.declared.sweep.Ready.TheVariants as ready
-use Rattle.room_core.specs.Rooms.{RoomData}
+use Rattle.room_core.specs.Rooms.{Configuration}
 use Rattle.room_core.specs.declared.reply.StepReply.{StepReply}
 use Rattle.room_core.specs.declared.reply.StepReply.TheVariants.{Stepped, Idle, OutOfTurns, Crashed, NoSimulator}
 use Rattle.room_core.specs.declared.reply.CrashReply.{CrashReply}
@@ -23,8 +23,8 @@ pub record RoomState : Type 0 where
   pub crashed : List Bool
 
 -- the room without its quiet counts
-abbrev pub data_of : RoomState → RoomData
-data_of room = record { spec = room.spec; words = room.words; minds = map (λ sweep. sweep.mind) room.sweeps; crashed = room.crashed }
+abbrev pub configuration_of : RoomState → Configuration
+configuration_of room = record { spec = room.spec; words = room.words; minds = map (λ sweep. sweep.mind) room.sweeps; crashed = room.crashed }
 
 abbrev pub opening_state : RoomSpec → RoomState
 opening_state spec = record {

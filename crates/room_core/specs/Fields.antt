@@ -18,7 +18,7 @@ use Rattle.room_core.specs.declared.reply.StepReply.{StepReply}
 use Rattle.room_core.specs.declared.reply.StepReply.TheVariants.{Crashed, NoSimulator}
 use Rattle.room_core.specs.declared.reply.CrashReply.{CrashReply}
 use Rattle.room_core.specs.declared.reply.CrashReply.TheVariants as crash_replies
-use Rattle.room_core.specs.Rooms.{Event, steps, crashes}
+use Rattle.room_core.specs.Rooms.{ScheduleEvent, steps, crashes}
 use Rattle.room_core.specs.Calls.{Call, Step, Crash, Reply, Stepping, Crashing, reply_when}
 
 -- the step number of each simulator for each process: how often it has counted a write of the process
@@ -77,15 +77,15 @@ abbrev pub chosen_at : RoomSpec → Fields → ℕ → ℕ → Option ℕ
 chosen_at spec fields j k = resolved_of (levels_at spec fields j k)
 
 -- how many writes of a process a snapshot shows, and the simulator that has stored the last of them
-abbrev pub row_of_steps : RoomSpec → StepMap → ℕ → ℕ
-row_of_steps spec snapshot p = merged_of spec.simulators snapshot p
+abbrev pub entry_of_steps : RoomSpec → StepMap → ℕ → ℕ
+entry_of_steps spec snapshot p = merged_of spec.simulators snapshot p
 
 abbrev pub holder_of_steps : RoomSpec → StepMap → ℕ → ℕ
 holder_of_steps spec snapshot p = holder_of spec.simulators snapshot p
 
 -- the value that a snapshot shows of a process
 abbrev pub shown_value : RoomSpec → Fields → StepMap → ℕ → ℕ
-shown_value spec fields snapshot p = fields.value (holder_of_steps spec snapshot p) p (row_of_steps spec snapshot p)
+shown_value spec fields snapshot p = fields.value (holder_of_steps spec snapshot p) p (entry_of_steps spec snapshot p)
 
 -- ---- one line of simulator i
 
@@ -121,26 +121,26 @@ line_on Enter spec fields i j k mind = with_taken (record fields { level = chang
 line_on Look spec fields i j k mind = with_taken fields i (goes_on (Leave (has_level 2 (levels_at spec fields j k))) mind)
 line_on (Leave saw_two) spec fields i j k mind = with_taken (record fields { level = changed_triple fields.level i j k (left_to saw_two (fields.level i j k)) }) i (goes_on Ask mind)
 line_on Ask spec fields i j k mind = with_taken fields i (asked (chosen_at spec fields j k) mind)
-line_on (GetView chosen) spec fields i j k mind = with_taken fields i (got_view (row_of_steps spec (fields.view chosen j k)) spec (fields.view chosen j k) mind)
-line_on Values spec fields i j k mind = with_taken fields i (got_value (row_of_steps spec mind.snapshot) spec (shown_value spec fields mind.snapshot (length mind.entries)) mind)
+line_on (GetView chosen) spec fields i j k mind = with_taken fields i (got_view (entry_of_steps spec (fields.view chosen j k)) spec (fields.view chosen j k) mind)
+line_on Values spec fields i j k mind = with_taken fields i (got_value (entry_of_steps spec mind.snapshot) spec (shown_value spec fields mind.snapshot (length mind.entries)) mind)
 line_on (Out decision) spec fields i j k mind = with_taken (record fields { out = changed_pair fields.out i j (decision + 1) }) i (decided mind)
 
 -- the fields after the line at which simulator i stands
 abbrev pub line : RoomSpec → Fields → ℕ → Fields
 line spec fields i = line_on (fields.mind i).line spec fields i (fields.mind i).sweep (current_round (fields.mind i)) (counted (fields.mind i))
 
--- ---- events
+-- ---- schedule
 
 abbrev pub with_crash : Fields → ℕ → Fields
 with_crash fields i = record fields { crashed = changed fields.crashed i true }
 
-abbrev pub fields_after : RoomSpec → Fields → Event → Fields
+abbrev pub fields_after : RoomSpec → Fields → ScheduleEvent → Fields
 fields_after spec fields (steps i) = line spec fields i
 fields_after spec fields (crashes i) = with_crash fields i
 
-abbrev pub replay_fields : RoomSpec → Fields → List Event → Fields
+abbrev pub replay_fields : RoomSpec → Fields → List ScheduleEvent → Fields
 replay_fields spec fields [] = fields
-replay_fields spec fields (event ∷ events) = replay_fields spec (fields_after spec fields event) events
+replay_fields spec fields (event ∷ schedule) = replay_fields spec (fields_after spec fields event) schedule
 
 -- ---- calls, which may be of a simulator that is crashed, idle or not there
 

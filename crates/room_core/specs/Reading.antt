@@ -8,8 +8,8 @@ use Rattle.view_table.specs.Words.{word_at}
 use Rattle.view_table.specs.declared.place.Place.TheVariants as places
 use Rattle.sim_memory.specs.Steps.{AreSameSteps, AreWithin, memory_word, step_in}
 use Rattle.simulator.specs.Minds.{MindOf, MindState}
-use Rattle.room_core.specs.Rooms.{RoomData, IsOneInterleaving, mind_at, crashed_at}
-use Rattle.room_core.specs.Calls.{RoomState, data_of, has_crashed, sweep_at}
+use Rattle.room_core.specs.Rooms.{Configuration, IsOneInterleaving, mind_at, crashed_at}
+use Rattle.room_core.specs.Calls.{RoomState, configuration_of, has_crashed, sweep_at}
 use Rattle.room_core.specs.Fields.{Fields, StepMap, opening_fields, replay_fields}
 
 -- a memory word has these step numbers
@@ -45,7 +45,7 @@ pub record AreWordsOf (sizes : Sizes) (words : List ℕ) (fields : Fields) : Typ
   pub out : (i j : ℕ) → IsSimulator sizes i → IsProcess sizes j → word_at sizes words (places.Out i j) ≡ fields.out i j
 
 -- the room has these fields
-pub record Reads (room : RoomData) (fields : Fields) : Type 0 where
+pub record Reads (room : Configuration) (fields : Fields) : Type 0 where
   pub words : AreWordsOf (sizes_in room.spec) room.words fields
   pub minds : (i : ℕ) → i < room.spec.simulators → IsMindOf (sizes_in room.spec) (mind_at room i) (fields.mind i)
   pub crashed : (i : ℕ) → i < room.spec.simulators → crashed_at room i ≡ fields.crashed i
@@ -57,8 +57,8 @@ with_quiet fields quiet = record fields { quiet = quiet }
 
 -- The fields to which a list of atomic steps and crashes leads that leads to this room, with the room's quiet counts.
 pub record AreFieldsOf (room : RoomState) (fields : Fields) : Type 0 where
-  pub run : IsOneInterleaving (data_of room)
-  pub leads : fields ≡ with_quiet (replay_fields room.spec (opening_fields room.spec) run.events) fields.quiet
+  pub run : IsOneInterleaving (configuration_of room)
+  pub leads : fields ≡ with_quiet (replay_fields room.spec (opening_fields room.spec) run.schedule) fields.quiet
   pub counts : (i : ℕ) → i < room.spec.simulators → fields.quiet i ≡ (sweep_at room i).quiet
 
 -- ---- the reading of a room

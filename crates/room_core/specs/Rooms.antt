@@ -9,13 +9,13 @@ use Rattle.simulator.specs.Minds.{MindState, opening_mind}
 use Rattle.simulator.specs.Moves.{move_of, taken, words_after, answer_of, IsOperation}
 use Rattle.simulator.specs.Ranges.{IsMind}
 
-pub record RoomData : Type 0 where
+pub record Configuration : Type 0 where
   pub spec : RoomSpec
   pub words : List ℕ
   pub minds : List MindState
   pub crashed : List Bool
 
-abbrev pub opening : RoomSpec → RoomData
+abbrev pub opening : RoomSpec → Configuration
 opening spec = record {
   spec = spec;
   words = replicate (words_of (sizes_in spec)) 0;
@@ -23,18 +23,18 @@ opening spec = record {
   crashed = replicate spec.simulators false;
 }
 
-abbrev pub mind_at : RoomData → ℕ → MindState
+abbrev pub mind_at : Configuration → ℕ → MindState
 mind_at room i = slice_index_or room.minds i (opening_mind room.spec i)
 
-abbrev pub crashed_at : RoomData → ℕ → Bool
+abbrev pub crashed_at : Configuration → ℕ → Bool
 crashed_at room i = slice_index_or room.crashed i false
 
 -- what simulator i's operation answers
-abbrev pub answer_to : RoomData → ℕ → ℕ
+abbrev pub answer_to : Configuration → ℕ → ℕ
 answer_to room i = answer_of (move_of room.spec (mind_at room i)) room.words
 
 -- the room after one atomic step of simulator i: its operation is done on the words, and its mind takes the answer in
-abbrev pub stepped : RoomData → ℕ → RoomData
+abbrev pub stepped : Configuration → ℕ → Configuration
 stepped room i = record {
   spec = room.spec;
   words = words_after (move_of room.spec (mind_at room i)) room.words;
@@ -43,58 +43,58 @@ stepped room i = record {
 }
 
 -- after a crash of it
-abbrev pub crashed_by : RoomData → ℕ → RoomData
+abbrev pub crashed_by : Configuration → ℕ → Configuration
 crashed_by room i = record { spec = room.spec; words = room.words; minds = room.minds; crashed = slice_set room.crashed i true }
 
 -- ---- lists of atomic steps and crashes
 
-pub data Event : Type 0 where
-  steps : (simulator : ℕ) → Event
-  crashes : (simulator : ℕ) → Event
+pub data ScheduleEvent : Type 0 where
+  steps : (simulator : ℕ) → ScheduleEvent
+  crashes : (simulator : ℕ) → ScheduleEvent
 
 -- simulator i hasn't crashed
-pub record IsAlive (room : RoomData) (i : ℕ) : Type 0 where
+pub record IsAlive (room : Configuration) (i : ℕ) : Type 0 where
   pub below : i < room.spec.simulators
   pub alive : crashed_at room i ≡ false
 
 -- and has an atomic step to take
-pub record HasLine (room : RoomData) (i : ℕ) : Type 0 where
+pub record HasLine (room : Configuration) (i : ℕ) : Type 0 where
   pub alive : IsAlive room i
   pub moving : IsOperation (move_of room.spec (mind_at room i))
 
-abbrev pub MayHappen : RoomData → Event → Type 0
+abbrev pub MayHappen : Configuration → ScheduleEvent → Type 0
 MayHappen room (steps i) = HasLine room i
 MayHappen room (crashes i) = IsAlive room i
 
-abbrev pub after_event : RoomData → Event → RoomData
+abbrev pub after_event : Configuration → ScheduleEvent → Configuration
 after_event room (steps i) = stepped room i
 after_event room (crashes i) = crashed_by room i
 
-abbrev pub replay : RoomData → List Event → RoomData
+abbrev pub replay : Configuration → List ScheduleEvent → Configuration
 replay room [] = room
-replay room (event ∷ events) = replay (after_event room event) events
+replay room (event ∷ schedule) = replay (after_event room event) schedule
 
 -- each event may happen at its place
-abbrev pub IsLegal : RoomData → List Event → Type 0
+abbrev pub IsLegal : Configuration → List ScheduleEvent → Type 0
 IsLegal room [] = ⊤
-IsLegal room (event ∷ events) = MayHappen room event × IsLegal (after_event room event) events
+IsLegal room (event ∷ schedule) = MayHappen room event × IsLegal (after_event room event) schedule
 
 -- One interleaving of the steps of its simulators, and of crashes after which nobody steps, leads from the opening room to
 -- this one.
-pub record IsOneInterleaving (room : RoomData) : Type 0 where
-  pub events : List Event
-  pub legal : IsLegal (opening room.spec) events
-  pub leads : replay (opening room.spec) events ≡ room
+pub record IsOneInterleaving (room : Configuration) : Type 0 where
+  pub schedule : List ScheduleEvent
+  pub legal : IsLegal (opening room.spec) schedule
+  pub leads : replay (opening room.spec) schedule ≡ room
 
 -- how often a simulator steps in a list
-abbrev pub times : ℕ → List Event → ℕ
+abbrev pub times : ℕ → List ScheduleEvent → ℕ
 times i [] = 0
-times i (steps j ∷ events) = if j == i then suc (times i events) else times i events
-times i (crashes j ∷ events) = times i events
+times i (steps j ∷ schedule) = if j == i then suc (times i schedule) else times i schedule
+times i (crashes j ∷ schedule) = times i schedule
 
 -- ---- what every such room keeps
 
-pub record IsShaped (room : RoomData) : Type 0 where
+pub record IsShaped (room : Configuration) : Type 0 where
   pub limits : IsWithinLimits room.spec
   pub words : length room.words ≡ words_of (sizes_in room.spec)
   pub minds : length room.minds ≡ room.spec.simulators
@@ -103,6 +103,6 @@ pub record IsShaped (room : RoomData) : Type 0 where
   pub numbers : (i : ℕ) → i < room.spec.simulators → (mind_at room i).number ≡ i
 
 -- what the type of a room keeps
-pub record IsRoom (room : RoomData) : Type 0 where
+pub record IsRoom (room : Configuration) : Type 0 where
   pub run : IsOneInterleaving room
   pub shape : IsShaped room

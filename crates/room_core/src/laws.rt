@@ -12,10 +12,10 @@ ghost use Rattle.simulator.specs.declared.goal.Goal.TheVariants.{Spent};
 ghost use Rattle.room_core.specs.Moments.{IsMoment};
 ghost use Rattle.room_core.specs.Agreements.{AgreementsStay, IsFixedAt, IsInsideTurn, IsPassed};
 ghost use Rattle.room_core.specs.Calls.{Call, RoomState, replies_to, room_after_calls};
-ghost use Rattle.room_core.specs.Fields.{Fields, levels_at, row_of_steps, fields_after_call, fields_after_calls, opening_fields, replay_fields, replies_in};
+ghost use Rattle.room_core.specs.Fields.{Fields, levels_at, entry_of_steps, fields_after_call, fields_after_calls, opening_fields, replay_fields, replies_in};
 ghost use Rattle.room_spec.specs.Sizes.{sizes_in};
 ghost use Rattle.room_core.specs.Reading.{AgreeIn, AreFieldsOf, Reads, fields_in};
-ghost use Rattle.room_core.specs.Rooms.{HasLine, IsAlive, IsOneInterleaving, IsShaped, RoomData, crashed_by, mind_at, opening, stepped, times};
+ghost use Rattle.room_core.specs.Rooms.{HasLine, IsAlive, IsOneInterleaving, IsShaped, Configuration, crashed_by, mind_at, opening, stepped, times};
 
 /// The opening room is one interleaving, of no steps.
 pub fn opens()
@@ -25,28 +25,28 @@ pub fn opens()
 /// One interleaving stays one where a simulator takes its line. That reads and changes the
 /// simulator's mind and the words alone.
 pub fn stays_under_line()
-    ensures { (room : RoomData) (i : ℕ) → IsOneInterleaving room → HasLine room i → IsOneInterleaving (stepped room i) }
+    ensures { (room : Configuration) (i : ℕ) → IsOneInterleaving room → HasLine room i → IsOneInterleaving (stepped room i) }
 {}
 
 /// And where a simulator is marked as crashed.
 pub fn stays_under_crash()
-    ensures { (room : RoomData) (i : ℕ) → IsOneInterleaving room → IsAlive room i → IsOneInterleaving (crashed_by room i) }
+    ensures { (room : Configuration) (i : ℕ) → IsOneInterleaving room → IsAlive room i → IsOneInterleaving (crashed_by room i) }
 {}
 
 /// One interleaving has a word for each place, a mind for each simulator, and each mind's numbers
 /// are within their ranges.
 pub fn shapes()
-    ensures { (room : RoomData) → IsWithinLimits room.spec → IsOneInterleaving room → IsShaped room }
+    ensures { (room : Configuration) → IsWithinLimits room.spec → IsOneInterleaving room → IsShaped room }
 {}
 
 /// Each simulator stands in the list as often as its mind counts steps.
 pub fn counts_steps()
-    ensures { (room : RoomData) → IsWithinLimits room.spec → (one : IsOneInterleaving room) (i : ℕ) → i < room.spec.simulators → (mind_at room i).steps ≡ times i one.events }
+    ensures { (room : Configuration) → IsWithinLimits room.spec → (one : IsOneInterleaving room) (i : ℕ) → i < room.spec.simulators → (mind_at room i).steps ≡ times i one.schedule }
 {}
 
 /// The words and minds of one interleaving stand for the fields to which its list leads.
 pub fn reads_as_fields()
-    ensures { (room : RoomData) → IsWithinLimits room.spec → (one : IsOneInterleaving room) → Reads room (replay_fields room.spec (opening_fields room.spec) one.events) }
+    ensures { (room : Configuration) → IsWithinLimits room.spec → (one : IsOneInterleaving room) → Reads room (replay_fields room.spec (opening_fields room.spec) one.schedule) }
 {}
 
 /// A list of calls has the same replies in the room and in its fields, and leads to the fields of
@@ -87,11 +87,11 @@ pub fn left_is_clean()
 /// The proposals that stand, of whatever agreements, are snapshots of one simulated memory.
 pub fn snapshots()
     // Each is the step numbers as they stood at some moment of the run.
-    ensures moments { (room : RoomState) (fields : Fields) → IsWithinLimits room.spec → (are : AreFieldsOf room fields) (i j k : ℕ) → i < room.spec.simulators → 1 ≤ k → fields.level i j k ≡ 2 → IsMoment room.spec are.run.events i j k (fields.view i j k) }
+    ensures moments { (room : RoomState) (fields : Fields) → IsWithinLimits room.spec → (are : AreFieldsOf room fields) (i j k : ℕ) → i < room.spec.simulators → 1 ≤ k → fields.level i j k ≡ 2 → IsMoment room.spec are.run.schedule i j k (fields.view i j k) }
     // Of any two rows that they show, one is at most the other.
     ensures compare { (room : RoomState) (fields : Fields) → IsWithinLimits room.spec → AreFieldsOf room fields → (i j k h p r : ℕ) → i < room.spec.simulators → h < room.spec.simulators → 1 ≤ k → 1 ≤ r → fields.level i j k ≡ 2 → fields.level h p r ≡ 2 → IsRowAtMost (row_of room.spec.simulators (processes room.spec) (fields.view i j k)) (row_of room.spec.simulators (processes room.spec) (fields.view h p r)) ⊎ IsRowAtMost (row_of room.spec.simulators (processes room.spec) (fields.view h p r)) (row_of room.spec.simulators (processes room.spec) (fields.view i j k)) }
     // Each shows of its own process exactly the writes up to the round of its agreement.
-    ensures own { (room : RoomState) (fields : Fields) → IsWithinLimits room.spec → AreFieldsOf room fields → (i j k : ℕ) → i < room.spec.simulators → 1 ≤ k → fields.level i j k ≡ 2 → row_of_steps room.spec (fields.view i j k) j ≡ k }
+    ensures own { (room : RoomState) (fields : Fields) → IsWithinLimits room.spec → AreFieldsOf room fields → (i j k : ℕ) → i < room.spec.simulators → 1 ≤ k → fields.level i j k ≡ 2 → entry_of_steps room.spec (fields.view i j k) j ≡ k }
 {}
 
 /// Each write that was counted has the value

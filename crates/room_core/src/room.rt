@@ -10,7 +10,7 @@ ghost use Rattle.room_core.specs.Rooms.{HasLine, IsAlive, IsOneInterleaving, IsR
 ghost use Rattle.room_core.specs.Fields.{Fields, crash_reply_in, fields_after_crash, fields_after_step, opening_fields, step_reply_in};
 ghost use Rattle.room_core.specs.Agreements.{AgreementsStay};
 ghost use Rattle.room_core.specs.Reading.{AreFieldsOf, Reads};
-ghost use Rattle.room_core.specs.Calls.{crash_reply, data_of, has_crashed, marked, moved, opening_state, operation_at, ready_at, room_after_crash, room_after_step, step_reply, sweep_after, sweep_at, with_sweep, woken};
+ghost use Rattle.room_core.specs.Calls.{crash_reply, configuration_of, has_crashed, marked, moved, opening_state, operation_at, ready_at, room_after_crash, room_after_step, step_reply, sweep_after, sweep_at, with_sweep, woken};
 
 use crate::reply::{CrashReply, StepReply};
 use arrayvec::ArrayVec;
@@ -32,7 +32,7 @@ pub struct RoomCore {
 impl Model for RoomCore {
     ghost use Rattle.std.specs.Coded.{codes};
     ghost use Rattle.protocol_lang.specs.Codes.{expression_code};
-    ghost use Rattle.room_core.specs.Calls.{RoomState, data_of};
+    ghost use Rattle.room_core.specs.Calls.{RoomState, configuration_of};
     ghost use Rattle.room_core.specs.Rooms.{IsRoom};
 
     ghost Value = { RoomState };
@@ -42,7 +42,7 @@ impl Model for RoomCore {
     ghost view = { λ r. record { spec = r.spec; words = r.words.items; sweeps = r.sweeps.items; crashed = r.crashed.items } };
 
     // Some list of atomic steps and crashes leads to it.
-    ghost invariant = { λ r. IsRoom (data_of (record { spec = r.spec; words = r.words.items; sweeps = r.sweeps.items; crashed = r.crashed.items })) };
+    ghost invariant = { λ r. IsRoom (configuration_of (record { spec = r.spec; words = r.words.items; sweeps = r.sweeps.items; crashed = r.crashed.items })) };
 }
 
 impl RoomCore {
@@ -70,7 +70,7 @@ impl RoomCore {
         sweeps: ArrayVec<Sweep, 8>,
         crashed: ArrayVec<bool, 8>,
     ) -> RoomCore
-        requires { IsRoom (data_of (record { spec = spec; words = words.items; sweeps = sweeps.items; crashed = crashed.items })) }
+        requires { IsRoom (configuration_of (record { spec = spec; words = words.items; sweeps = sweeps.items; crashed = crashed.items })) }
         ensures { result ≡ record { spec = spec; words = words.items; sweeps = sweeps.items; crashed = crashed.items } }
     {
         RoomCore {
@@ -85,9 +85,9 @@ impl RoomCore {
     pub fn spec(&self) -> &Spec
         ensures value { result.now ≡ self.now.spec }
         // One interleaving of its simulators' atomic steps, and of crashes, leads to this room.
-        ensures run { IsOneInterleaving (data_of self.now) }
+        ensures run { IsOneInterleaving (configuration_of self.now) }
         // Its words, minds and marks of crashes stand for the fields to which that list leads.
-        ensures fields { (fields : Fields) × AreFieldsOf self.now fields × Reads (data_of self.now) fields }
+        ensures fields { (fields : Fields) × AreFieldsOf self.now fields × Reads (configuration_of self.now) fields }
     {
         &self.spec
     }
@@ -181,7 +181,7 @@ impl RoomCore {
 
     /// One atomic step of simulator `i`, which has one to take.
     fn advance(&mut self, i: usize)
-        requires { HasLine (data_of self.old) i }
+        requires { HasLine (configuration_of self.old) i }
         ensures { self.new ≡ moved self.old i }
     {
         let next = self.next_move(i);
@@ -190,7 +190,7 @@ impl RoomCore {
     }
 
     fn mark(&mut self, i: usize)
-        requires { IsAlive (data_of self.old) i }
+        requires { IsAlive (configuration_of self.old) i }
         ensures { self.new ≡ marked self.old i }
     {
         self.crashed[i] = true;

@@ -8,7 +8,7 @@ use Rattle.atomic_table.specs.Table.{Me, Allows, keeps, Final, Seen}
 use Rattle.atomic_table.proofs.Lists.{at_set, set_again}
 use Rattle.room_spec.specs.Rooms.{RoomSpec, IsWithinLimits}
 use Rattle.simulator.specs.Minds.{MindState}
-use Rattle.room_core.specs.Rooms.{RoomData, IsOneInterleaving, IsAlive, crashed_by}
+use Rattle.room_core.specs.Rooms.{Configuration, IsOneInterleaving, IsAlive, crashed_by}
 use Rattle.room_core.proofs.Replays.{shapes, opens_run, under_crash}
 use Rattle.ruled_room.specs.declared.rule.View.{View}
 use Rattle.ruled_room.specs.Views.{mind_in, begun, first_minds}
@@ -79,7 +79,7 @@ read_between [] ys a d = refl
 read_between (x ∷ xs) ys a d = read_between xs ys a d
 
 -- crashes one after the other, in order of number, give any marks
-mark_all : (r : RoomData) (done todo : List Bool) → IsOneInterleaving r → r.crashed ≡ done ++ replicate (length todo) false → length r.crashed ≡ r.spec.simulators
+mark_all : (r : Configuration) (done todo : List Bool) → IsOneInterleaving r → r.crashed ≡ done ++ replicate (length todo) false → length r.crashed ≡ r.spec.simulators
     → IsOneInterleaving (record { spec = r.spec; words = r.words; minds = r.minds; crashed = done ++ todo })
 mark_all r done [] one is long = subst IsOneInterleaving (λ p. record { spec = r.spec; words = r.words; minds = r.minds; crashed = is p }) one
 mark_all r done (false ∷ todo) one is long =
@@ -108,7 +108,7 @@ ends s limits id v ws xs ms cs final home long any marks =
     ⊎_elim
     (λ (b : IsBlank s t.words t.views). absurd (empty_at_none ms (omega arith) (ap (λ (l : List (Option MindState)). get_or l 0 None) (sym home) ∙ b.nobody id v 0 at)))
     (λ (r : IsRunning s t.words t.views).
-    let room : RoomData = room_of s t.words r.minds in
+    let room : Configuration = room_of s t.words r.minds in
     let shape = shapes room limits r.run in
     let minds-are : r.minds ≡ ms = same_minds r.minds ms (shape.minds ∙ sym long) (λ i x e. (r.held id v i x at (ap (λ (l : List (Option MindState)). get_or l i None) home ∙ e)).1) in
     let words-are : take (word_count s) t.words ≡ take (word_count s) ws = ap (take (word_count s)) final.2 in

@@ -11,7 +11,7 @@ use Rattle.simulator.specs.Minds.{MindState, opening_mind}
 use Rattle.simulator.specs.Moves.{move_of, taken, words_after, answer_of, IsOperation}
 use Rattle.simulator.specs.Ranges.{IsMind}
 use Rattle.simulator.specs.declared.operation.Move.{Move}
-use Rattle.room_core.specs.Rooms.{RoomData, IsOneInterleaving, HasLine, mind_at}
+use Rattle.room_core.specs.Rooms.{Configuration, IsOneInterleaving, HasLine, mind_at}
 use Rattle.room_core.proofs.Replays.{shapes, under_line}
 use Rattle.ruled_room.specs.declared.rule.View.{View}
 use Rattle.ruled_room.specs.Views.{mind_in, only, alone, take_in, answered}
@@ -78,7 +78,7 @@ pub goes : (spec : RoomSpec) (words : List ℕ) (views : List View) (id i : ℕ)
     → IsRunning spec (set words k n) (set views id (alone spec i (taken spec x found).mind))
 goes spec words views id i x move k n found r at is_move is_mind moving within words-are found-is =
     let mine = r.held id (alone spec i x) i x at (only-here i x) in
-    let room : RoomData = room_of spec words r.minds in
+    let room : Configuration = room_of spec words r.minds in
     let shape = shapes room is_mind.limits r.run in
     let is : mind_at room i ≡ x = there_read r.minds i x (opening_mind spec i) mine.1 in
     let below : i < spec.simulators = let b = there_below r.minds i x mine.1 in let l = shape.minds in omega arith in

@@ -7,7 +7,7 @@ use Rattle.room_spec.specs.Rooms.{RoomSpec}
 use Rattle.room_spec.specs.Sizes.{sizes_in}
 use Rattle.view_table.specs.Places.{words_of}
 use Rattle.simulator.specs.Minds.{MindState}
-use Rattle.room_core.specs.Rooms.{RoomData, IsOneInterleaving}
+use Rattle.room_core.specs.Rooms.{Configuration, IsOneInterleaving}
 use Rattle.ruled_room.specs.declared.rule.View.{View}
 use Rattle.ruled_room.specs.Views.{mind_in, nobody}
 
@@ -24,7 +24,7 @@ abbrev pub Holds : (ℕ → ℕ) → List MindState → List View → Type 0
 Holds owner minds views = (k : ℕ) (view : View) (i : ℕ) (mind : MindState) → get_elem? views k ≡ some view → mind_in view i ≡ Some mind → (owner i ≡ k) × (get_elem? minds i ≡ some mind)
 
 -- the room of the table's first words and these minds, where nobody has crashed
-abbrev pub room_of : RoomSpec → List ℕ → List MindState → RoomData
+abbrev pub room_of : RoomSpec → List ℕ → List MindState → Configuration
 room_of spec words minds = record { spec = spec; words = take (word_count spec) words; minds = minds; crashed = replicate spec.simulators false }
 
 -- before the first step no seat holds a mind, and all words are 0

@@ -7,7 +7,7 @@ ghost use Rattle.room_spec.specs.Rooms.{IsWithinLimits};
 ghost use Rattle.simulator.specs.Moves.{IsOperation, move_of};
 ghost use Rattle.simulator.specs.Ranges.{IsMind};
 ghost use Rattle.simulator.specs.Sweeps.{is_resting, ready_of};
-ghost use Rattle.room_core.specs.Calls.{data_of, reply_when};
+ghost use Rattle.room_core.specs.Calls.{configuration_of, reply_when};
 ghost use Rattle.room_core.specs.Rooms.{IsOneInterleaving};
 ghost use Rattle.ruled_room.specs.Parts.{GoneFor, IsComplete, IsFirstOut, TakesStep, first_sweeps, marked};
 ghost use Rattle.ruled_room.specs.Rule.{word_count};
@@ -113,7 +113,7 @@ impl RuledRoom {
     pub fn close(self, alloc: Global, keeper: Keeper) -> Result<RoomCore, (RuledRoom, Keeper, Gone)>
         requires { keeper.room ≡ self }
         ensures core { IfOk result (λ core. (core.spec ≡ self.spec) × (map Some core.sweeps ≡ keeper.sweeps) × (core.crashed ≡ keeper.crashed)) }
-        ensures run { IfOk result (λ core. IsOneInterleaving (data_of core)) }
+        ensures run { IfOk result (λ core. IsOneInterleaving (configuration_of core)) }
         ensures still { OnOk result (IsComplete keeper.sweeps) }
         ensures gone { IfErr result (λ e. GoneFor keeper.sweeps e.2) }
         ensures same { IfErr result (λ e. (e.0 ≡ self) × (e.1 ≡ keeper)) }
@@ -133,7 +133,7 @@ impl RuledRoom {
         requires home { IsComplete keeper.sweeps }
         requires limits { IsWithinLimits self.spec }
         requires words { length words.items ≡ word_count self.spec }
-        ensures { (result.spec ≡ self.spec) × (map Some result.sweeps ≡ keeper.sweeps) × (result.crashed ≡ keeper.crashed) × IsOneInterleaving (data_of result) }
+        ensures { (result.spec ≡ self.spec) × (map Some result.sweeps ≡ keeper.sweeps) × (result.crashed ≡ keeper.crashed) × IsOneInterleaving (configuration_of result) }
     {
         let RuledRoom { table, spec } = self;
         let Keeper {

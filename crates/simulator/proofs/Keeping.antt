@@ -22,7 +22,7 @@ use Rattle.simulator.specs.declared.turn.Turn.TheVariants.{Useful, Quiet}
 use Rattle.simulator.specs.declared.operation.Move.{Move}
 use Rattle.simulator.specs.declared.operation.Move.TheVariants.{OutOfTurns}
 use Rattle.simulator.specs.Minds.{MindState, is_unfinished, goal_at, current_goal, current_round, next_process, first_goal, opening_mind}
-use Rattle.simulator.specs.Moves.{row_in, chosen_in, first_move_at, first_move, move_at, move_of, IsOperation, taken_at, taken}
+use Rattle.simulator.specs.Moves.{entry_in, chosen_in, first_move_at, first_move, move_at, move_of, IsOperation, taken_at, taken}
 use Rattle.simulator.specs.Turns.{counted, begun, goes_on, ended, asked, after_write, acted, padded, gathered, opened_at, opened}
 use Rattle.simulator.specs.Ranges.{IsGoal, most_steps, charged_steps, IsOpenAt, IsMind}
 use Rattle.simulator.proofs.Processes.{next_is_left}
@@ -125,13 +125,13 @@ acts spec mind (actions.Write value) is few =
     ends spec mind Useful (after_write spec.rounds (current_round mind) value) is (write_range _ spec.rounds (current_round mind) value refl) (omega (arith, is.entries, n.1))
 acts spec mind (actions.Decide decision) is few = goes spec mind (Out decision) is few (omega arith) is.unfinished
 
-gathers_all : (spec : RoomSpec) (mind : MindState) (b : Bool) → ltb (length mind.entries) (processes spec) ≡ b → IsBusy spec mind → mind.turn_steps ≤ 9 + length mind.entries → (length mind.entries < processes spec → 1 ≤ row_in spec mind.snapshot (length mind.entries)) → IsMind spec (cond b (goes_on Values mind) (acted spec (next_action spec.protocol (get_or spec.inputs mind.sweep 0) mind.sweep (current_round mind) mind.entries) mind)).mind
+gathers_all : (spec : RoomSpec) (mind : MindState) (b : Bool) → ltb (length mind.entries) (processes spec) ≡ b → IsBusy spec mind → mind.turn_steps ≤ 9 + length mind.entries → (length mind.entries < processes spec → 1 ≤ entry_in spec mind.snapshot (length mind.entries)) → IsMind spec (cond b (goes_on Values mind) (acted spec (next_action spec.protocol (get_or spec.inputs mind.sweep 0) mind.sweep (current_round mind) mind.entries) mind)).mind
 gathers_all spec mind true less is few shown = let below = ltb-true _ _ less in goes spec mind Values is few (omega arith) (is.unfinished, below, shown below)
 gathers_all spec mind false less is few shown = acts spec mind (next_action spec.protocol (get_or spec.inputs mind.sweep 0) mind.sweep (current_round mind) mind.entries) is few
 
-gathers : (spec : RoomSpec) (mind : MindState) (entries : List (Option ℕ)) → IsBusy spec mind → length entries ≤ processes spec → mind.turn_steps ≤ 9 + length entries → IsMind spec (gathered (row_in spec mind.snapshot) spec entries mind).mind
+gathers : (spec : RoomSpec) (mind : MindState) (entries : List (Option ℕ)) → IsBusy spec mind → length entries ≤ processes spec → mind.turn_steps ≤ 9 + length entries → IsMind spec (gathered (entry_in spec mind.snapshot) spec entries mind).mind
 gathers spec mind entries is within few =
-    let row = row_in spec mind.snapshot in
+    let row = entry_in spec mind.snapshot in
     let padding = padded_is row (processes spec - length entries) entries in
     let after = padded row (processes spec - length entries) entries in
     let busy : IsBusy spec (record mind { entries = after }) = record {

@@ -19,7 +19,7 @@ use Rattle.simulator.specs.declared.line.Line.TheVariants.{Rest, Raise, Snap, Sh
 use Rattle.simulator.specs.declared.operation.Move.{Move}
 use Rattle.simulator.specs.declared.operation.Move.TheVariants.{OutOfTurns}
 use Rattle.simulator.specs.Minds.{MindState, is_unfinished, round_of, goal_at, current_goal, current_round, next_process}
-use Rattle.simulator.specs.Moves.{index_in, levels_index, view_index, value_index, row_in, holder_in, chosen_in, level_unit, leave_by, first_move_at, first_move, move_at, move_of, IsWithin}
+use Rattle.simulator.specs.Moves.{index_in, levels_index, view_index, value_index, entry_in, holder_in, chosen_in, level_unit, leave_by, first_move_at, first_move, move_at, move_of, IsWithin}
 use Rattle.simulator.specs.Ranges.{IsGoal, IsOpenAt, IsMind}
 use Rattle.simulator.proofs.Processes.{next_is_left}
 
@@ -31,18 +31,18 @@ round_range rounds (goals.Ask round) range is = range
 round_range rounds goals.Done range is = absurd cc
 round_range rounds goals.Spent range is = absurd cc
 
-pub row_most : (spec : RoomSpec) (word process : ℕ) → row_in spec word process ≤ spec.rounds
+pub row_most : (spec : RoomSpec) (word process : ℕ) → entry_in spec word process ≤ spec.rounds
 row_most spec word process = merged_below spec.simulators (step_in (sizes_in spec) word) process spec.rounds (λ i below. omega arith)
 
 pub holder_below : (spec : RoomSpec) (word process : ℕ) → 0 < spec.simulators → holder_in spec word process < spec.simulators
 holder_below spec word process some = let is = holder_of_is spec.simulators (step_in (sizes_in spec) word) process some in is.below
 
 -- the row is what the holder has
-pub row_of_holder : (spec : RoomSpec) (word process : ℕ) → 0 < spec.simulators → row_in spec word process ≡ step_in (sizes_in spec) word (holder_in spec word process) process
+pub row_of_holder : (spec : RoomSpec) (word process : ℕ) → 0 < spec.simulators → entry_in spec word process ≡ step_in (sizes_in spec) word (holder_in spec word process) process
 row_of_holder spec word process some = holder_merged spec.simulators (step_in (sizes_in spec) word) process (holder_in spec word process) (holder_of_is spec.simulators (step_in (sizes_in spec) word) process some)
 
 -- a simulator that has a write shows it
-pub row_at : (spec : RoomSpec) (word process i : ℕ) → i < spec.simulators → step_in (sizes_in spec) word i process ≤ row_in spec word process
+pub row_at : (spec : RoomSpec) (word process i : ℕ) → i < spec.simulators → step_in (sizes_in spec) word i process ≤ entry_in spec word process
 row_at spec word process i below = greatest_at spec.simulators (λ k. step_in (sizes_in spec) word k process) i below
 
 pub chosen_below : (spec : RoomSpec) (word chosen : ℕ) → chosen_in spec word ≡ Some chosen → chosen < spec.simulators
@@ -64,10 +64,10 @@ levels_within spec mind is unfinished = within_index spec (places.Levels mind.sw
 view_within : (spec : RoomSpec) (simulator : ℕ) (mind : MindState) → IsMind spec mind → is_unfinished (current_goal mind) ≡ true → simulator < spec.simulators → view_index spec simulator mind < words_of (sizes_in spec)
 view_within spec simulator mind is unfinished below = within_index spec (places.View simulator mind.sweep (current_round mind)) (below, is.sweep, current_range spec mind is unfinished)
 
-value_within : (spec : RoomSpec) (mind : MindState) (process : ℕ) → IsMind spec mind → process < processes spec → 1 ≤ row_in spec mind.snapshot process → value_index spec mind process < words_of (sizes_in spec)
+value_within : (spec : RoomSpec) (mind : MindState) (process : ℕ) → IsMind spec mind → process < processes spec → 1 ≤ entry_in spec mind.snapshot process → value_index spec mind process < words_of (sizes_in spec)
 value_within spec mind process is below shown =
     let holder = holder_below spec mind.snapshot process (omega (arith, is.number)) in
-    within_index spec (places.Value (holder_in spec mind.snapshot process) process (row_in spec mind.snapshot process)) (holder, below, (shown, row_most spec mind.snapshot process))
+    within_index spec (places.Value (holder_in spec mind.snapshot process) process (entry_in spec mind.snapshot process)) (holder, below, (shown, row_most spec mind.snapshot process))
 
 -- ---- moves
 

@@ -12,7 +12,7 @@ use Rattle.simulator.specs.declared.turn.Turn.TheVariants.{Still}
 use Rattle.simulator.specs.declared.operation.Move.TheVariants.{Finished, OutOfTurns}
 use Rattle.simulator.specs.declared.sweep.Ready.TheVariants as answers
 use Rattle.simulator.specs.Minds.{MindState, is_unfinished, goal_at, next_process, unfinished_in}
-use Rattle.simulator.specs.Moves.{levels_index, level_unit, row_in, chosen_in, leave_by, first_move_at, first_move, move_at, move_of, IsOperation, taken_at, taken}
+use Rattle.simulator.specs.Moves.{levels_index, level_unit, entry_in, chosen_in, leave_by, first_move_at, first_move, move_at, move_of, IsOperation, taken_at, taken}
 use Rattle.simulator.specs.Turns.{TakenOf, counted, goes_on, asked, acted, gathered_all, gathered, opened_at, opened}
 use Rattle.simulator.specs.Ranges.{most_steps, IsMind}
 use Rattle.simulator.specs.Sweeps.{is_resting, ready_between, ready_of}
@@ -90,8 +90,8 @@ moved_taken Enter spec mind answer = moved_on Look mind
 moved_taken Look spec mind answer = moved_on _ mind
 moved_taken (Leave saw_two) spec mind answer = moved_on Ask mind
 moved_taken Ask spec mind answer = moved_asked (chosen_in spec answer) mind
-moved_taken (GetView chosen) spec mind answer = let is = moved_gathered (row_in spec answer) spec [] (record mind { snapshot = answer }) in record { number = is.number; steps = is.steps; rests = is.rests }
-moved_taken Values spec mind answer = moved_gathered (row_in spec mind.snapshot) spec _ mind
+moved_taken (GetView chosen) spec mind answer = let is = moved_gathered (entry_in spec answer) spec [] (record mind { snapshot = answer }) in record { number = is.number; steps = is.steps; rests = is.rests }
+moved_taken Values spec mind answer = moved_gathered (entry_in spec mind.snapshot) spec _ mind
 moved_taken (Out decision) spec mind answer = record { number = refl; steps = refl; rests = λ ends. refl }
 
 pub stepped : (spec : RoomSpec) (mind : MindState) (answer : ℕ) → IsStepped mind (taken spec mind answer)

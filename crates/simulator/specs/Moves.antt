@@ -40,8 +40,8 @@ step_unit spec mind = 2 ^ place_of (sizes_in spec) mind.number mind.sweep
 -- ---- what a memory word shows
 
 -- how many writes of a process
-abbrev pub row_in : RoomSpec → ℕ → ℕ → ℕ
-row_in spec word process = merged_of spec.simulators (step_in (sizes_in spec) word) process
+abbrev pub entry_in : RoomSpec → ℕ → ℕ → ℕ
+entry_in spec word process = merged_of spec.simulators (step_in (sizes_in spec) word) process
 
 -- the simulator that has stored the last of them
 abbrev pub holder_in : RoomSpec → ℕ → ℕ → ℕ
@@ -51,7 +51,7 @@ holder_in spec word process = holder_of spec.simulators (step_in (sizes_in spec)
 
 -- the value that is to be loaded next: the last write that the snapshot shows of the next process
 abbrev pub value_index : RoomSpec → MindState → ℕ → ℕ
-value_index spec mind process = index_in spec (places.Value (holder_in spec mind.snapshot process) process (row_in spec mind.snapshot process))
+value_index spec mind process = index_in spec (places.Value (holder_in spec mind.snapshot process) process (entry_in spec mind.snapshot process))
 
 abbrev pub leave_by : Bool → ℕ → ℕ → Move
 leave_by true index unit = Sub index unit
@@ -118,8 +118,8 @@ taken_at Enter spec mind answer = goes_on Look mind
 taken_at Look spec mind answer = goes_on (Leave (has_level 2 (levels_of answer spec.simulators))) mind
 taken_at (Leave saw_two) spec mind answer = goes_on Ask mind
 taken_at Ask spec mind answer = asked (chosen_in spec answer) mind
-taken_at (GetView chosen) spec mind answer = got_view (row_in spec answer) spec answer mind
-taken_at Values spec mind answer = got_value (row_in spec mind.snapshot) spec answer mind
+taken_at (GetView chosen) spec mind answer = got_view (entry_in spec answer) spec answer mind
+taken_at Values spec mind answer = got_value (entry_in spec mind.snapshot) spec answer mind
 taken_at (Out decision) spec mind answer = decided mind
 
 -- the mind after its move was answered, and what has become of its turn

@@ -6,7 +6,7 @@ use Rattle.simulator.specs.declared.goal.Goal.TheVariants as goals
 use Rattle.simulator.specs.declared.line.Line.{Line}
 use Rattle.simulator.specs.declared.line.Line.TheVariants.{Rest, Raise, Snap, Show, Enter, Look, Leave, Ask, GetView, Values, Out}
 use Rattle.simulator.specs.Minds.{MindState, goal_at, current_goal, is_unfinished}
-use Rattle.simulator.specs.Moves.{row_in}
+use Rattle.simulator.specs.Moves.{entry_in}
 
 -- a goal's round is a round of the room
 abbrev pub IsGoal : ℕ → Goal → Type 0
@@ -37,7 +37,7 @@ charged_steps line steps = steps + 26
 abbrev pub IsOpenAt : Line → RoomSpec → MindState → Type 0
 IsOpenAt Rest spec mind = ⊤
 IsOpenAt (GetView chosen) spec mind = (is_unfinished (current_goal mind) ≡ true) × (chosen < spec.simulators)
-IsOpenAt Values spec mind = (is_unfinished (current_goal mind) ≡ true) × (length mind.entries < processes spec) × (1 ≤ row_in spec mind.snapshot (length mind.entries))
+IsOpenAt Values spec mind = (is_unfinished (current_goal mind) ≡ true) × (length mind.entries < processes spec) × (1 ≤ entry_in spec mind.snapshot (length mind.entries))
 IsOpenAt line spec mind = is_unfinished (current_goal mind) ≡ true
 
 -- A mind of a simulator of the room, between any two of its steps and whatever it was answered.

@@ -6,7 +6,7 @@ ghost use Rattle.view_table.specs.Places.{words_of};
 ghost use Rattle.view_table.specs.declared.place.Place.TheVariants as places;
 ghost use Rattle.simulator.specs.declared.operation.Move.TheVariants as moves;
 ghost use Rattle.simulator.specs.Minds.{current_goal, current_round, is_unfinished, next_process};
-ghost use Rattle.simulator.specs.Moves.{first_move, first_move_at, index_in, leave_by, level_unit, levels_index, move_at, row_in, step_unit, value_index, view_index};
+ghost use Rattle.simulator.specs.Moves.{first_move, first_move_at, index_in, leave_by, level_unit, levels_index, move_at, entry_in, step_unit, value_index, view_index};
 ghost use Rattle.simulator.specs.Ranges.{IsGoal, IsMind, IsOpenAt};
 
 use crate::goal::{Goal, next_process};
@@ -117,7 +117,7 @@ impl Mind {
     fn value_move(&self, spec: &Spec) -> Move
         requires is_mind { IsMind spec.now self.now }
         requires left { length self.now.entries < processes spec.now }
-        requires shown { 1 ≤ row_in spec.now self.now.snapshot (length self.now.entries) }
+        requires shown { 1 ≤ entry_in spec.now self.now.snapshot (length self.now.entries) }
         ensures { result ≡ moves.Load (value_index spec.now self.now (length self.now.entries)) }
     {
         let process = self.entries.len();

@@ -3,7 +3,7 @@ ghost use Rattle.std.specs.Prelude.{◌≡◌, ◌+◌, ◌-◌, ◌<◌, ◌≤
 ghost use Rattle.protocol_lang.specs.Numbers.{greatest};
 ghost use Rattle.room_spec.specs.Rooms.{processes};
 ghost use Rattle.simulator.specs.Minds.{goal_at, next_process};
-ghost use Rattle.simulator.specs.Moves.{chosen_in, row_in};
+ghost use Rattle.simulator.specs.Moves.{chosen_in, entry_in};
 ghost use Rattle.simulator.specs.Turns.{acted, after_write, asked, counted, ended, gathered, gathered_all, goes_on, got_value, got_view, opened, padded, snapped};
 
 use crate::goal::{Goal, next_process};
@@ -89,8 +89,8 @@ impl Mind {
     pub(crate) fn get_view(&mut self, spec: &Spec, snapshot: u64) -> Turn
         requires sweep { self.old.sweep < length self.old.goals }
         requires goals { length self.old.goals ≡ processes spec.now }
-        ensures mind { self.new ≡ (got_view (row_in spec.now snapshot) spec.now snapshot self.old).mind }
-        ensures turn { result ≡ (got_view (row_in spec.now snapshot) spec.now snapshot self.old).turn }
+        ensures mind { self.new ≡ (got_view (entry_in spec.now snapshot) spec.now snapshot self.old).mind }
+        ensures turn { result ≡ (got_view (entry_in spec.now snapshot) spec.now snapshot self.old).turn }
     {
         self.snapshot = snapshot;
         self.entries.clear();
@@ -102,8 +102,8 @@ impl Mind {
         requires goals { length self.old.goals ≡ processes spec.now }
         requires entries { length self.old.entries < processes spec.now }
         requires few { processes spec.now ≤ 16 }
-        ensures mind { self.new ≡ (got_value (row_in spec.now self.old.snapshot) spec.now value self.old).mind }
-        ensures turn { result ≡ (got_value (row_in spec.now self.old.snapshot) spec.now value self.old).turn }
+        ensures mind { self.new ≡ (got_value (entry_in spec.now self.old.snapshot) spec.now value self.old).mind }
+        ensures turn { result ≡ (got_value (entry_in spec.now self.old.snapshot) spec.now value self.old).turn }
     {
         let value = value.min(u64::from(u32::MAX)) as u32;
         self.entries.push(Some(value));
@@ -115,8 +115,8 @@ impl Mind {
         requires sweep { self.old.sweep < length self.old.goals }
         requires goals { length self.old.goals ≡ processes spec.now }
         requires entries { length self.old.entries ≤ processes spec.now }
-        ensures mind { self.new ≡ (gathered (row_in spec.now self.old.snapshot) spec.now self.old.entries self.old).mind }
-        ensures turn { result ≡ (gathered (row_in spec.now self.old.snapshot) spec.now self.old.entries self.old).turn }
+        ensures mind { self.new ≡ (gathered (entry_in spec.now self.old.snapshot) spec.now self.old.entries self.old).mind }
+        ensures turn { result ≡ (gathered (entry_in spec.now self.old.snapshot) spec.now self.old.entries self.old).turn }
     {
         pad(&mut self.entries, spec, self.snapshot);
         if self.entries.len() < spec.n() {
@@ -164,7 +164,7 @@ fn after_write(spec: &Spec, round: u8, value: u32) -> Goal
 /// Adds nothing for each next process of which the memory word shows no write.
 fn pad(entries: &mut View, spec: &Spec, word: u64)
     requires { length entries.old.items ≤ processes spec.now }
-    ensures { entries.new.items ≡ padded (row_in spec.now word) (processes spec.now - length entries.old.items) entries.old.items }
+    ensures { entries.new.items ≡ padded (entry_in spec.now word) (processes spec.now - length entries.old.items) entries.old.items }
 {
     while entries.len() < spec.n() && shows_none(spec, word, entries.len()) {
         entries.push(None);

@@ -5,7 +5,7 @@ ghost use Rattle.room_spec.specs.Sizes.{sizes_in};
 ghost use Rattle.level_cells.specs.Fields.{levels_of};
 ghost use Rattle.safe_agreement.specs.Levels.{has_level, leave_of};
 ghost use Rattle.view_table.specs.Places.{IsPlace, words_of};
-ghost use Rattle.simulator.specs.Moves.{chosen_in, holder_in, index_in, row_in};
+ghost use Rattle.simulator.specs.Moves.{chosen_in, holder_in, index_in, entry_in};
 
 use level_cells::levels;
 use room_spec::Spec;
@@ -24,7 +24,7 @@ pub(crate) fn index_in(spec: &Spec, place: Place) -> usize
 /// Whether a memory word shows no write of the process.
 pub(crate) fn shows_none(spec: &Spec, word: u64, process: usize) -> bool
     requires { process < processes spec.now }
-    ensures { result ≡ (row_in spec.now word process == 0) }
+    ensures { result ≡ (entry_in spec.now word process == 0) }
 {
     let shape = spec.shape();
     for i in 0..shape.m {
@@ -41,7 +41,7 @@ pub(crate) fn last_write(spec: &Spec, word: u64, process: usize) -> (usize, usiz
     requires { process < processes spec.now }
     ensures holder { result.0 ≡ holder_in spec.now word process }
     ensures below { result.0 < spec.now.simulators }
-    ensures row { result.1 ≡ row_in spec.now word process }
+    ensures row { result.1 ≡ entry_in spec.now word process }
     ensures range { result.1 ≤ spec.now.rounds }
 {
     let shape = spec.shape();

@@ -6,7 +6,7 @@ use Rattle.std.proofs.lemmas.List.{take-append-le, take_all, length_push}
 use Rattle.std.proofs.lemmas.Option.{slice_get_within}
 use Rattle.room_spec.specs.Rooms.{RoomSpec}
 use Rattle.transcript.specs.declared.event.Event.{Event}
-use Rattle.transcript.specs.Runs.{MayFollow, IsRun}
+use Rattle.transcript.specs.Runs.{IsEnabled, IsRun}
 
 pub IsRun-nil : (spec : RoomSpec) → IsRun spec []
 IsRun-nil spec t event is = absurd cc
@@ -33,12 +33,12 @@ some_is : (x y : Event) → Some x ≡ Some y → x ≡ y
 some_is x y h = cc
 
 -- a run with one more event that may follow is a run
-pub IsRun-push : (spec : RoomSpec) (history : List Event) (event : Event) → IsRun spec history → MayFollow spec history event → IsRun spec (history ++ event ∷ [])
+pub IsRun-push : (spec : RoomSpec) (history : List Event) (event : Event) → IsRun spec history → IsEnabled spec history event → IsRun spec (history ++ event ∷ [])
 IsRun-push spec history event run may t x is = elim (cases_lt t (length history)) [
   | inl below ↦ rw (take-append-le t history (event ∷ []) (omega arith)) (run t x (sym (slice_get-append history (event ∷ []) t below) ∙ is))
   | inr past ↦
       let within = slice_get_within (history ++ event ∷ []) t x is in
       let here : length history ≡ t = omega (arith, length_push history event) in
       let event_is : event ≡ x = some_is event x (sym (slice_get-push history event) ∙ ap (slice_get (history ++ event ∷ [])) here ∙ is) in
-      subst (λ (n : ℕ). MayFollow spec (take n (history ++ event ∷ [])) x) here (rw take-push (subst (MayFollow spec history) event_is may))
+      subst (λ (n : ℕ). IsEnabled spec (take n (history ++ event ∷ [])) x) here (rw take-push (subst (IsEnabled spec history) event_is may))
 ]

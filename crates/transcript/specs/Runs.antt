@@ -105,20 +105,20 @@ pub record MayDecide (spec : RoomSpec) (before : List Event) (p v : ℕ) : Type 
   pub in_turn : IsSnap (latest (event_by p) before)
   pub value : action_due spec before p ≡ actions.Decide v
 
-abbrev pub MayFollow : RoomSpec → List Event → Event → Type 0
-MayFollow spec before (Write p v) = MayWrite spec before p v
-MayFollow spec before (Snap p row) = MaySnap spec before p row.items
-MayFollow spec before (Decide p v) = MayDecide spec before p v
+abbrev pub IsEnabled : RoomSpec → List Event → Event → Type 0
+IsEnabled spec before (Write p v) = MayWrite spec before p v
+IsEnabled spec before (Snap p row) = MaySnap spec before p row.items
+IsEnabled spec before (Decide p v) = MayDecide spec before p v
 
 -- ---- runs
 
 -- each event may follow those before it
 abbrev pub IsRun : RoomSpec → List Event → Type 0
-IsRun spec events = (t : ℕ) (event : Event) → slice_get events t ≡ Some event → MayFollow spec (take t events) event
+IsRun spec events = (t : ℕ) (event : Event) → slice_get events t ≡ Some event → IsEnabled spec (take t events) event
 
 -- t is the first place whose event may not follow those before it
 pub record IsFirstBreak (spec : RoomSpec) (events : List Event) (t : ℕ) : Type 0 where
   pub event : Event
   pub there : slice_get events t ≡ Some event
-  pub breaks : MayFollow spec (take t events) event → ⊥
+  pub breaks : IsEnabled spec (take t events) event → ⊥
   pub run_before : IsRun spec (take t events)

@@ -8,7 +8,7 @@ ghost use Rattle.view_table.specs.Words.{word_at};
 ghost use Rattle.safe_agreement.specs.Levels.{least_two};
 ghost use Rattle.sim_memory.specs.Steps.{merged_of, row_of, step_in};
 ghost use Rattle.room_core.specs.Passed.{asks, decided_in, first_with, greatest_step, has_out, is_clean, is_passed, row_at, shown, shown_by, shown_of, written};
-ghost use Rattle.room_core.specs.Calls.{data_of};
+ghost use Rattle.room_core.specs.Calls.{configuration_of};
 ghost use Rattle.room_core.specs.Fields.{Fields, levels_at};
 ghost use Rattle.room_core.specs.Reading.{AreFieldsOf, Reads};
 ghost use Rattle.ws_history.specs.Readings.{read_of, view_word};
@@ -51,7 +51,7 @@ pub(crate) fn round_count(room: &RoomCore) -> usize
 /// The numbers of the room, which are within their limits. The room stands for some fields.
 pub(crate) fn shape_of(room: &RoomCore) -> Shape
     ensures limits { IsWithinLimits room.now.spec }
-    ensures fields { (fields : Fields) × AreFieldsOf room.now fields × Reads (data_of room.now) fields }
+    ensures fields { (fields : Fields) × AreFieldsOf room.now fields × Reads (configuration_of room.now) fields }
 {
     room.spec().shape()
 }

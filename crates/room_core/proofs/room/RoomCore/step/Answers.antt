@@ -3,7 +3,7 @@ use Rattle.room_spec.specs.Rooms.{IsWithinLimits}
 use Rattle.simulator.specs.declared.sweep.Ready.TheVariants as ready
 use Rattle.room_core.specs.declared.reply.StepReply.TheVariants.{Stepped, Idle, OutOfTurns, Crashed, NoSimulator}
 use Rattle.room_core.specs.Rooms.{HasLine}
-use Rattle.room_core.specs.Calls.{RoomState, data_of, has_crashed, ready_at}
+use Rattle.room_core.specs.Calls.{RoomState, configuration_of, has_crashed, ready_at}
 use Rattle.room_core.proofs.States.{has_line}
 use Rattle.room_core.proofs.FieldCalls.{absent_step, crashed_step, ready_step, step_by}
 use Rattle.room_core.proofs.Staying.{stay_step}
@@ -29,7 +29,7 @@ advance-requires c =
     let room : RoomState = record { spec = c.self.inside.spec; words = c.self.inside.words.items; sweeps = c.self.inside.sweeps.items; crashed = c.self.inside.crashed.items } in
     let alive : has_crashed room c.args.i ≡ false = ap (λ (r : RoomState). has_crashed r c.args.i) c.self.view_is ∙ sym c.is_crashed.ensures ∙ c.if-is_crashed.false in
     let ready = c.ready.ensures ∙ ap (λ (r : RoomState). ready_at r c.args.i) (sym c.self.view_is) in
-    subst (λ (r : RoomState). HasLine (data_of r) c.args.i) c.self.view_is (has_line room c.args.i c.self.invariant.shape (omega arith) alive (sym ready ∙ c.in-Step.is))
+    subst (λ (r : RoomState). HasLine (configuration_of r) c.args.i) c.self.view_is (has_line room c.args.i c.self.invariant.shape (omega arith) alive (sym ready ∙ c.in-Step.is))
 
 pub returns-in-Step-clause-fields : goal.returns-in-Step-clause-fields
 returns-in-Step-clause-fields c =

@@ -1,6 +1,6 @@
 use Rattle.std.proofs.Common.{◌<◌, sym, subst}
 use Rattle.room_core.specs.Rooms.{IsRoom}
-use Rattle.room_core.specs.Calls.{RoomState, data_of}
+use Rattle.room_core.specs.Calls.{RoomState, configuration_of}
 use Rattle.room_core.proofs.States.{woken_is, woken_room}
 use Rattle.room_core.proofs.room.RoomCore.wake.Goals as goal
 
@@ -9,4 +9,4 @@ invariant_of-self c =
     let room : RoomState = record { spec = c.self.inside.spec; words = c.self.inside.words.items; sweeps = c.self.inside.sweeps.items; crashed = c.self.inside.crashed.items } in
     let below : c.args.i < room.spec.simulators = subst (λ (r : RoomState). c.args.i < r.spec.simulators) (sym c.self.view_is) c.requires in
     let left = woken_is room c.deref_mut.result.now c.args.i c.index-deref_mut-i.result c.wake.new.self c.self.invariant.shape c.deref_mut.ensures.value below c.index-deref_mut-i.is c.wake.ensures in
-    subst (λ (r : RoomState). IsRoom (data_of r)) (sym left) (woken_room room c.args.i c.self.invariant)
+    subst (λ (r : RoomState). IsRoom (configuration_of r)) (sym left) (woken_room room c.args.i c.self.invariant)
