@@ -1,5 +1,7 @@
 -- What a fixed agreement has come to, and what the process does after it, stays the same over every call.
-use Rattle.std.proofs.Common.{◌≡◌, ℕ, ◌<◌, ◌≤◌, Bool, true, false, cond, leb, refl, sym, ◌∙◌, subst}
+use Rattle.std.proofs.Common.{◌≡◌, ◌≢◌, ℕ, ◌<◌, ◌≤◌, Bool, true, false, cond, leb, refl, sym, ap, ◌∙◌, subst}
+use mathlib.Core.Logic.{dite}
+use native.Mathlib.Decide.{ℕ_discrete}
 use Rattle.std.proofs.lemmas.Bool.{leb-false}
 use Rattle.room_spec.specs.Rooms.{RoomSpec, IsWithinLimits}
 use Rattle.simulator.specs.declared.sweep.Ready.{Ready}
@@ -16,7 +18,8 @@ use Rattle.room_core.proofs.Replays.{shapes}
 use Rattle.room_core.proofs.States.{has_line}
 use Rattle.room_core.proofs.FieldReplays.{StandsFor, stands_for, event_stands}
 use Rattle.room_core.proofs.FieldCalls.{fields_stand, same_ready}
-use Rattle.room_core.proofs.Effects.{line_effect}
+use Rattle.room_core.proofs.Effects.{Own, own_of, line_effect}
+use Rattle.room_core.proofs.Deciding.{own_kept}
 use Rattle.room_core.proofs.Moments.{history_run}
 use Rattle.room_core.proofs.Sound.{IsSound, fields_sound}
 use Rattle.room_core.proofs.Staying.{stay_line}
@@ -27,6 +30,8 @@ use Rattle.room_core.proofs.Knowing.{views_within, fields_known, some_simulator,
 pub record AgreedStays (spec : RoomSpec) (before after : Fields) : Type 0 where
   pub view : (j k : ℕ) → 1 ≤ k → IsFixedAt spec before j k → view_at spec after j k ≡ view_at spec before j k
   pub asks : (j k : ℕ) → 1 ≤ k → IsFixedAt spec before j k → asks spec after j k ≡ asks spec before j k
+  pub fixed : (j k : ℕ) → IsFixedAt spec before j k → IsFixedAt spec after j k
+  pub out : (i j : ℕ) → before.out i j ≢ 0 → after.out i j ≡ before.out i j
 
 agreed_line : (room : Configuration) (fields : Fields) (i : ℕ) → IsShaped room → StandsFor room fields → HasLine room i → HasSmallValues room.spec → ViewsWithin room.spec fields → IsKnown room.spec fields → IsSound room.spec fields → AgreedStays room.spec fields (line room.spec fields i)
 agreed_line room fields i shape for may small within known sound =
@@ -42,10 +47,19 @@ agreed_line room fields i shape for may small within known sound =
     record {
       view = view_kept spec fields after some stay within known same grown due;
       asks = asks_kept spec fields after some stay within known same grown due;
+      fixed = stay.fixed;
+      out = λ a j out. dite (ℕ_discrete a i)
+          (λ (e : a ≡ i). subst (λ (b : ℕ). after.out b j ≡ fields.out b j) (sym e) (own_kept spec fields (own_of fields i) j (own_of after i) effect.own (sound.outs i j) (subst (λ (b : ℕ). fields.out b j ≢ 0) e out)))
+          (λ (n : a ≢ i). ap (λ (own : Own). own.out j) (effect.others a n));
     }
 
 agreed_other : (spec : RoomSpec) (fields : Fields) (quiet : ℕ → ℕ) (crashed : ℕ → Bool) → AgreedStays spec fields (record fields { quiet = quiet; crashed = crashed })
-agreed_other spec fields quiet crashed = record { view = λ j k first at. refl; asks = λ j k first at. refl }
+agreed_other spec fields quiet crashed = record {
+  view = λ j k first at. refl;
+  asks = λ j k first at. refl;
+  fixed = λ j k at. record { simulator = at.simulator; below = at.below; two = at.two; seen = λ i below blind. at.seen i below (record { process = blind.process; round = blind.round; line = blind.line }) };
+  out = λ i j out. refl;
+}
 
 by_test : (P : Fields → Type 0) (b : Bool) (x y : Fields) → P x → (b ≡ false → P y) → P (cond b x y)
 by_test P true x y p q = p

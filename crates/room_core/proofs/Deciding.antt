@@ -1,12 +1,12 @@
 -- A simulator that has stored a decision of a process has nothing more to do for it.
-use Rattle.std.proofs.Common.{◌≡◌, ◌≢◌, ℕ, ◌+◌, ◌<◌, true, List, length, get_or, set, sym, ap, ◌∙◌, arith}
+use Rattle.std.proofs.Common.{◌≡◌, ◌≢◌, ℕ, ◌+◌, ◌<◌, true, List, length, get_or, set, refl, sym, ap, ◌∙◌, arith}
 use Rattle.std.proofs.lemmas.List.{get_or-set_same, get_or-set_other}
 use mathlib.Core.Logic.{dite}
 use native.Mathlib.Decide.{ℕ_discrete}
 use Rattle.room_spec.specs.Rooms.{RoomSpec}
 use Rattle.simulator.specs.declared.goal.Goal.{Goal}
 use Rattle.simulator.specs.declared.goal.Goal.TheVariants as goals
-use Rattle.simulator.specs.Minds.{goal_at, is_unfinished}
+use Rattle.simulator.specs.Minds.{current_goal, goal_at, is_unfinished}
 use Rattle.room_core.specs.Fields.{Fields, changed}
 use Rattle.room_core.proofs.Maps.{changed_else}
 use Rattle.room_core.proofs.Effects.{Own, Effect, stores, raises, scans, shows, enters, looks, leaves, asks_in_vain, finds, gathers, goes_to, will_decide, decides}
@@ -48,3 +48,21 @@ module _ (spec : RoomSpec) (fields : Fields) (own : Own) (p : ℕ) where
       ended_outs reading.goals reading.sweep _ reads.goals left was
   own_outs after (will_decide reading decision reads all is) was = λ out. ap (λ (l : List Goal). goal_at l p) reads.goals ∙ was out
   own_outs after (decides decision turn count) was = decided_outs own.mind.sweep (decision + 1) (let l = turn.long in let b = turn.process in omega arith) was
+
+  -- what is stored stays
+  pub own_kept : (after : Own) → Effect spec fields own after → HasDecided own p → own.out p ≢ 0 → after.out p ≡ own.out p
+  own_kept after (stores j k value rest goal count process first last) was out = refl
+  own_kept after (raises turn count) was out = refl
+  own_kept after (scans turn count none) was out = refl
+  own_kept after (shows turn count none) was out = refl
+  own_kept after (enters turn count none) was out = refl
+  own_kept after (looks turn count one) was out = refl
+  own_kept after (leaves saw_two turn count one) was out = refl
+  own_kept after (asks_in_vain asking asks is) was out = refl
+  own_kept after (finds asking chosen asks is) was out = refl
+  own_kept after (gathers reading reads more) was out = refl
+  own_kept after (goes_to reading value reads all is) was out = refl
+  own_kept after (will_decide reading decision reads all is) was out = refl
+  own_kept after (decides decision turn count) was out = dite (ℕ_discrete p own.mind.sweep)
+      (λ (e : p ≡ own.mind.sweep). absurd (not_done (current_goal own.mind) turn.left (ap (λ (q : ℕ). goal_at own.mind.goals q) (sym e) ∙ was out)))
+      (λ (n : p ≢ own.mind.sweep). changed_else own.out own.mind.sweep (decision + 1) p n)

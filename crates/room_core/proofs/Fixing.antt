@@ -13,7 +13,7 @@ use Rattle.simulator.specs.declared.line.Line.{Line}
 use Rattle.simulator.specs.declared.line.Line.TheVariants.{Rest, Raise, Snap, Show, Enter, Look, Leave, Ask, GetView, Values, Out}
 use Rattle.simulator.specs.Minds.{MindOf, goal_at, current_goal, current_round}
 use Rattle.room_core.specs.Fields.{StepMap, Fields, levels_at}
-use Rattle.room_core.specs.Agreements.{HasLookedBlind, IsFixedAt, IsPassed, clean, written, decided}
+use Rattle.room_core.specs.Agreements.{HasLookedBlind, IsFixedAt}
 use Rattle.room_core.proofs.Tracks as stages
 use Rattle.room_core.proofs.Tracks.{Stage, Tells, Counts, stage_of, stage_for, at_sweep, inside_round, ToldBy}
 use Rattle.room_core.proofs.FieldReplays.{Tracks}
@@ -133,6 +133,13 @@ counted_is_fixed spec fields i j k tracks sound below first less =
     let mind = fields.mind i in
     sound.resolved i j k below first
     (counted_resolved spec.rounds (goal_at mind.goals j) (stage_for mind j) (cond (is_reading mind.line) (eqb j mind.sweep) false) (fields.step i j) k ((tracks.told i) j).counts less)
+
+-- It is clean; or some simulator has gone on from it: it has counted a later write of the process, or has stored a decision, after this
+-- round or a later one.
+pub data IsPassed (spec : RoomSpec) (fields : Fields) (j k : ℕ) : Type 0 where
+  clean : IsClean (levels_at spec fields j k) → IsPassed spec fields j k
+  written : (i : ℕ) → i < spec.simulators → k < fields.step i j → IsPassed spec fields j k
+  decided : (i : ℕ) → i < spec.simulators → fields.out i j ≢ 0 → k ≤ fields.step i j → IsPassed spec fields j k
 
 pub passed_is_fixed : (spec : RoomSpec) (fields : Fields) (j k : ℕ) → Tracks spec fields → IsSound spec fields → 1 ≤ k → IsPassed spec fields j k → IsFixed spec.simulators (phases_in fields j k)
 passed_is_fixed spec fields j k tracks sound first (clean is) = clean_is_fixed spec.simulators (phases_in fields j k) (subst IsClean (levels_are_phases spec fields tracks j k) is)

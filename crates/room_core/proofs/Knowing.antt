@@ -24,7 +24,7 @@ use Rattle.simulator.specs.declared.line.Line.TheVariants.{Rest, Raise, GetView,
 use Rattle.simulator.specs.Minds.{goal_at, current_goal, current_round, round_of, first_goal}
 use Rattle.room_core.specs.Rooms.{Configuration, ScheduleEvent, steps, crashes, MayHappen, IsShaped, IsOneInterleaving}
 use Rattle.room_core.specs.Fields.{Fields, levels_at, opening_fields, line, fields_after, replay_fields}
-use Rattle.room_core.specs.Agreements.{IsFixedAt, AgreementsStay}
+use Rattle.room_core.specs.Agreements.{IsFixedAt}
 use Rattle.room_core.specs.Contents.{IsDue, first_write, next_write, HasSmallValues}
 use Rattle.room_core.proofs.Tracks as stages
 use Rattle.room_core.proofs.Tracks.{Stage, Counts, Tells, stage_of, at_sweep}
@@ -32,7 +32,7 @@ use Rattle.room_core.proofs.FieldReplays.{Tracks, StandsFor, event_stands, stand
 use Rattle.room_core.proofs.Effects.{Own, own_of, IsLineOf, line_effect, Effect, stores, raises, scans, shows, enters, looks, leaves, asks_in_vain, finds, gathers, goes_to, will_decide, decides}
 use Rattle.room_core.proofs.Sound.{IsSound, chosen_is_fixed, sound_kept, opening_sound}
 use Rattle.room_core.proofs.Fixing.{fixed_at}
-use Rattle.room_core.proofs.Staying.{stay_line, with_others, stay_same}
+use Rattle.room_core.proofs.Staying.{LevelsStay, stay_line, with_others, stay_same}
 use Rattle.room_core.proofs.Stages.{Scanned}
 use Rattle.room_core.proofs.Shown.{HasShown, progress_own, own_shown, own_grows}
 use Rattle.room_core.proofs.Exact.{at_two, scanned_level}
@@ -115,7 +115,7 @@ module _ (spec : RoomSpec) (fields : Fields) (tracks : Tracks spec fields) (smal
 -- ---- a line
 
 module _ (spec : RoomSpec) (fields after : Fields) (i : ℕ) (tracks : Tracks spec fields) (tracks' : Tracks spec after) (small : HasSmallValues spec) (within : ViewsWithin spec fields) (known : IsKnown spec fields)
-    (effect : IsLineOf spec fields after i) (stay : AgreementsStay spec fields after) (sound : IsSound spec fields) where
+    (effect : IsLineOf spec fields after i) (stay : LevelsStay spec fields after) (sound : IsSound spec fields) where
   pub some_simulator : 0 < spec.simulators
   some_simulator = let b = effect.below in omega arith
 

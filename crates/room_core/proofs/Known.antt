@@ -14,9 +14,10 @@ use Rattle.simulator.specs.declared.goal.Goal.TheVariants as goals
 use Rattle.simulator.specs.declared.line.Line.TheVariants.{Raise, GetView, Values, Out}
 use Rattle.simulator.specs.Minds.{MindOf, goal_at, current_goal, current_round}
 use Rattle.room_core.specs.Fields.{StepMap, Fields, levels_at, entry_of_steps, shown_value}
-use Rattle.room_core.specs.Agreements.{IsFixedAt, AgreementsStay}
+use Rattle.room_core.specs.Agreements.{IsFixedAt}
 use Rattle.room_core.specs.Passed.{view_at, first_with, written, asks}
 use Rattle.room_core.specs.Contents.{or_zero, shown_by, IsDue, first_write, next_write, AreSmall}
+use Rattle.room_core.proofs.Staying.{LevelsStay}
 use Rattle.room_core.proofs.Fixing.{fixed_has_least}
 use Rattle.room_core.proofs.Contents.{first_has, due_only, ValuesDue, ValuesLow, small_more, padded_small, shown_value_is, AreFirst, first_more, padded_first, length_of_shown, shown_at, shown_none, shown_same}
 use Rattle.room_core.proofs.Effects.{own_of, action_of, Loads, loads_view, loads_value, IsReading}
@@ -125,7 +126,7 @@ module _ (spec : RoomSpec) (fields : Fields) (within : ViewsWithin spec fields) 
 
 -- ---- from one moment to the next
 
-module _ (spec : RoomSpec) (fields after : Fields) (some : 0 < spec.simulators) (stay : AgreementsStay spec fields after) (within : ViewsWithin spec fields) (known : IsKnown spec fields)
+module _ (spec : RoomSpec) (fields after : Fields) (some : 0 < spec.simulators) (stay : LevelsStay spec fields after) (within : ViewsWithin spec fields) (known : IsKnown spec fields)
     (views : (h p k : ℕ) → h < spec.simulators → 1 ≤ k → IsFixedAt spec fields p k → fields.level h p k ≡ 2 → after.view h p k ≡ fields.view h p k)
     (most : AreAtMost spec.simulators (processes spec) fields.step after.step)
     (due_after : (a p r : ℕ) → a < spec.simulators → p < processes spec → 1 ≤ r → r ≤ after.step a p → IsDue spec fields p r (after.value a p r)) where

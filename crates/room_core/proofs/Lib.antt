@@ -33,3 +33,4 @@ pub mod Knowing
 pub mod Agreed
 pub mod Promises
 pub mod LowValues
+pub mod Lasting

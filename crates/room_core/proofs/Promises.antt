@@ -1,6 +1,6 @@
 -- What a room promises of its agreements, its writes and its decisions.
 use Rattle.std.proofs.Common.{◌≡◌, ◌≢◌, ◌⊎◌, ℕ, ◌+◌, ◌-◌, ◌<◌, ◌≤◌, ◌&&◌, ◌||◌, Bool, true, false, eqb, ltb, List, get_or, inl, inr, refl, sym, ap, ◌∙◌, subst, arith}
-use Rattle.std.proofs.lemmas.Bool.{ltb-true, eqb-true, eqb-false, not-true, and_parts}
+use Rattle.std.proofs.lemmas.Bool.{lt-ltb, ltb-true, eqb-true, eqb-false, not-true, and_parts, or_left, or_right}
 use Rattle.std.proofs.lemmas.List.{get_or_read}
 use Rattle.std.proofs.lemmas.List.FromFn.{length-map-range_with_len, get_or-map-range_with_len}
 use Rattle.std.proofs.lemmas.List.Folds.{Any-from_list_any}
@@ -14,14 +14,14 @@ use Rattle.sim_memory.proofs.Rows.{row_at, merged_at, merged_reached, merged_bel
 use Rattle.room_core.specs.Calls.{RoomState}
 use Rattle.room_core.specs.Fields.{StepMap, Fields, levels_at}
 use Rattle.room_core.specs.Reading.{AreFieldsOf}
-use Rattle.room_core.specs.Agreements.{IsFixedAt, IsPassed, clean, written, decided}
+use Rattle.room_core.specs.Agreements.{IsFixedAt}
 use Rattle.room_core.specs.Passed.{greatest_step, outs_at, is_out, has_out, is_clean, is_passed, asks, HasAgreed}
 use Rattle.room_core.specs.Passed as passed
 use Rattle.room_core.specs.Contents.{IsDue, first_write, next_write}
 use Rattle.room_core.proofs.FieldReplays.{Tracks}
 use Rattle.room_core.proofs.FieldCalls.{fields_stand}
 use Rattle.room_core.proofs.Sound.{fields_sound}
-use Rattle.room_core.proofs.Fixing.{fixed_at, passed_is_fixed, fixed_has_least}
+use Rattle.room_core.proofs.Fixing.{IsPassed, clean, written, decided, fixed_at, passed_is_fixed, fixed_has_least}
 use Rattle.room_core.proofs.Exact.{room_entry, room_rows}
 use Rattle.room_core.proofs.Contents.{written_is}
 use Rattle.room_core.proofs.Known.{IsKnown, decided_last, view_is, view_within}
@@ -139,6 +139,14 @@ module _ (room : RoomState) (fields : Fields) (limits : IsWithinLimits room.spec
       let up : merged_of room.spec.simulators view p ≤ greatest_step room.spec fields p = merged_below room.spec.simulators view p (greatest_step room.spec fields p)
       (λ i low. let a = most i p low below in let b = merged_at room.spec.simulators fields.step i p low in omega (arith, a, b)) in
       omega (arith, row, up)
+
+  -- a round before one that is passed was counted by whoever raised that one
+  pub all_before : (j k r : ℕ) → j < processes room.spec → 1 ≤ k → k < r → is_passed room.spec fields j r ≡ true → is_passed room.spec fields j k ≡ true
+  all_before j k r within first less is =
+      let own = own_entry j r within (omega arith) is in
+      let most = within_steps j r j within (omega arith) is within in
+      let counted : ltb k (greatest_step room.spec fields j) ≡ true = lt-ltb k (greatest_step room.spec fields j) (omega arith) in
+      or_left (is_clean room.spec fields j k || ltb k (greatest_step room.spec fields j)) _ (or_right (is_clean room.spec fields j k) _ counted)
 
   -- who has counted a write, and its value
   value_due : (p r : ℕ) → p < processes room.spec → 1 ≤ r → r ≤ greatest_step room.spec fields p → IsDue room.spec fields p r (passed.written room.spec fields p r)

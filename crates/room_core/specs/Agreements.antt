@@ -1,11 +1,11 @@
 -- The agreements of a room, as its fields have them: which are fixed, and which have been passed.
-use Rattle.std.specs.Prelude.{◌≡◌, ◌≢◌, ◌↔◌, ℕ, ◌<◌, ◌≤◌, false}
-use Rattle.room_spec.specs.Rooms.{RoomSpec}
-use Rattle.safe_agreement.specs.Levels.{IsClean, least_two}
+use Rattle.std.specs.Prelude.{◌≡◌, ℕ, ◌<◌, ◌≤◌, true, false, Some}
+use Rattle.room_spec.specs.Rooms.{RoomSpec, processes}
 use Rattle.simulator.specs.declared.line.Line.{Line}
 use Rattle.simulator.specs.declared.line.Line.TheVariants.{Look, Leave}
 use Rattle.simulator.specs.Minds.{current_round}
-use Rattle.room_core.specs.Fields.{Fields, levels_at}
+use Rattle.room_core.specs.Fields.{Fields}
+use Rattle.room_core.specs.Passed.{asks, decided_in, is_passed, view_at}
 
 -- the line is one inside an agreement: it has entered, and has not left
 abbrev pub IsInside : Line → Type 0
@@ -32,16 +32,11 @@ pub record IsFixedAt (spec : RoomSpec) (fields : Fields) (j k : ℕ) : Type 0 wh
   pub two : fields.level simulator j k ≡ 2
   pub seen : (i : ℕ) → i < spec.simulators → HasLookedBlind fields i j k → ⊥
 
--- It is clean; or some simulator has gone on from it: it has counted a later write of the process, or has stored a decision, after this
--- round or a later one.
-pub data IsPassed (spec : RoomSpec) (fields : Fields) (j k : ℕ) : Type 0 where
-  clean : IsClean (levels_at spec fields j k) → IsPassed spec fields j k
-  written : (i : ℕ) → i < spec.simulators → k < fields.step i j → IsPassed spec fields j k
-  decided : (i : ℕ) → i < spec.simulators → fields.out i j ≢ 0 → k ≤ fields.step i j → IsPassed spec fields j k
-
--- From one moment to a later one: each agreement that is fixed stays so, and the same simulators are at level 2 in it; so what it comes
--- to stays the same.
+-- From one moment to a later one: what has been agreed on and what has been decided stays. So of an agreement that has been passed all
+-- readings show the same view, at whatever moments they are made.
 pub record AgreementsStay (spec : RoomSpec) (before after : Fields) : Type 0 where
+  pub passed_is_fixed : (j k : ℕ) → j < processes spec → 1 ≤ k → is_passed spec before j k ≡ true → IsFixedAt spec before j k
   pub fixed : (j k : ℕ) → IsFixedAt spec before j k → IsFixedAt spec after j k
-  pub twos : (j k i : ℕ) → i < spec.simulators → IsFixedAt spec before j k → (before.level i j k ≡ 2) ↔ (after.level i j k ≡ 2)
-  pub least : (j k : ℕ) → IsFixedAt spec before j k → least_two (levels_at spec before j k) ≡ least_two (levels_at spec after j k)
+  pub same_view : (j k : ℕ) → 1 ≤ k → IsFixedAt spec before j k → view_at spec after j k ≡ view_at spec before j k
+  pub same_action : (j k : ℕ) → 1 ≤ k → IsFixedAt spec before j k → asks spec after j k ≡ asks spec before j k
+  pub decided : (j decision : ℕ) → j < processes spec → decided_in spec before j ≡ Some decision → decided_in spec after j ≡ Some decision

@@ -1,16 +1,16 @@
 //! Laws of rooms, for a crate that runs one over shared words. Each is what its function ensures.
-ghost use Rattle.std.specs.Prelude.{ℕ, ◌≡◌, ◌≢◌, ◌⊎◌, ◌+◌, ◌<◌, ◌≤◌, List, Some};
+ghost use Rattle.std.specs.Prelude.{ℕ, ◌≡◌, ◌≢◌, ◌⊎◌, ◌+◌, ◌<◌, ◌≤◌, true, List, Some};
 ghost use Rattle.room_spec.specs.Rooms.{RoomSpec, IsWithinLimits, processes};
 ghost use Rattle.safe_agreement.specs.Levels.{IsClean, least_two};
 ghost use Rattle.sim_memory.specs.Steps.{IsRowAtMost, row_of};
 ghost use Rattle.room_core.specs.Contents.{IsDue};
-ghost use Rattle.room_core.specs.Passed.{HasAgreed, asks, view_at};
+ghost use Rattle.room_core.specs.Passed.{HasAgreed, asks, is_passed};
 ghost use Rattle.protocol_lang.specs.Numbers.{greatest};
 ghost use Rattle.protocol_lang.specs.declared.meaning.Action.TheVariants.{Decide};
 ghost use Rattle.simulator.specs.Minds.{goal_at};
 ghost use Rattle.simulator.specs.declared.goal.Goal.TheVariants.{Spent};
 ghost use Rattle.room_core.specs.Moments.{IsMoment};
-ghost use Rattle.room_core.specs.Agreements.{AgreementsStay, IsFixedAt, IsInsideTurn, IsPassed};
+ghost use Rattle.room_core.specs.Agreements.{AgreementsStay, IsFixedAt, IsInsideTurn};
 ghost use Rattle.room_core.specs.Calls.{Call, RoomState, replies_to, room_after_calls};
 ghost use Rattle.room_core.specs.Fields.{Fields, levels_at, entry_of_steps, fields_after_call, fields_after_calls, opening_fields, replay_fields, replies_in};
 ghost use Rattle.room_spec.specs.Sizes.{sizes_in};
@@ -66,15 +66,21 @@ pub fn inside_one_turn()
 {}
 
 /// Every agreement that has been passed is fixed: one that is clean, one of a round before another
-/// that some simulator has counted, and all that one has counted that has stored a decision.
+/// that some simulator has counted, and one after which a decision was stored.
 pub fn passed_is_fixed()
-    ensures fixed { (room : RoomState) (fields : Fields) → IsWithinLimits room.spec → AreFieldsOf room fields → (j k : ℕ) → 1 ≤ k → IsPassed room.spec fields j k → IsFixedAt room.spec fields j k }
+    ensures fixed { (room : RoomState) (fields : Fields) → IsWithinLimits room.spec → AreFieldsOf room fields → (j k : ℕ) → j < processes room.spec → 1 ≤ k → is_passed room.spec fields j k ≡ true → IsFixedAt room.spec fields j k }
     // A fixed one has a least simulator at level 2.
     ensures least { (spec : RoomSpec) (fields : Fields) (j k : ℕ) → IsFixedAt spec fields j k → (h : ℕ) × (h < spec.simulators) × (least_two (levels_at spec fields j k) ≡ Some h) × (fields.level h j k ≡ 2) }
 {}
 
-/// A fixed agreement stays fixed over every call, and what it comes to stays the same.
-pub fn fixed_stays()
+/// A process goes on only after its agreements: all rounds before a write that is counted, and all
+/// before a round that is passed, have been passed.
+pub fn all_before_are_passed()
+    ensures { (room : RoomState) (fields : Fields) → IsWithinLimits room.spec → AreFieldsOf room fields → (j k r : ℕ) → j < processes room.spec → 1 ≤ k → k < r → is_passed room.spec fields j r ≡ true → is_passed room.spec fields j k ≡ true }
+{}
+
+/// Over every call what has been agreed on, and what has been decided, stays.
+pub fn agreements_stay()
     ensures { (room : RoomState) (fields : Fields) (call : Call) → IsWithinLimits room.spec → AreFieldsOf room fields → AgreementsStay room.spec fields (fields_after_call room.spec fields call) }
 {}
 
@@ -110,13 +116,6 @@ pub fn decisions_agree()
     ensures last { (room : RoomState) (fields : Fields) → IsWithinLimits room.spec → AreFieldsOf room fields → (i h p decision : ℕ) → i < room.spec.simulators → h < room.spec.simulators → p < processes room.spec → fields.out i p ≡ decision + 1 → fields.step h p ≤ fields.step i p }
     ensures same { (room : RoomState) (fields : Fields) → IsWithinLimits room.spec → AreFieldsOf room fields → (i h p one two : ℕ) → i < room.spec.simulators → h < room.spec.simulators → p < processes room.spec → fields.out i p ≡ one + 1 → fields.out h p ≡ two + 1 → one ≡ two }
     ensures spent { (room : RoomState) (fields : Fields) → IsWithinLimits room.spec → AreFieldsOf room fields → (i p : ℕ) → i < room.spec.simulators → p < processes room.spec → goal_at (fields.mind i).goals p ≡ Spent → (value : ℕ) × IsDue room.spec fields p (fields.step i p + 1) value }
-{}
-
-/// What a fixed agreement has come to, and what the process does after it,
-/// stays the same over every call.
-pub fn agreed_stays()
-    ensures view { (room : RoomState) (fields : Fields) (call : Call) → IsWithinLimits room.spec → AreFieldsOf room fields → (j k : ℕ) → 1 ≤ k → IsFixedAt room.spec fields j k → view_at room.spec (fields_after_call room.spec fields call) j k ≡ view_at room.spec fields j k }
-    ensures asks { (room : RoomState) (fields : Fields) (call : Call) → IsWithinLimits room.spec → AreFieldsOf room fields → (j k : ℕ) → 1 ≤ k → IsFixedAt room.spec fields j k → asks room.spec (fields_after_call room.spec fields call) j k ≡ asks room.spec fields j k }
 {}
 
 /// What makes the history of a room's fields a run: its rows are snapshots of one memory, and each

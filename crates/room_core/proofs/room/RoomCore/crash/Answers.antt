@@ -1,9 +1,9 @@
 use Rattle.std.proofs.Common.{◌≡◌, ◌<◌, ◌≤◌, ◌∙◌, ℕ, ap, sym, subst}
 use Rattle.room_spec.specs.Rooms.{IsWithinLimits}
 use Rattle.room_core.specs.declared.reply.CrashReply.TheVariants.{Crashed, AlreadyCrashed, NoSimulator}
-use Rattle.room_core.specs.Calls.{RoomState}
+use Rattle.room_core.specs.Calls.{Crash, RoomState}
 use Rattle.room_core.proofs.FieldCalls.{absent_crash, crashed_crash, alive_crashes, crash_by}
-use Rattle.room_core.proofs.Staying.{stay_crash}
+use Rattle.room_core.proofs.Lasting.{agreements_stay}
 use Rattle.room_core.proofs.room.RoomCore.crash.Goals as goal
 
 pub returns-then-i-m-clause-fields : goal.returns-then-i-m-clause-fields
@@ -33,14 +33,14 @@ returns-clause-fields c =
 pub returns-then-i-m-clause-agreement : goal.returns-then-i-m-clause-agreement
 returns-then-i-m-clause-agreement c = λ fields are.
     let limits = subst (λ (r : RoomState). IsWithinLimits r.spec) c.self.view_is c.self.invariant.shape.limits in
-    stay_crash c.args.self.now fields c.args.i limits are
+    agreements_stay c.args.self.now fields (Crash c.args.i) limits are
 
 pub returns-then-is_crashed-clause-agreement : goal.returns-then-is_crashed-clause-agreement
 returns-then-is_crashed-clause-agreement c = λ fields are.
     let limits = subst (λ (r : RoomState). IsWithinLimits r.spec) c.self.view_is c.self.invariant.shape.limits in
-    stay_crash c.args.self.now fields c.args.i limits are
+    agreements_stay c.args.self.now fields (Crash c.args.i) limits are
 
 pub returns-clause-agreement : goal.returns-clause-agreement
 returns-clause-agreement c = λ fields are.
     let limits = subst (λ (r : RoomState). IsWithinLimits r.spec) c.self.view_is c.self.invariant.shape.limits in
-    stay_crash c.args.self.now fields c.args.i limits are
+    agreements_stay c.args.self.now fields (Crash c.args.i) limits are

@@ -3,10 +3,10 @@ use Rattle.room_spec.specs.Rooms.{IsWithinLimits}
 use Rattle.simulator.specs.declared.sweep.Ready.TheVariants as ready
 use Rattle.room_core.specs.declared.reply.StepReply.TheVariants.{Stepped, Idle, OutOfTurns, Crashed, NoSimulator}
 use Rattle.room_core.specs.Rooms.{HasLine}
-use Rattle.room_core.specs.Calls.{RoomState, configuration_of, has_crashed, ready_at}
+use Rattle.room_core.specs.Calls.{Step, RoomState, configuration_of, has_crashed, ready_at}
 use Rattle.room_core.proofs.States.{has_line}
 use Rattle.room_core.proofs.FieldCalls.{absent_step, crashed_step, ready_step, step_by}
-use Rattle.room_core.proofs.Staying.{stay_step}
+use Rattle.room_core.proofs.Lasting.{agreements_stay}
 use Rattle.room_core.proofs.room.RoomCore.step.Goals as goal
 
 pub returns-then-i-m-clause-fields : goal.returns-then-i-m-clause-fields
@@ -60,24 +60,24 @@ returns-in-OutOfTurns-clause-fields c =
 pub returns-then-i-m-clause-agreement : goal.returns-then-i-m-clause-agreement
 returns-then-i-m-clause-agreement c = λ fields are.
     let limits = subst (λ (r : RoomState). IsWithinLimits r.spec) c.self.view_is c.self.invariant.shape.limits in
-    stay_step c.args.self.now fields c.args.i limits are
+    agreements_stay c.args.self.now fields (Step c.args.i) limits are
 
 pub returns-then-is_crashed-clause-agreement : goal.returns-then-is_crashed-clause-agreement
 returns-then-is_crashed-clause-agreement c = λ fields are.
     let limits = subst (λ (r : RoomState). IsWithinLimits r.spec) c.self.view_is c.self.invariant.shape.limits in
-    stay_step c.args.self.now fields c.args.i limits are
+    agreements_stay c.args.self.now fields (Step c.args.i) limits are
 
 pub returns-in-Step-clause-agreement : goal.returns-in-Step-clause-agreement
 returns-in-Step-clause-agreement c = λ fields are.
     let limits = subst (λ (r : RoomState). IsWithinLimits r.spec) c.self.view_is c.self.invariant.shape.limits in
-    stay_step c.args.self.now fields c.args.i limits are
+    agreements_stay c.args.self.now fields (Step c.args.i) limits are
 
 pub returns-in-Idle-clause-agreement : goal.returns-in-Idle-clause-agreement
 returns-in-Idle-clause-agreement c = λ fields are.
     let limits = subst (λ (r : RoomState). IsWithinLimits r.spec) c.self.view_is c.self.invariant.shape.limits in
-    stay_step c.args.self.now fields c.args.i limits are
+    agreements_stay c.args.self.now fields (Step c.args.i) limits are
 
 pub returns-in-OutOfTurns-clause-agreement : goal.returns-in-OutOfTurns-clause-agreement
 returns-in-OutOfTurns-clause-agreement c = λ fields are.
     let limits = subst (λ (r : RoomState). IsWithinLimits r.spec) c.self.view_is c.self.invariant.shape.limits in
-    stay_step c.args.self.now fields c.args.i limits are
+    agreements_stay c.args.self.now fields (Step c.args.i) limits are

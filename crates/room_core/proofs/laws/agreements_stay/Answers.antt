@@ -1,0 +1,5 @@
+use Rattle.room_core.proofs.Lasting.{agreements_stay}
+use Rattle.room_core.proofs.laws.agreements_stay.Goals as goal
+
+pub returns : goal.returns
+returns c = λ room fields call limits are. agreements_stay room fields call limits are
