@@ -1,5 +1,5 @@
 -- At most as many processes are held as simulators have crashed.
-use Rattle.std.proofs.Common.{◌≡◌, ℕ, zero, suc, ◌+◌, ◌<◌, ◌≤◌, ◌&&◌, Bool, true, false, cond, eqb, map, List, [], ◌∷◌, length, Option, Some, None, inl, inr, refl, sym, ap, ◌∙◌, subst, arith}
+use Rattle.std.proofs.Common.{◌≡◌, ℕ, zero, suc, ◌+◌, ◌<◌, ◌≤◌, ◌&&◌, Bool, true, false, not, cond, eqb, is_some, map, List, [], ◌∷◌, length, Option, Some, None, inl, inr, refl, sym, ap, ◌∙◌, subst, arith}
 use Rattle.std.specs.List.{range_with_len, list_any, filter, find, count_by, IsDistinct, AllByRecursion}
 use Rattle.std.proofs.lemmas.Bool.{cases_Bool, and_parts, or_left, or_right, eq-eqb, eqb-true, ne_eqb}
 use Rattle.std.proofs.lemmas.Cmp.{nat_eq_equiv}
@@ -13,10 +13,10 @@ use Rattle.room_spec.specs.Rooms.{IsWithinLimits, processes}
 use Rattle.room_core.specs.Calls.{RoomState}
 use Rattle.room_core.specs.Fields.{Fields}
 use Rattle.room_core.specs.Reading.{AreFieldsOf}
-use Rattle.room_core.specs.Passed.{decided_in}
+use Rattle.room_core.specs.Passed.{decided_in, has_out}
 use Rattle.room_core.proofs.FieldCalls.{fields_stand}
 use Rattle.room_core.proofs.Stages.{one_inside}
-use Rattle.ws_history.specs.Reports.{is_held, is_inside, is_spent, held_by, state_by, state_of, states_of, crashed_in}
+use Rattle.ws_history.specs.Reports.{is_held, is_inside, is_spent, held_by, held_in, state_by, state_of, states_of, crashed_in}
 
 -- ---- lists
 
@@ -96,37 +96,43 @@ holder_of None true holder is = absurd cc
 holder_of None false (Some i) is = (i, refl)
 holder_of None false None is = absurd cc
 
+some_of : (holder : Option ℕ) → is_some holder ≡ true → (i : ℕ) × (holder ≡ Some i)
+some_of (Some i) is = (i, refl)
+some_of None is = absurd cc
+
 module _ (room : RoomState) (fields : Fields) (limits : IsWithinLimits room.spec) (are : AreFieldsOf room fields) where
   -- the process on which the open turn of a simulator works
   abbrev sweep_of : ℕ → ℕ
   sweep_of i = (fields.mind i).sweep
 
-  held_in : (j : ℕ) → is_held (state_of room.spec fields j) ≡ true → list_any (eqb j) (map sweep_of (crashed_in room.spec fields)) ≡ true
-  held_in j is =
-      let holder = holder_of (decided_in room.spec fields j) (is_spent room.spec fields j) (held_by room.spec fields j) is in
-      let i = holder.0 in
-      let at = found_in_range (λ a. fields.crashed a && is_inside room.spec fields a j) 0 room.spec.simulators i holder.1 in
+  -- whoever has crashed inside an agreement of a process works on it
+  held_at : (j i : ℕ) → held_by room.spec fields j ≡ Some i → list_any (eqb j) (map sweep_of (crashed_in room.spec fields)) ≡ true
+  held_at j i is =
+      let at = found_in_range (λ a. fields.crashed a && is_inside room.spec fields a j) 0 room.spec.simulators i is in
       let parts = and_parts (fields.crashed i) (is_inside room.spec fields i j) at.2 in
       let some = Any-from_list_any (λ k. eqb (fields.level i j k) 1) (range_with_len 1 room.spec.rounds) parts.1 in
       let one : fields.level i j some.1 ≡ 1 = eqb-true _ _ some.4 in
       let turn = one_inside room.spec fields (fields_stand room fields limits are).tracks i j some.1 one in
       image_has fields.crashed sweep_of 0 room.spec.simulators i j (omega arith) at.1 parts.0 (eq-eqb j (sweep_of i) (sym turn.process))
 
-  abbrev held_list : List ℕ
-  held_list = filter (λ j. is_held (state_of room.spec fields j)) (range_with_len 0 (processes room.spec))
-
-  alike : (q : ℕ) (x : ℕ) → eqb q x ≡ true → is_held (state_of room.spec fields q) ≡ is_held (state_of room.spec fields x)
-  alike q x is = ap (λ (j : ℕ). is_held (state_of room.spec fields j)) (eqb-true q x is)
-
-  member_held : (q : ℕ) → list_any (eqb q) held_list ≡ true → list_any (eqb q) (map sweep_of (crashed_in room.spec fields)) ≡ true
-  member_held q has =
-      let both = sym (is_member-filter nat_eq_equiv (λ j. is_held (state_of room.spec fields j)) q (alike q) (range_with_len 0 (processes room.spec))) ∙ has in
-      held_in q (and_parts _ _ both).1
+  -- processes on each of which one that has crashed works
+  few : (p : ℕ → Bool) → ((j : ℕ) → p j ≡ true → (i : ℕ) × (held_by room.spec fields j ≡ Some i)) → length (filter p (range_with_len 0 (processes room.spec))) ≤ length (crashed_in room.spec fields)
+  few p each =
+      let all = range_with_len 0 (processes room.spec) in
+      let most = length-le_from_is_member nat_eq_equiv (filter p all) (map sweep_of (crashed_in room.spec fields)) (distinct_filter p all (range_distinct (processes room.spec) 0))
+      (λ j has.
+      let both = sym (is_member-filter nat_eq_equiv p j (λ x is. ap p (eqb-true j x is)) all) ∙ has in
+      let holder = each j (and_parts _ _ both).1 in
+      held_at j holder.0 holder.1) in
+      let long = length-map (crashed_in room.spec fields) sweep_of in
+      omega (arith, most, long)
 
   pub held_at_most : count_by is_held (states_of room.spec fields) ≤ length (crashed_in room.spec fields)
   held_at_most =
-      let distinct = distinct_filter (λ j. is_held (state_of room.spec fields j)) (range_with_len 0 (processes room.spec)) (range_distinct (processes room.spec) 0) in
-      let most = length-le_from_is_member nat_eq_equiv held_list (map sweep_of (crashed_in room.spec fields)) distinct member_held in
       let count = count_is_length is_held (state_of room.spec fields) (range_with_len 0 (processes room.spec)) in
-      let long = length-map (crashed_in room.spec fields) sweep_of in
-      omega (arith, most, count, long)
+      let most = few (λ j. is_held (state_of room.spec fields j)) (λ j is. holder_of (decided_in room.spec fields j) (is_spent room.spec fields j) (held_by room.spec fields j) is) in
+      omega (arith, most, count)
+
+  pub inside_at_most : length (held_in room.spec fields) ≤ length (crashed_in room.spec fields)
+  inside_at_most = few (λ j. not (has_out room.spec fields j) && is_some (held_by room.spec fields j))
+      (λ j is. some_of (held_by room.spec fields j) (and_parts (not (has_out room.spec fields j)) (is_some (held_by room.spec fields j)) is).1)

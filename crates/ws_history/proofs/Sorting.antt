@@ -142,57 +142,6 @@ AreApart src xs = (s t : Snapshot) → Contains xs s → Contains xs t → sum (
 pub to_order : (src : Source) (xs : List Snapshot) → AreApart src xs → (u : Snapshot) → Contains xs u → Contains (in_order src.row xs) u
 to_order src xs apart u has = to_fold src xs [] u (λ s there same. apart s u there has same.0 same.1) has
 
--- ---- the same by a map from keys to snapshots
-
-abbrev HasKeys : (ℕ → ℕ → List ℕ) → List ((ℕ × ℕ) × Snapshot) → Type 0
-HasKeys row [] = ⊤
-HasKeys row (e ∷ es) = (e.0 ≡ key_of row e.1) × HasKeys row es
-
-values_put : (o : Ordering) (a b c : List ((ℕ × ℕ) × Snapshot)) → values_of (match_ordering o a b c) ≡ match_ordering o (values_of a) (values_of b) (values_of c)
-values_put Less a b c = refl
-values_put Equal a b c = refl
-values_put Greater a b c = refl
-
-pub values_inserted : (row : ℕ → ℕ → List ℕ) (es : List ((ℕ × ℕ) × Snapshot)) (s : Snapshot) → HasKeys row es
-    → values_of (insert_entry key_cmp es (key_of row s) s) ≡ inserted row (values_of es) s
-values_inserted row [] s keys = refl
-values_inserted row (e ∷ es) s keys =
-    values_put (key_cmp (key_of row s) e.0) ((key_of row s, s) ∷ e ∷ es) ((e.0, s) ∷ es) (e ∷ insert_entry key_cmp es (key_of row s) s)
-    ∙ ap (λ (k : ℕ × ℕ). match_ordering (key_cmp (key_of row s) k) (s ∷ e.1 ∷ values_of es) (s ∷ values_of es) (e.1 ∷ values_of (insert_entry key_cmp es (key_of row s) s))) keys.0
-    ∙ ap (λ (later : List Snapshot). match_ordering (key_cmp (key_of row s) (key_of row e.1)) (s ∷ e.1 ∷ values_of es) (s ∷ values_of es) (e.1 ∷ later)) (values_inserted row es s keys.1)
-
-keys_put : (row : ℕ → ℕ → List ℕ) (s : Snapshot) (e : (ℕ × ℕ) × Snapshot) (es behind : List ((ℕ × ℕ) × Snapshot)) (o : Ordering) → MatchOrdering o ⊤ (key_of row s ≡ e.0) ⊤
-    → HasKeys row (e ∷ es) → HasKeys row behind → HasKeys row (match_ordering o ((key_of row s, s) ∷ e ∷ es) ((e.0, s) ∷ es) (e ∷ behind))
-keys_put row s e es behind Less same keys later = (refl, keys)
-keys_put row s e es behind Equal same keys later = (sym same, keys.1)
-keys_put row s e es behind Greater same keys later = (keys.0, later)
-
-equal_keys : (a b c d : ℕ) (q r : Ordering) → MatchOrdering q (a < b) (a ≡ b) (b < a) → MatchOrdering r (c < d) (c ≡ d) (d < c) → MatchOrdering (ordering_then q r) ⊤ (◌≡◌ {A = ℕ × ℕ} (a, c) (b, d)) ⊤
-equal_keys a b c d Less r first second = tt
-equal_keys a b c d Greater r first second = tt
-equal_keys a b c d Equal Less first second = tt
-equal_keys a b c d Equal Equal first second = cc
-equal_keys a b c d Equal Greater first second = tt
-
-keys_inserted : (row : ℕ → ℕ → List ℕ) (es : List ((ℕ × ℕ) × Snapshot)) (s : Snapshot) → HasKeys row es → HasKeys row (insert_entry key_cmp es (key_of row s) s)
-keys_inserted row [] s keys = (refl, tt)
-keys_inserted row (e ∷ es) s keys =
-    let k = key_of row s in
-    keys_put row s e es (insert_entry key_cmp es k s) (key_cmp k e.0)
-    (equal_keys k.0 e.0.0 k.1 e.0.1 (nat_cmp k.0 e.0.0) (nat_cmp k.1 e.0.1) (ranked k.0 e.0.0 (nat_cmp k.0 e.0.0) refl) (ranked k.1 e.0.1 (nat_cmp k.1 e.0.1) refl))
-    keys (keys_inserted row es s keys.1)
-
-values_fold : (row : ℕ → ℕ → List ℕ) (xs : List Snapshot) (es : List ((ℕ × ℕ) × Snapshot)) → HasKeys row es
-    → values_of (fold (λ more s. insert_entry key_cmp more (key_of row s) s) es xs) ≡ fold (inserted row) (values_of es) xs
-values_fold row [] es keys = refl
-values_fold row (s ∷ xs) es keys =
-    values_fold row xs (insert_entry key_cmp es (key_of row s) s) (keys_inserted row es s keys)
-    ∙ ap (λ (done : List Snapshot). fold (inserted row) done xs) (values_inserted row es s keys)
-
--- a map into which each snapshot is put at its key has them in order
-pub order_is_map : (row : ℕ → ℕ → List ℕ) (xs : List Snapshot) → values_of (fold (λ more s. insert_entry key_cmp more (key_of row s) s) [] xs) ≡ in_order row xs
-order_is_map row xs = values_fold row xs [] tt
-
 -- ---- the agreements that are passed
 
 if_there : (b : Bool) (s u : Snapshot) → Contains (cond b (s ∷ []) []) u → (b ≡ true) × (s ≡ u)

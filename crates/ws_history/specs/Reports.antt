@@ -1,11 +1,13 @@
 -- The report of a room: where each process stands, which simulators have crashed, and the history.
-use Rattle.std.specs.Prelude.{ℕ, Bool, true, false, List, Option, Some, None, map, ◌==◌, ◌&&◌, if◌then◌else◌}
+use Rattle.std.specs.Prelude.{ℕ, Bool, true, false, not, List, Option, Some, None, is_some, map, ◌==◌, ◌&&◌, if◌then◌else◌}
 use Rattle.std.specs.List.{filter, find, list_any, range_with_len}
 use Rattle.protocol_lang.specs.declared.meaning.Action.{Action}
 use Rattle.protocol_lang.specs.declared.meaning.Action.TheVariants as actions
 use Rattle.room_spec.specs.Rooms.{RoomSpec, processes}
 use Rattle.room_core.specs.Fields.{Fields}
-use Rattle.room_core.specs.Passed.{asks, decided_in, is_clean}
+use Rattle.room_core.specs.Passed.{asks, decided_in, has_out, is_clean}
+use Rattle.ws_history.specs.Sources.{history_of}
+use Rattle.ws_history.specs.declared.states.Report.{Report}
 use Rattle.ws_history.specs.declared.states.ProcessState.{ProcessState}
 use Rattle.ws_history.specs.declared.states.ProcessState.TheVariants.{Decided, Spent, Held, Going}
 
@@ -24,6 +26,10 @@ is_inside spec fields i j = list_any (λ k. fields.level i j k == 1) (range_with
 -- the least simulator that has crashed there
 abbrev pub held_by : RoomSpec → Fields → ℕ → Option ℕ
 held_by spec fields j = find (λ i. fields.crashed i && is_inside spec fields i j) (range_with_len 0 spec.simulators)
+
+-- the processes of which no decision is stored, and inside an agreement of which some simulator has crashed
+abbrev pub held_in : RoomSpec → Fields → List ℕ
+held_in spec fields = filter (λ j. not (has_out spec fields j) && is_some (held_by spec fields j)) (range_with_len 0 (processes spec))
 
 abbrev pub is_held : ProcessState → Bool
 is_held (Held i) = true
@@ -47,3 +53,11 @@ states_of spec fields = map (state_of spec fields) (range_with_len 0 (processes 
 -- the simulators that have crashed, in order
 abbrev pub crashed_in : RoomSpec → Fields → List ℕ
 crashed_in spec fields = filter fields.crashed (range_with_len 0 spec.simulators)
+
+-- the whole report
+abbrev pub report_of : RoomSpec → Fields → Report
+report_of spec fields = record {
+  states = record { items = states_of spec fields };
+  crashed = record { items = crashed_in spec fields };
+  history = history_of spec fields;
+}

@@ -16,18 +16,22 @@ use crate::reading::{
     Row, decided_in, greatest_step, greatest_steps, number_of, process_count, row_of, shape_of,
     shown_by, written,
 };
-use crate::snapshots::{Agreed, in_order};
+use crate::snapshots::{Agreed, AllAgreed, in_order, sum};
 use room_core::RoomCore;
 use std::alloc::{AllocError, Global};
 use transcript::Event;
 
 /// The history of the room's processes: the snapshots that were agreed on, by the sum of their rows
 /// and then by process; before each the writes that it is the first to show, and after it the
-/// decision of its process, if that follows it; at the end the writes that none of them shows.
+/// decision of its process, if that follows it; at the end the writes that none of them shows. It is
+/// a run of the processes on a memory of single writers and atomic snapshots (Afek et al. 1993), which
+/// is the simulation theorem (Borowsky et al. 2001). The room is only read.
+///
+/// # Errors
+///
+/// Where memory is refused.
 pub fn history(alloc: Global, room: &RoomCore) -> Result<Vec<Event>, AllocError>
-    // It is that of the fields that the room's words say, with values above the greatest read as that.
-    ensures read { IfOk result (λ events. events.items ≡ history_of room.now.spec (read_of room.now)) }
-    // And that of any fields that the room stands for.
+    // It is that of any fields that the room stands for.
     ensures fields { (fields : Fields) → AreFieldsOf room.now fields → IfOk result (λ events. events.items ≡ history_of room.now.spec fields) }
     // It is a run of the processes on write-snapshot memory.
     ensures run { IfOk result (λ events. IsRun room.now.spec events.items) }
@@ -37,18 +41,27 @@ pub fn history(alloc: Global, room: &RoomCore) -> Result<Vec<Event>, AllocError>
     Ok(events)
 }
 
+/// The history of the fields that the room's words say.
 fn read_history(alloc: Global, room: &RoomCore) -> Result<Vec<Event>, AllocError>
     ensures { IfOk result (λ events. events.items ≡ history_of room.now.spec (read_of room.now)) }
 {
-    let mut events = Vec::new(alloc);
-    let mut shown = nothing(process_count(room));
     let order = in_order(room);
+    let greatest = greatest_steps(room);
+    let mut events = Vec::with_capacity(alloc, most_events(room, &order, greatest.as_slice()))?;
+    let mut shown = nothing(process_count(room));
     for snapshot in order.as_slice() {
         push_block(&mut events, room, &mut shown, snapshot)?;
     }
-    let greatest = greatest_steps(room);
     push_writes(&mut events, room, shown.as_slice(), greatest.as_slice())?;
     Ok(events)
+}
+
+/// As many events as the history may have: each write, each snapshot, and a decision of each process.
+fn most_events(room: &RoomCore, order: &AllAgreed, greatest: &[usize]) -> usize
+    requires count { length greatest.now ≤ 16 }
+    requires range { (p : ℕ) → slice_index greatest.now p ≤ 15 }
+{
+    sum(greatest) + order.len() + process_count(room)
 }
 
 /// No write of any of `n` processes.

@@ -1,8 +1,6 @@
 //! Laws of histories that are made from the snapshots that were agreed on.
-ghost use Rattle.std.specs.Prelude.{◌≡◌, ◌<◌, ◌≤◌, ◌↔◌, ◌==◌, ℕ, Bool, List, [], length};
-ghost use Rattle.std.specs.List.{count_by, Contains, fold};
-ghost use Rattle.std.specs.Map.{values_of};
-ghost use Rattle.std.specs.BTreeMap.{insert_entry};
+ghost use Rattle.std.specs.Prelude.{◌≡◌, ◌<◌, ◌≤◌, ◌↔◌, ◌==◌, ℕ, Bool, length};
+ghost use Rattle.std.specs.List.{count_by, Contains};
 ghost use Rattle.room_spec.specs.Rooms.{RoomSpec, IsWithinLimits, processes};
 ghost use Rattle.transcript.specs.Runs.{IsRun, is_write_by, is_snap_by};
 ghost use Rattle.transcript.specs.declared.event.Event.TheVariants.{Decide};
@@ -10,11 +8,10 @@ ghost use Rattle.room_core.specs.Calls.{RoomState};
 ghost use Rattle.room_core.specs.Fields.{Fields};
 ghost use Rattle.room_core.specs.Reading.{AreFieldsOf};
 ghost use Rattle.room_core.specs.Passed.{HasAgreed};
-ghost use Rattle.ws_history.specs.Reports.{crashed_in, is_held, state_of, states_of};
+ghost use Rattle.ws_history.specs.Reports.{crashed_in, held_in, is_held, state_of, states_of};
 ghost use Rattle.ws_history.specs.declared.states.ProcessState.TheVariants.{Decided};
 ghost use Rattle.ws_history.specs.Sources.{history_of};
 ghost use Rattle.ws_history.specs.Histories.{Snapshot, Source, IsSource, history_from};
-ghost use Rattle.ws_history.specs.Orders.{key_of, key_cmp, in_order};
 ghost use Rattle.ws_history.specs.Passed.{IsOfPassed, IsDecided};
 
 /// The history of a source is a run, and has all of its writes.
@@ -26,11 +23,6 @@ pub fn history_is_run()
 /// A history has one snapshot for each of the order.
 pub fn snapshots()
     ensures { (spec : RoomSpec) (src : Source) (p : ℕ) → count_by (is_snap_by p) (history_from spec src) ≡ count_by (λ s. s.process == p) src.order }
-{}
-
-/// A map into which each snapshot is put, from the first on, at the sum of its row and its process, has them in order.
-pub fn order_is_map()
-    ensures { (row : ℕ → ℕ → List ℕ) (snapshots : List Snapshot) → values_of (fold (λ entries s. insert_entry key_cmp entries (key_of row s) s) [] snapshots) ≡ in_order row snapshots }
 {}
 
 /// The agreements that are passed, in order, make a source.
@@ -56,7 +48,9 @@ pub fn rooms_run()
 
 /// At most as many processes are held as simulators have crashed.
 pub fn few_are_held()
-    ensures { (room : RoomState) (fields : Fields) → IsWithinLimits room.spec → AreFieldsOf room fields → count_by is_held (states_of room.spec fields) ≤ length (crashed_in room.spec fields) }
+    // Nor do more have an agreement inside which a simulator has crashed, and no decision.
+    ensures inside { (room : RoomState) (fields : Fields) → IsWithinLimits room.spec → AreFieldsOf room fields → length (held_in room.spec fields) ≤ length (crashed_in room.spec fields) }
+    ensures states { (room : RoomState) (fields : Fields) → IsWithinLimits room.spec → AreFieldsOf room fields → count_by is_held (states_of room.spec fields) ≤ length (crashed_in room.spec fields) }
 {}
 
 /// A process has decided exactly what its history says.

@@ -11,7 +11,7 @@ mod states;
 
 pub use histories::history;
 pub use reports::report;
-pub use states::{ProcessState, Report};
+pub use states::{History, ProcessState, Report};
 
 #[cfg(test)]
 mod tests;

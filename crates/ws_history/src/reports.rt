@@ -8,43 +8,44 @@ ghost use Rattle.transcript.specs.Runs.{IsRun};
 ghost use Rattle.transcript.specs.declared.event.Event.TheVariants.{Decide};
 ghost use Rattle.ws_history.specs.declared.states.ProcessState.TheVariants.{Decided, Going};
 ghost use Rattle.ws_history.specs.Readings.{read_of};
-ghost use Rattle.ws_history.specs.Reports.{crashed_in, held_by, is_held, is_inside, is_spent, state_of, states_of};
-ghost use Rattle.ws_history.specs.Sources.{history_of};
+ghost use Rattle.ws_history.specs.Reports.{crashed_in, held_by, held_in, is_held, is_inside, is_spent, report_of, state_of, states_of};
 
 use crate::histories::history;
 use crate::reading::{
     asks, decided_in, has_crashed, is_clean, level, process_count, round_count, shape_of,
     simulator_count,
 };
-use crate::states::{ProcessState, Report};
+use crate::states::{History, ProcessState, Report};
 use arrayvec::ArrayVec;
 use protocol_lang::Action;
 use room_core::RoomCore;
 use std::alloc::{AllocError, Global};
 
 /// The report of a room: where each process stands, which simulators have crashed, and the history.
+/// At most as many processes are held as simulators have crashed, since a simulator is inside one
+/// agreement at a time (Borowsky et al. 2001, section 4). The room is only read.
+///
+/// # Errors
+///
+/// Where memory is refused.
 pub fn report(alloc: Global, room: &RoomCore) -> Result<Report, AllocError>
-    // It is that of the fields that the room's words say, with values above the greatest read as that.
-    ensures states { IfOk result (λ report. report.states.items ≡ states_of room.now.spec (read_of room.now)) }
-    ensures crashed { IfOk result (λ report. report.crashed.items ≡ crashed_in room.now.spec (read_of room.now)) }
-    ensures history { IfOk result (λ report. report.history.items ≡ history_of room.now.spec (read_of room.now)) }
-    // And that of any fields that the room stands for.
-    ensures fields { (fields : Fields) → AreFieldsOf room.now fields → IfOk result (λ report. (report.states.items ≡ states_of room.now.spec fields) × (report.crashed.items ≡ crashed_in room.now.spec fields) × (report.history.items ≡ history_of room.now.spec fields)) }
+    // It is that of any fields that the room stands for.
+    ensures fields { (fields : Fields) → AreFieldsOf room.now fields → IfOk result (λ report. report ≡ report_of room.now.spec fields) }
     // The history is a run of the processes on write-snapshot memory.
-    ensures run { IfOk result (λ report. IsRun room.now.spec report.history.items) }
+    ensures run { IfOk result (λ report. IsRun room.now.spec report.history) }
     // At most as many processes are held as simulators have crashed.
     ensures held { IfOk result (λ report. count_by is_held report.states.items ≤ length report.crashed.items) }
+    // So it is with all that have no decision and an agreement inside which a simulator has crashed.
+    ensures inside { (fields : Fields) → AreFieldsOf room.now fields → IfOk result (λ report. length (held_in room.now.spec fields) ≤ length report.crashed.items) }
     // The history has each process's decision, and no other.
-    ensures decided { IfOk result (λ report. (j v : ℕ) → j < processes room.now.spec → (slice_index_or report.states.items j Going ≡ Decided v) ↔ Contains report.history.items (Decide j v)) }
+    ensures decided { IfOk result (λ report. (j v : ℕ) → j < processes room.now.spec → (slice_index_or report.states.items j Going ≡ Decided v) ↔ Contains report.history (Decide j v)) }
 {
     let _shape = shape_of(room);
     let history = history(alloc, room)?;
-    let states = states_of(room);
-    let crashed = crashed_in(room);
     Ok(Report {
-        states,
-        crashed,
-        history,
+        states: states_of(room),
+        crashed: crashed_in(room),
+        history: History::new(history),
     })
 }
 

@@ -80,10 +80,12 @@ fn snapshot_at(room: &RoomCore, process: usize, round: usize) -> Agreed
     }
 }
 
-fn sum(row: &[usize]) -> usize
+/// The sum of a row, at most 240.
+pub(crate) fn sum(row: &[usize]) -> usize
     requires count { length row.now ≤ 16 }
     requires range { (p : ℕ) → slice_index row.now p ≤ 15 }
-    ensures { result ≡ sum row.now }
+    ensures value { result ≡ sum row.now }
+    ensures range { result ≤ 240 }
 {
     let mut sum = 0;
     for entry in row {

@@ -1,6 +1,8 @@
 //! What a report says.
+ghost use Rattle.std.specs.Prelude.{◌≡◌};
 
 use arrayvec::ArrayVec;
+use std::marker::Model;
 use transcript::Event;
 
 /// Where a process stands.
@@ -22,11 +24,42 @@ impl Default for ProcessState {
     }
 }
 
-/// Where each process of a room stands, which simulators have crashed, and what the processes have
-/// done.
+/// What the processes of a room have done, in order.
+#[derive(Drop)]
+pub struct History {
+    events: Vec<Event>,
+}
+
+impl Model for History {
+    ghost use Rattle.std.specs.Prelude.{List};
+    ghost use Rattle.transcript.specs.declared.event.Event.{Event};
+
+    ghost Value = { List Event };
+
+    ghost view = { λ h. h.events.items };
+}
+
+impl History {
+    /// The history of these events.
+    pub fn new(events: Vec<Event>) -> History
+        ensures { result ≡ events.items }
+    {
+        History { events }
+    }
+
+    /// Its events, in order.
+    pub fn events(&self) -> &[Event]
+        ensures { result.now ≡ self.now }
+    {
+        self.events.as_slice()
+    }
+}
+
+/// Where each process of a room stands, in order of their numbers; which simulators have crashed,
+/// rising; and what the processes have done.
 #[derive(Drop)]
 pub struct Report {
     pub states: ArrayVec<ProcessState, 16>,
     pub crashed: ArrayVec<u8, 8>,
-    pub history: Vec<Event>,
+    pub history: History,
 }

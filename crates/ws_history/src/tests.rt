@@ -59,9 +59,9 @@ fn lines(alloc: Global, report: &Report) -> Result<String, Fail> {
         let word = format!(in alloc; " {i}")?;
         text.push_str(word.as_str())?;
     }
-    let count = format!(in alloc; "\nhistory {}\n", report.history.len())?;
+    let count = format!(in alloc; "\nhistory {}\n", report.history.events().len())?;
     text.push_str(count.as_str())?;
-    for event in &report.history {
+    for event in report.history.events() {
         let line = match event {
             Event::Write { p, v } => format!(in alloc; "{p} write {v}\n")?,
             Event::Snap { p, row } => {
@@ -192,7 +192,7 @@ fn a_whole_word(rt: HostRuntime) -> Result<(), Fail> {
     for state in report.states.as_slice() {
         assert_eq!(rt; *state, ProcessState::Spent);
     }
-    assert_eq!(rt; report.history.len(), 48);
+    assert_eq!(rt; report.history.events().len(), 48);
     let text = lines(rt.alloc(), &report)?;
     assert!(rt; text.as_str().ends_with("7 snap 1 2 3 4 5 6 7 8\n"));
     Ok(())

@@ -1,41 +1,57 @@
-use Rattle.std.proofs.Common.{List, Contains, length, get_or, ℕ, sym, ap, ◌∙◌, subst, arith}
+use Rattle.std.proofs.Common.{◌≡◌, List, Contains, length, get_or, ℕ, sym, ap, ◌∙◌, subst, arith}
 use Rattle.std.specs.List.{count_by}
 use Rattle.std.proofs.lemmas.List.FromFn.{get_or-map-range_with_len}
 use Rattle.room_spec.specs.Rooms.{processes}
 use Rattle.transcript.specs.declared.event.Event.{Event}
 use Rattle.transcript.specs.declared.event.Event.TheVariants.{Decide}
-use Rattle.ws_history.specs.declared.states.ProcessState.TheVariants.{Going}
-use Rattle.ws_history.proofs.Deciders.{decided_there}
+use Rattle.transcript.specs.Runs.{IsRun}
+use Rattle.ws_history.specs.declared.states.Report.{Report}
 use Rattle.ws_history.specs.declared.states.ProcessState.{ProcessState}
-use Rattle.ws_history.specs.Reports.{is_held, state_of}
-use Rattle.ws_history.proofs.Held.{held_at_most}
-use Rattle.ws_history.proofs.RoomFields.{crashed_are, history_in, states_in}
+use Rattle.ws_history.specs.declared.states.ProcessState.TheVariants.{Going}
+use Rattle.ws_history.specs.Reports.{crashed_in, is_held, state_of, states_of}
+use Rattle.ws_history.proofs.Deciders.{decided_there}
+use Rattle.ws_history.proofs.Held.{held_at_most, inside_at_most}
+use Rattle.ws_history.proofs.RoomFields.{crashed_are, states_in}
 use Rattle.ws_history.proofs.reports.report.Goals as goal
 
 pub returns-clause-fields : goal.returns-clause-fields
 returns-clause-fields c = λ fields are.
     let room = c.args.room.now in
     let limits = c.shape_of-shape.ensures.limits in
-    (c.states_of-states.ensures ∙ states_in room fields limits are, c.crashed_in-crashed.ensures ∙ crashed_are room fields limits are, c.in_ok-history.ensures.read ∙ history_in room fields limits are)
+    let states = c.states_of.ensures ∙ states_in room fields limits are in
+    let crashed = c.crashed_in.ensures ∙ crashed_are room fields limits are in
+    let history = c.new.ensures ∙ c.in_ok-history.ensures.fields fields are in
+    λ p. record { states = record { items = states p }; crashed = record { items = crashed p }; history = history p }
+
+pub returns-clause-run : goal.returns-clause-run
+returns-clause-run c = subst (λ (events : List Event). IsRun c.args.room.now.spec events) (sym c.new.ensures) c.in_ok-history.ensures.run
 
 pub returns-clause-held : goal.returns-clause-held
 returns-clause-held c =
     let room = c.args.room.now in
     let limits = c.shape_of-shape.ensures.limits in
     let at = c.shape_of-shape.ensures.fields in
-    let states = ap (λ (l : List ProcessState). count_by is_held l) (c.states_of-states.ensures ∙ states_in room at.0 limits at.1) in
-    let crashed = ap (λ (l : List ℕ). length l) (c.crashed_in-crashed.ensures ∙ crashed_are room at.0 limits at.1) in
+    let states = ap (λ (l : List ProcessState). count_by is_held l) (c.states_of.ensures ∙ states_in room at.0 limits at.1) in
+    let crashed = ap (λ (l : List ℕ). length l) (c.crashed_in.ensures ∙ crashed_are room at.0 limits at.1) in
     let most = held_at_most room at.0 limits at.1 in
     omega (arith, states, crashed, most)
+
+pub returns-clause-inside : goal.returns-clause-inside
+returns-clause-inside c = λ fields are.
+    let room = c.args.room.now in
+    let limits = c.shape_of-shape.ensures.limits in
+    let crashed = ap (λ (l : List ℕ). length l) (c.crashed_in.ensures ∙ crashed_are room fields limits are) in
+    let most = inside_at_most room fields limits are in
+    omega (arith, crashed, most)
 
 pub returns-clause-decided : goal.returns-clause-decided
 returns-clause-decided c = λ j v low.
     let room = c.args.room.now in
     let limits = c.shape_of-shape.ensures.limits in
     let at = c.shape_of-shape.ensures.fields in
-    let states = ap (λ (l : List ProcessState). get_or l j Going) (c.states_of-states.ensures ∙ states_in room at.0 limits at.1) in
+    let states = ap (λ (l : List ProcessState). get_or l j Going) (c.states_of.ensures ∙ states_in room at.0 limits at.1) in
     let there = states ∙ get_or-map-range_with_len (state_of room.spec at.0) 0 (processes room.spec) j j Going low (omega arith) in
-    let history = c.in_ok-history.ensures.read ∙ history_in room at.0 limits at.1 in
+    let history = c.new.ensures ∙ c.in_ok-history.ensures.fields at.0 at.1 in
     let both = decided_there room at.0 limits at.1 j v low in (
       λ is. subst (λ (events : List Event). Contains events (Decide j v)) (sym history) (both.0 (sym there ∙ is)),
       λ has. there ∙ both.1 (subst (λ (events : List Event). Contains events (Decide j v)) history has),
