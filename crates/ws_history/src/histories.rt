@@ -13,7 +13,7 @@ ghost use Rattle.ws_history.specs.Sources.{decision_after, history_of, source_of
 ghost use Rattle.ws_history.specs.Running.{IsSnapshotOf, block_on};
 
 use crate::reading::{
-    Row, decided_in, greatest_step, greatest_steps, number_of, process_count, row_of, shape_of,
+    Row, decided_in, greatest_step, greatest_steps, number_of, process_count, round_count, row_of, shape_of,
     shown_by, written,
 };
 use crate::snapshots::{Agreed, AllAgreed, in_order, sum};
@@ -58,10 +58,13 @@ fn read_history(alloc: Global, room: &RoomCore) -> Result<Vec<Event>, AllocError
 
 /// As many events as the history may have: each write, each snapshot, and a decision of each process.
 fn most_events(room: &RoomCore, order: &AllAgreed, greatest: &[usize]) -> usize
-    requires count { length greatest.now ≤ 16 }
-    requires range { (p : ℕ) → slice_index greatest.now p ≤ 15 }
+    requires count { length greatest.now ≡ processes room.now.spec }
+    requires range { (p : ℕ) → slice_index greatest.now p ≤ room.now.spec.rounds }
 {
-    sum(greatest) + order.len() + process_count(room)
+    let processes = process_count(room);
+    let rounds = round_count(room);
+    prove!(rounds <= 15);
+    sum(greatest) + order.len() + processes
 }
 
 /// No write of any of `n` processes.

@@ -17,12 +17,16 @@ use Rattle.ws_history.proofs.histories.read_history.Goals as goal
 abbrev none : Snapshot
 none = record { process = 0; round = 0 }
 
+pub most_events-requires-clause-range : goal.most_events-requires-clause-range
+most_events-requires-clause-range c =
+    λ p. subst (λ (l : List ℕ). get_or l p 0 ≤ c.args.room.now.spec.rounds) (sym c.as_slice.ensures.value) (c.greatest_steps-greatest.ensures.range p)
+
 pub loop-snapshot-init : goal.loop-snapshot-init
 loop-snapshot-init c =
     let room = c.args.room.now in
     let src = source_of room.spec (read_of room) in
     record {
-      so_far = ap (λ (l : List Event). l ++ blocks src (processes room.spec) [] src.order) c.new-events.ensures.items;
+      so_far = ap (λ (l : List Event). l ++ blocks src (processes room.spec) [] src.order) c.in_ok-events.ensures.items;
       shown = c.nothing-shown.ensures ∙ ap (λ (n : ℕ). replicate {A = ℕ} n 0) c.process_count.ensures.value ∙ all_zero 0 (processes room.spec);
     }
 
@@ -81,8 +85,8 @@ returns c =
     let done : events ≡ blocks src n [] src.order = sym (append-nil events)
     ∙ ap (λ (l : List Snapshot). events ++ blocks src n (take i src.order) l) (sym (drop_past src.order i past))
     ∙ c.loop-snapshot.invariant.so_far in
-    let shown = c.as_slice.ensures.value ∙ c.loop-snapshot.invariant.shown ∙ ap (λ (l : List Snapshot). running room l) all in
+    let shown = c.as_slice-2.ensures.value ∙ c.loop-snapshot.invariant.shown ∙ ap (λ (l : List Snapshot). running room l) all in
     c.in_ok-push_writes.ensures
-    ∙ ap (λ (l : List ℕ). events ++ by_process (λ (p : ℕ). new_writes src p (get_or l p 0) (get_or c.as_slice-2.result.now p 0)) n) shown
-    ∙ ap (λ (l : List Event). events ++ l) (last_is room c.as_slice-2.result.now (c.as_slice-2.ensures.value ∙ c.greatest_steps-greatest.ensures.value))
+    ∙ ap (λ (l : List ℕ). events ++ by_process (λ (p : ℕ). new_writes src p (get_or l p 0) (get_or c.as_slice-3.result.now p 0)) n) shown
+    ∙ ap (λ (l : List Event). events ++ l) (last_is room c.as_slice-3.result.now (c.as_slice-3.ensures.value ∙ c.greatest_steps-greatest.ensures.value))
     ∙ ap (λ (l : List Event). l ++ last_writes src n) done
