@@ -15,6 +15,8 @@ mod judge;
 mod lines;
 mod output;
 mod report;
+#[cfg(test)]
+mod room_tests;
 mod setup;
 #[cfg(test)]
 mod tests;

@@ -204,6 +204,6 @@ reads_of room fields for = record {
   crashed = for.crashed;
 }
 
--- Every such room stands for the fields to which its list of schedule leads.
+-- Every such room stands for the fields to which its schedule leads.
 pub reads : (room : Configuration) → IsWithinLimits room.spec → (one : IsOneInterleaving room) → Reads room (replay_fields room.spec (opening_fields room.spec) one.schedule)
 reads room limits one = reads_of room (replay_fields room.spec (opening_fields room.spec) one.schedule) (stands_for room limits one)

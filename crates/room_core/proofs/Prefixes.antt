@@ -1,4 +1,4 @@
--- Induction at the end of a list of schedule: what the opening fields have, and what each event that may happen keeps, holds of
+-- Induction at the end of a schedule: what the opening fields have, and what each event that may happen keeps, holds of
 -- the fields to which any legal list leads.
 use Rattle.std.proofs.Common.{◌≡◌, List, [], ◌∷◌, ◌++◌, refl, sym, subst}
 use Rattle.std.proofs.lemmas.List.{append-nil, append_assoc}
@@ -12,7 +12,7 @@ pub replay_fields-snoc : (spec : RoomSpec) (fields : Fields) (schedule : List Sc
 replay_fields-snoc spec fields [] event = refl
 replay_fields-snoc spec fields (first ∷ schedule) event = replay_fields-snoc spec (fields_after spec fields first) schedule event
 
--- A property of a list of schedule and of the fields to which it leads: each event that may happen keeps it. The room that stands
+-- A property of a schedule and of the fields to which it leads: each event that may happen keeps it. The room that stands
 -- for the fields is at hand, and its spec is one and the same by definition.
 abbrev pub IsKept : (RoomSpec → List ScheduleEvent → Fields → Type 0) → Type 0
 IsKept P = (room : Configuration) (fields : Fields) (done : List ScheduleEvent) (event : ScheduleEvent) → IsShaped room → MayHappen room event → StandsFor room fields → P room.spec done fields → P room.spec (done ++ event ∷ []) (fields_after room.spec fields event)

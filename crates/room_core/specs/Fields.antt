@@ -129,7 +129,7 @@ line_on (Out decision) spec fields i j k mind = with_taken (record fields { out 
 abbrev pub line : RoomSpec → Fields → ℕ → Fields
 line spec fields i = line_on (fields.mind i).line spec fields i (fields.mind i).sweep (current_round (fields.mind i)) (counted (fields.mind i))
 
--- ---- schedule
+-- ---- schedules
 
 abbrev pub with_crash : Fields → ℕ → Fields
 with_crash fields i = record fields { crashed = changed fields.crashed i true }

@@ -1,11 +1,11 @@
--- Moments of a list of schedule, and the step numbers that stood then.
+-- Moments of a schedule, and the step numbers that stood then.
 use Rattle.std.specs.Prelude.{◌≡◌, ℕ, ◌≤◌, List, length, take}
 use Rattle.room_spec.specs.Rooms.{RoomSpec, processes}
 use Rattle.sim_memory.specs.Steps.{AreSameSteps}
 use Rattle.room_core.specs.Rooms.{ScheduleEvent}
 use Rattle.room_core.specs.Fields.{StepMap, Fields, opening_fields, replay_fields}
 
--- the fields after the first `time` schedule
+-- the fields after the first `time` events of a schedule
 abbrev pub fields_at : RoomSpec → List ScheduleEvent → ℕ → Fields
 fields_at spec schedule time = replay_fields spec (opening_fields spec) (take time schedule)
 

@@ -13,8 +13,8 @@ ghost use Rattle.ws_history.specs.Sources.{decision_after, history_of, source_of
 ghost use Rattle.ws_history.specs.Running.{IsSnapshotOf, block_on};
 
 use crate::reading::{
-    Row, decided_in, greatest_step, greatest_steps, number_of, process_count, round_count, row_of, shape_of,
-    shown_by, written,
+    Row, decided_in, greatest_step, greatest_steps, number_of, process_count, round_count, row_of,
+    shape_of, shown_by, written,
 };
 use crate::snapshots::{Agreed, AllAgreed, in_order, sum};
 use room_core::RoomCore;

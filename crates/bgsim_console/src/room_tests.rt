@@ -1,0 +1,131 @@
+//! Rooms under random schedules with crashes: whatever came before, the history is a run, and no
+//! more processes are held than simulators have crashed.
+ghost use Rattle.std.specs.Prelude.{◌<◌};
+
+use history_checker::check;
+use room_core::RoomCore;
+use room_spec::read_block;
+use std::test::*;
+use transcript::Event;
+use ws_history::{ProcessState, Report, report};
+
+const ONE: &str =
+    "bgsim 1\nroom one\ninputs 5\nsimulators 3\nrounds 1\nturns 10\nprotocol\nfirst input;\nelse decide mine;\nend\n";
+
+const PAIR: &str =
+    "bgsim 1\nroom pair\ninputs 7 3\nsimulators 2\nrounds 1\nturns 100\nprotocol\nfirst input;\nelse decide min;\nend\n";
+
+const MINIMUM: &str =
+    "bgsim 1\nroom minimum\ninputs 4 9 2 6\nsimulators 3\nrounds 3\nturns 60\nprotocol\nfirst input;\nwhen count >= n - 1 decide min;\nelse write min;\nend\n";
+
+const WRITERS: &str =
+    "bgsim 1\nroom writers\ninputs 1 2 3\nsimulators 4\nrounds 5\nturns 200\nprotocol\nfirst input + id;\nwhen round < 5 write max + 1;\nwhen equal(max) > 1 decide max;\nelse write mine;\nend\n";
+
+const WIDE: &str =
+    "bgsim 1\nroom wide\ninputs 1 2 3 4 5 6 7 8\nsimulators 8\nrounds 1\nturns 40\nprotocol\nfirst input;\nwhen id % 2 == 0 decide max;\nelse write count;\nend\n";
+
+const FEW_TURNS: &str =
+    "bgsim 1\nroom few\ninputs 8 8\nsimulators 4\nrounds 2\nturns 3\nprotocol\nfirst input;\nwhen round == 1 write mine * 2;\nelse decide mine;\nend\n";
+
+/// Numbers in a fixed order that looks like none (an xorshift generator).
+#[derive(Drop)]
+struct Random {
+    state: u64,
+}
+
+impl Random {
+    fn below(&mut self, bound: u64) -> u64
+        requires { 0 < bound }
+        ensures { result < bound }
+    {
+        self.state ^= self.state << 13;
+        self.state ^= self.state >> 7;
+        self.state ^= self.state << 17;
+        self.state % bound
+    }
+}
+
+fn room(rt: &HostRuntime, text: &str) -> Result<RoomCore, Fail> {
+    match read_block(rt.alloc(), text.as_bytes()) {
+        Ok((spec, _)) => Ok(RoomCore::fresh(rt.alloc(), spec)?),
+        Err(_) => Err(Fail::from("a room")),
+    }
+}
+
+/// Lets random simulators take steps, of which one in `rare` crashes in place of it, and judges the
+/// room now and then.
+fn wander(rt: &HostRuntime, text: &str, seed: u64, rare: u64) -> Result<(), Fail>
+    requires { 0 < rare }
+{
+    let mut random = Random { state: seed };
+    let mut room = room(rt, text)?;
+    let m = room.spec().m();
+    for _ in 0..24 {
+        for _ in 0..25 {
+            let i = random.below(8) as usize % m;
+            if random.below(rare) == 0 {
+                let _ = room.crash(i);
+            } else {
+                let _ = room.step(i);
+            }
+        }
+        judge(rt, &room)?;
+    }
+    Ok(())
+}
+
+fn judge(rt: &HostRuntime, room: &RoomCore) -> Result<(), Fail> {
+    let report = report(rt.alloc(), room)?;
+    if check(room.spec(), report.history.events()).is_err() {
+        return Err(Fail::from("a history that is no run"));
+    }
+    if held(&report) > report.crashed.len() {
+        return Err(Fail::from("more held than crashed"));
+    }
+    for (j, state) in report.states.as_slice().iter().enumerate() {
+        if decision(&report, j) != decided(state) {
+            return Err(Fail::from("a decision that the history has not"));
+        }
+    }
+    Ok(())
+}
+
+fn held(report: &Report) -> usize {
+    report
+        .states
+        .as_slice()
+        .iter()
+        .filter(|state| matches!(state, ProcessState::Held(_)))
+        .count()
+}
+
+fn decided(state: &ProcessState) -> Option<u32> {
+    match state {
+        ProcessState::Decided(v) => Some(*v),
+        _ => None,
+    }
+}
+
+/// What the history has as the decision of process `j`.
+fn decision(report: &Report, j: usize) -> Option<u32> {
+    for event in report.history.events() {
+        if let Event::Decide { p, v } = event {
+            if usize::from(*p) == j {
+                return Some(*v);
+            }
+        }
+    }
+    None
+}
+
+#[test]
+fn random_schedules(rt: HostRuntime) -> Result<(), Fail> {
+    for text in [ONE, PAIR, MINIMUM, WRITERS, WIDE, FEW_TURNS] {
+        for seed in 1..21 {
+            wander(&rt, text, seed * 1000003, 1000000)?;
+            wander(&rt, text, seed * 1000033, 60)?;
+            wander(&rt, text, seed * 1000037, 12)?;
+        }
+    }
+    Ok(())
+}
