@@ -1,0 +1,104 @@
+-- What one command makes of the rooms.
+use Rattle.std.proofs.Common.{◌≡◌, ◌≢◌, Bool, true, false, cond, List, ℕ, Option, Some, None, refl, sym, ap, ◌∙◌, subst}
+use Rattle.std.specs.Str.{bytes_eq}
+use Rattle.room_spec.specs.Rooms.{RoomSpec}
+use Rattle.room_core.specs.Calls.{RoomState, opening_state}
+use Rattle.room_core.specs.Fields.{Fields}
+use Rattle.room_core.specs.Reading.{AreFieldsOf}
+use Rattle.room_core.proofs.FieldCalls.{opening_in_fields}
+use Rattle.ws_history.specs.declared.states.Report.{Report as ReportData}
+use Rattle.service_core.specs.declared.command.Command.TheVariants as commands
+use Rattle.service_core.specs.declared.reply.Reply.{Reply}
+use Rattle.service_core.specs.declared.reply.Reply.TheVariants.{Begun, Closed, Report, Refused}
+use Rattle.service_core.specs.declared.reply.Refusal.TheVariants.{OutOfMemory}
+use Rattle.service_core.specs.declared.room.Act.{Act}
+use Rattle.service_core.specs.declared.room.Act.TheVariants as acts
+use Rattle.service_core.specs.Replies.{OpenRoom, name_in, opened, reply_to, room_after, room_after_open, room_in}
+use Rattle.service_core.specs.Rooms.{Answers, Applies, Entries, IsOpenAs, IsRefusal, IsReportOf, IsStateOf, IsTrueReport, IsWant, command_for, room_at}
+use Rattle.service_core.proofs.Lookups.{Changes, changed_here, changed_other, same_name}
+
+opened_state : (spec : RoomSpec) (before after : Entries) → Changes before after spec.name (Some (opening_state spec)) → IsStateOf (room_at after spec.name) (Some (opened spec))
+opened_state spec before after changes =
+    subst (λ (core : Option RoomState). IsStateOf core (Some (opened spec))) (sym (changed_here before after spec.name (Some (opening_state spec)) changes))
+    (record { spec = refl; fields = opening_in_fields spec })
+
+-- where the name was free
+pub begins_room : (spec : RoomSpec) (before after : Entries) → room_at before spec.name ≡ None → Changes before after spec.name (Some (opening_state spec)) → Applies before (commands.Begin spec) Begun after
+begins_room spec before after free changes = record {
+  answer = λ granted room is. from room (subst (λ (core : Option RoomState). IsStateOf core room) free is);
+  others = λ name other. changed_other before after spec.name name (Some (opening_state spec)) changes other;
+  report = λ report is. absurd cc;
+  want = λ is. absurd cc;
+  refused = λ is. absurd is;
+}
+  where
+    from : (room : Option OpenRoom) → IsStateOf None room → (Begun ≡ reply_to room (commands.Begin spec)) × IsStateOf (room_at after spec.name) (room_after room (commands.Begin spec))
+    from None is = (refl, opened_state spec before after changes)
+    from (Some room) is = absurd is
+
+-- where there was a room
+pub closes_room : (name : List ℕ) (before after : Entries) (core : RoomState) → room_at before name ≡ Some core → Changes before after name None → Applies before (commands.Close name) Closed after
+closes_room name before after core there changes = record {
+  answer = λ granted room is. from room (subst (λ (core : Option RoomState). IsStateOf core room) there is);
+  others = λ other differs. changed_other before after name other None changes differs;
+  report = λ report is. absurd cc;
+  want = λ is. absurd cc;
+  refused = λ is. absurd is;
+}
+  where
+    from : (room : Option OpenRoom) → IsStateOf (Some core) room → (Closed ≡ reply_to room (commands.Close name)) × IsStateOf (room_at after name) (room_after room (commands.Close name))
+    from None is = absurd is
+    from (Some room) is = (refl, subst (λ (core : Option RoomState). IsStateOf core None) (sym (changed_here before after name None changes)) tt)
+
+pub name_for : (name : List ℕ) (what : Act) → name_in (command_for name what) ≡ name
+name_for name (acts.Step sim count) = refl
+name_for name (acts.Crash sim) = refl
+name_for name acts.Report = refl
+
+stays_open : (name : List ℕ) (what : Act) (room : OpenRoom) → room_after_open room (command_for name what) ≡ Some (room_in room (command_for name what))
+stays_open name (acts.Step sim count) room = refl
+stays_open name (acts.Crash sim) room = refl
+stays_open name acts.Report room = refl
+
+wants_report : (name : List ℕ) (what : Act) (core : RoomState) → what ≡ acts.Report → IsWant (Some core) (command_for name what)
+wants_report name what core is = subst (λ (w : Act). IsWant (Some core) (command_for name w)) (sym is) tt
+
+-- where there is a room, and it stays open
+module _ (name : List ℕ) (what : Act) (reply : Reply) (before after : Entries) (core core' : RoomState) (there : room_at before name ≡ Some core) (changes : Changes before after name (Some core'))
+    (answers : reply ≢ Refused OutOfMemory → (of : List ℕ) (room : OpenRoom) → IsOpenAs core room → Answers room (command_for of what) reply core')
+    (reports : (report : ReportData) → reply ≡ Report report → (fields : Fields) → AreFieldsOf core fields → IsTrueReport core.spec fields report)
+    (wants : reply ≡ Refused OutOfMemory → what ≡ acts.Report) (refused : IsRefusal reply → core' ≡ core) where
+  here : room_at before (name_in (command_for name what)) ≡ Some core
+  here = ap (room_at before) (name_for name what) ∙ there
+
+  here_after : room_at after (name_in (command_for name what)) ≡ Some core'
+  here_after = ap (room_at after) (name_for name what) ∙ changed_here before after name (Some core') changes
+
+  answered : reply ≢ Refused OutOfMemory → (room : Option OpenRoom) → IsStateOf (Some core) room → (reply ≡ reply_to room (command_for name what)) × IsStateOf (Some core') (room_after room (command_for name what))
+  answered granted None is = absurd is
+  answered granted (Some room) is =
+      let at = answers granted name room is in
+      (at.0, subst (λ (state : Option OpenRoom). IsStateOf (Some core') state) (sym (stays_open name what room)) at.1)
+
+  reported : (report : ReportData) → reply ≡ Report report → (room : Option OpenRoom) → IsStateOf (Some core) room → IsReportOf room report
+  reported report is None at = absurd at
+  reported report is (Some room) at = subst (λ (spec : RoomSpec). IsTrueReport spec room.fields report) at.spec (reports report is room.fields at.fields)
+
+  unchanged : IsRefusal reply → (other : List ℕ) → room_at after other ≡ room_at before other
+  unchanged is other = by (bytes_eq name other) refl
+    where
+      by : (b : Bool) → bytes_eq name other ≡ b → room_at after other ≡ room_at before other
+      by true same =
+          changes other ∙ ap (λ (b : Bool). cond b (Some core') (room_at before other)) same ∙ ap Some (refused is) ∙ sym there ∙ ap (room_at before) (same_name name other same)
+      by false differs = changes other ∙ ap (λ (b : Bool). cond b (Some core') (room_at before other)) differs
+
+  pub asks_room : Applies before (command_for name what) reply after
+  asks_room = record {
+    answer = λ granted room is.
+        let at = answered granted room (subst (λ (core : Option RoomState). IsStateOf core room) here is) in
+        (at.0, subst (λ (core : Option RoomState). IsStateOf core (room_after room (command_for name what))) (sym here_after) at.1);
+    others = λ other differs. changed_other before after name other (Some core') changes (ap (bytes_eq other) (sym (name_for name what)) ∙ differs);
+    report = λ report is room at. reported report is room (subst (λ (core : Option RoomState). IsStateOf core room) here at);
+    want = λ is. subst (λ (core : Option RoomState). IsWant core (command_for name what)) (sym here) (wants_report name what core (wants is));
+    refused = unchanged;
+  }

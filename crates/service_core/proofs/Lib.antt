@@ -1,0 +1,5 @@
+pub mod Stepping
+pub mod Answering
+pub mod Lookups
+pub mod Applying
+pub mod Running

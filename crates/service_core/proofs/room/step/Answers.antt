@@ -1,0 +1,15 @@
+use Rattle.std.proofs.Common.{◌∙◌, ℕ, sym, subst}
+use Rattle.service_core.specs.Replies.{stepping}
+use Rattle.service_core.specs.Rooms.{IsSteppedTo}
+use Rattle.service_core.proofs.Answering.{no_step, step_answers}
+use Rattle.service_core.proofs.room.step.Goals as goal
+
+pub returns-then-not-has_simulator-clause-reply : goal.returns-then-not-has_simulator-clause-reply
+returns-then-not-has_simulator-clause-reply c = λ name state is.
+    no_step c.args.room.now state name c.args.sim c.args.count is (sym c.has_simulator.ensures ∙ c.if-not-has_simulator.true)
+
+pub returns-clause-reply : goal.returns-clause-reply
+returns-clause-reply c = λ name state is.
+    let room = c.args.room.now in
+    let stepped = subst (λ (i : ℕ). IsSteppedTo (stepping room.spec state.fields i c.args.count) c.steps-taken.result c.steps-taken.new.room) c.from.ensures (c.steps-taken.ensures.fields state.fields is.fields) in
+    step_answers room c.steps-taken.new.room state name c.args.sim c.args.count c.steps-taken.result is (sym c.has_simulator.ensures ∙ c.if-not-has_simulator.false) c.steps-taken.ensures.spec stepped

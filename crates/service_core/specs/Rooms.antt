@@ -1,0 +1,101 @@
+-- The rooms that a service keeps, and what they stand for.
+use Rattle.std.specs.Prelude.{◌≡◌, ◌≢◌, ℕ, ◌<◌, ◌≤◌, ◌↔◌, false, List, Option, Some, None, length, slice_index_or, ⊤}
+use Rattle.std.specs.List.{Contains, count_by}
+use Rattle.std.specs.Str.{bytes_eq}
+use Rattle.std.specs.Map.{lookup}
+use Rattle.room_spec.specs.Rooms.{RoomSpec, processes}
+use Rattle.transcript.specs.Runs.{IsRun}
+use Rattle.transcript.specs.declared.event.Event.TheVariants.{Decide}
+use Rattle.room_core.specs.declared.reply.StepReply.{StepReply}
+use Rattle.room_core.specs.Calls.{RoomState}
+use Rattle.room_core.specs.Fields.{Fields}
+use Rattle.room_core.specs.Reading.{AreFieldsOf}
+use Rattle.ws_history.specs.Reports.{held_in, is_held}
+use Rattle.ws_history.specs.declared.states.Report.{Report}
+use Rattle.ws_history.specs.declared.states.ProcessState.TheVariants.{Decided, Going}
+use Rattle.service_core.specs.declared.command.Command.{Command}
+use Rattle.service_core.specs.declared.command.Command.TheVariants as commands
+use Rattle.service_core.specs.declared.reply.Reply.{Reply}
+use Rattle.service_core.specs.declared.reply.Reply.TheVariants.{Refused, Report as ReportReply}
+use Rattle.service_core.specs.declared.reply.Refusal.TheVariants.{OutOfMemory}
+use Rattle.service_core.specs.declared.room.Act.{Act}
+use Rattle.service_core.specs.declared.room.Act.TheVariants as acts
+use Rattle.service_core.specs.Replies.{OpenRoom, Stepping, name_in, reply_in, reply_to, room_after, room_in}
+
+-- ---- rooms by name
+
+abbrev pub Entries : Type 0
+Entries = List (List ℕ × RoomState)
+
+abbrev pub room_at : Entries → List ℕ → Option RoomState
+room_at entries name = lookup (bytes_eq name) entries
+
+-- each room stands under its own name
+abbrev pub HasOwnNames : Entries → Type 0
+HasOwnNames entries = (name : List ℕ) (room : RoomState) → room_at entries name ≡ Some room → room.spec.name ≡ name
+
+-- ---- what they stand for
+
+pub record IsOpenAs (core : RoomState) (room : OpenRoom) : Type 0 where
+  pub spec : core.spec ≡ room.spec
+  pub fields : AreFieldsOf core room.fields
+
+-- a room that is open with such fields, or none
+abbrev pub IsStateOf : Option RoomState → Option OpenRoom → Type 0
+IsStateOf None None = ⊤
+IsStateOf (Some core) (Some room) = IsOpenAs core room
+IsStateOf None (Some room) = ⊥
+IsStateOf (Some core) None = ⊥
+
+-- ---- replies
+
+abbrev pub IsRefusal : Reply → Type 0
+IsRefusal (Refused refusal) = ⊤
+IsRefusal reply = ⊥
+
+-- Only where a room is made or a report is written memory is asked for, and 40 and 41 are decided before that.
+abbrev pub IsWant : Option RoomState → Command → Type 0
+IsWant None (commands.Begin spec) = ⊤
+IsWant (Some room) (commands.Report name) = ⊤
+IsWant room command = ⊥
+
+-- What a report of a room with these fields says: its history is a run of the room's protocol, with each process's decision and no
+-- other; and no more processes are held than simulators have crashed.
+pub record IsTrueReport (spec : RoomSpec) (fields : Fields) (report : Report) : Type 0 where
+  pub run : IsRun spec report.history
+  pub decided : (j v : ℕ) → j < processes spec → (slice_index_or report.states.items j Going ≡ Decided v) ↔ Contains report.history (Decide j v)
+  pub held : count_by is_held report.states.items ≤ length report.crashed.items
+  pub inside : length (held_in spec fields) ≤ length report.crashed.items
+
+-- the same of a room that has to be open
+abbrev pub IsReportOf : Option OpenRoom → Report → Type 0
+IsReportOf None report = ⊥
+IsReportOf (Some room) report = IsTrueReport room.spec room.fields report
+
+-- ---- one command
+
+-- What a command makes of the rooms and answers. All but want of memory rests on the room of its name alone.
+pub record Applies (before : Entries) (command : Command) (reply : Reply) (after : Entries) : Type 0 where
+  pub answer : reply ≢ Refused OutOfMemory → (room : Option OpenRoom) → IsStateOf (room_at before (name_in command)) room
+      → (reply ≡ reply_to room command) × IsStateOf (room_at after (name_in command)) (room_after room command)
+  pub others : (name : List ℕ) → bytes_eq name (name_in command) ≡ false → room_at after name ≡ room_at before name
+  pub report : (report : Report) → reply ≡ ReportReply report → (room : Option OpenRoom) → IsStateOf (room_at before (name_in command)) room → IsReportOf room report
+  pub want : reply ≡ Refused OutOfMemory → IsWant (room_at before (name_in command)) command
+  pub refused : IsRefusal reply → (name : List ℕ) → room_at after name ≡ room_at before name
+
+-- ---- inside the crate
+
+-- what a command asks of an open room, as a command
+abbrev pub command_for : List ℕ → Act → Command
+command_for name (acts.Step sim count) = commands.Step name sim count
+command_for name (acts.Crash sim) = commands.Crash name sim
+command_for name acts.Report = commands.Report name
+
+-- the reply of an open room to a command, and the room after it
+abbrev pub Answers : OpenRoom → Command → Reply → RoomState → Type 0
+Answers room command reply core = (reply ≡ reply_in room command) × IsOpenAs core (room_in room command)
+
+pub record IsSteppedTo (stepping : Stepping) (reply : ℕ × StepReply) (room : RoomState) : Type 0 where
+  pub taken : reply.0 ≡ stepping.taken
+  pub last : reply.1 ≡ stepping.last
+  pub fields : AreFieldsOf room stepping.fields

@@ -1,0 +1,17 @@
+//! Many rooms, each under its name, and the commands that make, step, crash, report and close them.
+//!
+//! What a room answers rests on the commands of its own name alone, whatever stands between them;
+//! each history that it reports is a run of its own protocol on write-snapshot memory.
+#![tactic(auto)]
+
+mod command;
+mod reply;
+mod room;
+mod service;
+
+pub use command::Command;
+pub use reply::{Refusal, Reply};
+pub use service::Service;
+
+#[cfg(test)]
+mod tests;

@@ -1,0 +1,91 @@
+//! What a command does to one open room.
+ghost use Rattle.std.specs.Prelude.{◌≡◌, ◌≢◌, ℕ, List, nat_lt};
+ghost use Rattle.service_core.specs.declared.command.Command.TheVariants.{Crash, Step};
+ghost use Rattle.room_core.specs.Fields.{Fields};
+ghost use Rattle.room_core.specs.Reading.{AreFieldsOf};
+ghost use Rattle.service_core.specs.Replies.{OpenRoom, stepping};
+ghost use Rattle.ws_history.specs.declared.states.Report.{Report as ReportData};
+ghost use Rattle.service_core.specs.Rooms.{Answers, IsOpenAs, IsRefusal, IsSteppedTo, IsTrueReport, command_for};
+ghost use Rattle.service_core.specs.declared.reply.Reply.TheVariants.{Refused, Report as ReportReply};
+ghost use Rattle.service_core.specs.declared.reply.Refusal.TheVariants.{OutOfMemory};
+ghost use Rattle.service_core.specs.declared.room.Act.TheVariants as acts;
+
+use crate::reply::{Refusal, Reply};
+use room_core::{RoomCore, StepReply};
+use std::alloc::Global;
+use ws_history::report;
+
+/// What a command asks of a room that stays open.
+#[derive(Clone, Copy)]
+pub(crate) enum Act {
+    Step { sim: u8, count: u16 },
+    Crash(u8),
+    Report,
+}
+
+/// Does what the command asks, and answers it.
+pub(crate) fn answer(alloc: Global, room: &mut RoomCore, what: Act) -> Reply
+    // What it does rests on the room alone.
+    ensures reply { result ≢ Refused OutOfMemory → (name : List ℕ) (state : OpenRoom) → IsOpenAs room.old state → Answers state (command_for name what) result room.new }
+    ensures report { (report : ReportData) → result ≡ ReportReply report → (fields : Fields) → AreFieldsOf room.old fields → IsTrueReport room.old.spec fields report }
+    ensures want { result ≡ Refused OutOfMemory → what ≡ acts.Report }
+    ensures refused { IsRefusal result → room.new ≡ room.old }
+    ensures spec { room.new.spec ≡ room.old.spec }
+{
+    match what {
+        Act::Step { sim, count } => step(room, sim, count),
+        Act::Crash(sim) => crash(room, sim),
+        Act::Report => match report(alloc, room) {
+            Ok(report) => Reply::Report(report),
+            Err(_) => Reply::Refused(Refusal::OutOfMemory),
+        },
+    }
+}
+
+fn has_simulator(room: &RoomCore, sim: u8) -> bool
+    ensures { result ≡ nat_lt sim room.now.spec.simulators }
+{
+    usize::from(sim) < room.spec().m()
+}
+
+fn step(room: &mut RoomCore, sim: u8, count: u16) -> Reply
+    ensures reply { (name : List ℕ) (state : OpenRoom) → IsOpenAs room.old state → Answers state (Step name sim count) result room.new }
+    ensures granted { result ≢ Refused OutOfMemory }
+    ensures no_report { (report : ReportData) → result ≢ ReportReply report }
+    ensures refused { IsRefusal result → room.new ≡ room.old }
+    ensures spec { room.new.spec ≡ room.old.spec }
+{
+    if !has_simulator(room, sim) {
+        return Reply::Refused(Refusal::NoSimulator);
+    }
+    let (taken, last) = steps(room, usize::from(sim), count);
+    Reply::Steps { taken, last }
+}
+
+fn crash(room: &mut RoomCore, sim: u8) -> Reply
+    ensures reply { (name : List ℕ) (state : OpenRoom) → IsOpenAs room.old state → Answers state (Crash name sim) result room.new }
+    ensures granted { result ≢ Refused OutOfMemory }
+    ensures no_report { (report : ReportData) → result ≢ ReportReply report }
+    ensures refused { IsRefusal result → room.new ≡ room.old }
+    ensures spec { room.new.spec ≡ room.old.spec }
+{
+    if !has_simulator(room, sim) {
+        return Reply::Refused(Refusal::NoSimulator);
+    }
+    Reply::Crash(room.crash(usize::from(sim)))
+}
+
+/// Lets simulator `i` take steps, until it has taken `count` or one is not taken. Gives how many it
+/// took, and the last answer.
+fn steps(room: &mut RoomCore, i: usize, count: u16) -> (u16, StepReply)
+    ensures fields { (fields : Fields) → AreFieldsOf room.old fields → IsSteppedTo (stepping room.old.spec fields i count) result room.new }
+    ensures spec { room.new.spec ≡ room.old.spec }
+{
+    for taken in 0..count {
+        match room.step(i) {
+            StepReply::Stepped => {}
+            last => return (taken, last),
+        }
+    }
+    (count, StepReply::Stepped)
+}

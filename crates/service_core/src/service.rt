@@ -1,0 +1,167 @@
+//! The service: rooms by their names.
+ghost use Rattle.std.specs.Prelude.{◌≡◌, ◌≢◌, ℕ, List, [], Option, None, Some, false, length, IfOk, OnOk, OnErr, if◌then◌else◌};
+ghost use Rattle.std.specs.Str.{bytes_eq};
+ghost use Rattle.indexmap.specs.IndexMap.{get};
+ghost use Rattle.room_core.specs.Calls.{opening_state};
+ghost use Rattle.ws_history.specs.declared.states.Report.{Report as ReportData};
+ghost use Rattle.service_core.specs.declared.command.Command.TheVariants.{Begin, Close};
+ghost use Rattle.service_core.specs.declared.reply.Reply.TheVariants.{Report as ReportReply};
+ghost use Rattle.service_core.specs.Replies.{OpenRoom, name_in, part, replies_from, reply_to, room_after};
+ghost use Rattle.service_core.specs.Rooms.{Applies, HasOwnNames, IsRefusal, IsReportOf, IsStateOf, IsWant, command_for, room_at};
+ghost use Rattle.service_core.specs.Runs.{AreTrueReports, AreWants, HasNoWant, granted, replies_of, without_wants};
+ghost use Rattle.service_core.specs.declared.reply.Reply.TheVariants.{Refused};
+ghost use Rattle.service_core.specs.declared.reply.Refusal.TheVariants.{OutOfMemory};
+
+use crate::command::Command;
+use crate::reply::{Refusal, Reply};
+use crate::room::{Act, answer};
+use indexmap::IndexMap;
+use room_core::RoomCore;
+use room_spec::{Name, Spec};
+use std::alloc::{AllocError, Global};
+use std::marker::Model;
+
+/// Rooms, each under its own name. No room's replies rest on another room.
+#[derive(Drop)]
+pub struct Service {
+    rooms: IndexMap<Name, RoomCore>,
+}
+
+impl Model for Service {
+    ghost use Rattle.std.specs.Coded.{codes};
+    ghost use Rattle.protocol_lang.specs.Codes.{expression_code};
+    ghost use Rattle.service_core.specs.Rooms.{Entries, HasOwnNames};
+
+    ghost Value = { Entries };
+
+    ghost coded = { Prim.hlevel (codes, expression_code) };
+
+    ghost view = { λ s. s.rooms.entries };
+
+    ghost invariant = { λ s. HasOwnNames s.rooms.entries };
+}
+
+impl Service {
+    /// A service with no rooms.
+    pub fn new(alloc: Global) -> Service
+        ensures { result ≡ [] }
+    {
+        Service {
+            rooms: IndexMap::new(alloc),
+        }
+    }
+
+    /// Does what the command asks, and answers it. A command that is refused changes no room; where
+    /// it was to begin one, its spec is dropped.
+    pub fn apply(&mut self, alloc: Global, command: Command) -> Reply
+        // The reply, and what becomes of the room, rest on the room of that name alone.
+        ensures reply { result ≢ Refused OutOfMemory → (room : Option OpenRoom) → IsStateOf (room_at self.old (name_in command)) room → (result ≡ reply_to room command) × IsStateOf (room_at self.new (name_in command)) (room_after room command) }
+        // All other rooms stay as they are.
+        ensures others { (name : List ℕ) → bytes_eq name (name_in command) ≡ false → room_at self.new name ≡ room_at self.old name }
+        // Each history is a run, and no more processes are held than simulators have crashed.
+        ensures report { (report : ReportData) → result ≡ ReportReply report → (room : Option OpenRoom) → IsStateOf (room_at self.old (name_in command)) room → IsReportOf room report }
+        ensures want { result ≡ Refused OutOfMemory → IsWant (room_at self.old (name_in command)) command }
+        ensures refused { IsRefusal result → (name : List ℕ) → room_at self.new name ≡ room_at self.old name }
+    {
+        match command {
+            Command::Begin(spec) => self.begin(alloc, spec),
+            Command::Step { name, sim, count } => {
+                self.ask(alloc, &name, Act::Step { sim, count })
+            }
+            Command::Crash { name, sim } => self.ask(alloc, &name, Act::Crash(sim)),
+            Command::Report(name) => self.ask(alloc, &name, Act::Report),
+            Command::Close(name) => self.close(&name),
+        }
+    }
+
+    /// The replies of a fresh service to these commands, in order. Room for all replies is taken
+    /// first: where it is refused, no command runs and the commands are dropped.
+    pub fn run(alloc: Global, commands: Vec<Command>) -> Result<Vec<Reply>, AllocError>
+        ensures count { IfOk result (λ replies. length replies.items ≡ length commands.items) }
+        // Where no memory was refused, each name's replies are those of a service that is given the
+        // commands of that name alone.
+        ensures alone { IfOk result (λ replies. HasNoWant replies.items → (name : List ℕ) → replies_of name commands.items replies.items ≡ replies_from None (part name commands.items)) }
+        // Each history that is reported is a run of its room's protocol, with each decision and no
+        // other; and no more processes are held than simulators have crashed.
+        ensures reports { IfOk result (λ replies. AreTrueReports commands.items replies.items) }
+        // Where memory was refused, the other replies are those to the list without the commands
+        // that were refused it. These begin a room under a free name or ask for an open one's report.
+        ensures refused { IfOk result (λ replies. (name : List ℕ) → without_wants (replies_of name commands.items replies.items) ≡ replies_from None (part name (granted commands.items replies.items))) }
+        ensures wants { IfOk result (λ replies. AreWants commands.items replies.items) }
+    {
+        let replies = run_all(alloc, commands)?;
+        Ok(replies)
+    }
+
+    /// The rooms that are open, each under its own name. Their order is left open.
+    pub fn into_rooms(self) -> IndexMap<Name, RoomCore>
+        ensures rooms { (name : List ℕ) → get bytes_eq result name ≡ room_at self name }
+        ensures names { HasOwnNames result.entries }
+    {
+        self.rooms
+    }
+
+    /// Opens a room, where its name is free.
+    fn begin(&mut self, alloc: Global, spec: Spec) -> Reply
+        ensures { Applies self.old (Begin spec) result self.new }
+    {
+        if self.rooms.contains_key(spec.name()) {
+            return Reply::Refused(Refusal::NameTaken);
+        }
+        match self.open(alloc, spec) {
+            Ok(()) => Reply::Begun,
+            Err(AllocError) => Reply::Refused(Refusal::OutOfMemory),
+        }
+    }
+
+    /// Opens a room whose name is free.
+    fn open(&mut self, alloc: Global, spec: Spec) -> Result<(), AllocError>
+        requires { room_at self.old spec.name ≡ None }
+        ensures opened { OnOk result ((name : List ℕ) → room_at self.new name ≡ if bytes_eq spec.name name then Some (opening_state spec) else room_at self.old name) }
+        ensures err { OnErr result (self.new ≡ self.old) }
+    {
+        let name = spec.name().clone()?;
+        let room = RoomCore::fresh(alloc, spec)?;
+        self.rooms.insert(name, room)?;
+        Ok(())
+    }
+
+    /// Asks the room of this name for something, if there is one.
+    fn ask(&mut self, alloc: Global, name: &Name, what: Act) -> Reply
+        ensures { Applies self.old (command_for name.now what) result self.new }
+    {
+        let Some(index) = self.rooms.get_index_of(name) else {
+            return Reply::Refused(Refusal::NoRoom);
+        };
+        let Some(room) = self.rooms.get_index_mut(index) else {
+            unreachable!() // the index was found just now
+        };
+        answer(alloc, room, what)
+    }
+
+    /// Closes the room of this name, if there is one.
+    fn close(&mut self, name: &Name) -> Reply
+        ensures { Applies self.old (Close name.now) result self.new }
+    {
+        match self.rooms.swap_remove(name) {
+            Some(_) => Reply::Closed,
+            None => Reply::Refused(Refusal::NoRoom),
+        }
+    }
+}
+
+/// The replies of a fresh service to these commands.
+fn run_all(alloc: Global, commands: Vec<Command>) -> Result<Vec<Reply>, AllocError>
+    ensures count { IfOk result (λ replies. length replies.items ≡ length commands.items) }
+    ensures reports { IfOk result (λ replies. AreTrueReports commands.items replies.items) }
+    ensures refused { IfOk result (λ replies. (name : List ℕ) → without_wants (replies_of name commands.items replies.items) ≡ replies_from None (part name (granted commands.items replies.items))) }
+    ensures wants { IfOk result (λ replies. AreWants commands.items replies.items) }
+{
+    let mut service = Service::new(alloc);
+    let mut replies = Vec::with_capacity(alloc, commands.len())?;
+    for command in commands {
+        let reply = service.apply(alloc, command);
+        replies.push(reply)?;
+    }
+    Ok(replies)
+}
