@@ -2,7 +2,7 @@
 use Rattle.std.proofs.Common.{◌≡◌, ◌≢◌, ℕ, zero, suc, ◌+◌, ◌*◌, ◌-◌, ◌<◌, ◌≤◌, Bool, true, false, not, cond, length, refl, sym, ap, ◌∙◌, subst, arith}
 use Rattle.std.proofs.lemmas.Bool.{not-true}
 use Rattle.std.proofs.lemmas.List.{get_or-set_same}
-use Rattle.room_spec.specs.Rooms.{RoomSpec}
+use Rattle.room_spec.specs.Rooms.{RoomSpec, IsWithinLimits, processes}
 use Rattle.simulator.specs.declared.line.Line.{Line}
 use Rattle.simulator.specs.declared.line.Line.TheVariants.{Rest, Raise, Snap, Show, Enter, Look, Leave, Ask, GetView, Values, Out}
 use Rattle.simulator.specs.declared.sweep.Ready.{Ready}
@@ -11,13 +11,14 @@ use Rattle.simulator.specs.Minds.{MindState}
 use Rattle.simulator.specs.Moves.{answer_of}
 use Rattle.simulator.specs.Ranges.{IsMind, charged_steps, most_steps}
 use Rattle.simulator.specs.Sweeps.{SweepState, is_resting, opening_sweep, ready_between}
+use Rattle.simulator.proofs.Bounding.{total, total_falls, total_most, turns_before}
 use Rattle.simulator.proofs.Stepping.{steps_by_one}
-use Rattle.room_core.specs.Rooms.{IsShaped, steps}
+use Rattle.room_core.specs.Rooms.{IsOneInterleaving, IsShaped, steps}
 use Rattle.room_core.specs.Calls.{RoomState, configuration_of, has_crashed, is_step, moved, operation_at, ready_at, reply_when, room_after_step, room_kind, step_reply, sweep_after, sweep_at, taken_by, with_sweep, woken}
 use Rattle.room_core.specs.Calls as calls
 use Rattle.room_core.specs.declared.reply.StepReply.TheVariants.{Stepped}
 use Rattle.room_core.specs.Settling.{in_order, steps_while, turn_ended, ran_alone}
-use Rattle.room_core.proofs.Replays.{shape_after}
+use Rattle.room_core.proofs.Replays.{shape_after, shapes}
 use Rattle.room_core.proofs.States.{has_line, mind_ok, moved_data, sweep_count, woken_data}
 use Rattle.room_core.proofs.FieldCalls.{ready_step, same_spec_step}
 use Rattle.room_core.proofs.Settling.{ended_keeps, alone_keeps}
@@ -58,6 +59,7 @@ steps_of room i = (sweep_at room i).mind.steps
 pub record HasStepped (room after : RoomState) (i : ℕ) : Type 0 where
   pub is : after ≡ moved room i
   pub up : IsUp (moved room i) i
+  pub own : sweep_at (moved room i) i ≡ sweep_after (taken_by room i) (sweep_at room i).quiet
   pub more : steps_of (moved room i) i ≡ steps_of room i + 1
   pub within : steps_of (moved room i) i ≤ calls.most_steps room.spec
 
@@ -67,11 +69,12 @@ step_up room i up is =
     let may = has_line room i up.shape up.below up.alive is in
     let shape = subst IsShaped (sym (moved_data room i)) (shape_after (configuration_of room) (steps i) may up.shape) in
     let place : i < length room.sweeps = let below = up.below in omega (arith, sweep_count room up.shape) in
-    let own = ap (λ (sweep : SweepState). sweep.mind.steps) (get_or-set_same room.sweeps i (sweep_after (taken_by room i) (sweep_at room i).quiet) (opening_sweep room.spec i) place) in
+    let own = get_or-set_same room.sweeps i (sweep_after (taken_by room i) (sweep_at room i).quiet) (opening_sweep room.spec i) place in
     record {
       is = sym to.left;
       up = record { shape = shape; below = up.below; alive = up.alive };
-      more = own ∙ steps_by_one room.spec (sweep_at room i).mind (answer_of (operation_at room i) room.words);
+      own = own;
+      more = ap (λ (sweep : SweepState). sweep.mind.steps) own ∙ steps_by_one room.spec (sweep_at room i).mind (answer_of (operation_at room i) room.words);
       within = steps_within room.spec (sweep_at (moved room i) i).mind (mind_ok (moved room i) i shape up.below);
     }
 
@@ -104,7 +107,7 @@ in_turn_means i room is =
     ap (λ (b : Bool). cond b (ready_between room.spec (sweep_at room i).mind (sweep_at room i).quiet) ready.Step) turn
 
 module _ (test : RoomState → ℕ → Bool) (i : ℕ) (means : Means test i) where
-  abbrev Ran : ℕ → RoomState → RoomState
+  abbrev pub Ran : ℕ → RoomState → RoomState
   Ran most room = steps_while room_after_step test most room i
 
   more_by : (b : Bool) (one two room : RoomState) → (b ≡ true → one ≡ two) → cond b one room ≡ cond b two room
@@ -151,6 +154,49 @@ module _ (test : RoomState → ℕ → Bool) (i : ℕ) (means : Means test i) wh
 
   pub ended : (start room : RoomState) → IsRunning start room → test room i ≡ false → Ran (calls.most_steps start.spec) start ≡ room
   ended start room on is = sym on.ends ∙ stops (calls.most_steps room.spec) room is
+
+-- ---- it comes to an end
+
+not_true : (b : Bool) → (b ≡ true → ⊥) → b ≡ false
+not_true true is = absurd (is refl)
+not_true false is = refl
+
+either_by : (P : RoomState → Type 0) (b : Bool) (on stop : RoomState) → (b ≡ true → P on) → (b ≡ false → P stop) → P (cond b on stop)
+either_by P true on stop goes ends = goes refl
+either_by P false on stop goes ends = ends refl
+
+module _ (test : RoomState → ℕ → Bool) (i : ℕ) (means : Means test i) where
+  pub finished : (most : ℕ) (room : RoomState) → IsUp room i → calls.most_steps room.spec ≤ most + steps_of room i → test (Ran test i means most room) i ≡ false
+  finished zero room up within = not_true (test room i) (λ is. let next = step_up room i up (means room is) in omega (arith, next.more, next.within, within))
+  finished (suc most) room up within =
+      either_by (λ r. test r i ≡ false) (test room i) (Ran test i means most (room_after_step room i)) room
+      (λ is.
+      let next = step_up room i up (means room is) in
+      subst (λ (r : RoomState). test (Ran test i means most r) i ≡ false) (sym next.is) (finished most (moved room i) next.up (omega (arith, next.more, within))))
+      (λ is. is)
+
+  abbrev total_in : RoomSpec → RoomState → ℕ
+  total_in spec room = total (processes spec) spec.rounds (sweep_at room i).mind (sweep_at room i).quiet
+
+  pub total_ran : (most : ℕ) (room : RoomState) → IsUp room i → total_in room.spec (Ran test i means most room) ≤ total_in room.spec room
+  total_ran zero room up = omega arith
+  total_ran (suc most) room up =
+      either_by (λ r. total_in room.spec r ≤ total_in room.spec room) (test room i) (Ran test i means most (room_after_step room i)) room
+      (λ is.
+      let next = step_up room i up (means room is) in
+      let falls = total_falls room.spec (sweep_at room i).mind (sweep_at room i).quiet (answer_of (operation_at room i) room.words) (mind_ok room i up.shape up.below) (means room is) in
+      let here : total_in room.spec (moved room i) ≤ total_in room.spec room = subst (λ (sweep : SweepState). total (processes room.spec) room.spec.rounds sweep.mind sweep.quiet ≤ total_in room.spec room) (sym next.own) falls in
+      let more = total_ran most (moved room i) next.up in
+      subst (λ (r : RoomState). total_in room.spec (Ran test i means most r) ≤ total_in room.spec room) (sym next.is) (omega (arith, here, more)))
+      (λ is. omega arith)
+
+  pub turns_ran : (most : ℕ) (room : RoomState) → IsUp room i → (sweep_at (Ran test i means most room) i).mind.turns ≤ (sweep_at room i).mind.turns + (processes room.spec * room.spec.rounds + 1) * processes room.spec
+  turns_ran most room up =
+      let end = sweep_at (Ran test i means most room) i in
+      omega (arith, turns_before (processes room.spec) room.spec.rounds end.mind end.quiet, total_ran most room up, total_most room.spec (sweep_at room i).mind (sweep_at room i).quiet (mind_ok room i up.shape up.below))
+
+pub is_up : (room : RoomState) (i : ℕ) → IsWithinLimits room.spec → IsOneInterleaving (configuration_of room) → i < room.spec.simulators → has_crashed room i ≡ false → IsUp room i
+is_up room i limits one below alive = record { shape = shapes (configuration_of room) limits one; below = below; alive = alive }
 
 -- ---- the first room and the last
 
