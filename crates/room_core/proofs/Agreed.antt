@@ -7,9 +7,9 @@ use Rattle.room_spec.specs.Rooms.{RoomSpec, IsWithinLimits}
 use Rattle.simulator.specs.declared.sweep.Ready.{Ready}
 use Rattle.simulator.specs.declared.sweep.Ready.TheVariants as ready
 use Rattle.room_core.specs.Rooms.{Configuration, steps, IsShaped, HasLine}
-use Rattle.room_core.specs.Calls.{Call, Step, Crash, RoomState, configuration_of, has_crashed, ready_at}
-use Rattle.room_core.specs.Fields.{Fields, opening_fields, replay_fields, line, with_crash, ready_in, fields_when, fields_after_call}
-use Rattle.room_core.specs.Reading.{AreFieldsOf}
+use Rattle.room_core.specs.Calls.{Call, Step, Crash, Settle, RoomState, configuration_of, has_crashed, ready_at}
+use Rattle.room_core.specs.Fields.{Fields, opening_fields, replay_fields, line, with_crash, ready_in, fields_when, fields_after_step, fields_after_crash, fields_after_settle, fields_after_call}
+use Rattle.room_core.specs.Reading.{AreFieldsOf, with_quiet}
 use Rattle.room_core.specs.Agreements.{IsFixedAt}
 use Rattle.room_core.specs.Passed.{view_at, asks}
 use Rattle.room_core.specs.Contents.{HasSmallValues}
@@ -17,7 +17,7 @@ use Rattle.room_core.proofs.SmallValues.{small_values}
 use Rattle.room_core.proofs.Replays.{shapes}
 use Rattle.room_core.proofs.States.{has_line}
 use Rattle.room_core.proofs.FieldReplays.{StandsFor, stands_for, event_stands}
-use Rattle.room_core.proofs.FieldCalls.{fields_stand, same_ready}
+use Rattle.room_core.proofs.FieldCalls.{fields_stand, same_ready, settle_by}
 use Rattle.room_core.proofs.Effects.{Own, own_of, line_effect}
 use Rattle.room_core.proofs.Deciding.{own_kept}
 use Rattle.room_core.proofs.Moments.{history_run}
@@ -74,14 +74,16 @@ module _ (room : RoomState) (fields : Fields) (limits : IsWithinLimits room.spec
   when_ready i ready.Idle below alive is = others _ fields.crashed
   when_ready i ready.OutOfTurns below alive is = same
 
-  pub call_keeps : (call : Call) → P (fields_after_call room.spec fields call)
-  call_keeps (Step i) =
+  pub step_keeps : (i : ℕ) → P (fields_after_step room.spec fields i)
+  step_keeps i =
       by_test P (leb room.spec.simulators i) fields (cond (fields.crashed i) fields (fields_when (ready_in room.spec fields i) room.spec fields i)) same
       (λ present.
       let below : i < room.spec.simulators = leb-false room.spec.simulators i present in
       by_test P (fields.crashed i) fields (fields_when (ready_in room.spec fields i) room.spec fields i) same
       (λ alive. when_ready i (ready_in room.spec fields i) below ((fields_stand room fields limits are).crashed i below ∙ alive) (sym (same_ready room fields i limits below are))))
-  call_keeps (Crash i) =
+
+  pub crash_keeps : (i : ℕ) → P (fields_after_crash room.spec fields i)
+  crash_keeps i =
       by_test P (leb room.spec.simulators i) fields (cond (fields.crashed i) fields (with_crash fields i)) same
       (λ present. by_test P (fields.crashed i) fields (with_crash fields i) same (λ alive. others fields.quiet _))
 
@@ -90,8 +92,37 @@ fields_within room fields limits are =
     let base = replay_fields room.spec (opening_fields room.spec) are.run.schedule in
     subst (λ (f : Fields). ViewsWithin room.spec f) (sym are.leads) (views_within room.spec are.run.schedule base (stands_for (configuration_of room) limits are.run).tracks (history_run (configuration_of room) limits are.run))
 
+module _ (room : RoomState) (fields : Fields) (limits : IsWithinLimits room.spec) (are : AreFieldsOf room fields) where
+  abbrev Stay : Fields → Type 0
+  Stay after = AgreedStays room.spec fields after
+
+  on_line : (i : ℕ) → HasLine (configuration_of room) i → Stay (line room.spec fields i)
+  on_line i may = agreed_line (configuration_of room) fields i (shapes (configuration_of room) limits are.run) (fields_stand room fields limits are) may (small_values room.spec limits) (fields_within room fields limits are) (fields_known room fields limits are) (fields_sound room fields limits are)
+
+  agreed_step : (i : ℕ) → Stay (fields_after_step room.spec fields i)
+  agreed_step i = step_keeps room fields limits are Stay (agreed_other room.spec fields fields.quiet fields.crashed) on_line (agreed_other room.spec fields) i
+
+  agreed_crash : (i : ℕ) → Stay (fields_after_crash room.spec fields i)
+  agreed_crash i = crash_keeps room fields limits are Stay (agreed_other room.spec fields fields.quiet fields.crashed) on_line (agreed_other room.spec fields) i
+
+agreed_twice : (spec : RoomSpec) (first second third : Fields) → AgreedStays spec first second → AgreedStays spec second third → AgreedStays spec first third
+agreed_twice spec first second third one two = record {
+  view = λ j k low at. two.view j k low (one.fixed j k at) ∙ one.view j k low at;
+  asks = λ j k low at. two.asks j k low (one.fixed j k at) ∙ one.asks j k low at;
+  fixed = λ j k at. two.fixed j k (one.fixed j k at);
+  out = λ i j out. two.out i j (subst (λ (x : ℕ). x ≢ 0) (sym (one.out i j out)) out) ∙ one.out i j out;
+}
+
+agreed_settle : (room : RoomState) (fields : Fields) → IsWithinLimits room.spec → AreFieldsOf room fields → AgreedStays room.spec fields (fields_after_settle room.spec fields)
+agreed_settle room fields limits are =
+    let spec = room.spec in
+    let is = settle_by (λ f. AgreedStays spec fields f) spec limits
+    (λ r f i same these holds. agreed_twice spec fields f (fields_after_step spec f i) holds (subst (λ (s : RoomSpec). AgreedStays s f (fields_after_step s f i)) same (agreed_step r f (subst IsWithinLimits (sym same) limits) these i)))
+    (λ f quiet holds. agreed_twice spec fields f (with_quiet f quiet) holds (agreed_other spec f quiet f.crashed))
+    room fields refl are (agreed_other spec fields fields.quiet fields.crashed) in
+    is.holds
+
 pub agreed_call : (room : RoomState) (fields : Fields) (call : Call) → IsWithinLimits room.spec → AreFieldsOf room fields → AgreedStays room.spec fields (fields_after_call room.spec fields call)
-agreed_call room fields call limits are =
-    call_keeps room fields limits are (AgreedStays room.spec fields) (agreed_other room.spec fields fields.quiet fields.crashed)
-    (λ i may. agreed_line (configuration_of room) fields i (shapes (configuration_of room) limits are.run) (fields_stand room fields limits are) may (small_values room.spec limits) (fields_within room fields limits are) (fields_known room fields limits are) (fields_sound room fields limits are))
-    (λ quiet crashed. agreed_other room.spec fields quiet crashed) call
+agreed_call room fields (Step i) limits are = agreed_step room fields limits are i
+agreed_call room fields (Crash i) limits are = agreed_crash room fields limits are i
+agreed_call room fields Settle limits are = agreed_settle room fields limits are

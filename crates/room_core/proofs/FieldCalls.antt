@@ -1,5 +1,6 @@
 -- A call makes the same of a room and of its fields, and answers the same.
-use Rattle.std.proofs.Common.{◌≡◌, ◌≢◌, ℕ, ◌<◌, ◌≤◌, Bool, true, false, cond, leb, List, [], ◌∷◌, ◌++◌, length, get_or, set, Option, Some, None, refl, sym, ap, ◌∙◌, subst, arith}
+use Rattle.std.specs.Prelude.{⊤}
+use Rattle.std.proofs.Common.{◌≡◌, ◌≢◌, ℕ, ◌<◌, ◌≤◌, Bool, true, false, not, cond, leb, List, [], ◌∷◌, ◌++◌, length, get_or, set, Option, Some, None, refl, sym, ap, ◌∙◌, subst, arith}
 use Rattle.std.proofs.lemmas.Bool.{leb-false, leb-true}
 use Rattle.std.proofs.lemmas.List.{get_or-set_same, get_or-set_other}
 use Rattle.std.proofs.lemmas.List.FromFn.{get_or-map-range_with_len}
@@ -16,16 +17,17 @@ use Rattle.simulator.specs.declared.sweep.Ready.TheVariants as ready
 use Rattle.simulator.specs.declared.turn.Turn.{Turn}
 use Rattle.simulator.specs.Minds.{MindOf, MindState, goal_at, current_round, next_process}
 use Rattle.simulator.specs.Moves.{move_of, taken, answer_of}
-use Rattle.simulator.specs.Sweeps.{SweepState, opening_sweep, ready_of, quiet_after}
+use Rattle.simulator.specs.Sweeps.{SweepState, is_resting, opening_sweep, ready_of, quiet_after}
 use Rattle.simulator.specs.Turns.{TakenOf, counted}
 use Rattle.room_core.specs.declared.reply.StepReply.{StepReply}
 use Rattle.room_core.specs.declared.reply.CrashReply.{CrashReply}
 use Rattle.room_core.specs.declared.reply.StepReply.TheVariants.{Crashed, NoSimulator}
 use Rattle.room_core.specs.declared.reply.CrashReply.TheVariants as crash_replies
 use Rattle.room_core.specs.Rooms.{Configuration, ScheduleEvent, steps, crashes, opening, stepped, crashed_by, HasLine, IsAlive, IsOneInterleaving, IsRoom, IsShaped}
-use Rattle.room_core.specs.Calls.{RoomState, configuration_of, opening_state, sweep_at, has_crashed, with_sweep, sweep_after, taken_by, moved, woken, reply_when, room_when, ready_at, step_reply, room_after_step, crash_reply, marked, room_after_crash, Call, Step, Crash, Stepping, Crashing, reply_to, room_after_call, replies_to, room_after_calls}
-use Rattle.room_core.specs.Fields.{StepMap, Fields, changed, opening_fields, first_line_at, first_line, line_on, line, with_crash, fields_after, replay_fields, ready_in, fields_when, step_reply_in, fields_after_step, crash_reply_in, fields_after_crash, reply_in, fields_after_call, replies_in, fields_after_calls}
+use Rattle.room_core.specs.Calls.{RoomState, configuration_of, opening_state, sweep_at, has_crashed, with_sweep, sweep_after, taken_by, moved, woken, reply_when, room_when, ready_at, step_reply, room_after_step, crash_reply, marked, room_after_crash, is_step, most_steps, room_kind, room_after_settle, Call, Step, Crash, Settle, Stepping, Crashing, reply_to, room_after_call, replies_to, room_after_calls}
+use Rattle.room_core.specs.Fields.{StepMap, Fields, changed, opening_fields, first_line_at, first_line, line_on, line, with_crash, fields_after, replay_fields, ready_in, fields_when, step_reply_in, fields_after_step, crash_reply_in, fields_after_crash, fields_kind, fields_after_settle, reply_in, fields_after_call, replies_in, fields_after_calls}
 use Rattle.room_core.specs.Reading.{worded, with_quiet, AreFieldsOf, Reads}
+use Rattle.room_core.proofs.Settling.{AreAlike, settled_alike, settled_keeps}
 use Rattle.room_core.proofs.Replays.{replay-snoc, legal-snoc, shapes}
 use Rattle.room_core.proofs.States.{mind_here, moved_data, woken_data, opening_data, sweep_count, has_line}
 use Rattle.room_core.proofs.Maps.{changed_here, changed_else}
@@ -330,18 +332,66 @@ same_spec_when room i ready.Step = refl
 same_spec_when room i ready.Idle = refl
 same_spec_when room i ready.OutOfTurns = refl
 
-pub same_spec : (room : RoomState) (call : Call) → (room_after_call room call).spec ≡ room.spec
-same_spec room (Step i) =
+pub same_spec_step : (room : RoomState) (i : ℕ) → (room_after_step room i).spec ≡ room.spec
+same_spec_step room i =
     let P : RoomState → Type 0 = λ r. r.spec ≡ room.spec in
     spec_of P (leb room.spec.simulators i) room (cond (has_crashed room i) room (room_when (ready_at room i) room i)) refl
     (spec_of P (has_crashed room i) room (room_when (ready_at room i) room i) refl (same_spec_when room i (ready_at room i)))
+
+pub same_spec : (room : RoomState) (call : Call) → (room_after_call room call).spec ≡ room.spec
+same_spec room (Step i) = same_spec_step room i
 same_spec room (Crash i) =
     let P : RoomState → Type 0 = λ r. r.spec ≡ room.spec in
     spec_of P (leb room.spec.simulators i) room (cond (has_crashed room i) room (marked room i)) refl (spec_of P (has_crashed room i) room (marked room i) refl refl)
+same_spec room Settle = settled_keeps room_kind (λ r. r.spec ≡ room.spec) (λ i r is. same_spec_step r i ∙ is) (λ i r is. is) room refl
+
+-- ---- settling
+
+-- a room of this spec, with its fields, of which something holds that each step and each waking keeps
+pub record IsSettling (P : Fields → Type 0) (spec : RoomSpec) (room : RoomState) (fields : Fields) : Type 0 where
+  pub same : room.spec ≡ spec
+  pub are : AreFieldsOf room fields
+  pub holds : P fields
+
+module _ (P : Fields → Type 0) (spec : RoomSpec) (limits : IsWithinLimits spec)
+    (steps_on : (room : RoomState) (fields : Fields) (i : ℕ) → room.spec ≡ spec → AreFieldsOf room fields → P fields → P (fields_after_step spec fields i))
+    (wakes : (fields : Fields) (quiet : ℕ → ℕ) → P fields → P (with_quiet fields quiet)) where
+  on_step : (room : RoomState) (fields : Fields) (i : ℕ) → IsSettling P spec room fields → IsSettling P spec (room_after_step room i) (fields_after_step spec fields i)
+  on_step room fields i is = record {
+    same = same_spec_step room i ∙ is.same;
+    are = subst (λ (s : RoomSpec). AreFieldsOf (room_after_step room i) (fields_after_step s fields i)) is.same (step_in_fields room fields i (subst IsWithinLimits (sym is.same) limits) is.are).1;
+    holds = steps_on room fields i is.same is.are is.holds;
+  }
+
+  settling : AreAlike room_kind (fields_kind spec) spec.simulators (IsSettling P spec)
+  settling = record {
+    count = λ room fields is. ap (λ (s : RoomSpec). s.simulators) is.same;
+    other_count = λ room fields is. refl;
+    most = λ room fields is. ap most_steps is.same;
+    crashed = λ room fields i below is. (fields_stand room fields (subst IsWithinLimits (sym is.same) limits) is.are).crashed i (subst (λ (s : RoomSpec). i < s.simulators) (sym is.same) below);
+    in_turn = λ room fields i below is. ap (λ (mind : MindState). not (is_resting mind.line)) (sym (mind_here room i) ∙ (fields_stand room fields (subst IsWithinLimits (sym is.same) limits) is.are).minds i (subst (λ (s : RoomSpec). i < s.simulators) (sym is.same) below));
+    has_step = λ room fields i below is. ap is_step (sym (same_ready room fields i (subst IsWithinLimits (sym is.same) limits) (subst (λ (s : RoomSpec). i < s.simulators) (sym is.same) below) is.are) ∙ ap (λ (s : RoomSpec). ready_in s fields i) is.same);
+    step = λ room fields i below is. on_step room fields i is;
+    wake = λ room fields i below is. record {
+      same = is.same;
+      are = woken_fields room fields i (subst IsWithinLimits (sym is.same) limits) (subst (λ (s : RoomSpec). i < s.simulators) (sym is.same) below) is.are;
+      holds = wakes fields (changed fields.quiet i 0) is.holds;
+    };
+  }
+
+  pub settle_by : (room : RoomState) (fields : Fields) → room.spec ≡ spec → AreFieldsOf room fields → P fields → IsSettling P spec (room_after_settle room) (fields_after_settle spec fields)
+  settle_by room fields same are holds = settled_alike room_kind (fields_kind spec) spec.simulators (IsSettling P spec) settling room fields (record { same = same; are = are; holds = holds })
+
+-- Settling makes fields of the room that it makes.
+pub settle_in_fields : (room : RoomState) (fields : Fields) → IsWithinLimits room.spec → AreFieldsOf room fields → AreFieldsOf (room_after_settle room) (fields_after_settle room.spec fields)
+settle_in_fields room fields limits are =
+    let is = settle_by (λ f. ⊤) room.spec limits (λ r f i same these holds. tt) (λ f quiet holds. tt) room fields refl are tt in
+    is.are
 
 pub call_in_fields : (room : RoomState) (fields : Fields) (call : Call) → IsWithinLimits room.spec → AreFieldsOf room fields → (reply_in room.spec fields call ≡ reply_to room call) × AreFieldsOf (room_after_call room call) (fields_after_call room.spec fields call)
 call_in_fields room fields (Step i) limits are = let both = step_in_fields room fields i limits are in (ap Stepping both.0, both.1)
 call_in_fields room fields (Crash i) limits are = let both = crash_in_fields room fields i limits are in (ap Crashing both.0, both.1)
+call_in_fields room fields Settle limits are = (refl, settle_in_fields room fields limits are)
 
 pub calls_in_fields : (room : RoomState) (fields : Fields) (calls : List Call) → IsWithinLimits room.spec → AreFieldsOf room fields → (replies_in room.spec fields calls ≡ replies_to room calls) × AreFieldsOf (room_after_calls room calls) (fields_after_calls room.spec fields calls)
 calls_in_fields room fields [] limits are = (refl, are)

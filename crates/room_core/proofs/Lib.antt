@@ -11,7 +11,9 @@ pub mod LineWords
 pub mod LineTracks
 pub mod FieldLines
 pub mod FieldReplays
+pub mod Settling
 pub mod FieldCalls
+pub mod Alone
 pub mod Decoding
 pub mod Prefixes
 pub mod Stages

@@ -1,5 +1,5 @@
 -- A room with its quiet counts, and what one call makes of it and answers.
-use Rattle.std.specs.Prelude.{ℕ, ◌<◌, Bool, true, false, List, [], ◌∷◌, map, replicate, slice_index_or, slice_set, nat_le, if◌then◌else◌}
+use Rattle.std.specs.Prelude.{ℕ, ◌*◌, ◌<◌, Bool, true, false, not, List, [], ◌∷◌, map, replicate, slice_index_or, slice_set, nat_le, if◌then◌else◌}
 use Rattle.std.specs.List.{range_with_len}
 use Rattle.room_spec.specs.Rooms.{RoomSpec}
 use Rattle.room_spec.specs.Sizes.{sizes_in}
@@ -7,11 +7,12 @@ use Rattle.view_table.specs.Places.{words_of}
 use Rattle.simulator.specs.Turns.{TakenOf}
 use Rattle.simulator.specs.Moves.{move_of, taken, words_after, answer_of}
 use Rattle.simulator.specs.Quiet.{IsQuietCount}
-use Rattle.simulator.specs.Sweeps.{SweepState, opening_sweep, ready_of, quiet_after}
+use Rattle.simulator.specs.Sweeps.{SweepState, is_resting, opening_sweep, ready_of, quiet_after}
 use Rattle.simulator.specs.declared.operation.Move.{Move}
 use Rattle.simulator.specs.declared.sweep.Ready.{Ready}
 use Rattle.simulator.specs.declared.sweep.Ready.TheVariants as ready
 use Rattle.room_core.specs.Rooms.{Configuration, IsRoom}
+use Rattle.room_core.specs.Settling.{KindOf, settled}
 use Rattle.room_core.specs.declared.reply.StepReply.{StepReply}
 use Rattle.room_core.specs.declared.reply.StepReply.TheVariants.{Stepped, Idle, OutOfTurns, Crashed, NoSimulator}
 use Rattle.room_core.specs.declared.reply.CrashReply.{CrashReply}
@@ -112,23 +113,52 @@ abbrev pub room_after_crash : RoomState → ℕ → RoomState
 room_after_crash room i =
     if nat_le room.spec.simulators i then room else if has_crashed room i then room else marked room i
 
+-- ---- settling
+
+abbrev pub is_step : Ready → Bool
+is_step ready.Step = true
+is_step ready.Idle = false
+is_step ready.OutOfTurns = false
+
+-- a turn has at most 26 atomic steps
+abbrev pub most_steps : RoomSpec → ℕ
+most_steps spec = 26 * spec.turns
+
+abbrev pub room_kind : KindOf RoomState
+room_kind = record {
+  count = λ room. room.spec.simulators;
+  most = λ room. most_steps room.spec;
+  has_crashed = has_crashed;
+  in_turn = λ room i. not (is_resting (sweep_at room i).mind.line);
+  has_step = λ room i. is_step (ready_at room i);
+  step = room_after_step;
+  wake = λ room i. with_sweep room i (woken (sweep_at room i));
+}
+
+abbrev pub room_after_settle : RoomState → RoomState
+room_after_settle room = settled room_kind room
+
 -- ---- lists of calls
 
 pub data Call : Type 0 where
   Step : (simulator : ℕ) → Call
   Crash : (simulator : ℕ) → Call
+  Settle : Call
 
 pub data Reply : Type 0 where
   Stepping : StepReply → Reply
   Crashing : CrashReply → Reply
+  Settled : Reply
 
 abbrev pub reply_to : RoomState → Call → Reply
 reply_to room (Step i) = Stepping (step_reply room i)
 reply_to room (Crash i) = Crashing (crash_reply room i)
+reply_to room Settle = Settled
 
 abbrev pub room_after_call : RoomState → Call → RoomState
 room_after_call room (Step i) = room_after_step room i
 room_after_call room (Crash i) = room_after_crash room i
+room_after_call room Settle = room_after_settle room
 
 abbrev pub replies_to : RoomState → List Call → List Reply
 replies_to room [] = []

@@ -1,6 +1,6 @@
 -- The fields of a room, as maps named by numbers, with no word, bit or index in them; the line that a simulator takes on
 -- them; and their replay over a list of calls, with its replies.
-use Rattle.std.specs.Prelude.{ℕ, ◌+◌, ◌-◌, Bool, true, false, List, [], ◌∷◌, length, map, Option, Some, None, nat_le, ◌==◌, if◌then◌else◌}
+use Rattle.std.specs.Prelude.{ℕ, ◌+◌, ◌-◌, Bool, true, false, not, List, [], ◌∷◌, length, map, Option, Some, None, nat_le, ◌==◌, if◌then◌else◌}
 use Rattle.std.specs.List.{range_with_len}
 use Rattle.room_spec.specs.Rooms.{RoomSpec}
 use Rattle.safe_agreement.specs.Levels.{has_level, resolved_of}
@@ -13,13 +13,14 @@ use Rattle.simulator.specs.declared.sweep.Ready.{Ready}
 use Rattle.simulator.specs.declared.sweep.Ready.TheVariants as ready
 use Rattle.simulator.specs.Minds.{MindOf, opening_mind_of, goal_at, current_round, next_process}
 use Rattle.simulator.specs.Turns.{TakenOf, counted, goes_on, snapped, asked, got_view, got_value, decided, opened}
-use Rattle.simulator.specs.Sweeps.{ready_of, quiet_after}
+use Rattle.simulator.specs.Sweeps.{is_resting, ready_of, quiet_after}
 use Rattle.room_core.specs.declared.reply.StepReply.{StepReply}
 use Rattle.room_core.specs.declared.reply.StepReply.TheVariants.{Crashed, NoSimulator}
 use Rattle.room_core.specs.declared.reply.CrashReply.{CrashReply}
 use Rattle.room_core.specs.declared.reply.CrashReply.TheVariants as crash_replies
 use Rattle.room_core.specs.Rooms.{ScheduleEvent, steps, crashes}
-use Rattle.room_core.specs.Calls.{Call, Step, Crash, Reply, Stepping, Crashing, reply_when}
+use Rattle.room_core.specs.Calls.{Call, Step, Crash, Settle, Reply, Stepping, Crashing, Settled, is_step, most_steps, reply_when}
+use Rattle.room_core.specs.Settling.{KindOf, settled}
 
 -- the step number of each simulator for each process: how often it has counted a write of the process
 abbrev pub StepMap : Type 0
@@ -167,15 +168,33 @@ crash_reply_in spec fields i =
 abbrev pub fields_after_crash : RoomSpec → Fields → ℕ → Fields
 fields_after_crash spec fields i = if nat_le spec.simulators i then fields else if fields.crashed i then fields else with_crash fields i
 
+-- ---- settling
+
+abbrev pub fields_kind : RoomSpec → KindOf Fields
+fields_kind spec = record {
+  count = λ fields. spec.simulators;
+  most = λ fields. most_steps spec;
+  has_crashed = λ fields i. fields.crashed i;
+  in_turn = λ fields i. not (is_resting (fields.mind i).line);
+  has_step = λ fields i. is_step (ready_in spec fields i);
+  step = fields_after_step spec;
+  wake = λ fields i. record fields { quiet = changed fields.quiet i 0 };
+}
+
+abbrev pub fields_after_settle : RoomSpec → Fields → Fields
+fields_after_settle spec fields = settled (fields_kind spec) fields
+
 -- ---- lists of calls
 
 abbrev pub reply_in : RoomSpec → Fields → Call → Reply
 reply_in spec fields (Step i) = Stepping (step_reply_in spec fields i)
 reply_in spec fields (Crash i) = Crashing (crash_reply_in spec fields i)
+reply_in spec fields Settle = Settled
 
 abbrev pub fields_after_call : RoomSpec → Fields → Call → Fields
 fields_after_call spec fields (Step i) = fields_after_step spec fields i
 fields_after_call spec fields (Crash i) = fields_after_crash spec fields i
+fields_after_call spec fields Settle = fields_after_settle spec fields
 
 abbrev pub replies_in : RoomSpec → Fields → List Call → List Reply
 replies_in spec fields [] = []

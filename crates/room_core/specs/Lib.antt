@@ -1,4 +1,5 @@
 pub mod Rooms
+pub mod Settling
 pub mod Calls
 pub mod Fields
 pub mod Reading

@@ -1,5 +1,5 @@
 //! Laws of rooms, for a crate that runs one over shared words. Each is what its function ensures.
-ghost use Rattle.std.specs.Prelude.{ℕ, ◌≡◌, ◌≢◌, ◌⊎◌, ◌+◌, ◌<◌, ◌≤◌, true, List, Some};
+ghost use Rattle.std.specs.Prelude.{false, ℕ, ◌≡◌, ◌≢◌, ◌⊎◌, ◌+◌, ◌*◌, ◌<◌, ◌≤◌, true, List, Some};
 ghost use Rattle.room_spec.specs.Rooms.{RoomSpec, IsWithinLimits, processes};
 ghost use Rattle.safe_agreement.specs.Levels.{IsClean, least_two};
 ghost use Rattle.sim_memory.specs.Steps.{IsRowAtMost, row_of};
@@ -11,7 +11,8 @@ ghost use Rattle.simulator.specs.Minds.{goal_at};
 ghost use Rattle.simulator.specs.declared.goal.Goal.TheVariants.{Spent};
 ghost use Rattle.room_core.specs.Moments.{IsMoment};
 ghost use Rattle.room_core.specs.Agreements.{AgreementsStay, IsFixedAt, IsInsideTurn};
-ghost use Rattle.room_core.specs.Calls.{Call, RoomState, replies_to, room_after_calls};
+ghost use Rattle.room_core.specs.Settling.{steps_while};
+ghost use Rattle.room_core.specs.Calls.{Call, RoomState, configuration_of, has_crashed, most_steps, replies_to, room_after_calls, room_after_step, room_kind, sweep_at};
 ghost use Rattle.room_core.specs.Fields.{Fields, levels_at, entry_of_steps, fields_after_call, fields_after_calls, opening_fields, replay_fields, replies_in};
 ghost use Rattle.room_spec.specs.Sizes.{sizes_in};
 ghost use Rattle.room_core.specs.Reading.{AgreeIn, AreFieldsOf, Reads, fields_in};
@@ -82,6 +83,15 @@ pub fn all_before_are_passed()
 /// Over every call what has been agreed on, and what has been decided, stays.
 pub fn agreements_stay()
     ensures { (room : RoomState) (fields : Fields) (call : Call) → IsWithinLimits room.spec → AreFieldsOf room fields → AgreementsStay room.spec fields (fields_after_call room.spec fields call) }
+{}
+
+/// While nobody else steps, a simulator that hasn't crashed comes to the end of its open turn, and
+/// where it goes on to an end, idle or out of turns, within `(n * rounds + 1) * n` turns. So the
+/// number of steps at which settling gives up is never reached.
+pub fn runs_end()
+    ensures turn { (room : RoomState) (i : ℕ) → IsWithinLimits room.spec → IsOneInterleaving (configuration_of room) → i < room.spec.simulators → has_crashed room i ≡ false → room_kind.in_turn (steps_while room_after_step room_kind.in_turn (most_steps room.spec) room i) i ≡ false }
+    ensures alone { (room : RoomState) (i : ℕ) → IsWithinLimits room.spec → IsOneInterleaving (configuration_of room) → i < room.spec.simulators → has_crashed room i ≡ false → room_kind.has_step (steps_while room_after_step room_kind.has_step (most_steps room.spec) room i) i ≡ false }
+    ensures turns { (room : RoomState) (i most : ℕ) → IsWithinLimits room.spec → IsOneInterleaving (configuration_of room) → i < room.spec.simulators → has_crashed room i ≡ false → (sweep_at (steps_while room_after_step room_kind.has_step most room i) i).mind.turns ≤ (sweep_at room i).mind.turns + (processes room.spec * room.spec.rounds + 1) * processes room.spec }
 {}
 
 /// An agreement that was left, and in which nobody is at level 1, is clean: only a simulator that

@@ -1,6 +1,7 @@
 //! A room.
 ghost use Rattle.std.specs.Prelude.{ℕ, ◌≡◌, ◌<◌, ◌≤◌, false, length, map, replicate, slice_index, IfOk};
 ghost use Rattle.std.specs.List.{range_with_len};
+ghost use Rattle.room_spec.specs.Rooms.{IsWithinLimits};
 ghost use Rattle.room_spec.specs.Sizes.{sizes_in};
 ghost use Rattle.view_table.specs.Places.{words_of};
 ghost use Rattle.simulator.specs.Minds.{goal_at};
@@ -10,10 +11,11 @@ ghost use Rattle.simulator.specs.Ranges.{IsMind};
 ghost use Rattle.simulator.specs.Sweeps.{opening_sweep};
 ghost use Rattle.room_core.specs.declared.reply.StepReply.TheVariants as replies;
 ghost use Rattle.room_core.specs.Rooms.{HasLine, IsAlive, IsOneInterleaving, IsRoom};
-ghost use Rattle.room_core.specs.Fields.{Fields, crash_reply_in, fields_after_crash, fields_after_step, opening_fields, step_reply_in};
+ghost use Rattle.room_core.specs.Fields.{Fields, crash_reply_in, fields_after_crash, fields_after_settle, fields_after_step, opening_fields, step_reply_in};
 ghost use Rattle.room_core.specs.Agreements.{AgreementsStay};
 ghost use Rattle.room_core.specs.Reading.{AreFieldsOf, Reads};
-ghost use Rattle.room_core.specs.Calls.{CountsQuietTurns, crash_reply, configuration_of, has_crashed, marked, moved, opening_state, operation_at, ready_at, room_after_crash, room_after_step, step_reply, sweep_after, sweep_at, with_sweep, woken};
+ghost use Rattle.room_core.specs.Calls.{CountsQuietTurns, crash_reply, configuration_of, has_crashed, marked, moved, opening_state, operation_at, ready_at, room_after_crash, room_after_settle, room_after_step, room_kind, step_reply, sweep_after, sweep_at, with_sweep, woken};
+ghost use Rattle.room_core.specs.Settling.{each_in_order, ran_alone, turn_ended};
 
 use crate::reply::{CrashReply, StepReply};
 use arrayvec::ArrayVec;
@@ -167,6 +169,62 @@ impl RoomCore {
         }
         self.mark(i);
         CrashReply::Crashed
+    }
+
+    /// Ends the open turn of each simulator that hasn't crashed, in order of number; then lets each of
+    /// them, in order of number, run alone until it is idle or out of turns, with its quiet turns
+    /// counted anew. It takes no memory.
+    pub fn settle(&mut self)
+        ensures room { self.new ≡ room_after_settle self.old }
+        // In its fields it is one call of the replay.
+        ensures fields { (fields : Fields) → AreFieldsOf self.old fields → AreFieldsOf self.new (fields_after_settle self.old.spec fields) }
+        // What was agreed on stays.
+        ensures agreement { (fields : Fields) → AreFieldsOf self.old fields → AgreementsStay self.old.spec fields (fields_after_settle self.old.spec fields) }
+    {
+        self.finish_turns();
+        self.run_each();
+    }
+
+    fn finish_turns(&mut self)
+        ensures ended { self.new ≡ each_in_order room_kind (turn_ended room_kind) self.old }
+        ensures limits { IsWithinLimits self.old.spec }
+    {
+        for i in 0..self.spec.m() {
+            self.finish_turn(i);
+        }
+    }
+
+    fn run_each(&mut self)
+        ensures { self.new ≡ each_in_order room_kind (ran_alone room_kind) self.old }
+    {
+        for i in 0..self.spec.m() {
+            self.run_alone(i);
+        }
+    }
+
+    /// Lets simulator `i` end its open turn, if it has one and hasn't crashed.
+    fn finish_turn(&mut self, i: usize)
+        requires { i < self.old.spec.simulators }
+        ensures { self.new ≡ turn_ended room_kind self.old i }
+    {
+        if self.crashed[i] {
+            return;
+        }
+        while !self.mind(i).resting() {
+            self.step(i);
+        }
+    }
+
+    /// Lets simulator `i` run until it is idle or out of turns, if it hasn't crashed.
+    fn run_alone(&mut self, i: usize)
+        requires { i < self.old.spec.simulators }
+        ensures { self.new ≡ ran_alone room_kind self.old i }
+    {
+        if self.crashed[i] {
+            return;
+        }
+        self.wake(i); // Others may have come further since it asked.
+        while self.step(i) == StepReply::Stepped {}
     }
 
     fn ready(&self, i: usize) -> Ready

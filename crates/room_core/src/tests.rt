@@ -6,6 +6,9 @@ use view_table::words;
 const PAIR: &str =
     "bgsim 1\nroom pair\ninputs 7 3\nsimulators 2\nrounds 1\nturns 100\nprotocol\nfirst input;\nelse decide min;\nend\n";
 
+const PAIR_WITH_ONE_TURN: &str =
+    "bgsim 1\nroom pair\ninputs 7 3\nsimulators 2\nrounds 1\nturns 1\nprotocol\nfirst input;\nelse decide min;\nend\n";
+
 const ONE: &str =
     "bgsim 1\nroom one\ninputs 5\nsimulators 1\nrounds 1\nturns 10\nprotocol\nfirst input;\nelse decide mine;\nend\n";
 
@@ -120,9 +123,7 @@ fn a_process_that_asks_for_one_write_more(rt: HostRuntime) -> Result<(), Fail> {
 
 #[test]
 fn out_of_turns_and_then_nothing(rt: HostRuntime) -> Result<(), Fail> {
-    let text =
-        "bgsim 1\nroom pair\ninputs 7 3\nsimulators 2\nrounds 1\nturns 1\nprotocol\nfirst input;\nelse decide min;\nend\n";
-    let mut room = room(&rt, text)?;
+    let mut room = room(&rt, PAIR_WITH_ONE_TURN)?;
     assert_eq!(rt; run(&mut room, 0, 100), (11, StepReply::OutOfTurns));
     assert_eq!(rt; run(&mut room, 0, 100), (0, StepReply::OutOfTurns));
     Ok(())
@@ -142,6 +143,75 @@ fn nobody_left(rt: HostRuntime) -> Result<(), Fail> {
 }
 
 #[test]
+fn settled_after_an_open_turn(rt: HostRuntime) -> Result<(), Fail> {
+    let mut room = room(&rt, PAIR)?;
+    assert_eq!(rt; run(&mut room, 1, 5), (5, StepReply::Stepped));
+    room.settle();
+    // Simulator 1 has left its agreement before simulator 0 comes to it.
+    assert_eq!(rt; word_at(&room, 1), Some(2));
+    assert_eq!(rt; word_at(&room, 2), Some(8));
+    assert_eq!(rt; taken_by(&room, 0), Some(23));
+    assert_eq!(rt; taken_by(&room, 1), Some(23));
+    assert_eq!(rt; room.step(0), StepReply::Idle);
+    assert_eq!(rt; room.step(1), StepReply::Idle);
+    Ok(())
+}
+
+#[test]
+fn settled_after_a_crash(rt: HostRuntime) -> Result<(), Fail> {
+    let mut room = room(&rt, PAIR)?;
+    assert_eq!(rt; run(&mut room, 0, 5), (5, StepReply::Stepped));
+    assert_eq!(rt; room.crash(0), CrashReply::Crashed);
+    assert_eq!(rt; run(&mut room, 1, 20), (20, StepReply::Stepped));
+    // It has asked in vain for the one process that is left, and asks for it again.
+    room.settle();
+    assert_eq!(rt; taken_by(&room, 0), Some(5));
+    assert_eq!(rt; taken_by(&room, 1), Some(21));
+    assert_eq!(rt; run(&mut room, 1, 100), (1, StepReply::Idle));
+    Ok(())
+}
+
+#[test]
+fn settled_with_one_turn_each(rt: HostRuntime) -> Result<(), Fail> {
+    let mut room = room(&rt, PAIR_WITH_ONE_TURN)?;
+    assert_eq!(rt; run(&mut room, 0, 100), (11, StepReply::OutOfTurns));
+    room.settle();
+    assert_eq!(rt; taken_by(&room, 0), Some(11));
+    assert_eq!(rt; taken_by(&room, 1), Some(12));
+    // Each has stored the decision of one process.
+    assert_eq!(rt; word_at(&room, 1), Some(2));
+    assert_eq!(rt; word_at(&room, 2), Some(8));
+    assert_eq!(rt; room.step(1), StepReply::OutOfTurns);
+    Ok(())
+}
+
+#[test]
+fn settled_with_a_crash_and_one_turn(rt: HostRuntime) -> Result<(), Fail> {
+    let mut room = room(&rt, PAIR_WITH_ONE_TURN)?;
+    assert_eq!(rt; run(&mut room, 0, 5), (5, StepReply::Stepped));
+    assert_eq!(rt; room.crash(0), CrashReply::Crashed);
+    room.settle();
+    assert_eq!(rt; taken_by(&room, 0), Some(5));
+    assert_eq!(rt; taken_by(&room, 1), Some(12));
+    assert_eq!(rt; word_at(&room, 1), Some(1));
+    assert_eq!(rt; word_at(&room, 2), Some(8));
+    Ok(())
+}
+
+#[test]
+fn settled_with_nobody_left(rt: HostRuntime) -> Result<(), Fail> {
+    let mut room = room(&rt, PAIR)?;
+    assert_eq!(rt; room.crash(0), CrashReply::Crashed);
+    assert_eq!(rt; room.crash(1), CrashReply::Crashed);
+    room.settle();
+    for i in 0..2 {
+        assert_eq!(rt; taken_by(&room, i), Some(0));
+        assert_eq!(rt; room.step(i), StepReply::Crashed);
+    }
+    Ok(())
+}
+
+#[test]
 fn whole_word(rt: HostRuntime) -> Result<(), Fail> {
     let mut room = room(&rt, FULL)?;
     for i in 0..4 {
@@ -149,6 +219,15 @@ fn whole_word(rt: HostRuntime) -> Result<(), Fail> {
     }
     assert_eq!(rt; word_at(&room, 0), Some(u64::MAX));
     Ok(())
+}
+
+/// How many atomic steps simulator `i` has taken, where there is one.
+fn taken_by(room: &RoomCore, i: usize) -> Option<u64> {
+    if i < room.spec().m() {
+        Some(room.mind(i).steps_taken())
+    } else {
+        None
+    }
 }
 
 /// The word at this index, where there is one.

@@ -5,4 +5,5 @@ pub mod Keeping
 pub mod Stepping
 pub mod Asking
 pub mod Counting
+pub mod Bounding
 mod Worked

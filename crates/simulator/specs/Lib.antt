@@ -4,3 +4,4 @@ pub mod Moves
 pub mod Ranges
 pub mod Sweeps
 pub mod Quiet
+pub mod Bounds

@@ -3,18 +3,19 @@
 //!
 //! They speak of a mind as data, of the move that it wants, and of the mind that the move's answer
 //! makes.
-ghost use Rattle.std.specs.Prelude.{◌≡◌, ◌≢◌, ◌↔◌, ℕ, ◌+◌, ◌<◌, ◌≤◌, true, false};
+ghost use Rattle.std.specs.Prelude.{◌≡◌, ◌≢◌, ◌↔◌, ℕ, ◌+◌, ◌*◌, ◌<◌, ◌≤◌, true, false, List};
 ghost use Rattle.room_spec.specs.Rooms.{RoomSpec, IsWithinLimits, processes};
 ghost use Rattle.room_spec.specs.Sizes.{sizes_in};
 ghost use Rattle.view_table.specs.Places.{words_of};
 ghost use Rattle.simulator.specs.declared.operation.Move.TheVariants as moves;
 ghost use Rattle.simulator.specs.declared.sweep.Ready.TheVariants as answers;
 ghost use Rattle.simulator.specs.declared.turn.Turn.TheVariants.{Still};
+ghost use Rattle.simulator.specs.Bounds.{IsReadyThroughout, answered_all};
 ghost use Rattle.simulator.specs.Minds.{MindState, goal_at, opening_mind, unfinished_in};
 ghost use Rattle.simulator.specs.Moves.{IsOperation, IsWithin, move_of, taken};
 ghost use Rattle.simulator.specs.Quiet.{HasNoWrite, IsQuietCount};
 ghost use Rattle.simulator.specs.Ranges.{IsMind};
-ghost use Rattle.simulator.specs.Sweeps.{is_resting, opening_sweep, quiet_after, ready_of};
+ghost use Rattle.simulator.specs.Sweeps.{SweepState, is_resting, opening_sweep, quiet_after, ready_of};
 
 /// Every simulator of a room begins with a mind.
 pub fn minds_open()
@@ -69,4 +70,11 @@ pub fn quiet_counts_stay()
 /// Whoever is idle has no write left to make: each process stands at an ask, or is done or spent.
 pub fn idle_waits()
     ensures { (spec : RoomSpec) (mind : MindState) (quiet : ℕ) → IsQuietCount mind quiet → ready_of spec mind quiet ≡ answers.Idle → (process : ℕ) → HasNoWrite (goal_at mind.goals process) }
+{}
+
+/// A simulator that is ready for step after step begins at most `(n * rounds + 1) * n` turns,
+/// whatever it is answered: each useful turn takes one of the n processes through one of its rounds,
+/// and between two useful ones there are fewer turns than unfinished processes.
+pub fn turns_are_bounded()
+    ensures { (spec : RoomSpec) (sweep : SweepState) (answers : List ℕ) → IsMind spec sweep.mind → IsReadyThroughout spec sweep answers → (answered_all spec sweep answers).mind.turns ≤ sweep.mind.turns + (processes spec * spec.rounds + 1) * processes spec }
 {}

@@ -1,0 +1,17 @@
+use Rattle.std.proofs.Common.{◌≡◌, ◌∙◌, ap, sym, subst}
+use Rattle.room_core.specs.Calls.{RoomState, Settle, room_kind, room_after_settle}
+use Rattle.room_core.specs.Fields.{fields_after_settle}
+use Rattle.room_core.specs.Reading.{AreFieldsOf}
+use Rattle.room_core.specs.Settling.{each_in_order, ran_alone}
+use Rattle.room_core.proofs.FieldCalls.{settle_in_fields}
+use Rattle.room_core.proofs.Lasting.{agreements_stay}
+use Rattle.room_core.proofs.room.RoomCore.settle.Goals as goal
+
+pub returns-clause-fields : goal.returns-clause-fields
+returns-clause-fields c = λ fields are.
+    let room : RoomState = c.args.self.now in
+    let left : c.run_each.new.self ≡ room_after_settle room = c.run_each.ensures ∙ ap (each_in_order room_kind (ran_alone room_kind)) c.finish_turns.ensures.ended in
+    subst (λ (r : RoomState). AreFieldsOf r (fields_after_settle room.spec fields)) (sym left) (settle_in_fields room fields c.finish_turns.ensures.limits are)
+
+pub returns-clause-agreement : goal.returns-clause-agreement
+returns-clause-agreement c = λ fields are. agreements_stay c.args.self.now fields Settle c.finish_turns.ensures.limits are

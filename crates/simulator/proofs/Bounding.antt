@@ -1,0 +1,234 @@
+-- How many turns a simulator takes before it is idle: each useful one takes a process through one of its rounds, and of those
+-- between two useful ones there are fewer than unfinished processes.
+use Rattle.std.proofs.Common.{◌≡◌, ℕ, zero, suc, ◌+◌, ◌-◌, ◌*◌, ◌<◌, ◌≤◌, min, Bool, true, false, cond, leb, ltb, List, [], ◌∷◌, ◌++◌, length, set, Option, Some, None, refl, sym, ap, ◌∙◌, subst, arith}
+use Rattle.std.proofs.Math.Nat.{suc-mul}
+use Rattle.std.proofs.lemmas.Bool.{leb-false, ltb-true}
+use Rattle.std.proofs.lemmas.Nat.{mul-le}
+use Rattle.protocol_lang.specs.declared.meaning.Action.{Action}
+use Rattle.protocol_lang.specs.declared.meaning.Action.TheVariants as actions
+use Rattle.protocol_lang.specs.Meaning.{next_action}
+use Rattle.protocol_lang.specs.Numbers.{greatest}
+use Rattle.std.specs.Prelude.{slice_index}
+use Rattle.safe_agreement.specs.Levels.{has_level}
+use Rattle.level_cells.specs.Fields.{levels_of}
+use Rattle.room_spec.specs.Rooms.{RoomSpec, processes}
+use Rattle.simulator.specs.declared.goal.Goal.{Goal}
+use Rattle.simulator.specs.declared.goal.Goal.TheVariants as goals
+use Rattle.simulator.specs.declared.line.Line.{Line}
+use Rattle.simulator.specs.declared.line.Line.TheVariants.{Rest, Raise, Snap, Show, Enter, Look, Leave, Ask, GetView, Values, Out}
+use Rattle.simulator.specs.declared.sweep.Ready.TheVariants as ready
+use Rattle.simulator.specs.declared.turn.Turn.TheVariants.{Useful, Quiet}
+use Rattle.simulator.specs.Bounds.{answered, answered_all, IsReadyThroughout}
+use Rattle.simulator.specs.Minds.{MindOf, MindState, is_unfinished, goal_at, current_goal, current_round, round_of, next_process, unfinished_in}
+use Rattle.simulator.specs.Moves.{entry_in, chosen_in, taken_at, taken}
+use Rattle.simulator.specs.Ranges.{IsGoal, IsOpenAt, IsMind}
+use Rattle.simulator.specs.Sweeps.{SweepState, is_resting, ready_of, quiet_after}
+use Rattle.simulator.specs.Turns.{TakenOf, counted, begun, goes_on, ended, asked, after_write, acted, padded, gathered_all, gathered, opened_at, opened}
+use Rattle.simulator.proofs.Keeping.{kept}
+use Rattle.simulator.proofs.Processes.{next_is_left, none_next}
+use Rattle.simulator.proofs.Ranging.{round_range}
+use Rattle.simulator.proofs.Stepping.{moves}
+
+-- ---- the rounds that are left
+
+abbrev pub rounds_left : ℕ → Goal → ℕ
+rounds_left rounds (goals.Write round value) = suc rounds - round
+rounds_left rounds (goals.Ask round) = suc rounds - round
+rounds_left rounds goals.Done = 0
+rounds_left rounds goals.Spent = 0
+
+abbrev pub all_left : ℕ → List Goal → ℕ
+all_left rounds [] = 0
+all_left rounds (goal ∷ list) = rounds_left rounds goal + all_left rounds list
+
+left_open : (rounds : ℕ) (goal : Goal) → is_unfinished goal ≡ true → rounds_left rounds goal ≡ suc rounds - round_of goal
+left_open rounds (goals.Write round value) is = refl
+left_open rounds (goals.Ask round) is = refl
+left_open rounds goals.Done is = absurd cc
+left_open rounds goals.Spent is = absurd cc
+
+left_most : (rounds : ℕ) (goal : Goal) → IsGoal rounds goal → rounds_left rounds goal ≤ rounds
+left_most rounds (goals.Write round value) is = omega (arith, is.0)
+left_most rounds (goals.Ask round) is = omega (arith, is.0)
+left_most rounds goals.Done is = omega arith
+left_most rounds goals.Spent is = omega arith
+
+all_most : (rounds : ℕ) (list : List Goal) → ((process : ℕ) → process < length list → IsGoal rounds (goal_at list process)) → all_left rounds list ≤ length list * rounds
+all_most rounds [] each = omega arith
+all_most rounds (goal ∷ list) each =
+    let here = left_most rounds goal (each 0 (omega arith)) in
+    let more = all_most rounds list (λ process below. each (suc process) (omega arith)) in
+    let split : suc (length list) * rounds ≡ length list * rounds + rounds = suc-mul (length list) rounds in
+    omega (arith, here, more, split)
+
+left_set : (rounds : ℕ) (list : List Goal) (place : ℕ) (goal : Goal) → place < length list → all_left rounds (set list place goal) + rounds_left rounds (goal_at list place) ≡ all_left rounds list + rounds_left rounds goal
+left_set rounds [] place goal below = absurd (omega arith)
+left_set rounds (first ∷ list) zero goal below = omega arith
+left_set rounds (first ∷ list) (suc place) goal below = omega (arith, left_set rounds list place goal (omega arith))
+
+fewer_unfinished : (list : List Goal) → unfinished_in list ≤ length list
+fewer_unfinished [] = omega arith
+fewer_unfinished (goals.Write round value ∷ list) = omega (arith, fewer_unfinished list)
+fewer_unfinished (goals.Ask round ∷ list) = omega (arith, fewer_unfinished list)
+fewer_unfinished (goals.Done ∷ list) = omega (arith, fewer_unfinished list)
+fewer_unfinished (goals.Spent ∷ list) = omega (arith, fewer_unfinished list)
+
+-- ---- what is left of the turns
+
+abbrev open_turns : Line → ℕ
+open_turns Rest = 0
+open_turns line = 1
+
+-- the turns that it has begun, and those that it may still begin
+pub total : {S : Type 0} → ℕ → ℕ → MindOf S → ℕ → ℕ
+total n rounds mind quiet = mind.turns + (all_left rounds mind.goals * n + (n - (quiet + open_turns mind.line)))
+
+abbrev total_after : {S : Type 0} → ℕ → ℕ → TakenOf S → ℕ → ℕ
+total_after n rounds after quiet = total n rounds after.mind (quiet_after after.turn quiet)
+
+-- an open turn, or one that begins, on a process and a round of the room
+record IsTurning {S : Type 0} (n rounds : ℕ) (mind : MindOf S) : Type 0 where
+  few : n ≤ 16
+  place : mind.sweep < length mind.goals
+  left : is_unfinished (current_goal mind) ≡ true
+  last : current_round mind ≤ rounds
+
+abbrev Allowed : {S : Type 0} → ℕ → ℕ → MindOf S → ℕ → ℕ
+Allowed n rounds mind quiet = mind.turns + (all_left rounds mind.goals * n + (n - (quiet + 1)))
+
+on_line : {S : Type 0} (n rounds : ℕ) (line : Line) (mind : MindOf S) (quiet : ℕ) → open_turns line ≡ 1 → total_after n rounds (goes_on line mind) quiet ≤ Allowed n rounds mind quiet
+unfolding total
+on_line n rounds line mind quiet is = omega (arith, is)
+
+useful : {S : Type 0} (n rounds : ℕ) (goal : Goal) (mind : MindOf S) (quiet : ℕ) → IsTurning n rounds mind → rounds_left rounds goal < rounds_left rounds (current_goal mind) → total_after n rounds (ended Useful goal mind) quiet ≤ Allowed n rounds mind quiet
+unfolding total
+useful n rounds goal mind quiet is less =
+    let set = left_set rounds mind.goals mind.sweep goal is.place in
+    let after = all_left rounds (ended Useful goal mind).mind.goals in
+    let fewer : suc after ≤ all_left rounds mind.goals = omega (arith, set, less) in
+    let product = mul-le (suc after) n (all_left rounds mind.goals) n fewer (omega arith) in
+    omega (arith, product, suc-mul after n)
+
+quiet_turn : {S : Type 0} (n rounds : ℕ) (mind : MindOf S) (quiet : ℕ) → IsTurning n rounds mind → total_after n rounds (ended Quiet (goals.Ask (current_round mind)) mind) quiet ≤ Allowed n rounds mind quiet
+unfolding total
+quiet_turn n rounds mind quiet is =
+    let set = left_set rounds mind.goals mind.sweep (goals.Ask (current_round mind)) is.place in
+    let was = left_open rounds (current_goal mind) is.left in
+    let after = all_left rounds (ended Quiet (goals.Ask (current_round mind)) mind).mind.goals in
+    let same : after ≡ all_left rounds mind.goals = omega (arith, set, was) in
+    omega (arith, ap (λ (x : ℕ). x * n) same, is.few)
+
+on_asked : {S : Type 0} (n rounds : ℕ) (chosen : Option ℕ) (mind : MindOf S) (quiet : ℕ) → IsTurning n rounds mind → total_after n rounds (asked chosen mind) quiet ≤ Allowed n rounds mind quiet
+on_asked n rounds None mind quiet is = quiet_turn n rounds mind quiet is
+on_asked n rounds (Some chosen) mind quiet is = on_line n rounds (GetView chosen) mind quiet refl
+
+goes_further : (b : Bool) (rounds round value : ℕ) → ltb round rounds ≡ b → round ≤ rounds → rounds_left rounds (cond b (goals.Write (round + 1) value) goals.Spent) < suc rounds - round
+goes_further true rounds round value is last = let less = ltb-true round rounds is in omega arith
+goes_further false rounds round value is last = omega arith
+
+on_acted : {S : Type 0} (spec : RoomSpec) (action : Action) (mind : MindOf S) (quiet : ℕ) → IsTurning (processes spec) spec.rounds mind → total_after (processes spec) spec.rounds (acted spec action mind) quiet ≤ Allowed (processes spec) spec.rounds mind quiet
+on_acted spec (actions.Write value) mind quiet is =
+    let further = goes_further _ spec.rounds (current_round mind) value refl is.last in
+    let was = left_open spec.rounds (current_goal mind) is.left in
+    useful (processes spec) spec.rounds (after_write spec.rounds (current_round mind) value) mind quiet is (omega (arith, further, was))
+on_acted spec (actions.Decide decision) mind quiet is = on_line (processes spec) spec.rounds (Out decision) mind quiet refl
+
+on_test : {S : Type 0} (n rounds quiet most : ℕ) (b : Bool) (one other : TakenOf S) → total_after n rounds one quiet ≤ most → total_after n rounds other quiet ≤ most → total_after n rounds (cond b one other) quiet ≤ most
+on_test n rounds quiet most true one other is that = is
+on_test n rounds quiet most false one other is that = that
+
+on_gathered_all : {S : Type 0} (spec : RoomSpec) (mind : MindOf S) (quiet : ℕ) → IsTurning (processes spec) spec.rounds mind → total_after (processes spec) spec.rounds (gathered_all spec mind) quiet ≤ Allowed (processes spec) spec.rounds mind quiet
+on_gathered_all spec mind quiet is =
+    let action = next_action spec.protocol (slice_index spec.inputs mind.sweep) mind.sweep (current_round mind) mind.entries in
+    on_test (processes spec) spec.rounds quiet (Allowed (processes spec) spec.rounds mind quiet) (ltb (length mind.entries) (processes spec)) (goes_on Values mind) (acted spec action mind)
+    (on_line (processes spec) spec.rounds Values mind quiet refl) (on_acted spec action mind quiet is)
+
+on_gathered : {S : Type 0} (row : ℕ → ℕ) (spec : RoomSpec) (entries : List (Option ℕ)) (mind : MindOf S) (quiet : ℕ) → IsTurning (processes spec) spec.rounds mind → total_after (processes spec) spec.rounds (gathered row spec entries mind) quiet ≤ Allowed (processes spec) spec.rounds mind quiet
+on_gathered row spec entries mind quiet is =
+    on_gathered_all spec (record mind { entries = padded row (processes spec - length entries) entries }) quiet (record { few = is.few; place = is.place; left = is.left; last = is.last })
+
+on_opened_at : {S : Type 0} (n rounds : ℕ) (goal : Goal) (chosen : Option ℕ) (mind : MindOf S) (quiet : ℕ) → current_goal mind ≡ goal → IsTurning n rounds mind → total_after n rounds (opened_at goal chosen mind) quiet ≤ Allowed n rounds mind quiet
+on_opened_at n rounds (goals.Write round value) chosen mind quiet has is = on_line n rounds Raise mind quiet refl
+on_opened_at n rounds (goals.Ask round) chosen mind quiet has is = on_asked n rounds chosen mind quiet is
+on_opened_at n rounds goals.Done chosen mind quiet has is = absurd (let other = sym is.left ∙ ap is_unfinished has in cc)
+on_opened_at n rounds goals.Spent chosen mind quiet has is = absurd (let other = sym is.left ∙ ap is_unfinished has in cc)
+
+-- ---- each step
+
+enough_by : (rests enough has_turns : Bool) → rests ≡ true → cond rests (cond enough ready.Idle (cond has_turns ready.Step ready.OutOfTurns)) ready.Step ≡ ready.Step → enough ≡ false
+enough_by true true has_turns rest is = absurd cc
+enough_by true false has_turns rest is = refl
+enough_by false enough has_turns rest is = absurd cc
+
+on_opened : (spec : RoomSpec) (next : Option ℕ) (mind : MindState) (answer quiet : ℕ) → IsMind spec mind → next_process mind.goals mind.sweep ≡ next → quiet < unfinished_in mind.goals
+    → total_after (processes spec) spec.rounds (opened next (chosen_in spec answer) (counted mind)) quiet ≤ mind.turns + (all_left spec.rounds mind.goals * processes spec + (processes spec - (quiet + 0)))
+on_opened spec None mind answer quiet is found busy = absurd (omega (arith, none_next mind.goals mind.sweep found, busy))
+on_opened spec (Some process) mind answer quiet is found busy =
+    let n = is.limits.shape.n_range in
+    let next = next_is_left mind.goals mind.sweep process (omega (arith, is.sweep, is.goals)) found in
+    let range = round_range spec.rounds (goal_at mind.goals process) (is.rounds process (omega (arith, next.below, is.goals))) next.unfinished in
+    let opens = on_opened_at (processes spec) spec.rounds (goal_at mind.goals process) (chosen_in spec answer) (begun process (counted mind)) quiet refl
+    (record { few = n.1; place = next.below; left = next.unfinished; last = range.1 }) in
+    omega (arith, opens, fewer_unfinished mind.goals, is.goals, busy)
+
+turning : (spec : RoomSpec) (mind : MindState) → IsMind spec mind → is_unfinished (current_goal mind) ≡ true → IsTurning (processes spec) spec.rounds (counted mind)
+turning spec mind is left =
+    let n = is.limits.shape.n_range in
+    let range = round_range spec.rounds (current_goal mind) (is.rounds mind.sweep is.sweep) left in
+    record { few = n.1; place = omega (arith, is.sweep, is.goals); left = left; last = range.1 }
+
+at_line : (line : Line) (spec : RoomSpec) (mind : MindState) (answer quiet : ℕ) → IsMind spec mind → IsOpenAt line spec mind → (is_resting line ≡ true → quiet < unfinished_in mind.goals)
+    → total_after (processes spec) spec.rounds (taken_at line spec (counted mind) answer) quiet ≤ mind.turns + (all_left spec.rounds mind.goals * processes spec + (processes spec - (quiet + open_turns line)))
+at_line Rest spec mind answer quiet is at busy = on_opened spec (next_process mind.goals mind.sweep) mind answer quiet is refl (busy refl)
+at_line Raise spec mind answer quiet is at busy = on_line (processes spec) spec.rounds Snap (counted mind) quiet refl
+at_line Snap spec mind answer quiet is at busy = on_line (processes spec) spec.rounds Show (record (counted mind) { snapshot = answer }) quiet refl
+at_line Show spec mind answer quiet is at busy = on_line (processes spec) spec.rounds Enter (counted mind) quiet refl
+at_line Enter spec mind answer quiet is at busy = on_line (processes spec) spec.rounds Look (counted mind) quiet refl
+at_line Look spec mind answer quiet is at busy = on_line (processes spec) spec.rounds (Leave (has_level 2 (levels_of answer spec.simulators))) (counted mind) quiet refl
+at_line (Leave saw_two) spec mind answer quiet is at busy = on_line (processes spec) spec.rounds Ask (counted mind) quiet refl
+at_line Ask spec mind answer quiet is at busy = on_asked (processes spec) spec.rounds (chosen_in spec answer) (counted mind) quiet (turning spec mind is at)
+at_line (GetView chosen) spec mind answer quiet is at busy =
+    let turn = turning spec mind is at.0 in
+    on_gathered (entry_in spec answer) spec [] (record (counted mind) { snapshot = answer }) quiet (record { few = turn.few; place = turn.place; left = turn.left; last = turn.last })
+at_line Values spec mind answer quiet is at busy = on_gathered (entry_in spec mind.snapshot) spec (mind.entries ++ Some (min answer greatest) ∷ []) (counted mind) quiet (turning spec mind is at.0)
+at_line (Out decision) spec mind answer quiet is at busy =
+    let turn = turning spec mind is at in
+    let was = left_open spec.rounds (current_goal mind) turn.left in
+    useful (processes spec) spec.rounds goals.Done (counted mind) quiet turn (omega (arith, was, turn.last))
+
+busy_by : (spec : RoomSpec) (mind : MindState) (quiet : ℕ) → ready_of spec mind quiet ≡ ready.Step → is_resting mind.line ≡ true → quiet < unfinished_in mind.goals
+busy_by spec mind quiet is rests = leb-false _ _ (enough_by (is_resting mind.line) (leb (unfinished_in mind.goals) quiet) (ltb mind.turns spec.turns) rests is)
+
+-- over each step for which it is ready the two numbers together don't rise
+pub total_falls : (spec : RoomSpec) (mind : MindState) (quiet answer : ℕ) → IsMind spec mind → ready_of spec mind quiet ≡ ready.Step
+    → total (processes spec) spec.rounds (taken spec mind answer).mind (quiet_after (taken spec mind answer).turn quiet) ≤ total (processes spec) spec.rounds mind quiet
+unfolding total
+total_falls spec mind quiet answer is ready = at_line mind.line spec mind answer quiet is is.at (busy_by spec mind quiet ready)
+
+pub total_most : (spec : RoomSpec) (mind : MindState) (quiet : ℕ) → IsMind spec mind → total (processes spec) spec.rounds mind quiet ≤ mind.turns + (processes spec * spec.rounds + 1) * processes spec
+unfolding total
+total_most spec mind quiet is =
+    let n = processes spec in
+    let each : (process : ℕ) → process < length mind.goals → IsGoal spec.rounds (goal_at mind.goals process) = λ process below. is.rounds process (omega (arith, below, is.goals)) in
+    let most : all_left spec.rounds mind.goals ≤ n * spec.rounds = subst (λ (k : ℕ). all_left spec.rounds mind.goals ≤ k * spec.rounds) is.goals (all_most spec.rounds mind.goals each) in
+    let product = mul-le (all_left spec.rounds mind.goals) n (n * spec.rounds) n most (omega arith) in
+    let more : (n * spec.rounds + 1) * n ≡ n * spec.rounds * n + n = ap (λ (k : ℕ). k * n) (omega arith) ∙ suc-mul (n * spec.rounds) n in
+    omega (arith, product, more)
+
+pub turns_before : (n rounds : ℕ) (mind : MindState) (quiet : ℕ) → mind.turns ≤ total n rounds mind quiet
+unfolding total
+turns_before n rounds mind quiet = omega arith
+
+falls_all : (spec : RoomSpec) (sweep : SweepState) (answers : List ℕ) → IsMind spec sweep.mind → IsReadyThroughout spec sweep answers
+    → total (processes spec) spec.rounds (answered_all spec sweep answers).mind (answered_all spec sweep answers).quiet ≤ total (processes spec) spec.rounds sweep.mind sweep.quiet
+falls_all spec sweep [] is ready = omega arith
+falls_all spec sweep (answer ∷ answers) is ready =
+    let here = total_falls spec sweep.mind sweep.quiet answer is ready.0 in
+    let next = kept spec sweep.mind answer is (moves spec sweep.mind sweep.quiet is ready.0) in
+    omega (arith, here, falls_all spec (answered spec sweep answer) answers next ready.1)
+
+pub turns_bounded : (spec : RoomSpec) (sweep : SweepState) (answers : List ℕ) → IsMind spec sweep.mind → IsReadyThroughout spec sweep answers
+    → (answered_all spec sweep answers).mind.turns ≤ sweep.mind.turns + (processes spec * spec.rounds + 1) * processes spec
+turns_bounded spec sweep answers is ready =
+    let last = answered_all spec sweep answers in
+    omega (arith, turns_before (processes spec) spec.rounds last.mind last.quiet, falls_all spec sweep answers is ready, total_most spec sweep.mind sweep.quiet is)
