@@ -1,15 +1,15 @@
 -- What an open room answers, and what it is afterwards.
-use Rattle.std.proofs.Common.{◌≡◌, ℕ, Bool, true, false, cond, ltb, List, sym, ap, ◌∙◌, subst}
+use Rattle.std.proofs.Common.{◌≡◌, refl, ℕ, Bool, true, false, cond, ltb, List, sym, ap, ◌∙◌, subst}
 use Rattle.room_spec.specs.Rooms.{RoomSpec}
 use Rattle.room_core.specs.declared.reply.StepReply.{StepReply}
 use Rattle.room_core.specs.declared.reply.CrashReply.{CrashReply}
 use Rattle.room_core.specs.Calls.{RoomState}
-use Rattle.room_core.specs.Fields.{Fields, crash_reply_in, fields_after_crash}
+use Rattle.room_core.specs.Fields.{Fields, crash_reply_in, fields_after_crash, fields_after_settle}
 use Rattle.room_core.specs.Reading.{AreFieldsOf}
 use Rattle.ws_history.specs.Reports.{report_of}
 use Rattle.ws_history.specs.declared.states.Report.{Report as ReportData}
 use Rattle.service_core.specs.declared.command.Command.TheVariants as commands
-use Rattle.service_core.specs.declared.reply.Reply.TheVariants.{Steps, Crash, Report, Refused}
+use Rattle.service_core.specs.declared.reply.Reply.TheVariants.{Steps, Crash, Settled, Report, Refused}
 use Rattle.service_core.specs.declared.reply.Refusal.TheVariants.{NoSimulator}
 use Rattle.service_core.specs.Replies.{OpenRoom, stepped_reply, stepping, with_fields}
 use Rattle.service_core.specs.Rooms.{Answers, IsOpenAs, IsSteppedTo}
@@ -49,6 +49,10 @@ crash_answers core after state name sim reply is below same crashed =
       ap Crash crashed'.0 ∙ sym (ap (λ (b : Bool). cond b (Crash (crash_reply_in state.spec state.fields sim)) (Refused NoSimulator)) yes),
       subst (IsOpenAs after) (sym (ap (λ (b : Bool). cond b (with_fields state (fields_after_crash state.spec state.fields sim)) state) yes)) (record { spec = same ∙ is.spec; fields = crashed'.1 }),
     )
+
+pub settle_answers : (core after : RoomState) (state : OpenRoom) (name : List ℕ) → IsOpenAs core state → after.spec ≡ core.spec → AreFieldsOf after (fields_after_settle core.spec state.fields) → Answers state (commands.Settle name) Settled after
+settle_answers core after state name is same are =
+    (refl, record { spec = same ∙ is.spec; fields = subst (λ (s : RoomSpec). AreFieldsOf after (fields_after_settle s state.fields)) is.spec are })
 
 pub report_answers : (core : RoomState) (state : OpenRoom) (name : List ℕ) (report : ReportData) → IsOpenAs core state → ((fields : Fields) → AreFieldsOf core fields → report ≡ report_of core.spec fields)
     → Answers state (commands.Report name) (Report report) core

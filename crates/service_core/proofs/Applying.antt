@@ -53,11 +53,13 @@ closes_room name before after core there changes = record {
 pub name_for : (name : List ℕ) (what : Act) → name_in (command_for name what) ≡ name
 name_for name (acts.Step sim count) = refl
 name_for name (acts.Crash sim) = refl
+name_for name acts.Settle = refl
 name_for name acts.Report = refl
 
 stays_open : (name : List ℕ) (what : Act) (room : OpenRoom) → room_after_open room (command_for name what) ≡ Some (room_in room (command_for name what))
 stays_open name (acts.Step sim count) room = refl
 stays_open name (acts.Crash sim) room = refl
+stays_open name acts.Settle room = refl
 stays_open name acts.Report room = refl
 
 wants_report : (name : List ℕ) (what : Act) (core : RoomState) → what ≡ acts.Report → IsWant (Some core) (command_for name what)

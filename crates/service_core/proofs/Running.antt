@@ -102,6 +102,7 @@ want_is : (reply : Reply) → is_want reply ≡ true → reply ≡ replies.Refus
 want_is replies.Begun is = absurd cc
 want_is (replies.Steps taken last) is = absurd cc
 want_is (replies.Crash reply) is = absurd cc
+want_is replies.Settled is = absurd cc
 want_is (replies.Report report) is = absurd cc
 want_is replies.Closed is = absurd cc
 want_is (replies.Refused refusals.NoRoom) is = absurd cc
@@ -116,11 +117,13 @@ may_want : (core : Option RoomState) (room : Option OpenRoom) (command : Command
 may_want None None (commands.Begin spec) is want = tt
 may_want None None (commands.Step name sim count) is want = absurd want
 may_want None None (commands.Crash name sim) is want = absurd want
+may_want None None (commands.Settle name) is want = absurd want
 may_want None None (commands.Report name) is want = absurd want
 may_want None None (commands.Close name) is want = absurd want
 may_want (Some core) (Some room) (commands.Begin spec) is want = absurd want
 may_want (Some core) (Some room) (commands.Step name sim count) is want = absurd want
 may_want (Some core) (Some room) (commands.Crash name sim) is want = absurd want
+may_want (Some core) (Some room) (commands.Settle name) is want = absurd want
 may_want (Some core) (Some room) (commands.Report name) is want = tt
 may_want (Some core) (Some room) (commands.Close name) is want = absurd want
 may_want None (Some room) command is want = absurd is

@@ -6,12 +6,12 @@ use Rattle.std.specs.Str.{bytes_eq}
 use Rattle.room_spec.specs.Rooms.{RoomSpec}
 use Rattle.room_core.specs.declared.reply.StepReply.{StepReply}
 use Rattle.room_core.specs.declared.reply.StepReply.TheVariants as steps
-use Rattle.room_core.specs.Fields.{Fields, opening_fields, step_reply_in, fields_after_step, crash_reply_in, fields_after_crash}
+use Rattle.room_core.specs.Fields.{Fields, opening_fields, step_reply_in, fields_after_step, crash_reply_in, fields_after_crash, fields_after_settle}
 use Rattle.ws_history.specs.Reports.{report_of}
 use Rattle.service_core.specs.declared.command.Command.{Command}
 use Rattle.service_core.specs.declared.command.Command.TheVariants as commands
 use Rattle.service_core.specs.declared.reply.Reply.{Reply}
-use Rattle.service_core.specs.declared.reply.Reply.TheVariants.{Begun, Steps, Crash, Report, Closed, Refused}
+use Rattle.service_core.specs.declared.reply.Reply.TheVariants.{Begun, Steps, Crash, Settled, Report, Closed, Refused}
 use Rattle.service_core.specs.declared.reply.Refusal.{Refusal}
 use Rattle.service_core.specs.declared.reply.Refusal.TheVariants.{NoRoom, NameTaken, NoSimulator, OutOfMemory}
 
@@ -62,6 +62,7 @@ abbrev pub name_in : Command → List ℕ
 name_in (commands.Begin spec) = spec.name
 name_in (commands.Step name sim count) = name
 name_in (commands.Crash name sim) = name
+name_in (commands.Settle name) = name
 name_in (commands.Report name) = name
 name_in (commands.Close name) = name
 
@@ -75,6 +76,7 @@ reply_in room (commands.Step name sim count) =
     if nat_lt sim room.spec.simulators then stepped_reply (stepping room.spec room.fields sim count) else Refused NoSimulator
 reply_in room (commands.Crash name sim) =
     if nat_lt sim room.spec.simulators then Crash (crash_reply_in room.spec room.fields sim) else Refused NoSimulator
+reply_in room (commands.Settle name) = Settled
 reply_in room (commands.Report name) = Report (report_of room.spec room.fields)
 reply_in room (commands.Close name) = Closed
 
@@ -84,6 +86,7 @@ room_in room (commands.Step name sim count) =
     if nat_lt sim room.spec.simulators then with_fields room (stepping room.spec room.fields sim count).fields else room
 room_in room (commands.Crash name sim) =
     if nat_lt sim room.spec.simulators then with_fields room (fields_after_crash room.spec room.fields sim) else room
+room_in room (commands.Settle name) = with_fields room (fields_after_settle room.spec room.fields)
 room_in room command = room
 
 -- where there is no room of the name

@@ -89,6 +89,7 @@ pub record Applies (before : Entries) (command : Command) (reply : Reply) (after
 abbrev pub command_for : List ℕ → Act → Command
 command_for name (acts.Step sim count) = commands.Step name sim count
 command_for name (acts.Crash sim) = commands.Crash name sim
+command_for name acts.Settle = commands.Settle name
 command_for name acts.Report = commands.Report name
 
 -- the reply of an open room to a command, and the room after it

@@ -13,6 +13,8 @@ pub enum Command {
     Step { name: Name, sim: u8, count: u16 },
     /// Crashes simulator `sim`.
     Crash { name: Name, sim: u8 },
+    /// Lets each open turn end, and then each simulator run alone until it is idle or out of turns.
+    Settle(Name),
     /// Asks for the room's report.
     Report(Name),
     /// Closes the room. From then on its name is free.
@@ -28,6 +30,7 @@ impl Command {
             Command::Begin(spec) => spec.name(),
             Command::Step { name, .. } => name,
             Command::Crash { name, .. } => name,
+            Command::Settle(name) => name,
             Command::Report(name) => name,
             Command::Close(name) => name,
         }

@@ -1,4 +1,5 @@
-//! Many rooms, each under its name, and the commands that make, step, crash, report and close them.
+//! Many rooms, each under its name, and the commands that make, step, crash, settle, report
+//! and close them.
 //!
 //! What a room answers rests on the commands of its own name alone, whatever stands between them;
 //! each history that it reports is a run of its own protocol on write-snapshot memory.

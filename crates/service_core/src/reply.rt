@@ -46,6 +46,8 @@ pub enum Reply {
     Steps { taken: u16, last: StepReply },
     /// Whether the simulator has crashed now, or had before.
     Crash(CrashReply),
+    /// The room is settled.
+    Settled,
     /// The report of the room.
     Report(Report),
     /// The room is closed.

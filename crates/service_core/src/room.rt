@@ -20,6 +20,7 @@ use ws_history::report;
 pub(crate) enum Act {
     Step { sim: u8, count: u16 },
     Crash(u8),
+    Settle,
     Report,
 }
 
@@ -35,6 +36,10 @@ pub(crate) fn answer(alloc: Global, room: &mut RoomCore, what: Act) -> Reply
     match what {
         Act::Step { sim, count } => step(room, sim, count),
         Act::Crash(sim) => crash(room, sim),
+        Act::Settle => {
+            room.settle();
+            Reply::Settled
+        }
         Act::Report => match report(alloc, room) {
             Ok(report) => Reply::Report(report),
             Err(_) => Reply::Refused(Refusal::OutOfMemory),

@@ -69,6 +69,7 @@ impl Service {
                 self.ask(alloc, &name, Act::Step { sim, count })
             }
             Command::Crash { name, sim } => self.ask(alloc, &name, Act::Crash(sim)),
+            Command::Settle(name) => self.ask(alloc, &name, Act::Settle),
             Command::Report(name) => self.ask(alloc, &name, Act::Report),
             Command::Close(name) => self.close(&name),
         }

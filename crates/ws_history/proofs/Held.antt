@@ -119,7 +119,7 @@ module _ (room : RoomState) (fields : Fields) (limits : IsWithinLimits room.spec
   few : (p : ℕ → Bool) → ((j : ℕ) → p j ≡ true → (i : ℕ) × (held_by room.spec fields j ≡ Some i)) → length (filter p (range_with_len 0 (processes room.spec))) ≤ length (crashed_in room.spec fields)
   few p each =
       let all = range_with_len 0 (processes room.spec) in
-      let most = length-le_from_is_member nat_eq_equiv (filter p all) (map sweep_of (crashed_in room.spec fields)) (distinct_filter p all (range_distinct (processes room.spec) 0))
+      let most : length (filter p all) ≤ length (map sweep_of (crashed_in room.spec fields)) = length-le_from_is_member nat_eq_equiv (filter p all) (map sweep_of (crashed_in room.spec fields)) (distinct_filter p all (range_distinct (processes room.spec) 0))
       (λ j has.
       let both = sym (is_member-filter nat_eq_equiv p j (λ x is. ap p (eqb-true j x is)) all) ∙ has in
       let holder = each j (and_parts _ _ both).1 in

@@ -1,9 +1,11 @@
-use Rattle.std.proofs.Common.{◌≡◌, ap, sym, subst}
+use Rattle.std.proofs.Common.{◌≡◌, ◌∙◌, ap, sym, subst}
+use Rattle.room_core.specs.Calls.{RoomState, Settle}
+use Rattle.room_core.proofs.FieldCalls.{same_spec}
 use Rattle.ws_history.specs.declared.states.Report.{Report as ReportData}
 use Rattle.service_core.specs.declared.command.Command.{Command}
 use Rattle.service_core.specs.declared.reply.Reply.TheVariants as replies
 use Rattle.service_core.specs.Rooms.{Answers, IsTrueReport, command_for}
-use Rattle.service_core.proofs.Answering.{report_answers}
+use Rattle.service_core.proofs.Answering.{report_answers, settle_answers}
 use Rattle.service_core.proofs.room.answer.Goals as goal
 
 pub returns-in-Step-clause-reply : goal.returns-in-Step-clause-reply
@@ -13,6 +15,15 @@ returns-in-Step-clause-reply c = λ granted name state is.
 pub returns-in-Crash-clause-reply : goal.returns-in-Crash-clause-reply
 returns-in-Crash-clause-reply c = λ granted name state is.
     subst (λ (command : Command). Answers state command c.crash.result c.crash.new.room) (ap (command_for name) (sym c.in-Crash.is)) (c.crash.ensures.reply name state is)
+
+pub returns-in-Settle-clause-reply : goal.returns-in-Settle-clause-reply
+returns-in-Settle-clause-reply c = λ granted name state is.
+    let same = ap (λ (r : RoomState). r.spec) c.settle.ensures.room ∙ same_spec c.args.room.now Settle in
+    subst (λ (command : Command). Answers state command replies.Settled c.settle.new.self) (ap (command_for name) (sym c.in-Settle.is))
+    (settle_answers c.args.room.now c.settle.new.self state name is same (c.settle.ensures.fields state.fields is.fields))
+
+pub returns-in-Settle-clause-spec : goal.returns-in-Settle-clause-spec
+returns-in-Settle-clause-spec c = ap (λ (r : RoomState). r.spec) c.settle.ensures.room ∙ same_spec c.args.room.now Settle
 
 pub returns-in-Ok-clause-reply : goal.returns-in-Ok-clause-reply
 returns-in-Ok-clause-reply c = λ granted name state is.
