@@ -99,7 +99,8 @@ impl Service {
         ensures rooms { (name : List ℕ) → get bytes_eq result name ≡ room_at self name }
         ensures names { HasOwnNames result.entries }
     {
-        self.rooms
+        let Service { rooms } = self;
+        rooms
     }
 
     /// Opens a room, where its name is free.
