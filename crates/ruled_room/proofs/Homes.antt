@@ -1,6 +1,7 @@
 -- The sweeps that a keeper has, and their minds.
-use Rattle.std.proofs.Common.{◌≡◌, ℕ, zero, suc, ◌<◌, List, [], ◌∷◌, length, map, get_or, set, refl, sym, ap, ◌∙◌, subst, ⊎_elim, arith, Option, Some, None}
-use Rattle.std.specs.Prelude.{IsSome}
+use Rattle.std.proofs.Common.{◌≡◌, true, false, ℕ, zero, suc, ◌<◌, List, [], ◌∷◌, length, map, get_or, set, refl, sym, ap, ◌∙◌, subst, ⊎_elim, arith, Option, Some, None}
+use Rattle.std.specs.Prelude.{IsSome, is_some, not, slice_index_or}
+use Rattle.std.proofs.lemmas.Bool.{and_parts}
 use Rattle.std.proofs.lemmas.List.{map-set, get_or_read_under}
 use Rattle.std.proofs.lemmas.List.FromFn.{get_or-map-range_with_len, length-map-range_with_len}
 use Rattle.std.specs.Option.{option_map}
@@ -9,7 +10,7 @@ use Rattle.simulator.specs.Minds.{MindState, opening_mind}
 use Rattle.simulator.specs.Ranges.{IsMind}
 use Rattle.simulator.specs.Sweeps.{SweepState, opening_sweep}
 use Rattle.simulator.proofs.Keeping.{opens}
-use Rattle.ruled_room.specs.Parts.{AreMinds, first_sweeps, minds_of}
+use Rattle.ruled_room.specs.Parts.{AreMinds, KeeperData, first_sweeps, holds_in, minds_of, sweep_home}
 use Rattle.ruled_room.proofs.Sharing.{left_over, put_in}
 
 abbrev mind_of : Option SweepState → Option MindState
@@ -41,6 +42,10 @@ pub home_below : {X : Type 0} (l : List (Option X)) (i : ℕ) → IsSome (get_or
 home_below [] i h = absurd (cc)
 home_below (y ∷ l) zero h = omega arith
 home_below (y ∷ l) (suc i) h = let b = home_below l i h in omega arith
+
+-- whoever the keeper holds is at home
+pub held_home : (keeper : KeeperData) (i : ℕ) → holds_in keeper i ≡ true → IsSome (sweep_home keeper i)
+held_home keeper i e = (and_parts (is_some (sweep_home keeper i)) (not (slice_index_or keeper.crashed i false)) e).0
 
 -- one of those at home is read
 pub read_home : (sweeps read : List (Option SweepState)) (i : ℕ) (found : Option SweepState) (sweep : SweepState) → read ≡ sweeps → i < length sweeps → found ≡ get_or read i found → found ≡ Some sweep → get_or sweeps i None ≡ Some sweep
