@@ -1,17 +1,22 @@
 -- Rooms with their quiet counts, and without them.
-use Rattle.std.proofs.Common.{◌≡◌, ℕ, zero, suc, ◌<◌, Bool, true, false, List, [], ◌∷◌, ◌++◌, length, get_or, set, map, take, drop, refl, sym, ap, ◌∙◌, subst, arith}
-use Rattle.std.proofs.lemmas.List.{map-set, set-get_or, get_or_read_under, length-set, length-map}
+use Rattle.std.proofs.Common.{◌≡◌, ◌≢◌, ℕ, zero, suc, ◌<◌, Bool, true, false, List, [], ◌∷◌, ◌++◌, length, get_or, set, map, take, drop, refl, sym, ap, ◌∙◌, subst, arith}
+use mathlib.Core.Logic.{dite}
+use native.Mathlib.Decide.{ℕ_discrete}
+use Rattle.std.proofs.lemmas.List.FromFn.{get_or-map-range_with_len}
+use Rattle.std.proofs.lemmas.List.{get_or-set_same, get_or-set_other, map-set, set-get_or, get_or_read_under, length-set, length-map}
 use Rattle.std.specs.Prelude.{slice_set}
 use Rattle.std.specs.List.{range_with_len, refill}
 use Rattle.room_spec.specs.Rooms.{RoomSpec, IsWithinLimits}
-use Rattle.simulator.specs.Minds.{MindState, opening_mind}
+use Rattle.simulator.specs.Minds.{MindState, goal_at, opening_mind}
 use Rattle.simulator.specs.Moves.{move_of, taken, words_after, answer_of, IsOperation}
+use Rattle.simulator.specs.Quiet.{HasNoWrite, IsQuietCount}
 use Rattle.simulator.specs.Ranges.{IsMind}
 use Rattle.simulator.specs.Sweeps.{SweepState, opening_sweep}
-use Rattle.simulator.specs.declared.sweep.Ready.TheVariants.{Step}
+use Rattle.simulator.specs.declared.sweep.Ready.TheVariants.{Step, Idle}
+use Rattle.simulator.proofs.Counting.{counts_on, counts_anew, idle_waits}
 use Rattle.simulator.proofs.Stepping.{moves}
-use Rattle.room_core.specs.Rooms.{IsRoom, IsShaped, HasLine, mind_at, opening, stepped, crashed_by}
-use Rattle.room_core.specs.Calls.{RoomState, configuration_of, sweep_at, has_crashed, opening_state, operation_at, ready_at, moved, taken_by, sweep_after, with_sweep, woken}
+use Rattle.room_core.specs.Rooms.{Configuration, IsRoom, IsShaped, HasLine, mind_at, opening, stepped, crashed_by}
+use Rattle.room_core.specs.Calls.{RoomState, IsCore, CountsQuietTurns, configuration_of, sweep_at, has_crashed, opening_state, operation_at, ready_at, moved, taken_by, sweep_after, with_sweep, woken}
 use Rattle.room_core.proofs.Replays.{is_room, opens_run, under_line, under_crash}
 
 abbrev mind_of : SweepState → MindState
@@ -76,13 +81,13 @@ read_sweep room sweeps i sweep shape same below is =
 pub mind_ok : (room : RoomState) (i : ℕ) → IsShaped (configuration_of room) → i < room.spec.simulators → IsMind room.spec (sweep_at room i).mind
 mind_ok room i shape below = subst (IsMind room.spec) (mind_here room i) (shape.each i below)
 
-pub crash_room : (room : RoomState) (marks : List Bool) (i : ℕ) → IsRoom (configuration_of room) → i < room.spec.simulators → has_crashed room i ≡ false → marks ≡ room.crashed
-    → IsRoom (configuration_of (record room { crashed = refill (length room.crashed) room.crashed (slice_set marks i true) }))
+pub crash_room : (room : RoomState) (marks : List Bool) (i : ℕ) → IsCore room → i < room.spec.simulators → has_crashed room i ≡ false → marks ≡ room.crashed
+    → IsCore (record room { crashed = refill (length room.crashed) room.crashed (slice_set marks i true) })
 crash_room room marks i is below alive same =
     let P : List Bool → Type 0 = λ l. IsRoom (configuration_of (record room { crashed = l })) in
-    let one = under_crash (configuration_of room) i is.run (record { below = below; alive = alive }) in
+    let one = under_crash (configuration_of room) i is.is_room.run (record { below = below; alive = alive }) in
     let left : slice_set room.crashed i true ≡ refill (length room.crashed) room.crashed (slice_set marks i true) = sym (refill-set room.crashed i true) ∙ ap (λ (l : List Bool). refill (length room.crashed) room.crashed (slice_set l i true)) (sym same) in
-    subst P left (is_room (crashed_by (configuration_of room) i) is.shape.limits one)
+    record { is_room = subst P left (is_room (crashed_by (configuration_of room) i) is.is_room.shape.limits one); quiet = is.quiet }
 
 -- the room in which this sweep was put
 abbrev put : RoomState → List ℕ → List SweepState → ℕ → SweepState → RoomState
@@ -99,8 +104,23 @@ woken_is room sweeps i read after shape same below is left =
     let there = sym is ∙ read_sweep room sweeps i read shape same below is in
     put_is room room.words sweeps i after same ∙ ap (λ (sweep : SweepState). with_sweep room i sweep) (left ∙ ap woken there)
 
-pub woken_room : (room : RoomState) (i : ℕ) → IsRoom (configuration_of room) → IsRoom (configuration_of (with_sweep room i (woken (sweep_at room i))))
-woken_room room i is = subst IsRoom (sym (woken_data room i)) is
+abbrev IsQuiet : SweepState → Type 0
+IsQuiet sweep = IsQuietCount sweep.mind sweep.quiet
+
+-- each quiet count is one of its mind, where a sweep of which it is was put in
+quiet_put : (room : RoomState) (words : List ℕ) (i : ℕ) (sweep : SweepState) → IsShaped (configuration_of room) → i < room.spec.simulators → CountsQuietTurns room → IsQuiet sweep
+    → CountsQuietTurns (record room { words = words; sweeps = slice_set room.sweeps i sweep })
+quiet_put room words i sweep shape below counts is a less =
+    let place : i < length room.sweeps = let count = sweep_count room shape in omega arith in
+    dite (ℕ_discrete a i)
+    (λ (e : a ≡ i). subst (λ (k : ℕ). IsQuiet (get_or (set room.sweeps i sweep) k (opening_sweep room.spec k))) (sym e) (subst IsQuiet (sym (get_or-set_same room.sweeps i sweep (opening_sweep room.spec i) place)) is))
+    (λ (n : a ≢ i). subst IsQuiet (sym (get_or-set_other room.sweeps i a sweep (opening_sweep room.spec a) n)) (counts a less))
+
+pub woken_room : (room : RoomState) (i : ℕ) → i < room.spec.simulators → IsCore room → IsCore (with_sweep room i (woken (sweep_at room i)))
+woken_room room i below is = record {
+  is_room = subst IsRoom (sym (woken_data room i)) is.is_room;
+  quiet = quiet_put room room.words i (woken (sweep_at room i)) is.is_room.shape below is.quiet (counts_anew (sweep_at room i).mind);
+}
 
 pub moved_is : (room : RoomState) (words : List ℕ) (sweeps : List SweepState) (i : ℕ) (read after : SweepState) (answer : ℕ) → IsShaped (configuration_of room) → sweeps ≡ room.sweeps → i < room.spec.simulators → read ≡ get_or sweeps i read
     → words ≡ words_after (operation_at room i) room.words → answer ≡ answer_of (operation_at room i) room.words
@@ -121,12 +141,29 @@ has_line room i shape below alive ready = record {
 pub operates : (room : RoomState) (i : ℕ) → HasLine (configuration_of room) i → IsOperation (operation_at room i)
 operates room i may = subst (λ (mind : MindState). IsOperation (move_of room.spec mind)) (mind_here room i) may.moving
 
-pub moved_room : (room : RoomState) (i : ℕ) → IsRoom (configuration_of room) → HasLine (configuration_of room) i → IsRoom (configuration_of (moved room i))
+pub moved_room : (room : RoomState) (i : ℕ) → IsCore room → HasLine (configuration_of room) i → IsCore (moved room i)
 moved_room room i is may =
-    subst IsRoom (sym (moved_data room i)) (is_room (stepped (configuration_of room) i) is.shape.limits (under_line (configuration_of room) i is.run may))
+    let shape = is.is_room.shape in
+    let below = may.alive.below in
+    let mind = (sweep_at room i).mind in
+    record {
+      is_room = subst IsRoom (sym (moved_data room i)) (is_room (stepped (configuration_of room) i) shape.limits (under_line (configuration_of room) i is.is_room.run may));
+      quiet = quiet_put room (words_after (operation_at room i) room.words) i (sweep_after (taken_by room i) (sweep_at room i).quiet) shape below is.quiet
+          (counts_on room.spec mind (sweep_at room i).quiet (answer_of (operation_at room i) room.words) (mind_ok room i shape below) (is.quiet i below));
+    }
+
+-- whoever is told that it is idle has no write left to make
+pub idle_room : (room : RoomState) (i process : ℕ) → i < room.spec.simulators → CountsQuietTurns room → ready_at room i ≡ Idle → HasNoWrite (goal_at (sweep_at (with_sweep room i (woken (sweep_at room i))) i).mind.goals process)
+idle_room room i process below counts ready =
+    let same : (sweep_at (with_sweep room i (woken (sweep_at room i))) i).mind ≡ (sweep_at room i).mind = sym (mind_here (with_sweep room i (woken (sweep_at room i))) i) ∙ ap (λ (q : Configuration). mind_at q i) (woken_data room i) ∙ mind_here room i in
+    subst (λ (mind : MindState). HasNoWrite (goal_at mind.goals process)) (sym same) (idle_waits room.spec (sweep_at room i).mind (sweep_at room i).quiet process (counts i below) ready)
 
 pub fresh_room : (spec : RoomSpec) (words : List ℕ) (sweeps : List SweepState) (crashed : List Bool) → IsWithinLimits spec
-    → words ≡ (opening_state spec).words → sweeps ≡ (opening_state spec).sweeps → crashed ≡ (opening_state spec).crashed → IsRoom (configuration_of (record { spec = spec; words = words; sweeps = sweeps; crashed = crashed }))
+    → words ≡ (opening_state spec).words → sweeps ≡ (opening_state spec).sweeps → crashed ≡ (opening_state spec).crashed → IsCore (record { spec = spec; words = words; sweeps = sweeps; crashed = crashed })
 fresh_room spec words sweeps crashed limits same_words same_sweeps same_crashed =
     let left : record { spec = spec; words = words; sweeps = sweeps; crashed = crashed } ≡ opening_state spec = λ k. record { spec = spec; words = same_words k; sweeps = same_sweeps k; crashed = same_crashed k } in
-    subst (λ (r : RoomState). IsRoom (configuration_of r)) (sym left) (subst IsRoom (sym (opening_data spec)) (is_room (opening spec) limits (opens_run spec)))
+    subst IsCore (sym left)
+    (record {
+      is_room = subst IsRoom (sym (opening_data spec)) (is_room (opening spec) limits (opens_run spec));
+      quiet = λ i below. subst IsQuiet (sym (get_or-map-range_with_len (opening_sweep spec) 0 spec.simulators i i (opening_sweep spec i) below (omega arith))) (counts_anew (opening_sweep spec i).mind);
+    })

@@ -1,16 +1,17 @@
 -- A room with its quiet counts, and what one call makes of it and answers.
-use Rattle.std.specs.Prelude.{ℕ, Bool, true, false, List, [], ◌∷◌, map, replicate, slice_index_or, slice_set, nat_le, if◌then◌else◌}
+use Rattle.std.specs.Prelude.{ℕ, ◌<◌, Bool, true, false, List, [], ◌∷◌, map, replicate, slice_index_or, slice_set, nat_le, if◌then◌else◌}
 use Rattle.std.specs.List.{range_with_len}
 use Rattle.room_spec.specs.Rooms.{RoomSpec}
 use Rattle.room_spec.specs.Sizes.{sizes_in}
 use Rattle.view_table.specs.Places.{words_of}
 use Rattle.simulator.specs.Turns.{TakenOf}
 use Rattle.simulator.specs.Moves.{move_of, taken, words_after, answer_of}
+use Rattle.simulator.specs.Quiet.{IsQuietCount}
 use Rattle.simulator.specs.Sweeps.{SweepState, opening_sweep, ready_of, quiet_after}
 use Rattle.simulator.specs.declared.operation.Move.{Move}
 use Rattle.simulator.specs.declared.sweep.Ready.{Ready}
 use Rattle.simulator.specs.declared.sweep.Ready.TheVariants as ready
-use Rattle.room_core.specs.Rooms.{Configuration}
+use Rattle.room_core.specs.Rooms.{Configuration, IsRoom}
 use Rattle.room_core.specs.declared.reply.StepReply.{StepReply}
 use Rattle.room_core.specs.declared.reply.StepReply.TheVariants.{Stepped, Idle, OutOfTurns, Crashed, NoSimulator}
 use Rattle.room_core.specs.declared.reply.CrashReply.{CrashReply}
@@ -42,6 +43,16 @@ has_crashed room i = slice_index_or room.crashed i false
 
 abbrev pub with_sweep : RoomState → ℕ → SweepState → RoomState
 with_sweep room i sweep = record room { sweeps = slice_set room.sweeps i sweep }
+
+-- ---- what the type of a room keeps
+
+-- each simulator's quiet count is one of its mind
+abbrev pub CountsQuietTurns : RoomState → Type 0
+CountsQuietTurns room = (i : ℕ) → i < room.spec.simulators → IsQuietCount (sweep_at room i).mind (sweep_at room i).quiet
+
+pub record IsCore (room : RoomState) : Type 0 where
+  pub is_room : IsRoom (configuration_of room)
+  pub quiet : CountsQuietTurns room
 
 -- ---- a step
 

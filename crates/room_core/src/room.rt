@@ -1,16 +1,19 @@
 //! A room.
-ghost use Rattle.std.specs.Prelude.{◌≡◌, ◌<◌, ◌≤◌, false, length, map, replicate, slice_index, IfOk};
+ghost use Rattle.std.specs.Prelude.{ℕ, ◌≡◌, ◌<◌, ◌≤◌, false, length, map, replicate, slice_index, IfOk};
 ghost use Rattle.std.specs.List.{range_with_len};
 ghost use Rattle.room_spec.specs.Sizes.{sizes_in};
 ghost use Rattle.view_table.specs.Places.{words_of};
+ghost use Rattle.simulator.specs.Minds.{goal_at};
 ghost use Rattle.simulator.specs.Moves.{IsOperation, IsWithin, answer_of, move_of, taken, words_after};
+ghost use Rattle.simulator.specs.Quiet.{HasNoWrite};
 ghost use Rattle.simulator.specs.Ranges.{IsMind};
 ghost use Rattle.simulator.specs.Sweeps.{opening_sweep};
+ghost use Rattle.room_core.specs.declared.reply.StepReply.TheVariants as replies;
 ghost use Rattle.room_core.specs.Rooms.{HasLine, IsAlive, IsOneInterleaving, IsRoom};
 ghost use Rattle.room_core.specs.Fields.{Fields, crash_reply_in, fields_after_crash, fields_after_step, opening_fields, step_reply_in};
 ghost use Rattle.room_core.specs.Agreements.{AgreementsStay};
 ghost use Rattle.room_core.specs.Reading.{AreFieldsOf, Reads};
-ghost use Rattle.room_core.specs.Calls.{crash_reply, configuration_of, has_crashed, marked, moved, opening_state, operation_at, ready_at, room_after_crash, room_after_step, step_reply, sweep_after, sweep_at, with_sweep, woken};
+ghost use Rattle.room_core.specs.Calls.{CountsQuietTurns, crash_reply, configuration_of, has_crashed, marked, moved, opening_state, operation_at, ready_at, room_after_crash, room_after_step, step_reply, sweep_after, sweep_at, with_sweep, woken};
 
 use crate::reply::{CrashReply, StepReply};
 use arrayvec::ArrayVec;
@@ -32,8 +35,7 @@ pub struct RoomCore {
 impl Model for RoomCore {
     ghost use Rattle.std.specs.Coded.{codes};
     ghost use Rattle.protocol_lang.specs.Codes.{expression_code};
-    ghost use Rattle.room_core.specs.Calls.{RoomState, configuration_of};
-    ghost use Rattle.room_core.specs.Rooms.{IsRoom};
+    ghost use Rattle.room_core.specs.Calls.{IsCore, RoomState};
 
     ghost Value = { RoomState };
 
@@ -41,8 +43,8 @@ impl Model for RoomCore {
 
     ghost view = { λ r. record { spec = r.spec; words = r.words.items; sweeps = r.sweeps.items; crashed = r.crashed.items } };
 
-    // Some list of atomic steps and crashes leads to it.
-    ghost invariant = { λ r. IsRoom (configuration_of (record { spec = r.spec; words = r.words.items; sweeps = r.sweeps.items; crashed = r.crashed.items })) };
+    // Some list of atomic steps and crashes leads to it, and each quiet count is one of its mind.
+    ghost invariant = { λ r. IsCore (record { spec = r.spec; words = r.words.items; sweeps = r.sweeps.items; crashed = r.crashed.items }) };
 }
 
 impl RoomCore {
@@ -63,14 +65,15 @@ impl RoomCore {
     }
 
     /// A room of these words, sweeps and marks of crashes, to which some list of atomic steps and
-    /// crashes leads.
+    /// crashes leads. The quiet count of each sweep is one of its mind.
     pub fn from_parts(
         spec: Spec,
         words: Vec<u64>,
         sweeps: ArrayVec<Sweep, 8>,
         crashed: ArrayVec<bool, 8>,
     ) -> RoomCore
-        requires { IsRoom (configuration_of (record { spec = spec; words = words.items; sweeps = sweeps.items; crashed = crashed.items })) }
+        requires room { IsRoom (configuration_of (record { spec = spec; words = words.items; sweeps = sweeps.items; crashed = crashed.items })) }
+        requires quiet { CountsQuietTurns (record { spec = spec; words = words.items; sweeps = sweeps.items; crashed = crashed.items }) }
         ensures { result ≡ record { spec = spec; words = words.items; sweeps = sweeps.items; crashed = crashed.items } }
     {
         RoomCore {
@@ -121,6 +124,8 @@ impl RoomCore {
     pub fn step(&mut self, i: usize) -> StepReply
         ensures reply { result ≡ step_reply self.old i }
         ensures room { self.new ≡ room_after_step self.old i }
+        // Whoever is idle has no write left to make: each process stands at an ask, or is done or spent.
+        ensures waits { result ≡ replies.Idle → (process : ℕ) → HasNoWrite (goal_at (sweep_at self.new i).mind.goals process) }
         // In its fields it is one call of the replay, with its reply.
         ensures fields { (fields : Fields) → AreFieldsOf self.old fields → (result ≡ step_reply_in self.old.spec fields i) × AreFieldsOf self.new (fields_after_step self.old.spec fields i) }
         // What was agreed on stays.

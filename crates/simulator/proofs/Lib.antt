@@ -3,4 +3,6 @@ pub mod Gathering
 pub mod Ranging
 pub mod Keeping
 pub mod Stepping
+pub mod Asking
+pub mod Counting
 mod Worked

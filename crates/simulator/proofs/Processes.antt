@@ -57,7 +57,7 @@ left_before goals sweep at within is =
     let below : at < sweep = omega (arith, place.0, long) in
     record { below = omega arith; unfinished = ap is_unfinished (sym (get_or-take sweep goals at Done below)) ∙ place.1 }
 
-some_same : (at process : ℕ) → Some at ≡ Some process → at ≡ process
+pub some_same : (at process : ℕ) → Some at ≡ Some process → at ≡ process
 some_same at process is = cc
 
 found_left : (goals : List Goal) (sweep process : ℕ) (later sooner : Option ℕ) → sweep ≤ length goals → position is_unfinished (drop sweep goals) ≡ later → position is_unfinished (take sweep goals) ≡ sooner → or_else (option_map (λ at. sweep + at) later) sooner ≡ Some process → IsLeft goals process

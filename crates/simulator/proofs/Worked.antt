@@ -10,6 +10,7 @@ use Rattle.simulator.specs.declared.turn.Turn.TheVariants.{Still, Useful, Quiet}
 use Rattle.simulator.specs.Minds.{MindState, next_process, unfinished_in}
 use Rattle.simulator.specs.Turns.{padded, after_write, ended, asked}
 use Rattle.simulator.specs.Moves.{words_after, answer_of}
+use Rattle.simulator.specs.Quiet.{IsQuietCount, unfinished_from}
 use Rattle.simulator.specs.Sweeps.{quiet_after, ready_of}
 
 -- four processes, of which the second is done and the last is spent
@@ -77,3 +78,21 @@ ready_with_turns spec = refl
 
 ready_without_turns : (spec : RoomSpec) → ready_of (record spec { turns = 3 }) resting 1 ≡ OutOfTurns
 ready_without_turns spec = refl
+
+in_order_of_four : (unfinished_from goals 0 ≡ Write 1 7 ∷ Ask 2 ∷ []) × (unfinished_from goals 1 ≡ Ask 2 ∷ Write 1 7 ∷ []) × (unfinished_from goals 3 ≡ Write 1 7 ∷ Ask 2 ∷ [])
+in_order_of_four = (refl, refl, refl)
+
+-- it has asked for process 2, at which it stands or which it has gone past; and for process 0 not yet
+
+one_quiet : IsQuietCount (record resting { sweep = 3 }) 1
+one_quiet = (tt, tt)
+
+not_two : IsQuietCount (record resting { sweep = 3 }) 2 → ⊥
+not_two counts = counts.0
+
+none_yet : IsQuietCount resting 1 → ⊥
+none_yet counts = counts.0
+
+-- with asks alone every number counts
+all_quiet : IsQuietCount (record resting { goals = Ask 1 ∷ Done ∷ Ask 2 ∷ [] }) 255
+all_quiet = (tt, (tt, tt))

@@ -3,3 +3,4 @@ pub mod Turns
 pub mod Moves
 pub mod Ranges
 pub mod Sweeps
+pub mod Quiet

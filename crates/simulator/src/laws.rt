@@ -10,10 +10,11 @@ ghost use Rattle.view_table.specs.Places.{words_of};
 ghost use Rattle.simulator.specs.declared.operation.Move.TheVariants as moves;
 ghost use Rattle.simulator.specs.declared.sweep.Ready.TheVariants as answers;
 ghost use Rattle.simulator.specs.declared.turn.Turn.TheVariants.{Still};
-ghost use Rattle.simulator.specs.Minds.{MindState, opening_mind, unfinished_in};
+ghost use Rattle.simulator.specs.Minds.{MindState, goal_at, opening_mind, unfinished_in};
 ghost use Rattle.simulator.specs.Moves.{IsOperation, IsWithin, move_of, taken};
+ghost use Rattle.simulator.specs.Quiet.{HasNoWrite, IsQuietCount};
 ghost use Rattle.simulator.specs.Ranges.{IsMind};
-ghost use Rattle.simulator.specs.Sweeps.{is_resting, ready_of};
+ghost use Rattle.simulator.specs.Sweeps.{is_resting, opening_sweep, quiet_after, ready_of};
 
 /// Every simulator of a room begins with a mind.
 pub fn minds_open()
@@ -56,4 +57,16 @@ pub fn rest_by_cases()
     ensures finished { (spec : RoomSpec) (mind : MindState) → IsMind spec mind → (move_of spec mind ≡ moves.Finished) ↔ ((is_resting mind.line ≡ true) × (unfinished_in mind.goals ≡ 0)) }
     ensures begins { (spec : RoomSpec) (mind : MindState) → IsMind spec mind → is_resting mind.line ≡ true → 0 < unfinished_in mind.goals → mind.turns < spec.turns → IsOperation (move_of spec mind) }
     ensures runs_out { (spec : RoomSpec) (mind : MindState) → IsMind spec mind → is_resting mind.line ≡ true → 0 < unfinished_in mind.goals → spec.turns ≤ mind.turns → move_of spec mind ≡ moves.OutOfTurns }
+{}
+
+/// A sweep's quiet count stays one of its mind, over every answer and where it is counted anew.
+pub fn quiet_counts_stay()
+    ensures opens { (spec : RoomSpec) (i : ℕ) → IsQuietCount (opening_sweep spec i).mind (opening_sweep spec i).quiet }
+    ensures steps { (spec : RoomSpec) (mind : MindState) (quiet answer : ℕ) → IsMind spec mind → IsQuietCount mind quiet → IsQuietCount (taken spec mind answer).mind (quiet_after (taken spec mind answer).turn quiet) }
+    ensures wakes { (mind : MindState) → IsQuietCount mind 0 }
+{}
+
+/// Whoever is idle has no write left to make: each process stands at an ask, or is done or spent.
+pub fn idle_waits()
+    ensures { (spec : RoomSpec) (mind : MindState) (quiet : ℕ) → IsQuietCount mind quiet → ready_of spec mind quiet ≡ answers.Idle → (process : ℕ) → HasNoWrite (goal_at mind.goals process) }
 {}

@@ -1,8 +1,8 @@
 use Rattle.std.proofs.Common.{◌≡◌, ◌∙◌, ap, sym, subst}
 use Rattle.simulator.specs.Moves.{words_after, answer_of}
 use Rattle.simulator.specs.declared.operation.Move.{Move}
-use Rattle.room_core.specs.Rooms.{HasLine, IsRoom}
-use Rattle.room_core.specs.Calls.{RoomState, configuration_of, operation_at}
+use Rattle.room_core.specs.Rooms.{HasLine}
+use Rattle.room_core.specs.Calls.{RoomState, configuration_of, IsCore, operation_at}
 use Rattle.room_core.proofs.States.{moved_is, moved_room}
 use Rattle.room_core.proofs.room.RoomCore.advance.Goals as goal
 
@@ -13,5 +13,5 @@ invariant_of-self c =
     let next : c.next_move-next.result ≡ operation_at room c.args.i = c.next_move-next.ensures.value ∙ ap (λ (r : RoomState). operation_at r c.args.i) (sym c.self.view_is) in
     let done = c.perform-answer.ensures.words ∙ ap (λ (move : Move). words_after move room.words) next in
     let answered = c.perform-answer.ensures.answer ∙ ap (λ (move : Move). answer_of move room.words) next in
-    let left = moved_is room c.perform-answer.new.words.items c.deref_mut.result.now c.args.i c.index-deref_mut-i.result c.take.new.sweep c.perform-answer.result c.self.invariant.shape c.deref_mut.ensures.value may.alive.below c.index-deref_mut-i.is done answered c.take.ensures in
-    subst (λ (r : RoomState). IsRoom (configuration_of r)) (sym left) (moved_room room c.args.i c.self.invariant may)
+    let left = moved_is room c.perform-answer.new.words.items c.deref_mut.result.now c.args.i c.index-deref_mut-i.result c.take.new.sweep c.perform-answer.result c.self.invariant.is_room.shape c.deref_mut.ensures.value may.alive.below c.index-deref_mut-i.is done answered c.take.ensures in
+    subst IsCore (sym left) (moved_room room c.args.i c.self.invariant may)

@@ -3,8 +3,10 @@ use Rattle.room_spec.specs.Rooms.{IsWithinLimits}
 use Rattle.simulator.specs.declared.sweep.Ready.TheVariants as ready
 use Rattle.room_core.specs.declared.reply.StepReply.TheVariants.{Stepped, Idle, OutOfTurns, Crashed, NoSimulator}
 use Rattle.room_core.specs.Rooms.{HasLine}
-use Rattle.room_core.specs.Calls.{Step, RoomState, configuration_of, has_crashed, ready_at}
-use Rattle.room_core.proofs.States.{has_line}
+use Rattle.simulator.specs.Minds.{goal_at}
+use Rattle.simulator.specs.Quiet.{HasNoWrite}
+use Rattle.room_core.specs.Calls.{Step, CountsQuietTurns, RoomState, configuration_of, has_crashed, ready_at, sweep_at}
+use Rattle.room_core.proofs.States.{has_line, idle_room}
 use Rattle.room_core.proofs.FieldCalls.{absent_step, crashed_step, ready_step, step_by}
 use Rattle.room_core.proofs.Lasting.{agreements_stay}
 use Rattle.room_core.proofs.room.RoomCore.step.Goals as goal
@@ -12,14 +14,14 @@ use Rattle.room_core.proofs.room.RoomCore.step.Goals as goal
 pub returns-then-i-m-clause-fields : goal.returns-then-i-m-clause-fields
 returns-then-i-m-clause-fields c =
     let room : RoomState = c.args.self.now in
-    let limits = subst (λ (r : RoomState). IsWithinLimits r.spec) c.self.view_is c.self.invariant.shape.limits in
+    let limits = subst (λ (r : RoomState). IsWithinLimits r.spec) c.self.view_is c.self.invariant.is_room.shape.limits in
     let count : c.m.result ≡ room.spec.simulators = c.m.ensures.value ∙ ap (λ (r : RoomState). r.spec.simulators) c.self.view_is in
     step_by room room NoSimulator c.args.i limits (absent_step room c.args.i (subst (λ (m : ℕ). m ≤ c.args.i) count c.if-i-m.true))
 
 pub returns-then-is_crashed-clause-fields : goal.returns-then-is_crashed-clause-fields
 returns-then-is_crashed-clause-fields c =
     let room : RoomState = c.args.self.now in
-    let limits = subst (λ (r : RoomState). IsWithinLimits r.spec) c.self.view_is c.self.invariant.shape.limits in
+    let limits = subst (λ (r : RoomState). IsWithinLimits r.spec) c.self.view_is c.self.invariant.is_room.shape.limits in
     let count : c.m.result ≡ room.spec.simulators = c.m.ensures.value ∙ ap (λ (r : RoomState). r.spec.simulators) c.self.view_is in
     let below : c.args.i < room.spec.simulators = subst (λ (m : ℕ). c.args.i < m) count c.if-i-m.false in
     step_by room room Crashed c.args.i limits (crashed_step room c.args.i below (sym c.is_crashed.ensures ∙ c.if-is_crashed.true))
@@ -29,12 +31,12 @@ advance-requires c =
     let room : RoomState = record { spec = c.self.inside.spec; words = c.self.inside.words.items; sweeps = c.self.inside.sweeps.items; crashed = c.self.inside.crashed.items } in
     let alive : has_crashed room c.args.i ≡ false = ap (λ (r : RoomState). has_crashed r c.args.i) c.self.view_is ∙ sym c.is_crashed.ensures ∙ c.if-is_crashed.false in
     let ready = c.ready.ensures ∙ ap (λ (r : RoomState). ready_at r c.args.i) (sym c.self.view_is) in
-    subst (λ (r : RoomState). HasLine (configuration_of r) c.args.i) c.self.view_is (has_line room c.args.i c.self.invariant.shape (omega arith) alive (sym ready ∙ c.in-Step.is))
+    subst (λ (r : RoomState). HasLine (configuration_of r) c.args.i) c.self.view_is (has_line room c.args.i c.self.invariant.is_room.shape (omega arith) alive (sym ready ∙ c.in-Step.is))
 
 pub returns-in-Step-clause-fields : goal.returns-in-Step-clause-fields
 returns-in-Step-clause-fields c =
     let room : RoomState = c.args.self.now in
-    let limits = subst (λ (r : RoomState). IsWithinLimits r.spec) c.self.view_is c.self.invariant.shape.limits in
+    let limits = subst (λ (r : RoomState). IsWithinLimits r.spec) c.self.view_is c.self.invariant.is_room.shape.limits in
     let count : c.m.result ≡ room.spec.simulators = c.m.ensures.value ∙ ap (λ (r : RoomState). r.spec.simulators) c.self.view_is in
     let below : c.args.i < room.spec.simulators = subst (λ (m : ℕ). c.args.i < m) count c.if-i-m.false in
     let to = ready_step room c.args.i ready.Step below (sym c.is_crashed.ensures ∙ c.if-is_crashed.false) (sym c.ready.ensures ∙ c.in-Step.is) in
@@ -43,7 +45,7 @@ returns-in-Step-clause-fields c =
 pub returns-in-Idle-clause-fields : goal.returns-in-Idle-clause-fields
 returns-in-Idle-clause-fields c =
     let room : RoomState = c.args.self.now in
-    let limits = subst (λ (r : RoomState). IsWithinLimits r.spec) c.self.view_is c.self.invariant.shape.limits in
+    let limits = subst (λ (r : RoomState). IsWithinLimits r.spec) c.self.view_is c.self.invariant.is_room.shape.limits in
     let count : c.m.result ≡ room.spec.simulators = c.m.ensures.value ∙ ap (λ (r : RoomState). r.spec.simulators) c.self.view_is in
     let below : c.args.i < room.spec.simulators = subst (λ (m : ℕ). c.args.i < m) count c.if-i-m.false in
     let to = ready_step room c.args.i ready.Idle below (sym c.is_crashed.ensures ∙ c.if-is_crashed.false) (sym c.ready.ensures ∙ c.in-Idle.is) in
@@ -52,32 +54,41 @@ returns-in-Idle-clause-fields c =
 pub returns-in-OutOfTurns-clause-fields : goal.returns-in-OutOfTurns-clause-fields
 returns-in-OutOfTurns-clause-fields c =
     let room : RoomState = c.args.self.now in
-    let limits = subst (λ (r : RoomState). IsWithinLimits r.spec) c.self.view_is c.self.invariant.shape.limits in
+    let limits = subst (λ (r : RoomState). IsWithinLimits r.spec) c.self.view_is c.self.invariant.is_room.shape.limits in
     let count : c.m.result ≡ room.spec.simulators = c.m.ensures.value ∙ ap (λ (r : RoomState). r.spec.simulators) c.self.view_is in
     let below : c.args.i < room.spec.simulators = subst (λ (m : ℕ). c.args.i < m) count c.if-i-m.false in
     step_by room room OutOfTurns c.args.i limits (ready_step room c.args.i ready.OutOfTurns below (sym c.is_crashed.ensures ∙ c.if-is_crashed.false) (sym c.ready.ensures ∙ c.in-OutOfTurns.is))
 
 pub returns-then-i-m-clause-agreement : goal.returns-then-i-m-clause-agreement
 returns-then-i-m-clause-agreement c = λ fields are.
-    let limits = subst (λ (r : RoomState). IsWithinLimits r.spec) c.self.view_is c.self.invariant.shape.limits in
+    let limits = subst (λ (r : RoomState). IsWithinLimits r.spec) c.self.view_is c.self.invariant.is_room.shape.limits in
     agreements_stay c.args.self.now fields (Step c.args.i) limits are
 
 pub returns-then-is_crashed-clause-agreement : goal.returns-then-is_crashed-clause-agreement
 returns-then-is_crashed-clause-agreement c = λ fields are.
-    let limits = subst (λ (r : RoomState). IsWithinLimits r.spec) c.self.view_is c.self.invariant.shape.limits in
+    let limits = subst (λ (r : RoomState). IsWithinLimits r.spec) c.self.view_is c.self.invariant.is_room.shape.limits in
     agreements_stay c.args.self.now fields (Step c.args.i) limits are
 
 pub returns-in-Step-clause-agreement : goal.returns-in-Step-clause-agreement
 returns-in-Step-clause-agreement c = λ fields are.
-    let limits = subst (λ (r : RoomState). IsWithinLimits r.spec) c.self.view_is c.self.invariant.shape.limits in
+    let limits = subst (λ (r : RoomState). IsWithinLimits r.spec) c.self.view_is c.self.invariant.is_room.shape.limits in
     agreements_stay c.args.self.now fields (Step c.args.i) limits are
 
 pub returns-in-Idle-clause-agreement : goal.returns-in-Idle-clause-agreement
 returns-in-Idle-clause-agreement c = λ fields are.
-    let limits = subst (λ (r : RoomState). IsWithinLimits r.spec) c.self.view_is c.self.invariant.shape.limits in
+    let limits = subst (λ (r : RoomState). IsWithinLimits r.spec) c.self.view_is c.self.invariant.is_room.shape.limits in
     agreements_stay c.args.self.now fields (Step c.args.i) limits are
 
 pub returns-in-OutOfTurns-clause-agreement : goal.returns-in-OutOfTurns-clause-agreement
 returns-in-OutOfTurns-clause-agreement c = λ fields are.
-    let limits = subst (λ (r : RoomState). IsWithinLimits r.spec) c.self.view_is c.self.invariant.shape.limits in
+    let limits = subst (λ (r : RoomState). IsWithinLimits r.spec) c.self.view_is c.self.invariant.is_room.shape.limits in
     agreements_stay c.args.self.now fields (Step c.args.i) limits are
+
+pub returns-in-Idle-clause-waits : goal.returns-in-Idle-clause-waits
+returns-in-Idle-clause-waits c = λ is process.
+    let room : RoomState = c.args.self.now in
+    let counts = subst CountsQuietTurns c.self.view_is c.self.invariant.quiet in
+    let count : c.m.result ≡ room.spec.simulators = c.m.ensures.value ∙ ap (λ (r : RoomState). r.spec.simulators) c.self.view_is in
+    let below : c.args.i < room.spec.simulators = subst (λ (m : ℕ). c.args.i < m) count c.if-i-m.false in
+    let ready : ready_at room c.args.i ≡ ready.Idle = sym c.ready.ensures ∙ c.in-Idle.is in
+    subst (λ (r : RoomState). HasNoWrite (goal_at (sweep_at r c.args.i).mind.goals process)) (sym c.wake.ensures) (idle_room room c.args.i process below counts ready)

@@ -1,0 +1,204 @@
+-- The processes for which a simulator has asked in vain, in the order in which its sweep comes to them.
+use Rattle.std.proofs.Common.{◌≡◌, ℕ, zero, suc, ◌+◌, ◌-◌, ◌%◌, ◌<◌, ◌≤◌, Bool, true, false, cond, List, [], ◌∷◌, ◌++◌, length, set, take, drop, Option, Some, None, refl, sym, ap, ◌∙◌, subst, arith, append_assoc, drop-cons, inl, inr}
+use Rattle.std.proofs.lemmas.Bool.{cases_lt}
+use Rattle.std.specs.List.{AllByRecursion, filter, position, position_or_len}
+use Rattle.std.specs.Option.{option_map}
+use Rattle.std.proofs.lemmas.List.{append-nil, take-append-drop, length-append, drop-set-lt, take_more_set, drop_all, drop-drop, drop-append-le, take-append-le, take_all, length-set}
+use Rattle.std.proofs.Math.Nat.{mod-eq_of_lt, mod_self}
+use Rattle.std.proofs.Math.Seq.{take-add}
+use Rattle.std.proofs.lemmas.List.Elements.{filter-append}
+use Rattle.std.proofs.lemmas.List.Quantifiers.{position-Some}
+use Rattle.simulator.proofs.Processes.{none_of_position, some_same}
+use Rattle.simulator.specs.declared.goal.Goal.{Goal}
+use Rattle.simulator.specs.declared.goal.Goal.TheVariants.{Write, Ask, Done, Spent}
+use Rattle.simulator.specs.Minds.{is_unfinished, goal_at, unfinished_in, or_else, next_process}
+use Rattle.simulator.specs.Quiet.{IsAsk, HasNoWrite, unfinished_from, AreAsksAtTheEnd}
+
+-- ---- the end of a list
+
+abbrev AreAsks : List Goal → Type 0
+AreAsks goals = AllByRecursion IsAsk goals
+
+asks_later : (goals : List Goal) (at later : ℕ) → at ≤ later → AreAsks (drop at goals) → AreAsks (drop later goals)
+asks_later [] zero zero less all = all
+asks_later [] zero (suc later) less all = all
+asks_later [] (suc at) zero less all = all
+asks_later [] (suc at) (suc later) less all = all
+asks_later (goal ∷ goals) zero zero less all = all
+asks_later (goal ∷ goals) zero (suc later) less all = asks_later goals zero later (omega arith) all.1
+asks_later (goal ∷ goals) (suc at) zero less all = absurd (omega arith)
+asks_later (goal ∷ goals) (suc at) (suc later) less all = asks_later goals at later (omega arith) all
+
+asks_more : (goals : List Goal) (at : ℕ) (goal : Goal) → IsAsk goal → AreAsks (drop at goals) → AreAsks (drop at (goals ++ goal ∷ []))
+asks_more [] zero goal is all = (is, tt)
+asks_more [] (suc zero) goal is all = tt
+asks_more [] (suc (suc at)) goal is all = tt
+asks_more (first ∷ goals) zero goal is all = (all.0, asks_more goals zero goal is all.1)
+asks_more (first ∷ goals) (suc at) goal is all = asks_more goals at goal is all
+
+-- fewer are asks too
+pub fewer_asks : (goals : List Goal) (count fewer : ℕ) → fewer ≤ count → AreAsksAtTheEnd goals count → AreAsksAtTheEnd goals fewer
+fewer_asks goals count fewer less all = asks_later goals (length goals - count) (length goals - fewer) (omega arith) all
+
+pub no_asks : (goals : List Goal) → AreAsksAtTheEnd goals 0
+no_asks goals = subst AreAsks (sym (drop_all (length goals - 0) goals (omega arith))) tt
+
+-- the first goal goes to the end, as an ask
+pub asked_again : (first goal : Goal) (goals : List Goal) (count : ℕ) → IsAsk goal → AreAsksAtTheEnd (first ∷ goals) count → AreAsksAtTheEnd (goals ++ goal ∷ []) (count + 1)
+asked_again first goal goals count is all =
+    let long : length (goals ++ goal ∷ []) ≡ length goals + 1 = length-append goals (goal ∷ []) in
+    asks_more goals (length (goals ++ goal ∷ []) - (count + 1)) goal is
+    (asks_later (first ∷ goals) (length (first ∷ goals) - count) (suc (length (goals ++ goal ∷ []) - (count + 1))) (omega arith) all)
+
+-- ---- a turn begins: the processes that the sweep goes past are finished
+
+none_before : (goals : List Goal) (at : ℕ) → at ≤ position_or_len is_unfinished goals → filter is_unfinished (take at goals) ≡ []
+none_before [] zero early = refl
+none_before [] (suc at) early = refl
+none_before (goal ∷ goals) zero early = refl
+none_before (Write round value ∷ goals) (suc at) early = absurd (omega arith)
+none_before (Ask round ∷ goals) (suc at) early = absurd (omega arith)
+none_before (Done ∷ goals) (suc at) early = none_before goals at (omega arith)
+none_before (Spent ∷ goals) (suc at) early = none_before goals at (omega arith)
+
+place_by : (found at : ℕ) (b : Bool) → cond b (Some found) None ≡ Some at → found ≡ at
+place_by found at true is = cc
+place_by found at false is = absurd cc
+
+place_of : (goals : List Goal) (at : ℕ) → position is_unfinished goals ≡ Some at → filter is_unfinished (take at goals) ≡ []
+place_of goals at is =
+    let same : position_or_len is_unfinished goals ≡ at = place_by (position_or_len is_unfinished goals) at _ is in
+    none_before goals at (omega arith)
+
+-- a part with nothing unfinished in it
+skip : (finished goals : List Goal) → filter is_unfinished finished ≡ [] → filter is_unfinished (finished ++ goals) ≡ filter is_unfinished goals
+skip finished goals none = filter-append is_unfinished finished goals ∙ ap (λ (l : List Goal). l ++ filter is_unfinished goals) none
+
+skip_after : (goals finished : List Goal) → filter is_unfinished finished ≡ [] → filter is_unfinished (goals ++ finished) ≡ filter is_unfinished goals
+skip_after goals finished none = filter-append is_unfinished goals finished ∙ ap (λ (l : List Goal). filter is_unfinished goals ++ l) none ∙ append-nil (filter is_unfinished goals)
+
+no_length : (goals : List Goal) → length goals ≡ 0 → goals ≡ []
+no_length [] none = refl
+no_length (goal ∷ goals) none = absurd (omega (arith, none))
+
+begins_later : (goals : List Goal) (sweep at : ℕ) → position is_unfinished (drop sweep goals) ≡ Some at → unfinished_from goals (sweep + at) ≡ unfinished_from goals sweep
+begins_later goals sweep at found =
+    let rest = drop sweep goals in
+    let before = take sweep goals in
+    let none = place_of rest at found in
+    ap (λ (l : List Goal). filter is_unfinished (l ++ take (sweep + at) goals)) (sym (drop-drop at sweep goals))
+    ∙ ap (λ (l : List Goal). filter is_unfinished (drop at rest ++ l)) (take-add sweep at goals)
+    ∙ ap (filter is_unfinished) (sym (append_assoc (drop at rest) before (take at rest)))
+    ∙ skip_after (drop at rest ++ before) (take at rest) none
+    ∙ sym (skip (take at rest) (drop at rest ++ before) none)
+    ∙ ap (filter is_unfinished) (sym (append_assoc (take at rest) (drop at rest) before))
+    ∙ ap (λ (l : List Goal). filter is_unfinished (l ++ before)) (take-append-drop at rest)
+
+begins_sooner : (goals : List Goal) (sweep at : ℕ) → position is_unfinished (drop sweep goals) ≡ None → position is_unfinished (take sweep goals) ≡ Some at → unfinished_from goals at ≡ unfinished_from goals sweep
+begins_sooner goals sweep at nothing found =
+    let rest = drop sweep goals in
+    let before = take sweep goals in
+    let none = place_of before at found in
+    let empty : filter is_unfinished rest ≡ [] = no_length (filter is_unfinished rest) (none_of_position rest nothing) in
+    let place = position-Some is_unfinished before at Done found in
+    let early : at ≤ length before = omega (arith, place.0) in
+    let whole = sym (take-append-drop sweep goals) in
+    ap (λ (l : List Goal). filter is_unfinished (drop at l ++ take at l)) whole
+    ∙ ap (λ (l : List Goal). filter is_unfinished (l ++ take at (before ++ rest))) (drop-append-le at before rest early)
+    ∙ ap (λ (l : List Goal). filter is_unfinished ((drop at before ++ rest) ++ l)) (take-append-le at before rest early)
+    ∙ skip_after (drop at before ++ rest) (take at before) none
+    ∙ skip_after (drop at before) rest empty
+    ∙ sym (skip (take at before) (drop at before) none)
+    ∙ ap (filter is_unfinished) (take-append-drop at before)
+    ∙ sym (skip rest before empty)
+
+begins_by : (goals : List Goal) (sweep process : ℕ) (later sooner : Option ℕ) → position is_unfinished (drop sweep goals) ≡ later → position is_unfinished (take sweep goals) ≡ sooner → or_else (option_map (λ at. sweep + at) later) sooner ≡ Some process → unfinished_from goals process ≡ unfinished_from goals sweep
+begins_by goals sweep process (Some at) sooner is other found = ap (unfinished_from goals) (sym (some_same (sweep + at) process found)) ∙ begins_later goals sweep at is
+begins_by goals sweep process None (Some at) is other found = ap (unfinished_from goals) (sym (some_same at process found)) ∙ begins_sooner goals sweep at is other
+begins_by goals sweep process None None is other found = absurd cc
+
+pub begins : (goals : List Goal) (sweep process : ℕ) → next_process goals sweep ≡ Some process → unfinished_from goals process ≡ unfinished_from goals sweep
+begins goals sweep process found = begins_by goals sweep process _ _ refl refl found
+
+-- ---- a turn ends: the sweep goes on by one process, which comes last from now on
+
+-- the other goals, from the next one on
+abbrev others : List Goal → ℕ → List Goal
+others goals sweep = drop (suc sweep) goals ++ take sweep goals
+
+first_of : (goals : List Goal) (sweep : ℕ) → sweep < length goals → is_unfinished (goal_at goals sweep) ≡ true → unfinished_from goals sweep ≡ goal_at goals sweep ∷ filter is_unfinished (others goals sweep)
+first_of goals sweep below is =
+    ap (λ (l : List Goal). filter is_unfinished (l ++ take sweep goals)) (drop-cons goals sweep Done below)
+    ∙ ap (λ (b : Bool). cond b (goal_at goals sweep ∷ filter is_unfinished (others goals sweep)) (filter is_unfinished (others goals sweep))) is
+
+-- the place after the last is the first
+round_again : (goals : List Goal) (after : ℕ) → after ≤ length goals → unfinished_from goals (after % length goals) ≡ unfinished_from goals after
+round_again goals after within = elim (cases_lt after (length goals)) [
+  | inl below ↦ ap (unfinished_from goals) (mod-eq_of_lt below)
+  | inr above ↦
+      let end : after ≡ length goals = omega (arith, above) in
+      let zero_is : after % length goals ≡ 0 = ap (λ (k : ℕ). k % length goals) end ∙ mod_self (length goals) in
+      ap (unfinished_from goals) zero_is
+      ∙ ap (filter is_unfinished) (append-nil goals ∙ sym (ap (λ (l : List Goal). l ++ take after goals) (drop_all after goals above) ∙ take_all after goals above))
+]
+
+last_of : (goals : List Goal) (sweep : ℕ) (goal : Goal) → sweep < length goals → unfinished_from (set goals sweep goal) (sweep + 1) ≡ filter is_unfinished (others goals sweep) ++ filter is_unfinished (goal ∷ [])
+last_of goals sweep goal below =
+    ap (λ (l : List Goal). filter is_unfinished (l ++ take (sweep + 1) (set goals sweep goal))) (drop-set-lt (sweep + 1) goals sweep goal (omega arith))
+    ∙ ap (λ (l : List Goal). filter is_unfinished (drop (sweep + 1) goals ++ l)) (take_more_set goals sweep goal below)
+    ∙ ap (filter is_unfinished) (sym (append_assoc (drop (sweep + 1) goals) (take sweep goals) (goal ∷ [])))
+    ∙ filter-append is_unfinished (drop (sweep + 1) goals ++ take sweep goals) (goal ∷ [])
+    ∙ ap (λ (k : ℕ). filter is_unfinished (drop k goals ++ take sweep goals) ++ filter is_unfinished (goal ∷ [])) (let same : sweep + 1 ≡ suc sweep = omega arith in same)
+
+-- what each end of a turn leaves
+pub ends : (goals : List Goal) (sweep : ℕ) (goal : Goal) → sweep < length goals → unfinished_from (set goals sweep goal) ((sweep + 1) % length goals) ≡ filter is_unfinished (others goals sweep) ++ filter is_unfinished (goal ∷ [])
+ends goals sweep goal below =
+    let long = length-set goals sweep goal in
+    ap (λ (k : ℕ). unfinished_from (set goals sweep goal) ((sweep + 1) % k)) (sym long)
+    ∙ round_again (set goals sweep goal) (sweep + 1) (omega arith)
+    ∙ last_of goals sweep goal below
+
+-- ---- the quiet count
+
+-- a turn that was quiet
+pub quiet_ends : (goals : List Goal) (sweep round quiet more : ℕ) → sweep < length goals → is_unfinished (goal_at goals sweep) ≡ true → more ≤ quiet + 1
+    → AreAsksAtTheEnd (unfinished_from goals sweep) quiet → AreAsksAtTheEnd (unfinished_from (set goals sweep (Ask round)) ((sweep + 1) % length goals)) more
+quiet_ends goals sweep round quiet more below is less all =
+    let rest = filter is_unfinished (others goals sweep) in
+    let before : AreAsksAtTheEnd (goal_at goals sweep ∷ rest) quiet = subst (λ (l : List Goal). AreAsksAtTheEnd l quiet) (first_of goals sweep below is) all in
+    let after : AreAsksAtTheEnd (rest ++ Ask round ∷ []) (quiet + 1) = asked_again (goal_at goals sweep) (Ask round) rest quiet tt before in
+    subst (λ (l : List Goal). AreAsksAtTheEnd l more) (sym (ends goals sweep (Ask round) below)) (fewer_asks (rest ++ Ask round ∷ []) (quiet + 1) more less after)
+
+-- ---- where as many were quiet as are unfinished
+
+split_asks : (goals more : List Goal) → AreAsks (goals ++ more) → AreAsks goals × AreAsks more
+split_asks [] more all = (tt, all)
+split_asks (goal ∷ goals) more all = let rest = split_asks goals more all.1 in ((all.0, rest.0), rest.1)
+
+join_asks : (goals more : List Goal) → AreAsks goals → AreAsks more → AreAsks (goals ++ more)
+join_asks [] more one two = two
+join_asks (goal ∷ goals) more one two = (one.0, join_asks goals more one.1 two)
+
+no_writes : (goals : List Goal) (process : ℕ) → AreAsks (filter is_unfinished goals) → HasNoWrite (goal_at goals process)
+no_writes [] process all = tt
+no_writes (Write round value ∷ goals) process all = absurd all.0
+no_writes (Ask round ∷ goals) zero all = tt
+no_writes (Ask round ∷ goals) (suc process) all = no_writes goals process all.1
+no_writes (Done ∷ goals) zero all = tt
+no_writes (Done ∷ goals) (suc process) all = no_writes goals process all
+no_writes (Spent ∷ goals) zero all = tt
+no_writes (Spent ∷ goals) (suc process) all = no_writes goals process all
+
+-- the asks of a whole round
+pub all_asked : (goals : List Goal) (sweep quiet process : ℕ) → unfinished_in goals ≤ quiet → AreAsksAtTheEnd (unfinished_from goals sweep) quiet → HasNoWrite (goal_at goals process)
+all_asked goals sweep quiet process enough all =
+    let rest = drop sweep goals in
+    let before = take sweep goals in
+    let parts = filter-append is_unfinished rest before in
+    let counts : length (unfinished_from goals sweep) ≡ length (filter is_unfinished rest) + length (filter is_unfinished before) = ap (λ (l : List Goal). length l) parts ∙ length-append (filter is_unfinished rest) (filter is_unfinished before) in
+    let whole = ap (filter is_unfinished) (sym (take-append-drop sweep goals)) ∙ filter-append is_unfinished before rest in
+    let long : unfinished_in goals ≡ length (filter is_unfinished before) + length (filter is_unfinished rest) = ap (λ (l : List Goal). length l) whole ∙ length-append (filter is_unfinished before) (filter is_unfinished rest) in
+    let none : length (unfinished_from goals sweep) - quiet ≡ 0 = omega arith in
+    let each : AreAsks (unfinished_from goals sweep) = subst (λ (k : ℕ). AreAsks (drop k (unfinished_from goals sweep))) none all in
+    let both = split_asks (filter is_unfinished rest) (filter is_unfinished before) (subst AreAsks parts each) in
+    no_writes goals process (subst AreAsks (sym whole) (join_asks (filter is_unfinished before) (filter is_unfinished rest) both.1 both.0))
