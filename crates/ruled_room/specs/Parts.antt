@@ -6,6 +6,7 @@ use Rattle.atomic_table.specs.Seated.{TableId}
 use Rattle.room_spec.specs.Rooms.{RoomSpec}
 use Rattle.simulator.specs.Minds.{MindState}
 use Rattle.simulator.specs.Moves.{move_of, taken}
+use Rattle.simulator.specs.Quiet.{IsQuietCount}
 use Rattle.simulator.specs.Ranges.{IsMind}
 use Rattle.simulator.specs.Sweeps.{SweepState, opening_sweep}
 use Rattle.room_core.specs.Calls.{sweep_after, woken}
@@ -25,6 +26,12 @@ pub record RoomName : Type 0 where
   pub spec : RoomSpec
 
 -- ---- simulators
+
+-- a sweep of the room's simulator i, whose quiet count is one of its mind
+pub record IsSweepOf (spec : RoomSpec) (i : ℕ) (sweep : SweepState) : Type 0 where
+  pub is_mind : IsMind spec sweep.mind
+  pub number : sweep.mind.number ≡ i
+  pub quiet : IsQuietCount sweep.mind sweep.quiet
 
 -- operations: what it has done on the room's words since it was given, as the table has noted it
 pub record SimulatorData : Type 0 where
@@ -77,9 +84,9 @@ first_sweeps spec = map (λ i. Some (opening_sweep spec i)) (range_with_len 0 sp
 abbrev pub minds_of : List (Option SweepState) → List (Option MindState)
 minds_of sweeps = map (option_map (λ sweep. sweep.mind)) sweeps
 
--- whoever is at home has a mind of the room and stands at its number
-abbrev pub AreMinds : RoomSpec → List (Option SweepState) → Type 0
-AreMinds spec sweeps = (i : ℕ) (sweep : SweepState) → slice_index_or sweeps i None ≡ Some sweep → IsMind spec sweep.mind × (sweep.mind.number ≡ i)
+-- whoever is at home stands at its number
+abbrev pub AreSweeps : RoomSpec → List (Option SweepState) → Type 0
+AreSweeps spec sweeps = (i : ℕ) (sweep : SweepState) → slice_index_or sweeps i None ≡ Some sweep → IsSweepOf spec i sweep
 
 -- who has crashed once simulator i stopped so
 abbrev pub marked : Stop → ℕ → List Bool → List Bool

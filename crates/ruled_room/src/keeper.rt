@@ -24,7 +24,7 @@ impl Model for Keeper {
     ghost use Rattle.std.specs.Prelude.{◌≡◌, [], length};
     ghost use Rattle.std.specs.Coded.{codes};
     ghost use Rattle.protocol_lang.specs.Codes.{expression_code};
-    ghost use Rattle.ruled_room.specs.Parts.{AreMinds, KeeperData, minds_of};
+    ghost use Rattle.ruled_room.specs.Parts.{AreSweeps, KeeperData, minds_of};
 
     ghost Value = { KeeperData };
 
@@ -32,7 +32,7 @@ impl Model for Keeper {
 
     ghost view = { λ k. record { room = record { table = k.seat.table_id; spec = k.seat.me.0.spec }; sweeps = k.sweeps.items; crashed = k.crashed.items } };
 
-    ghost invariant = { λ k. (k.seat.me.0.minds ≡ minds_of k.sweeps.items) × (k.seat.me.1 ≡ []) × (length k.sweeps.items ≡ k.seat.me.0.spec.simulators) × (length k.crashed.items ≡ k.seat.me.0.spec.simulators) × AreMinds k.seat.me.0.spec k.sweeps.items };
+    ghost invariant = { λ k. (k.seat.me.0.minds ≡ minds_of k.sweeps.items) × (k.seat.me.1 ≡ []) × (length k.sweeps.items ≡ k.seat.me.0.spec.simulators) × (length k.crashed.items ≡ k.seat.me.0.spec.simulators) × AreSweeps k.seat.me.0.spec k.sweeps.items };
 }
 
 impl Keeper {

@@ -1,9 +1,12 @@
 //! A simulator that was given away, and its steps.
-ghost use Rattle.std.specs.Prelude.{◌≡◌, []};
+ghost use Rattle.std.specs.Prelude.{◌≡◌, ℕ, []};
+ghost use Rattle.simulator.specs.Minds.{goal_at};
 ghost use Rattle.simulator.specs.Moves.{IsOperation, move_of};
+ghost use Rattle.simulator.specs.Quiet.{HasNoWrite};
 ghost use Rattle.simulator.specs.Ranges.{IsMind};
 ghost use Rattle.simulator.specs.Sweeps.{is_resting, ready_of};
 ghost use Rattle.room_core.specs.Calls.{reply_when};
+ghost use Rattle.room_core.specs.declared.reply.StepReply.TheVariants.{Idle};
 ghost use Rattle.ruled_room.specs.Parts.{TakesStep};
 ghost use Rattle.ruled_room.specs.Views.{alone, noted};
 
@@ -27,8 +30,7 @@ impl Model for Simulator {
     ghost use Rattle.std.specs.Prelude.{◌≡◌, []};
     ghost use Rattle.std.specs.Coded.{codes};
     ghost use Rattle.protocol_lang.specs.Codes.{expression_code};
-    ghost use Rattle.simulator.specs.Ranges.{IsMind};
-    ghost use Rattle.ruled_room.specs.Parts.{SimulatorData};
+    ghost use Rattle.ruled_room.specs.Parts.{IsSweepOf, SimulatorData};
     ghost use Rattle.ruled_room.specs.Views.{only};
 
     ghost Value = { SimulatorData };
@@ -38,7 +40,7 @@ impl Model for Simulator {
     ghost view = { λ s. record { room = record { table = s.seat.table_id; spec = s.seat.me.0.spec }; number = s.number; sweep = s.sweep; operations = s.seat.me.0.operations } };
 
     // Its seat has its mind, and no other.
-    ghost invariant = { λ s. (s.seat.me.0.minds ≡ only s.number s.sweep.mind) × (s.seat.me.1 ≡ []) × IsMind s.seat.me.0.spec s.sweep.mind × (s.sweep.mind.number ≡ s.number) };
+    ghost invariant = { λ s. (s.seat.me.0.minds ≡ only s.number s.sweep.mind) × (s.seat.me.1 ≡ []) × IsSweepOf s.seat.me.0.spec s.number s.sweep };
 }
 
 impl Simulator {
@@ -71,6 +73,8 @@ impl Simulator {
         requires { self.old.room ≡ room.now }
         ensures reply { result ≡ reply_when (ready_of self.old.room.spec self.old.sweep.mind self.old.sweep.quiet) }
         ensures step { TakesStep self.old result self.new }
+        // Whoever is idle has no write left to make: each process stands at an ask, or is done or spent.
+        ensures waits { result ≡ Idle → (process : ℕ) → HasNoWrite (goal_at self.new.sweep.mind.goals process) }
     {
         match self.sweep.ready(&room.spec) {
             Ready::Step => {

@@ -5,13 +5,12 @@ use Rattle.std.proofs.lemmas.List.{length-set}
 use Rattle.atomic_table.specs.Table.{Me}
 use Rattle.room_spec.specs.Rooms.{RoomSpec}
 use Rattle.simulator.specs.Minds.{MindState}
-use Rattle.simulator.specs.Ranges.{IsMind}
 use Rattle.simulator.specs.Sweeps.{SweepState}
 use Rattle.room_core.proofs.States.{refill-set}
 use Rattle.ruled_room.specs.declared.rule.View.{View}
-use Rattle.ruled_room.specs.Parts.{AreMinds, KeeperData, minds_of, sweep_home}
+use Rattle.ruled_room.specs.Parts.{AreSweeps, IsSweepOf, KeeperData, minds_of, sweep_home}
 use Rattle.ruled_room.specs.Views.{alone, given, mind_in}
-use Rattle.ruled_room.proofs.Homes.{minds-set, mind_home, are_minds_without, held_home, read_home, home_below}
+use Rattle.ruled_room.proofs.Homes.{minds-set, mind_home, are_sweeps_without, held_home, read_home, home_below}
 use Rattle.ruled_room.proofs.keeper.Keeper.give.Goals as goal
 
 pub invariant_of-self : goal.invariant_of-self
@@ -30,7 +29,7 @@ invariant_of-self c =
       ap (λ (m : Me (Unit {0}) View). m.1) s.2 ∙ i.1,
       ap length sweeps-are ∙ length-set items n None ∙ i.2 ∙ count,
       i.3 ∙ count,
-      subst (λ (q : RoomSpec × List (Option SweepState)). AreMinds q.0 q.1) (λ k. (sym spec-is k, sym sweeps-are k)) (are_minds_without c.self.inside.seat.me.0.spec items n i.4),
+      subst (λ (q : RoomSpec × List (Option SweepState)). AreSweeps q.0 q.1) (λ k. (sym spec-is k, sym sweeps-are k)) (are_sweeps_without c.self.inside.seat.me.0.spec items n i.4),
     )
 
 pub invariant_of-result : goal.invariant_of-result
@@ -47,4 +46,4 @@ invariant_of-result c =
     ap (λ (l : List (Option MindState)). get_or l n None) i.0 ∙ mind_home items n ∙ ap (λ (o : Option SweepState). get_or (minds_of (o ∷ [])) 0 None) home in
     let view-is : c.cut-seat.result.me.0 ≡ alone spec [] n sweep.mind = ap (λ (m : Me (Unit {0}) View). m.0) s.1 ∙ ap (λ (o : Option MindState). given spec n o) mind-is in
     let is = i.4 n sweep home in
-    (ap (λ (v : View). v.minds) view-is, ap (λ (m : Me (Unit {0}) View). m.1) s.1, subst (λ (q : RoomSpec). IsMind q sweep.mind) (ap (λ (v : View). v.spec) (sym view-is)) is.0, is.1)
+    (ap (λ (v : View). v.minds) view-is, ap (λ (m : Me (Unit {0}) View). m.1) s.1, subst (λ (q : RoomSpec). IsSweepOf q n sweep) (ap (λ (v : View). v.spec) (sym view-is)) is)

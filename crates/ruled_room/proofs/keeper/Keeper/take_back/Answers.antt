@@ -5,14 +5,13 @@ use Rattle.std.proofs.lemmas.List.{length-set}
 use Rattle.atomic_table.specs.Table.{Me}
 use Rattle.room_spec.specs.Rooms.{RoomSpec}
 use Rattle.simulator.specs.Minds.{MindState}
-use Rattle.simulator.specs.Ranges.{IsMind}
 use Rattle.simulator.specs.Sweeps.{SweepState}
 use Rattle.room_core.proofs.States.{refill-set}
 use Rattle.ruled_room.specs.declared.rule.View.{View}
-use Rattle.ruled_room.specs.Parts.{AreMinds, RoomName, KeeperData, SimulatorData, minds_of}
+use Rattle.ruled_room.specs.Parts.{AreSweeps, IsSweepOf, RoomName, KeeperData, SimulatorData, minds_of}
 use Rattle.ruled_room.specs.Views.{mind_in}
 use Rattle.ruled_room.proofs.Moving.{only-here}
-use Rattle.ruled_room.proofs.Homes.{minds-set, are_minds_with}
+use Rattle.ruled_room.proofs.Homes.{minds-set, are_sweeps_with}
 use Rattle.ruled_room.proofs.keeper.Keeper.take_back.Goals as goal
 
 pub mend-requires-clause-other : goal.mend-requires-clause-other
@@ -40,7 +39,7 @@ invariant_of-self-in_default c =
       ap (λ (m : Me (Unit {0}) View). m.1) c.mend.ensures.2 ∙ i.1,
       ap length sweeps-are ∙ length-set items n (Some sweep) ∙ i.2 ∙ count,
       i.3 ∙ count,
-      subst (λ (q : RoomSpec × List (Option SweepState)). AreMinds q.0 q.1) (λ k. (sym spec-is k, sym sweeps-are k)) (are_minds_with c.self.inside.seat.me.0.spec items n sweep (subst (λ (q : RoomSpec). IsMind q sweep.mind) room j.2) j.3 i.4),
+      subst (λ (q : RoomSpec × List (Option SweepState)). AreSweeps q.0 q.1) (λ k. (sym spec-is k, sym sweeps-are k)) (are_sweeps_with c.self.inside.seat.me.0.spec items n sweep (subst (λ (q : RoomSpec). IsSweepOf q n sweep) room j.2) i.4),
     )
 
 pub invariant_of-self : goal.invariant_of-self
@@ -65,5 +64,5 @@ invariant_of-self c =
       ap (λ (m : Me (Unit {0}) View). m.1) c.mend.ensures.2 ∙ i.1,
       ap length sweeps-are ∙ length-set items n (Some sweep) ∙ i.2 ∙ count,
       ap (λ (l : List Bool). length (refill (length marks) marks (slice_set l n true))) c.deref_mut-in-Crashed.ensures.value ∙ ap length (refill-set marks n true) ∙ length-set marks n true ∙ i.3 ∙ count,
-      subst (λ (q : RoomSpec × List (Option SweepState)). AreMinds q.0 q.1) (λ k. (sym spec-is k, sym sweeps-are k)) (are_minds_with c.self.inside.seat.me.0.spec items n sweep (subst (λ (q : RoomSpec). IsMind q sweep.mind) room j.2) j.3 i.4),
+      subst (λ (q : RoomSpec × List (Option SweepState)). AreSweeps q.0 q.1) (λ k. (sym spec-is k, sym sweeps-are k)) (are_sweeps_with c.self.inside.seat.me.0.spec items n sweep (subst (λ (q : RoomSpec). IsSweepOf q n sweep) room j.2) i.4),
     )

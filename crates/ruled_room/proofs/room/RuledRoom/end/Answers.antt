@@ -10,11 +10,11 @@ use Rattle.room_core.proofs.Replays.{is_room}
 use Rattle.ruled_room.specs.Rule.{Kept, word_count}
 use Rattle.ruled_room.specs.Parts.{RoomName, KeeperData, minds_of}
 use Rattle.ruled_room.proofs.Ends.{ends}
-use Rattle.ruled_room.proofs.Homes.{whole_homes}
+use Rattle.ruled_room.proofs.Homes.{quiet_at_home, whole_homes}
 use Rattle.ruled_room.proofs.room.RuledRoom.end.Goals as goal
 
-pub from_parts-requires : goal.from_parts-requires
-from_parts-requires c =
+pub from_parts-requires-clause-room : goal.from_parts-requires-clause-room
+from_parts-requires-clause-room c =
     let f = c.close_with-closed.ensures.values in
     let k = c.keeper.invariant in
     let spec = c.self.inside.spec in
@@ -34,3 +34,13 @@ from_parts-requires c =
     let run = ends spec limits seat.id seat.me.0 words slots minds c.keeper.inside.crashed.items final home long any (k.3 ∙ count) in
     let words-are : take (word_count spec) words ≡ c.read.new.words.items = ap (λ (n : ℕ). take n words) (sym (c.requires.words ∙ ap word_count named)) ∙ sym c.read.ensures in
     is_room _ limits (subst (λ (ws : List ℕ). IsOneInterleaving (record { spec = spec; words = ws; minds = minds; crashed = c.keeper.inside.crashed.items })) words-are run)
+
+pub from_parts-requires-clause-quiet : goal.from_parts-requires-clause-quiet
+from_parts-requires-clause-quiet c =
+    let k = c.keeper.invariant in
+    let sweeps = c.all.result.items in
+    let seat = c.keeper.inside.seat in
+    let spec = c.self.inside.spec in
+    let same : seat.me.0.spec ≡ spec = ap (λ (q : KeeperData). q.room.spec) c.keeper.view_is ∙ ap (λ (q : RoomName). q.spec) c.requires.room ∙ ap (λ (q : RoomName). q.spec) (sym c.self.view_is) in
+    let long : length sweeps ≡ spec.simulators = sym (length-map sweeps (λ x. Some x)) ∙ ap length c.all.ensures ∙ k.2 ∙ ap (λ (s : RoomSpec). s.simulators) same in
+    λ i below. quiet_at_home seat.me.0.spec sweeps c.keeper.inside.sweeps.items c.all.ensures k.4 i (omega arith) _

@@ -9,9 +9,9 @@ use Rattle.simulator.specs.Sweeps.{SweepState}
 use Rattle.ruled_room.specs.declared.rule.View.{View}
 use Rattle.ruled_room.specs.Rule.{word_count}
 use Rattle.ruled_room.specs.Views.{begun, nobody}
-use Rattle.ruled_room.specs.Parts.{AreMinds, first_sweeps, minds_of}
+use Rattle.ruled_room.specs.Parts.{AreSweeps, first_sweeps, minds_of}
 use Rattle.ruled_room.proofs.Ends.{begins, starts}
-use Rattle.ruled_room.proofs.Homes.{first_homes, first_count, first_are_minds}
+use Rattle.ruled_room.proofs.Homes.{first_homes, first_count, first_are_sweeps}
 use Rattle.ruled_room.proofs.room.RuledRoom.fresh.Goals as goal
 
 pub of_words-requires : goal.of_words-requires
@@ -43,5 +43,5 @@ invariant_of-keeper c =
       ap (λ (m : Me (Unit {0}) View). m.1) me,
       ap length first ∙ first_count spec ∙ count,
       ap length c.nobody.ensures ∙ length-replicate c.m.result _ ∙ c.m.ensures.value ∙ count,
-      subst (λ (q : RoomSpec × List (Option SweepState)). AreMinds q.0 q.1) (λ k. (sym spec-is k, sym first k)) (first_are_minds spec limits),
+      subst (λ (q : RoomSpec × List (Option SweepState)). AreSweeps q.0 q.1) (λ k. (sym spec-is k, sym first k)) (first_are_sweeps spec limits),
     )
