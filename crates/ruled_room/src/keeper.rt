@@ -32,6 +32,7 @@ impl Model for Keeper {
 
     ghost view = { λ k. record { room = record { table = k.seat.table_id; spec = k.seat.me.0.spec }; sweeps = k.sweeps.items; crashed = k.crashed.items } };
 
+    // Its seat has the minds of those at home.
     ghost invariant = { λ k. (k.seat.me.0.minds ≡ minds_of k.sweeps.items) × (k.seat.me.1 ≡ []) × (length k.sweeps.items ≡ k.seat.me.0.spec.simulators) × (length k.crashed.items ≡ k.seat.me.0.spec.simulators) × AreSweeps k.seat.me.0.spec k.sweeps.items };
 }
 

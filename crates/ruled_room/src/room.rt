@@ -43,6 +43,7 @@ impl Model for RuledRoom {
 
     ghost view = { λ r. record { table = r.table.shared.table_id; spec = r.spec } };
 
+    // Its table was told the spec, and has one word more than the room.
     ghost invariant = { λ r. (r.table.shared.key ≡ r.spec) × (r.table.shared.table_id.words ≡ suc (word_count r.spec)) × (r.table.shared.table_id.slots ≡ 0) };
 }
 

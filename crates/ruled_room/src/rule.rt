@@ -8,26 +8,26 @@
 //! list of atomic steps, with nobody crashed, leads from the opening room to the room's words and
 //! these minds. Before the last word is 1, all words are 0 and no view has a mind.
 //!
-//! These are the operations. The own words and fields are those of the simulator that steps.
+//! These are the operations. Own words and fields are those of the simulator that steps.
 //!
-//! | Operation | Word | At | Seat, and what becomes of its view |
+//! | Operation | Word | When | Seat, and what becomes of its view |
 //! |---|---|---|---|
-//! | store | own value; own decision | the turn's first line, for a write; its line out | the simulator's: its mind takes the step |
-//! | add 1 | own field in the step numbers | its line raise | the same |
-//! | load | the step numbers | its line snap | the same, with the word that was found |
-//! | store | own view of the agreement | its line show | the same |
-//! | add 1, subtract 1 | own field in the levels of the agreement | its lines enter and leave | the same |
-//! | load | the levels of the agreement | its lines look and ask, and the first line of a turn that asks | the same, with the word that was found |
-//! | load | the view of the agreement's winner | its line get view | the same, with the word that was found |
-//! | load | the value of a write that the view shows | its line values | the same, with the word that was found |
-//! | load | the step numbers | the keeper gives a simulator | the keeper's loses the mind, and a new seat has it |
-//! | load | the step numbers | the keeper takes one back | the keeper's gets the mind, and the other seat has none |
-//! | swap in 1 | the last | the room begins | the keeper's: where the answer is 0, it gets all opening minds |
+//! | store | own value, own decision | first line of a turn that writes; line out | the simulator's: its mind goes one line on |
+//! | add 1 to own field | the step numbers | line raise | the same |
+//! | load | the step numbers | line snap | the same: the mind goes on by the word that was found |
+//! | store | own view for the agreement | line show | the same |
+//! | add 1 to own field, subtract 1 from it | the levels of the agreement | lines enter and leave | the same |
+//! | load | the levels of the agreement | lines look and ask; first line of a turn that asks | the same, by the word that was found |
+//! | load | the view that was agreed on | line get view | the same, by the word that was found |
+//! | load | a value that this view shows | line values | the same, by the word that was found |
+//! | load | the step numbers | a simulator is given | the keeper's: the mind leaves it, and a new seat has it |
+//! | load | the step numbers | a simulator is taken back | the keeper's: it has the mind again, and the other seat has none |
+//! | swap in 1 | the last | the room begins | the keeper's: where the swap found 0, it gets all opening minds |
 //!
-//! In the first eight rows the view also notes the operation and its answer, as a history variable
-//! does (M. Abadi and L. Lamport, "The existence of refinement mappings", Theoretical Computer
-//! Science 82(2), 1991). The last three rows are no steps of the simulators, and change no word of
-//! the room.
+//! The first eight rows are the atomic steps of a simulator. There the view also notes the operation
+//! and its answer: a history variable (M. Abadi and L. Lamport, "The existence of refinement
+//! mappings", Theoretical Computer Science 82(2), 1991). The last three rows are no steps, and change
+//! no word of the room.
 use atomic_table::{Join, Play, Split, TableRule};
 use room_spec::Spec;
 use simulator::{Mind, Move};

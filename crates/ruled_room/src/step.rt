@@ -17,8 +17,8 @@ use room_core::StepReply;
 use simulator::{Mind, Move, Ready, Sweep};
 use std::marker::Model;
 
-/// One simulator, which any thread may step. What it has in mind is its own, and no other thread can
-/// see it.
+/// One simulator, which any thread may step. What it has in mind is its own: no other thread sees it.
+/// Proofs also see which operations it has done since it was given, and what they answered.
 #[derive(Drop)]
 pub struct Simulator {
     pub(crate) seat: Seat<(), View>,
