@@ -11,8 +11,8 @@ use Rattle.simulator.specs.Minds.{MindState}
 use Rattle.room_core.specs.Rooms.{Configuration, IsOneInterleaving, IsAlive, crashed_by}
 use Rattle.room_core.proofs.Replays.{shapes, opens_run, under_crash}
 use Rattle.ruled_room.specs.declared.rule.View.{View}
-use Rattle.ruled_room.specs.Views.{mind_in, begun, first_minds}
-use Rattle.ruled_room.specs.Rule.{Holds, newcomer, room_of, word_count, IsBlank, IsRunning, Kept}
+use Rattle.ruled_room.specs.Views.{mind_in, begun, first_minds, nobody}
+use Rattle.ruled_room.specs.Rule.{AreHeldBy, room_of, word_count, IsBlank, IsRunning, Kept}
 
 -- a place of a list of whole minds
 some_at : (ms : List MindState) (j : ℕ) (y : MindState) → get_or (map Some ms) j None ≡ Some y → get_elem? ms j ≡ some y
@@ -21,22 +21,22 @@ some_at (x ∷ xs) zero y e = ap some (let h : x ≡ y = cc in h)
 some_at (x ∷ xs) (suc j) y e = some_at xs j y e
 
 -- the first step
-pub begins : {S : Type 0} (s : RoomSpec) (slots id k : ℕ) (me : Me S View) → k ≡ word_count s → me ≡ (newcomer s, [])
+pub begins : {S : Type 0} (s : RoomSpec) (slots id k : ℕ) (me : Me S View) → k ≡ word_count s → me ≡ (nobody s, [])
     → Allows {S = S} (Kept s) slots id me k (λ _. 1) (λ found w. found ≡ 0 → w ≡ (begun me.0, me.1))
 begins {S} s slots id k me ki mi =
     let P : ℕ → Me S View → Type 0 = λ n m. Allows {S = S} (Kept s) slots id m n (λ _. 1) (λ found w. found ≡ 0 → w ≡ (begun m.0, m.1)) in
     subst (λ (n : ℕ). P n me) (sym ki) (subst (P (word_count s)) (sym mi) there)
   where
-    there : Allows {S = S} (Kept s) slots id (newcomer s, []) (word_count s) (λ _. 1) (λ found w. found ≡ 0 → w ≡ (begun (newcomer s), []))
+    there : Allows {S = S} (Kept s) slots id (nobody s, []) (word_count s) (λ _. 1) (λ found w. found ≡ 0 → w ≡ (begun (nobody s), []))
     there t kept count at small = ⊎_elim
         (λ (b : IsBlank s t.words t.views).
-        let w = begun (newcomer s) in
+        let w = begun (nobody s) in
         let long : length t.words ≡ suc (word_count s) = ap length b.zeros ∙ length-replicate (suc (word_count s)) 0 in
         let words-are : replicate (word_count s) 0 ≡ take (word_count s) (set t.words (word_count s) 1) =
         sym (take-set t.words (word_count s) 1 ∙ ap (take (word_count s)) b.zeros ∙ take-replicate (word_count s) (suc (word_count s)) 0 (omega arith)) in
         let run : IsOneInterleaving (room_of s (set t.words (word_count s) 1) (first_minds s)) =
         subst IsOneInterleaving (λ p. record { spec = s; words = words-are p; minds = first_minds s; crashed = replicate s.simulators false }) (opens_run s) in
-        let held : Holds (λ _. id) (first_minds s) (set t.views id w) = λ k' u j y e m. ⊎_elim
+        let held : AreHeldBy (λ _. id) (first_minds s) (set t.views id w) = λ k' u j y e m. ⊎_elim
         (λ (a : (k' ≡ id) × (w ≡ u)). (sym a.0, some_at (first_minds s) j y (subst (λ (q : View). mind_in q j ≡ Some y) (sym a.1) m)))
         (λ (a : (k' ≢ id) × (get_elem? t.views k' ≡ some u)). absurd (let h = b.nobody k' u j a.1 in cc))
         (at_set t.views id k' w u e) in
@@ -51,16 +51,16 @@ begins {S} s slots id k me ki mi =
         (w, keeps, tt, inr running, λ _. refl))
         (λ (r : IsRunning s t.words t.views).
         let words-are : take (word_count s) t.words ≡ take (word_count s) (set t.words (word_count s) 1) = sym (take-set t.words (word_count s) 1) in
-        let views-are : t.views ≡ set t.views id (newcomer s) = sym (set_again t.views id (newcomer s) at) in
-        let running : IsRunning s (set t.words (word_count s) 1) (set t.views id (newcomer s)) = record {
+        let views-are : t.views ≡ set t.views id (nobody s) = sym (set_again t.views id (nobody s) at) in
+        let running : IsRunning s (set t.words (word_count s) 1) (set t.views id (nobody s)) = record {
           minds = r.minds;
           owner = r.owner;
           begun = get_or-set_same t.words (word_count s) 1 0 (let l = r.long in omega arith);
           long = length-set t.words (word_count s) 1 ∙ r.long;
           run = subst IsOneInterleaving (λ p. record { spec = s; words = words-are p; minds = r.minds; crashed = replicate s.simulators false }) r.run;
-          held = subst (Holds r.owner r.minds) views-are r.held;
+          held = subst (AreHeldBy r.owner r.minds) views-are r.held;
         } in
-        (newcomer s, keeps, tt, inr running, λ none. absurd (let b = r.begun in omega arith)))
+        (nobody s, keeps, tt, inr running, λ none. absurd (let b = r.begun in omega arith)))
         kept
 
 -- two lists that agree at each place
@@ -116,11 +116,10 @@ ends s limits id v ws xs ms cs final home long any marks =
     subst IsOneInterleaving (λ p. record { spec = s; words = words-are p; minds = minds-are p; crashed = cs }) all)
     final.1.0
 
-
 -- the table at the start
-pub starts : (s : RoomSpec) (words : List ℕ) → words ≡ replicate (suc (word_count s)) 0 → IsBlank s words (newcomer s ∷ [])
+pub starts : (s : RoomSpec) (words : List ℕ) → words ≡ replicate (suc (word_count s)) 0 → IsBlank s words (nobody s ∷ [])
 starts s words zeros = record { zeros = zeros; nobody = empty }
   where
-    empty : (k : ℕ) (view : View) (i : ℕ) → get_elem? (newcomer s ∷ []) k ≡ some view → mind_in view i ≡ None
-    empty zero view i e = subst (λ (v : View). mind_in v i ≡ None) (some-injective (newcomer s) view e) refl
+    empty : (k : ℕ) (view : View) (i : ℕ) → get_elem? (nobody s ∷ []) k ≡ some view → mind_in view i ≡ None
+    empty zero view i e = subst (λ (v : View). mind_in v i ≡ None) (some-injective (nobody s) view e) refl
     empty (suc k) view i e = absurd (some-ne-none view (sym e))

@@ -13,9 +13,10 @@ use Rattle.simulator.specs.Ranges.{IsMind}
 use Rattle.simulator.specs.declared.operation.Move.{Move}
 use Rattle.room_core.specs.Rooms.{Configuration, IsOneInterleaving, HasLine, mind_at}
 use Rattle.room_core.proofs.Replays.{shapes, under_line}
+use Rattle.ruled_room.specs.declared.rule.Operation.{Operation}
 use Rattle.ruled_room.specs.declared.rule.View.{View}
-use Rattle.ruled_room.specs.Views.{mind_in, only, alone, take_in, answered}
-use Rattle.ruled_room.specs.Rule.{Holds, room_of, word_count, IsBlank, IsRunning, Kept}
+use Rattle.ruled_room.specs.Views.{mind_in, only, alone, take_in, and_then, noted}
+use Rattle.ruled_room.specs.Rule.{AreHeldBy, room_of, word_count, IsBlank, IsRunning, Kept}
 
 pub only-here : (i : ℕ) (x : MindState) → get_or (only i x) i None ≡ Some x
 only-here zero x = refl
@@ -59,25 +60,26 @@ all_false (suc n) zero = refl
 all_false (suc n) (suc i) = all_false n i
 
 -- the seat of i has the new mind
-holds_set : (spec : RoomSpec) (owner : ℕ → ℕ) (minds : List MindState) (views : List View) (id i : ℕ) (x y : MindState) → get_elem? views id ≡ some (alone spec i x) → Holds owner minds views → Holds owner (set minds i y) (set views id (alone spec i y))
-holds_set spec owner minds views id i x y at h k v j z e m =
-    let mine = h id (alone spec i x) i x at (only-here i x) in
+holds_set : (spec : RoomSpec) (owner : ℕ → ℕ) (minds : List MindState) (views : List View) (id i : ℕ) (x y : MindState) (before after : List Operation) → get_elem? views id ≡ some (alone spec before i x) → AreHeldBy owner minds views
+    → AreHeldBy owner (set minds i y) (set views id (alone spec after i y))
+holds_set spec owner minds views id i x y before after at h k v j z e m =
+    let mine = h id (alone spec before i x) i x at (only-here i x) in
     ⊎_elim
-    (λ (t : (k ≡ id) × (alone spec i y ≡ v)).
+    (λ (t : (k ≡ id) × (alone spec after i y ≡ v)).
     let w = only-else i y j z (subst (λ (u : View). mind_in u j ≡ Some z) (sym t.1) m) in
     (ap owner w.0 ∙ mine.0 ∙ sym t.0, subst (λ (q : ℕ × MindState). get_elem? (set minds i y) q.0 ≡ some q.1) (λ p. (sym w.0 p, sym w.1 p)) (set_here minds i y (there_below minds i x mine.1))))
     (λ (t : (k ≢ id) × (get_elem? views k ≡ some v)).
     let theirs = h k v j z t.1 m in
     (theirs.0, set_else minds i j y (λ same. t.0 (sym theirs.0 ∙ ap owner same ∙ mine.0)) ∙ theirs.1))
-    (at_set views id k (alone spec i y) v e)
+    (at_set views id k (alone spec after i y) v e)
 
 -- the table goes on by one line of the simulator whose seat steps
-pub goes : (spec : RoomSpec) (words : List ℕ) (views : List View) (id i : ℕ) (x : MindState) (move : Move) (k n found : ℕ)
-    → IsRunning spec words views → get_elem? views id ≡ some (alone spec i x) → move ≡ move_of spec x → IsMind spec x → IsOperation (move_of spec x) → k < word_count spec
+pub goes : (spec : RoomSpec) (words : List ℕ) (views : List View) (id i : ℕ) (x : MindState) (before after : List Operation) (move : Move) (k n found : ℕ)
+    → IsRunning spec words views → get_elem? views id ≡ some (alone spec before i x) → move ≡ move_of spec x → IsMind spec x → IsOperation (move_of spec x) → k < word_count spec
     → take (word_count spec) (set words k n) ≡ words_after move (take (word_count spec) words) → found ≡ answer_of move (take (word_count spec) words)
-    → IsRunning spec (set words k n) (set views id (alone spec i (taken spec x found).mind))
-goes spec words views id i x move k n found r at is_move is_mind moving within words-are found-is =
-    let mine = r.held id (alone spec i x) i x at (only-here i x) in
+    → IsRunning spec (set words k n) (set views id (alone spec after i (taken spec x found).mind))
+goes spec words views id i x before after move k n found r at is_move is_mind moving within words-are found-is =
+    let mine = r.held id (alone spec before i x) i x at (only-here i x) in
     let room : Configuration = room_of spec words r.minds in
     let shape = shapes room is_mind.limits r.run in
     let is : mind_at room i ≡ x = there_read r.minds i x (opening_mind spec i) mine.1 in
@@ -94,32 +96,33 @@ goes spec words views id i x move k n found r at is_move is_mind moving within w
       begun = get_or-set_other words k (word_count spec) n 0 (λ e. omega arith) ∙ r.begun;
       long = length-set words k n ∙ r.long;
       run = subst IsOneInterleaving (λ p. record { spec = spec; words = words-is p; minds = set r.minds i (mind-is p); crashed = replicate spec.simulators false }) next;
-      held = holds_set spec r.owner r.minds views id i x (taken spec x found).mind at r.held;
+      held = holds_set spec r.owner r.minds views id i x (taken spec x found).mind before after at r.held;
     }
 
 -- whatever the table is when a simulator's move is done, the rule goes on
-allowed_alone : {S : Type 0} (spec : RoomSpec) (slots id i : ℕ) (x : MindState) (move : Move) (k : ℕ) (f tells : ℕ → ℕ)
+allowed_alone : {S : Type 0} (spec : RoomSpec) (slots id i : ℕ) (before : List Operation) (x : MindState) (move : Move) (k : ℕ) (f tells : ℕ → ℕ)
     → move ≡ move_of spec x → IsMind spec x → IsOperation (move_of spec x) → k < word_count spec
     → ((words : List ℕ) → take (word_count spec) (set words k (f (get_or words k 0))) ≡ words_after move (take (word_count spec) words))
     → ((words : List ℕ) → tells (get_or words k 0) ≡ answer_of move (take (word_count spec) words))
-    → Allows {S = S} (Kept spec) slots id (alone spec i x, []) k f (λ found w. w ≡ (answered (alone spec i x) (tells found), []))
-allowed_alone spec slots id i x move k f tells is_move is_mind moving within words-are tells-are t kept count at small =
+    → Allows {S = S} (Kept spec) slots id (alone spec before i x, []) k f (λ found w. w ≡ (noted move (tells found) (alone spec before i x), []))
+allowed_alone spec slots id i before x move k f tells is_move is_mind moving within words-are tells-are t kept count at small =
     ⊎_elim
-    (λ (b : IsBlank spec t.words t.views). absurd (let e = b.nobody id (alone spec i x) i at in let h = only-here i x in cc))
+    (λ (b : IsBlank spec t.words t.views). absurd (let e = b.nobody id (alone spec before i x) i at in let h = only-here i x in cc))
     (λ (r : IsRunning spec t.words t.views).
-    let next = goes spec t.words t.views id i x move k (f (get_or t.words k 0)) (tells (get_or t.words k 0)) r at is_move is_mind moving within (words-are t.words) (tells-are t.words) in
-    let P : List (Option MindState) → Type 0 = λ l. IsRunning spec (set t.words k (f (get_or t.words k 0))) (set t.views id (record { spec = spec; minds = l })) in
-    (answered (alone spec i x) (tells (get_or t.words k 0)), keeps, tt, inr (subst P (sym (only-answered spec i x (tells (get_or t.words k 0)))) next), refl))
+    let after = and_then before move (tells (get_or t.words k 0)) in
+    let next = goes spec t.words t.views id i x before after move k (f (get_or t.words k 0)) (tells (get_or t.words k 0)) r at is_move is_mind moving within (words-are t.words) (tells-are t.words) in
+    let P : List (Option MindState) → Type 0 = λ l. IsRunning spec (set t.words k (f (get_or t.words k 0))) (set t.views id (record { spec = spec; minds = l; operations = after })) in
+    (noted move (tells (get_or t.words k 0)) (alone spec before i x), keeps, tt, inr (subst P (sym (only-answered spec i x (tells (get_or t.words k 0)))) next), refl))
     kept
 
-pub allowed : {S : Type 0} (spec : RoomSpec) (slots id i : ℕ) (me : Me S View) (x : MindState) (move : Move) (k : ℕ) (f tells : ℕ → ℕ)
-    → me ≡ (alone spec i x, []) → move ≡ move_of spec x → IsMind spec x → IsOperation (move_of spec x) → k < word_count spec
+pub allowed : {S : Type 0} (spec : RoomSpec) (slots id i : ℕ) (before : List Operation) (me : Me S View) (x : MindState) (move : Move) (k : ℕ) (f tells : ℕ → ℕ)
+    → me ≡ (alone spec before i x, []) → move ≡ move_of spec x → IsMind spec x → IsOperation (move_of spec x) → k < word_count spec
     → ((words : List ℕ) → take (word_count spec) (set words k (f (get_or words k 0))) ≡ words_after move (take (word_count spec) words))
     → ((words : List ℕ) → tells (get_or words k 0) ≡ answer_of move (take (word_count spec) words))
-    → Allows {S = S} (Kept spec) slots id me k f (λ found w. w ≡ (answered me.0 (tells found), me.1))
-allowed {S} spec slots id i me x move k f tells e is_move is_mind moving within words-are tells-are =
-    subst (λ (m : Me S View). Allows {S = S} (Kept spec) slots id m k f (λ found w. w ≡ (answered m.0 (tells found), m.1))) (sym e)
-    (allowed_alone spec slots id i x move k f tells is_move is_mind moving within words-are tells-are)
+    → Allows {S = S} (Kept spec) slots id me k f (λ found w. w ≡ (noted move (tells found) me.0, me.1))
+allowed {S} spec slots id i before me x move k f tells e is_move is_mind moving within words-are tells-are =
+    subst (λ (m : Me S View). Allows {S = S} (Kept spec) slots id m k f (λ found w. w ≡ (noted move (tells found) m.0, m.1))) (sym e)
+    (allowed_alone spec slots id i before x move k f tells is_move is_mind moving within words-are tells-are)
 
 -- ---- the four operations: what each does to the room's words, and what it is told
 

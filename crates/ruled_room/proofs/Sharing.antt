@@ -9,7 +9,7 @@ use Rattle.room_spec.specs.Rooms.{RoomSpec}
 use Rattle.simulator.specs.Minds.{MindState}
 use Rattle.ruled_room.specs.declared.rule.View.{View}
 use Rattle.ruled_room.specs.Views.{mind_in, only, alone, nobody, without, given, with_back}
-use Rattle.ruled_room.specs.Rule.{Holds, IsBlank, IsRunning, Kept}
+use Rattle.ruled_room.specs.Rule.{AreHeldBy, IsBlank, IsRunning, Kept}
 use Rattle.ruled_room.proofs.Moving.{only-here, only-else}
 
 update : (ℕ → ℕ) → ℕ → ℕ → ℕ → ℕ
@@ -54,7 +54,7 @@ put_in (z ∷ zs) (suc n) (suc j) x y e = ⊎_elim (λ (t : (j ≡ n) × (x ≡ 
 cut_running : (s : RoomSpec) (words : List ℕ) (views : List View) (id n : ℕ) (v : View) (o : Option MindState) → mind_in v n ≡ o → get_elem? views id ≡ some v → IsRunning s words views → IsRunning s words (set views id (without n v) ++ given v.spec n o ∷ [])
 cut_running s words views id n v None none at r = record { minds = r.minds; owner = r.owner; begun = r.begun; long = r.long; run = r.run; held = held }
   where
-    held : Holds r.owner r.minds (set views id (without n v) ++ nobody v.spec ∷ [])
+    held : AreHeldBy r.owner r.minds (set views id (without n v) ++ nobody v.spec ∷ [])
     held k u j y e m = ⊎_elim
         (λ (was : get_elem? (set views id (without n v)) k ≡ some u). ⊎_elim
         (λ (t : (k ≡ id) × (without n v ≡ u)).
@@ -66,7 +66,7 @@ cut_running s words views id n v None none at r = record { minds = r.minds; owne
         (at_end (set views id (without n v)) (nobody v.spec) u k e)
 cut_running s words views id n v (Some x) there at r = record { minds = r.minds; owner = update r.owner n (length views); begun = r.begun; long = r.long; run = r.run; held = held }
   where
-    held : Holds (update r.owner n (length views)) r.minds (set views id (without n v) ++ alone v.spec n x ∷ [])
+    held : AreHeldBy (update r.owner n (length views)) r.minds (set views id (without n v) ++ alone v.spec [] n x ∷ [])
     held k u j y e m =
         let mine = r.held id v n x at there in
         ⊎_elim
@@ -78,10 +78,10 @@ cut_running s words views id n v (Some x) there at r = record { minds = r.minds;
         let h = r.held k u j y t.1 m in
         (update-else r.owner n (length views) j (λ same. t.0 (sym h.0 ∙ ap r.owner same ∙ mine.0)) ∙ h.0, h.1))
         (at_set views id k (without n v) u was))
-        (λ (t : (k ≡ length (set views id (without n v))) × (alone v.spec n x ≡ u)).
+        (λ (t : (k ≡ length (set views id (without n v))) × (alone v.spec [] n x ≡ u)).
         let w = only-else n x j y (subst (λ (q : View). mind_in q j ≡ Some y) (sym t.1) m) in
         (update-here r.owner n (length views) j w.0 ∙ sym (t.0 ∙ length-set views id (without n v)), subst (λ (q : ℕ × MindState). get_elem? r.minds q.0 ≡ some q.1) (λ p. (sym w.0 p, sym w.1 p)) mine.1))
-        (at_end (set views id (without n v)) (alone v.spec n x) u k e)
+        (at_end (set views id (without n v)) (alone v.spec [] n x) u k e)
 
 cut_blank : (s : RoomSpec) (words : List ℕ) (views : List View) (id n : ℕ) (v : View) (o : Option MindState) → mind_in v n ≡ o → get_elem? views id ≡ some v → IsBlank s words views → IsBlank s words (set views id (without n v) ++ given v.spec n o ∷ [])
 cut_blank s words views id n v (Some x) there at b = absurd (let e = b.nobody id v n at in cc)
@@ -102,11 +102,11 @@ cuts s id n v t kept at = ⊎_elim
     (λ (r : IsRunning s t.words t.views). inr (cut_running s t.words t.views id n v (mind_in v n) refl at r))
     kept
 
-join_running : (s spent : RoomSpec) (words : List ℕ) (views : List View) (id other n : ℕ) (v w : View) (x : MindState) (both : View) → both ≡ record { spec = v.spec; minds = set v.minds n (Some x) }
+join_running : (s spent : RoomSpec) (words : List ℕ) (views : List View) (id other n : ℕ) (v w : View) (x : MindState) (both : View) → both ≡ record { spec = v.spec; minds = set v.minds n (Some x); operations = v.operations }
     → get_elem? views id ≡ some v → other ≢ id → get_elem? views other ≡ some w → w.minds ≡ only n x → IsRunning s words views → IsRunning s words (set (set views id both) other (nobody spent))
 join_running s spent words views id other n v w x both is at apart there alone-is r = record { minds = r.minds; owner = update r.owner n id; begun = r.begun; long = r.long; run = r.run; held = held }
   where
-    held : Holds (update r.owner n id) r.minds (set (set views id both) other (nobody spent))
+    held : AreHeldBy (update r.owner n id) r.minds (set (set views id both) other (nobody spent))
     held k u j y e m =
         let mine = r.held other w n x there (ap (λ (l : List (Option MindState)). get_or l n None) alone-is ∙ only-here n x) in
         ⊎_elim
@@ -128,7 +128,7 @@ pub joins : {S : Type 0} (s spent : RoomSpec) (id other n : ℕ) (v w : View) (x
 joins s spent id other n v w x is t kept at apart there =
     let there' : get_elem? t.views other ≡ some w = sym (set_else t.views id other (with_back n v w) apart) ∙ there in
     let here : mind_in w n ≡ Some x = ap (λ (l : List (Option MindState)). get_or l n None) is ∙ only-here n x in
-    let both-is : with_back n v w ≡ record { spec = v.spec; minds = set v.minds n (Some x) } = ap (λ (o : Option MindState). record { spec = v.spec; minds = set v.minds n o }) here in
+    let both-is : with_back n v w ≡ record { spec = v.spec; minds = set v.minds n (Some x); operations = v.operations } = ap (λ (o : Option MindState). record { spec = v.spec; minds = set v.minds n o; operations = v.operations }) here in
     ⊎_elim
     (λ (b : IsBlank s t.words t.views). absurd (let e = b.nobody other w n there' in cc))
     (λ (r : IsRunning s t.words t.views). inr (join_running s spent t.words t.views id other n v w x (with_back n v w) both-is at apart there' is r))

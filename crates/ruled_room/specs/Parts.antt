@@ -1,58 +1,94 @@
--- What a contract sees of a room over shared words, its keeper and its simulators.
-use Rattle.std.specs.Prelude.{◌≡◌, ℕ, Bool, true, List, length, map, ◌<◌, IsSome, Option, Some, None, slice_index_or, slice_set}
+-- What a contract sees of a room on shared words, its keeper and its simulators.
+use Rattle.std.specs.Prelude.{◌≡◌, ℕ, ◌<◌, Bool, true, false, not, ◌&&◌, List, length, map, IsSome, is_some, Option, Some, None, slice_index_or, slice_set}
 use Rattle.std.specs.List.{range_with_len}
 use Rattle.std.specs.Option.{option_map}
 use Rattle.atomic_table.specs.Seated.{TableId}
 use Rattle.room_spec.specs.Rooms.{RoomSpec}
 use Rattle.simulator.specs.Minds.{MindState}
-use Rattle.simulator.specs.Moves.{taken}
+use Rattle.simulator.specs.Moves.{move_of, taken}
+use Rattle.simulator.specs.Quiet.{IsQuietCount}
 use Rattle.simulator.specs.Ranges.{IsMind}
 use Rattle.simulator.specs.Sweeps.{SweepState, opening_sweep}
 use Rattle.room_core.specs.Calls.{sweep_after, woken}
 use Rattle.room_core.specs.declared.reply.StepReply.{StepReply}
 use Rattle.room_core.specs.declared.reply.StepReply.TheVariants.{Stepped, Idle, OutOfTurns, Crashed, NoSimulator}
-use Rattle.ruled_room.specs.declared.Stop.{Stop}
-use Rattle.ruled_room.specs.declared.Stop.TheVariants as stops
-use Rattle.ruled_room.specs.declared.Gone.{Gone}
-use Rattle.ruled_room.specs.declared.Gone.TheVariants.{StillOut, OutOfMemory}
+use Rattle.ruled_room.specs.declared.room.Gone.{Gone}
+use Rattle.ruled_room.specs.declared.room.Gone.TheVariants.{StillOut, OutOfMemory}
+use Rattle.ruled_room.specs.declared.rule.Operation.{Operation}
+use Rattle.ruled_room.specs.declared.stop.Stop.{Stop}
+use Rattle.ruled_room.specs.declared.stop.Stop.TheVariants as stops
+use Rattle.ruled_room.specs.Views.{and_then}
 
--- which room it is, and what it was told
+-- Which room it is: its table, and what it was told. Keepers and simulators name their room so. No code can test it, since a
+-- seat has no bytes.
 pub record RoomName : Type 0 where
   pub table : TableId
   pub spec : RoomSpec
 
+-- ---- simulators
+
+-- a sweep of the room's simulator i, whose quiet count is one of its mind
+pub record IsSweepOf (spec : RoomSpec) (i : ℕ) (sweep : SweepState) : Type 0 where
+  pub is_mind : IsMind spec sweep.mind
+  pub number : sweep.mind.number ≡ i
+  pub quiet : IsQuietCount sweep.mind sweep.quiet
+
+-- operations: what it has done on the room's words since it was given, as the table has noted it
 pub record SimulatorData : Type 0 where
   pub room : RoomName
   pub number : ℕ
   pub sweep : SweepState
+  pub operations : List Operation
 
--- A step takes the operation's answer in and notes what became of the turn, or counts quiet turns anew, or changes nothing.
-abbrev pub TakesStep : RoomSpec → SweepState → StepReply → SweepState → Type 0
-TakesStep spec old Stepped new = (answer : ℕ) × (new ≡ sweep_after (taken spec old.mind answer) old.quiet)
-TakesStep spec old Idle new = new ≡ woken old
-TakesStep spec old OutOfTurns new = new ≡ old
-TakesStep spec old Crashed new = ⊥
-TakesStep spec old NoSimulator new = ⊥
+-- the simulator after its mind's next operation has had this answer
+abbrev pub stepped_with : SimulatorData → ℕ → SimulatorData
+stepped_with old answer = record {
+  room = old.room;
+  number = old.number;
+  sweep = sweep_after (taken old.room.spec old.sweep.mind answer) old.sweep.quiet;
+  operations = and_then old.operations (move_of old.room.spec old.sweep.mind) answer;
+}
+
+abbrev pub with_woken : SimulatorData → SimulatorData
+with_woken old = record { room = old.room; number = old.number; sweep = woken old.sweep; operations = old.operations }
+
+-- A step that is taken is one operation, its mind's next, whose answer the mind takes in. At Idle the quiet turns are
+-- counted anew, and else nothing changes.
+abbrev pub TakesStep : SimulatorData → StepReply → SimulatorData → Type 0
+TakesStep old Stepped new = (answer : ℕ) × (new ≡ stepped_with old answer)
+TakesStep old Idle new = new ≡ with_woken old
+TakesStep old OutOfTurns new = new ≡ old
+TakesStep old Crashed new = ⊥
+TakesStep old NoSimulator new = ⊥
 
 -- ---- keepers
 
+-- sweeps: those of the simulators that are at home
 pub record KeeperData : Type 0 where
   pub room : RoomName
   pub sweeps : List (Option SweepState)
   pub crashed : List Bool
 
+abbrev pub sweep_home : KeeperData → ℕ → Option SweepState
+sweep_home keeper i = slice_index_or keeper.sweeps i None
+
+-- simulator i is at home and hasn't crashed
+abbrev pub holds_in : KeeperData → ℕ → Bool
+holds_in keeper i = is_some (sweep_home keeper i) && not (slice_index_or keeper.crashed i false)
+
+-- the keeper of a room in which nobody has taken a step
+abbrev pub first_sweeps : RoomSpec → List (Option SweepState)
+first_sweeps spec = map (λ i. Some (opening_sweep spec i)) (range_with_len 0 spec.simulators)
+
 -- the minds of those at home
 abbrev pub minds_of : List (Option SweepState) → List (Option MindState)
 minds_of sweeps = map (option_map (λ sweep. sweep.mind)) sweeps
 
--- the sweeps of simulators that have taken no step
-abbrev pub first_sweeps : RoomSpec → List (Option SweepState)
-first_sweeps spec = map (λ i. Some (opening_sweep spec i)) (range_with_len 0 spec.simulators)
+-- whoever is at home stands at its number
+abbrev pub AreSweeps : RoomSpec → List (Option SweepState) → Type 0
+AreSweeps spec sweeps = (i : ℕ) (sweep : SweepState) → slice_index_or sweeps i None ≡ Some sweep → IsSweepOf spec i sweep
 
--- whoever is at home has a mind of the room and stands at its number
-abbrev pub AreMinds : RoomSpec → List (Option SweepState) → Type 0
-AreMinds spec sweeps = (i : ℕ) (sweep : SweepState) → slice_index_or sweeps i None ≡ Some sweep → IsMind spec sweep.mind × (sweep.mind.number ≡ i)
-
+-- who has crashed once simulator i stopped so
 abbrev pub marked : Stop → ℕ → List Bool → List Bool
 marked stops.Idle i crashed = crashed
 marked stops.OutOfTurns i crashed = crashed
@@ -62,7 +98,7 @@ marked stops.Crashed i crashed = slice_set crashed i true
 
 -- each simulator is at home
 abbrev pub IsComplete : List (Option SweepState) → Type 0
-IsComplete sweeps = (k : ℕ) → k < length sweeps → IsSome (slice_index_or sweeps k None)
+IsComplete sweeps = (i : ℕ) → i < length sweeps → IsSome (slice_index_or sweeps i None)
 
 -- simulator i is the first that isn't
 abbrev pub IsFirstOut : List (Option SweepState) → ℕ → Type 0

@@ -1,4 +1,4 @@
--- The rule of a room's table.
+-- The rule of a room's table: what holds between any two operations on it.
 use Rattle.std.specs.Prelude.{◌≡◌, ℕ, suc, false, List, ◌⊎◌, length, take, replicate, Some, None, slice_index}
 use mathlib.Core.Option.{some}
 use lib.ListN.{get_elem?}
@@ -9,28 +9,25 @@ use Rattle.view_table.specs.Places.{words_of}
 use Rattle.simulator.specs.Minds.{MindState}
 use Rattle.room_core.specs.Rooms.{Configuration, IsOneInterleaving}
 use Rattle.ruled_room.specs.declared.rule.View.{View}
-use Rattle.ruled_room.specs.Views.{mind_in, nobody}
-
--- the first seat holds no mind yet
-abbrev pub newcomer : RoomSpec → View
-newcomer spec = nobody spec
+use Rattle.ruled_room.specs.Views.{mind_in}
 
 -- how many words the room has; the table has one more, which says whether the room has begun
 abbrev pub word_count : RoomSpec → ℕ
 word_count spec = words_of (sizes_in spec)
 
--- each mind that a seat holds is the mind of its number, and no other seat holds it
-abbrev pub Holds : (ℕ → ℕ) → List MindState → List View → Type 0
-Holds owner minds views = (k : ℕ) (view : View) (i : ℕ) (mind : MindState) → get_elem? views k ≡ some view → mind_in view i ≡ Some mind → (owner i ≡ k) × (get_elem? minds i ≡ some mind)
-
 -- the room of the table's first words and these minds, where nobody has crashed
 abbrev pub room_of : RoomSpec → List ℕ → List MindState → Configuration
 room_of spec words minds = record { spec = spec; words = take (word_count spec) words; minds = minds; crashed = replicate spec.simulators false }
 
--- before the first step no seat holds a mind, and all words are 0
+-- each mind that a seat holds is the mind of its number, and that number's owner is this seat and no other
+abbrev pub AreHeldBy : (ℕ → ℕ) → List MindState → List View → Type 0
+AreHeldBy owner minds views =
+    (seat : ℕ) (view : View) (i : ℕ) (mind : MindState) → get_elem? views seat ≡ some view → mind_in view i ≡ Some mind → (owner i ≡ seat) × (get_elem? minds i ≡ some mind)
+
+-- before the room has begun no seat holds a mind, and all words are 0
 pub record IsBlank (spec : RoomSpec) (words : List ℕ) (views : List View) : Type 0 where
   pub zeros : words ≡ replicate (suc (word_count spec)) 0
-  pub nobody : (k : ℕ) (view : View) (i : ℕ) → get_elem? views k ≡ some view → mind_in view i ≡ None
+  pub nobody : (seat : ℕ) (view : View) (i : ℕ) → get_elem? views seat ≡ some view → mind_in view i ≡ None
 
 -- after it the words and the minds are those of one interleaving of the simulators' steps
 pub record IsRunning (spec : RoomSpec) (words : List ℕ) (views : List View) : Type 0 where
@@ -39,7 +36,7 @@ pub record IsRunning (spec : RoomSpec) (words : List ℕ) (views : List View) : 
   pub begun : slice_index words (word_count spec) ≡ 1
   pub long : length words ≡ suc (word_count spec)
   pub run : IsOneInterleaving (room_of spec words minds)
-  pub held : Holds owner minds views
+  pub held : AreHeldBy owner minds views
 
 abbrev pub Kept : {S : Type 0} → RoomSpec → State S View → Type 0
 Kept spec table = IsBlank spec table.words table.views ⊎ IsRunning spec table.words table.views

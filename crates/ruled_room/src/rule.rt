@@ -1,39 +1,111 @@
-//! The rule of a room's table, and what its steps tell.
+//! The rule of a room's table.
+//!
+//! The table has the room's words, and after them one more, which is 0 until the room has begun.
+//! Each simulator that was given away steps through a seat of its own, and the keeper has the first
+//! seat. A seat's view is data that exists in proofs alone, and changes at its own operations only.
+//!
+//! **Between any two operations** each simulator's mind is in the view of at most one seat, and some
+//! list of atomic steps, with nobody crashed, leads from the opening room to the room's words and
+//! these minds. Before the last word is 1, all words are 0 and no view has a mind.
+//!
+//! These are the operations. Own words and fields are those of the simulator that steps.
+//!
+//! | Operation | Word | When | Seat, and what becomes of its view |
+//! |---|---|---|---|
+//! | store | own value, own decision | first line of a turn that writes; line out | the simulator's: its mind goes one line on |
+//! | add 1 to own field | the step numbers | line raise | the same |
+//! | load | the step numbers | line snap | the same: the mind goes on by the word that was found |
+//! | store | own view for the agreement | line show | the same |
+//! | add 1 to own field, subtract 1 from it | the levels of the agreement | lines enter and leave | the same |
+//! | load | the levels of the agreement | lines look and ask; first line of a turn that asks | the same, by the word that was found |
+//! | load | the view that was agreed on | line get view | the same, by the word that was found |
+//! | load | a value that this view shows | line values | the same, by the word that was found |
+//! | load | the step numbers | a simulator is given | the keeper's: the mind leaves it, and a new seat has it |
+//! | load | the step numbers | a simulator is taken back | the keeper's: it has the mind again, and the other seat has none |
+//! | swap in 1 | the last | the room begins | the keeper's: where the swap found 0, it gets all opening minds |
+//!
+//! The first eight rows are the atomic steps of a simulator. There the view also notes the operation
+//! and its answer: a history variable (M. Abadi and L. Lamport, "The existence of refinement
+//! mappings", Theoretical Computer Science 82(2), 1991). The last three rows are no steps, and change
+//! no word of the room.
 use atomic_table::{Join, Play, Split, TableRule};
 use room_spec::Spec;
-use simulator::Mind;
+use simulator::{Mind, Move};
 use std::collections::LinkedList;
 use std::marker::{Brand, PhantomData};
 
-/// What a seat knows: its room's spec, and the minds that it holds, each at its number. No value of
-/// it is made.
+/// An operation on a word of the room, and what it answered. The answer of a store is the number
+/// stored.
+pub struct Operation {
+    pub done: Move,
+    pub answer: u64,
+}
+
+/// What a seat knows: its room's spec, the minds that it holds, each at its number, and the
+/// operations of a simulator that were done through it, in order. No value of it is made.
 pub struct View {
     pub spec: Spec,
     pub minds: LinkedList<Option<Mind>>,
+    pub operations: LinkedList<Operation>,
 }
 
-/// The words and the minds in the seats are one interleaving.
+/// The words and the minds are those of one interleaving.
 pub struct Interleaves;
 
 impl TableRule<(), View, Spec> for Interleaves {
-    ghost use Rattle.ruled_room.specs.Rule.{Kept, newcomer};
+    ghost use Rattle.ruled_room.specs.Rule.{Kept};
+    ghost use Rattle.ruled_room.specs.Views.{nobody};
 
     ghost holds = { λ spec table. Kept spec table };
 
-    ghost first = { newcomer };
+    ghost first = { nobody };
 }
 
-/// A simulator's step: its mind takes in what the operation answered.
-pub struct Moves;
+/// A simulator loads a word.
+pub struct Loads;
 
-impl Play<(), View> for Moves {
+impl Play<(), View> for Loads {
     ghost use Rattle.std.specs.Prelude.{◌≡◌};
-    ghost use Rattle.ruled_room.specs.Views.{answered};
+    ghost use Rattle.simulator.specs.declared.operation.Move.TheVariants.{Load};
+    ghost use Rattle.ruled_room.specs.Views.{noted};
 
-    ghost then = { λ step before found after. after ≡ (answered before.0 found, before.1) };
+    ghost then = { λ step before found after. after ≡ (noted (Load step.word) found before.0, before.1) };
 }
 
-/// The first step: where it found 0, the keeper gets the opening minds.
+/// A simulator stores a number.
+pub struct Stores;
+
+impl Play<(), View> for Stores {
+    ghost use Rattle.std.specs.Prelude.{◌≡◌};
+    ghost use Rattle.simulator.specs.declared.operation.Move.TheVariants.{Store};
+    ghost use Rattle.ruled_room.specs.Views.{noted};
+
+    ghost then = { λ step before stored after. after ≡ (noted (Store step.word step.first) stored before.0, before.1) };
+}
+
+/// A simulator adds a number to a word.
+pub struct Adds;
+
+impl Play<(), View> for Adds {
+    ghost use Rattle.std.specs.Prelude.{◌≡◌};
+    ghost use Rattle.simulator.specs.declared.operation.Move.TheVariants.{Add};
+    ghost use Rattle.ruled_room.specs.Views.{noted};
+
+    ghost then = { λ step before found after. after ≡ (noted (Add step.word step.first) found before.0, before.1) };
+}
+
+/// A simulator subtracts a number from a word.
+pub struct Subtracts;
+
+impl Play<(), View> for Subtracts {
+    ghost use Rattle.std.specs.Prelude.{◌≡◌};
+    ghost use Rattle.simulator.specs.declared.operation.Move.TheVariants.{Sub};
+    ghost use Rattle.ruled_room.specs.Views.{noted};
+
+    ghost then = { λ step before found after. after ≡ (noted (Sub step.word step.first) found before.0, before.1) };
+}
+
+/// The room begins: where the swap found 0, the keeper gets the opening minds.
 pub struct Begins;
 
 impl Play<(), View> for Begins {
@@ -61,12 +133,12 @@ impl Chosen for Brand {
     ghost spec = { no_spec };
 }
 
-/// One simulator's mind goes from a seat to another.
-pub struct Give<C> {
+/// The mind of the chosen simulator goes from one seat to another.
+pub struct HandsOver<C> {
     of: PhantomData<C>,
 }
 
-impl<C: Chosen> Split<View> for Give<C> {
+impl<C: Chosen> Split<View> for HandsOver<C> {
     ghost use Rattle.ruled_room.specs.Views.{given, mind_in, without};
 
     ghost left = { λ view. without C.number view };
@@ -74,7 +146,7 @@ impl<C: Chosen> Split<View> for Give<C> {
     ghost right = { λ view. given view.spec C.number (mind_in view C.number) };
 }
 
-impl<C: Chosen> Join<View> for Give<C> {
+impl<C: Chosen> Join<View> for HandsOver<C> {
     ghost use Rattle.ruled_room.specs.Views.{nobody, with_back};
 
     ghost both = { λ view other. with_back C.number view other };

@@ -1,6 +1,7 @@
 ghost use Rattle.std.specs.Prelude.{◌≡◌, IfOk};
 
 use super::*;
+use room_core::StepReply;
 use room_spec::read_block;
 use std::test::*;
 use std::thread;
@@ -55,8 +56,9 @@ fn drive_both<R: Threads + Sync>(
     )
 }
 
-/// Gives a simulator, steps it until it is idle, and takes it back.
-fn turn_of(rt: &HostRuntime, room: &RuledRoom, keeper: &mut Keeper, i: usize) -> Result<(), Fail>
+/// Gives a simulator, steps it until it is idle, and takes it back. Gives how many steps it took, and
+/// whether it then stood between two turns with nothing left to do.
+fn turn_of(room: &RuledRoom, keeper: &mut Keeper, i: usize) -> Result<(u32, bool), Fail>
     requires { keeper.old.room ≡ room.now }
     ensures { keeper.new.room ≡ keeper.old.room }
 {
@@ -65,18 +67,16 @@ fn turn_of(rt: &HostRuntime, room: &RuledRoom, keeper: &mut Keeper, i: usize) ->
     }
     let simulator = keeper.give(room, i);
     let (simulator, taken) = drive(room, simulator, 100);
-    assert_eq!(rt; taken, 23);
-    assert!(rt; simulator.resting() && simulator.number() == i);
-    assert_eq!(rt; simulator.mind().unfinished(), 0);
+    let ended = simulator.resting() && simulator.mind().unfinished() == 0;
     keeper.take_back(room, simulator, Stop::Idle);
-    Ok(())
+    Ok((taken, ended))
 }
 
 #[test]
 fn one_after_the_other(rt: HostRuntime) -> Result<(), Fail> {
     let (room, mut keeper) = fresh(&rt)?;
-    turn_of(&rt, &room, &mut keeper, 0)?;
-    turn_of(&rt, &room, &mut keeper, 1)?;
+    assert_eq!(rt; turn_of(&room, &mut keeper, 0)?, (23, true));
+    assert_eq!(rt; turn_of(&room, &mut keeper, 1)?, (23, true));
     match room.close(rt.alloc(), keeper) {
         Ok(core) => {
             assert_eq!(rt; core.spec().m(), 2);

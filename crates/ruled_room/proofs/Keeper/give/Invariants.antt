@@ -1,4 +1,0 @@
-use Rattle.ruled_room.proofs.Keeper.give.Given as goal
-
-abbrev pub ghosts-cut : goal.ghosts-cut
-ghosts-cut a = record { number = a.number; spec = a.room.now.spec }

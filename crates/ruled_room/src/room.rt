@@ -1,0 +1,177 @@
+//! A room on words that threads share: its beginning and its end.
+ghost use Rattle.std.specs.Prelude.{◌≡◌, suc, ◌≤◌, length, take, map, replicate, false, IfOk, IfErr, OnOk, Some};
+ghost use Rattle.std.specs.Mem.Slots.{IsFull, slots_items, slots_len};
+ghost use Rattle.room_spec.specs.Rooms.{IsWithinLimits};
+ghost use Rattle.room_core.specs.Calls.{configuration_of};
+ghost use Rattle.room_core.specs.Rooms.{IsOneInterleaving};
+ghost use Rattle.ruled_room.specs.Parts.{GoneFor, IsComplete, first_sweeps};
+ghost use Rattle.ruled_room.specs.Rule.{word_count};
+
+use crate::keeper::Keeper;
+use crate::rule::{Begins, Interleaves, View};
+use arrayvec::ArrayVec;
+use atomic_table::{Closed, Table};
+use room_core::RoomCore;
+use room_spec::Spec;
+use simulator::Sweep;
+use std::alloc::{AllocError, Global};
+use std::marker::Model;
+use view_table::words;
+
+/// The words of a running room, which threads share. Its simulators are with its [`Keeper`], or with
+/// whom it gave them to.
+///
+/// Which room a keeper or a simulator is of is known to proofs alone, since a seat has no bytes: no
+/// call can test it, so it is a condition of each call that takes two of them. `fresh` and
+/// [`give`](Keeper::give) promise it of what they hand out, and each call keeps it.
+#[derive(Drop)]
+pub struct RuledRoom {
+    pub(crate) table: Table<(), View, Spec, Interleaves, Global>,
+    pub(crate) spec: Spec,
+}
+
+impl Model for RuledRoom {
+    ghost use Rattle.std.specs.Prelude.{◌≡◌, suc};
+    ghost use Rattle.std.specs.Coded.{codes};
+    ghost use Rattle.protocol_lang.specs.Codes.{expression_code};
+    ghost use Rattle.ruled_room.specs.Parts.{RoomName};
+    ghost use Rattle.ruled_room.specs.Rule.{word_count};
+
+    ghost Value = { RoomName };
+
+    ghost coded = { Prim.hlevel (codes, expression_code) };
+
+    ghost view = { λ r. record { table = r.table.shared.table_id; spec = r.spec } };
+
+    // Its table was told the spec, and has one word more than the room.
+    ghost invariant = { λ r. (r.table.shared.key ≡ r.spec) × (r.table.shared.table_id.words ≡ suc (word_count r.spec)) × (r.table.shared.table_id.slots ≡ 0) };
+}
+
+/// Why a room was not closed.
+#[derive(Clone, Copy, Debug, PartialEq, Eq)]
+pub enum Gone {
+    /// This simulator, the least such, is not at home.
+    StillOut(u8),
+    /// Memory for the words was refused.
+    OutOfMemory,
+}
+
+impl RuledRoom {
+    /// A room in which nobody has taken a step, with its keeper, who has all its simulators. Where
+    /// memory is refused, the spec is dropped.
+    ///
+    /// It begins by a swap in the table's last word. Another answer than 0 of it would be answered as
+    /// refused memory; no run comes there, since nobody else has the new table.
+    pub fn fresh(alloc: Global, spec: Spec) -> Result<(RuledRoom, Keeper), AllocError>
+        ensures room { IfOk result (λ r. r.0.spec ≡ spec) }
+        ensures keeper { IfOk result (λ r. r.1 ≡ record { room = r.0; sweeps = first_sweeps spec; crashed = replicate spec.simulators false }) }
+    {
+        let count = words(&spec.shape());
+        let zero = zeros(alloc, count + 1)?;
+        let (table, mut seat) = Table::of_words(alloc, zero.as_slice(), &spec)?;
+        let found = table.shared.swap::<Begins>(&mut seat, count, 1);
+        if found != 0 {
+            return Err(AllocError);
+        }
+        let keeper = Keeper {
+            seat,
+            sweeps: first_sweeps(&spec),
+            crashed: nobody(spec.m()),
+        };
+        Ok((RuledRoom { table, spec }, keeper))
+    }
+
+    /// Ends a room whose simulators are all at home: a room in which just the steps happened that
+    /// they took, in some order, and then the crashes with which they were taken back. Where one is
+    /// still out, and else where memory is refused, room and keeper come back unchanged.
+    pub fn close(self, alloc: Global, keeper: Keeper) -> Result<RoomCore, (RuledRoom, Keeper, Gone)>
+        requires { keeper.room ≡ self }
+        // The room has the keeper's minds and quiet counts, and its marks of crashes.
+        ensures core { IfOk result (λ core. (core.spec ≡ self.spec) × (map Some core.sweeps ≡ keeper.sweeps) × (core.crashed ≡ keeper.crashed)) }
+        // Its words and minds are those of one interleaving of the steps that its minds count.
+        ensures run { IfOk result (λ core. IsOneInterleaving (configuration_of core)) }
+        ensures home { OnOk result (IsComplete keeper.sweeps) }
+        ensures gone { IfErr result (λ e. GoneFor keeper.sweeps e.2) }
+        ensures same { IfErr result (λ e. (e.0 ≡ self) × (e.1 ≡ keeper)) }
+    {
+        if let Some(i) = keeper.out() {
+            return Err((self, keeper, Gone::StillOut(i)));
+        }
+        let Ok(zero) = zeros(alloc, words(&self.spec.shape())) else {
+            return Err((self, keeper, Gone::OutOfMemory));
+        };
+        Ok(self.end(keeper, zero))
+    }
+
+    /// Ends a room whose simulators are all at home. Its words go into `words`.
+    fn end(self, keeper: Keeper, mut words: Vec<u64>) -> RoomCore
+        requires room { keeper.room ≡ self }
+        requires home { IsComplete keeper.sweeps }
+        requires limits { IsWithinLimits self.spec }
+        requires words { length words.items ≡ word_count self.spec }
+        ensures { (result.spec ≡ self.spec) × (map Some result.sweeps ≡ keeper.sweeps) × (result.crashed ≡ keeper.crashed) × IsOneInterleaving (configuration_of result) }
+    {
+        let RuledRoom { table, spec } = self;
+        let Keeper {
+            seat,
+            sweeps,
+            crashed,
+        } = keeper;
+        let closed = table.close_with(seat);
+        read(&closed, &mut words);
+        closed.free();
+        RoomCore::from_parts(spec, words, all(sweeps), crashed)
+    }
+}
+
+/// Copies the first words.
+fn read(closed: &Closed<(), Global>, words: &mut Vec<u64>)
+    requires { IsFull closed.now.words × (length words.old.items ≤ slots_len closed.now.words) }
+    ensures { words.new.items ≡ take (length words.old.items) (slots_items closed.now.words) }
+{
+    for i in 0..words.len() {
+        words[i] = closed.word(i);
+    }
+}
+
+/// The sweeps, which are all there.
+fn all(sweeps: ArrayVec<Option<Sweep>, 8>) -> ArrayVec<Sweep, 8>
+    requires { IsComplete sweeps.items }
+    ensures { map Some result.items ≡ sweeps.items }
+{
+    let mut whole = ArrayVec::new();
+    for sweep in sweeps {
+        let Some(sweep) = sweep else { unreachable!() };
+        whole.push(sweep);
+    }
+    whole
+}
+
+fn zeros(alloc: Global, count: usize) -> Result<Vec<u64>, AllocError>
+    ensures { IfOk result (λ words. words.items ≡ replicate count 0) }
+{
+    Ok(vec![in alloc; 0; count]?)
+}
+
+/// A sweep for each simulator, before its first step.
+fn first_sweeps(spec: &Spec) -> ArrayVec<Option<Sweep>, 8>
+    ensures { result.items ≡ first_sweeps spec.now }
+{
+    let mut sweeps = ArrayVec::new();
+    for i in 0..spec.m() {
+        sweeps.push(Some(Sweep::new(spec, i)));
+    }
+    sweeps
+}
+
+/// Marks for so many simulators of whom nobody has crashed.
+fn nobody(m: usize) -> ArrayVec<bool, 8>
+    requires { m ≤ 8 }
+    ensures { result.items ≡ replicate m false }
+{
+    let mut crashed = ArrayVec::new();
+    for _ in 0..m {
+        crashed.push(false);
+    }
+    crashed
+}
