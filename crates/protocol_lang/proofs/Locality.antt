@@ -8,7 +8,7 @@ use Rattle.protocol_lang.specs.Numbers.{greatest, is_digit, number_of}
 use Rattle.protocol_lang.specs.Tokens.{is_blank, is_letter, is_end, word_of, symbol_of}
 use Rattle.protocol_lang.specs.Trees.{Expression, Tree}
 use Rattle.protocol_lang.specs.Formulas.{Operands, trees}
-use Rattle.protocol_lang.specs.Reading.{◌>>=◌, word_token, number_token, symbol_token, token_at, extent_of, past_blanks, next_token, State, step, fault_at, stepped, one_token, onward, run, opening, most_tokens, tree_read, reading, IsReading}
+use Rattle.protocol_lang.specs.Reading.{◌>>=◌, word_token, number_token, symbol_token, token_at, extent_of, past_blanks, next_token, State, step, fault_at, stepped, one_token, onward, run, opening, most_tokens, tree_read, reading, Takes, IsReading}
 use Rattle.protocol_lang.specs.Grammar.{place_of, SameThrough, IsLocal}
 use Rattle.protocol_lang.specs.declared.fault.ParseFault.{ParseFault}
 use Rattle.protocol_lang.specs.declared.fault.ParseFault.TheVariants.{TooLong, BadToken, Unexpected, TooDeep, TooManyRules, ViewInFirst, NumberTooLarge, OutOfMemory}
@@ -194,6 +194,17 @@ module _ {A : Type 0} where
             (omega (arith, here), λ other same. run_is made most other from s ∙ ap (λ r. r >>= onward (run made most other)) (one_same made text other from s (here_same text other from (rw here at same)) ∙ failed))
         | inr taken ↦ onward_rests made most text from place s taken.0.0 taken.0.1 fault (λ next then. run_rests made most text next place taken.0.0 fault then is) taken.1 taken.2
       ]
+
+-- a token's own fault is never want of memory
+pub token_refused : {A : Type 0} (made : Operands A) (text : List ℕ) (from : ℕ) (s s' : State A) (fault : ParseFault) → next_token text from ≡ Err fault → Takes (one_token made text from s) (Err fault) s'
+token_refused made text from s s' OutOfMemory e = let never : place_of OutOfMemory ≡ Some (past_blanks text from) = next_fault text from OutOfMemory e in absurd cc
+token_refused made text from s s' TooLong e = one_is made text from s ∙ ap (λ r. r >>= behind_token made s) e
+token_refused made text from s s' (BadToken at) e = one_is made text from s ∙ ap (λ r. r >>= behind_token made s) e
+token_refused made text from s s' (Unexpected at) e = one_is made text from s ∙ ap (λ r. r >>= behind_token made s) e
+token_refused made text from s s' (TooDeep at) e = one_is made text from s ∙ ap (λ r. r >>= behind_token made s) e
+token_refused made text from s s' TooManyRules e = one_is made text from s ∙ ap (λ r. r >>= behind_token made s) e
+token_refused made text from s s' (ViewInFirst at) e = one_is made text from s ∙ ap (λ r. r >>= behind_token made s) e
+token_refused made text from s s' (NumberTooLarge at) e = one_is made text from s ∙ ap (λ r. r >>= behind_token made s) e
 
 -- ---- whole texts
 

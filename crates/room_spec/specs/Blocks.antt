@@ -175,9 +175,15 @@ Gives view (Err fault) read = read ≡ Err fault
 abbrev pub out_of_memory : SpecFault
 out_of_memory = BadProtocol OutOfMemory
 
--- what a function returned is this, or memory was refused
+-- no line before the protocol's text has a fault
+abbrev pub IsHeadRight : {A : Type 0} → Result A SpecFault → Type 0
+IsHeadRight (Ok read) = Unit {0}
+IsHeadRight (Err (BadProtocol fault)) = Unit {0}
+IsHeadRight (Err fault) = ⊥
+
+-- what a function returned is this, or memory was refused to the protocol, whose lines before it are right
 abbrev pub OrMemory : {A : Type 0} → Result A SpecFault → Result A SpecFault → Type 0
-OrMemory result wanted = (result ≡ wanted) ⊎ (result ≡ Err out_of_memory)
+OrMemory result wanted = (result ≡ wanted) ⊎ ((result ≡ Err out_of_memory) × IsHeadRight wanted)
 
 abbrev pub UnlessMemory : SpecFault → Type 0 → Type 0
 UnlessMemory (BadProtocol OutOfMemory) fact = ⊤
