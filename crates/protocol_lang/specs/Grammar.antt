@@ -1,17 +1,18 @@
 -- The grammar of the language, apart from how a text is read.
-use Rattle.std.specs.Prelude.{◌≡◌, ℕ, suc, ◌+◌, ◌≤◌, Bool, true, false, not, ◌&&◌, max, List, [], ◌∷◌, ◌++◌, length, take, drop, map, Option, Some, None, IfSome, Err, nat_le, ◌==◌, if◌then◌else◌}
-use Rattle.std.specs.List.{flat_map, list_all}
+use Rattle.std.specs.Prelude.{◌≡◌, ℕ, suc, ◌+◌, ◌≤◌, Bool, true, false, not, ◌&&◌, max, List, [], ◌∷◌, ◌++◌, length, take, drop, map, Option, Some, None, IfSome, Ok, Err, nat_le, ◌==◌, if◌then◌else◌}
+use Rattle.std.specs.List.{count_by, flat_map, list_all}
 use Rattle.std.specs.Fmt.{decimal}
 use Rattle.protocol_lang.specs.Numbers.{greatest, is_digit}
 use Rattle.protocol_lang.specs.Tokens.{is_blank, is_letter, word_spelling, symbol_spelling, reads_view}
 use Rattle.protocol_lang.specs.Trees as trees
 use Rattle.protocol_lang.specs.Trees.{Expression, is_sum, ComparisonOf, CommandOf, RuleOf, TreeOf, Tree}
-use Rattle.protocol_lang.specs.Reading.{extent_of, reading}
+use Rattle.protocol_lang.specs.Reading.{extent_of, next_token, reading}
 use Rattle.protocol_lang.specs.declared.token.Word.{Word}
 use Rattle.protocol_lang.specs.declared.token.Word.TheVariants as words
 use Rattle.protocol_lang.specs.declared.token.Symbol.{Symbol}
 use Rattle.protocol_lang.specs.declared.token.Symbol.TheVariants as symbols
 use Rattle.protocol_lang.specs.declared.token.Token.{Token}
+use Rattle.protocol_lang.specs.declared.lexer.Placed.{Placed}
 use Rattle.protocol_lang.specs.declared.token.Token.TheVariants as tokens
 use Rattle.protocol_lang.specs.declared.fault.ParseFault.{ParseFault}
 use Rattle.protocol_lang.specs.declared.fault.ParseFault.TheVariants.{TooLong, BadToken, Unexpected, TooDeep, TooManyRules, ViewInFirst, NumberTooLarge, OutOfMemory}
@@ -232,6 +233,31 @@ pub record SameThrough (text other : List ℕ) (at : ℕ) : Type 0 where
   pub bytes : take (at + extent_of (drop at text)) other ≡ take (at + extent_of (drop at text)) text
   pub token_end : extent_of (drop at other) ≡ extent_of (drop at text)
 
--- the fault rests on the bytes up to the end of its token alone
+-- the fault rests on the bytes up to the end of the token at this place alone
+abbrev pub RestsOn : List ℕ → ℕ → ParseFault → Type 0
+RestsOn text at fault = (other : List ℕ) → SameThrough text other at → reading other ≡ Err fault
+
+-- these are the text's tokens from the one place up to the other
+abbrev pub AreTokens : List ℕ → ℕ → List Token → ℕ → Type 0
+AreTokens text from [] to = from ≡ to
+AreTokens text from (token ∷ more) to = (read : Placed) × (next_token text from ≡ Ok read) × (read.token ≡ token) × AreTokens text read.end more to
+
+abbrev pub is_when : Token → Bool
+is_when (tokens.Word words.When) = true
+is_when token = false
+
+-- the token at this place is the text's 33rd `when`
+pub record IsRuleTooMany (text : List ℕ) (at : ℕ) : Type 0 where
+  pub before : List Token
+  pub from : ℕ
+  pub tokens : AreTokens text 0 before from
+  pub rules : count_by is_when before ≡ 32
+  pub read : Placed
+  pub token : next_token text from ≡ Ok read
+  pub when : is_when read.token ≡ true
+  pub place : read.at ≡ at
+
+-- the fault rests on the bytes up to the end of its token alone; TooManyRules is that of the 33rd `when`
 abbrev pub IsLocal : List ℕ → ParseFault → Type 0
-IsLocal text fault = IfSome (place_of fault) (λ at. (other : List ℕ) → SameThrough text other at → reading other ≡ Err fault)
+IsLocal text TooManyRules = (at : ℕ) × IsRuleTooMany text at × RestsOn text at TooManyRules
+IsLocal text fault = IfSome (place_of fault) (λ at. RestsOn text at fault)

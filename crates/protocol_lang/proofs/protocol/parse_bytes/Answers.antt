@@ -1,6 +1,6 @@
 use Rattle.std.proofs.Common.{Ok, Err}
 use Rattle.std.proofs.lemmas.Result.{err_from_is_err_and}
-use Rattle.protocol_lang.proofs.Locality.{local}
+use Rattle.protocol_lang.proofs.Whens.{local}
 use Rattle.protocol_lang.proofs.Sound.{found}
 use Rattle.protocol_lang.proofs.Only.{read_as}
 use Rattle.protocol_lang.proofs.protocol.parse_bytes.Goals as goal
