@@ -32,5 +32,5 @@ pub fault_told : (rooms : List RoomSpec) (told : List Told) (line : ℕ) (text :
 fault_told rooms told line text texts whole Read is bad = absurd bad
 fault_told rooms told line text texts whole Write is bad = absurd bad
 fault_told rooms told line text texts whole TooLong is bad = absurd bad
-fault_told rooms told line text texts whole Memory is bad = tt
+fault_told rooms told line text texts whole Memory is bad = absurd bad
 fault_told rooms told line text texts whole (BadInput at code) is bad = is ∙ told_fault rooms told line text texts (at, code) bad

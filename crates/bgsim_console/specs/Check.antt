@@ -1,5 +1,5 @@
 -- What `check` answers for an input.
-use Rattle.std.specs.Prelude.{◌≡◌, ℕ, ◌+◌, ◌≤◌, ◌<◌, Bool, true, false, ◌&&◌, ◌==◌, List, [], ◌∷◌, ◌++◌, length, suc, zero, take, drop, map, Option, Some, None, Result, Ok, Err, if◌then◌else◌, codes, decimal}
+use Rattle.std.specs.Prelude.{◌≡◌, ◌⊎◌, ℕ, ◌+◌, ◌≤◌, ◌<◌, Bool, true, false, ◌&&◌, ◌==◌, List, [], ◌∷◌, ◌++◌, length, suc, zero, take, drop, map, Option, Some, None, IsSome, Result, Ok, Err, IsOk, if◌then◌else◌, codes, decimal}
 use Rattle.std.specs.List.{All, flat_map, list_all}
 use Rattle.std.specs.Str.{bytes_eq}
 use Rattle.protocol_lang.specs.Faults.{code_of as protocol_code}
@@ -161,13 +161,25 @@ pub record IsOutput (rooms : List RoomSpec) (refused : List ℕ) (told : List To
 
 -- ---- the answer
 
--- the fault is the one that reading gave; want of memory may come in its place
+-- the fault is the one that reading gave; where `memory` holds, memory may have been refused
+abbrev pub IsFaultOr : {A : Type 0} → Type 0 → Result A (ℕ × ℕ) → IoFault → Type 0
+IsFaultOr memory read (BadInput line code) = read ≡ Err (line, code)
+IsFaultOr memory read Memory = memory
+IsFaultOr memory read Read = ⊥
+IsFaultOr memory read Write = ⊥
+IsFaultOr memory read TooLong = ⊥
+
+-- nothing takes memory there
 abbrev pub IsFaultOf : {A : Type 0} → Result A (ℕ × ℕ) → IoFault → Type 0
-IsFaultOf read (BadInput line code) = read ≡ Err (line, code)
-IsFaultOf read Memory = Unit {0}
-IsFaultOf read Read = ⊥
-IsFaultOf read Write = ⊥
-IsFaultOf read TooLong = ⊥
+IsFaultOf read fault = IsFaultOr ⊥ read fault
+
+-- the input begins with a block, which takes memory
+abbrev pub BeginsWithBlock : List ℕ → Type 0
+BeginsWithBlock input = (bytes_eq (first_line input) (codes "events") ≡ false) × IsSome (block_len input)
+
+-- memory may be refused to a block, and to the output for an input that has no fault
+abbrev pub MayLackMemory : List ℕ → Type 0
+MayLackMemory input = BeginsWithBlock input ⊎ IsOk (input_says input)
 
 -- the output for an input that has no fault
 abbrev pub IsOutputFor : List ℕ → Outcome → List ℕ → Type 0

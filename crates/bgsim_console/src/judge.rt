@@ -1,7 +1,7 @@
 //! The answer to a whole input.
 ghost use Rattle.std.specs.Prelude.{◌≡◌, ◌≤◌, List, Ok, IfOk, IfErr, length, string_bytes};
 ghost use Rattle.history_checker.specs.Verdicts.{Told, HasHeard, specs_of, names_of};
-ghost use Rattle.bgsim_console.specs.Check.{IsFaultOf, IsOutput, IsOutputFor, input_says, is_run, outcome_if};
+ghost use Rattle.bgsim_console.specs.Check.{IsFaultOr, MayLackMemory, IsOutput, IsOutputFor, input_says, is_run, outcome_if};
 
 use crate::events::feed_events;
 use crate::fault::{IoFault, Outcome};
@@ -22,7 +22,7 @@ pub struct Report {
 pub fn judge(alloc: Global, input: &[u8]) -> Result<Report, IoFault>
     requires { length input.now ≤ 16777216 }
     ensures output { IfOk result (λ report. IsOutputFor input.now report.outcome (string_bytes report.output)) }
-    ensures err { IfErr result (IsFaultOf (input_says input.now)) }
+    ensures err { IfErr result (IsFaultOr (MayLackMemory input.now) (input_says input.now)) }
 {
     let (setup, transcript) = read_blocks(alloc, input)?;
     let Setup {
