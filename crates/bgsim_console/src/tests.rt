@@ -425,14 +425,24 @@ fn calls_of_writers(rt: HostRuntime) -> Result<(), Fail> {
         ("events\n", false, Ok(Outcome::AllWell), 0, true),
         (one.as_str(), false, Ok(Outcome::AllWell), 1, true),
         (one.as_str(), true, Err(IoFault::Write), 1, false),
-        (ONE, false, Err(IoFault::BadInput { line: 11, code: 61 }), 0, false),
+        (
+            ONE,
+            false,
+            Err(IoFault::BadInput { line: 11, code: 61 }),
+            0,
+            false,
+        ),
     ] {
         let mut inner = Counting::new(interrupted);
         let mut reader = Device::new(input.as_bytes());
         let mut writer = Device::new(&mut inner);
         assert_eq!(rt; engine::check_io(alloc, &mut reader, &mut writer), answer);
         assert_eq!(rt; writer.is_flushed(), flushed || writes == 0, "of {input:?}");
-        assert_eq!(rt; (inner.writes, inner.flushed), (writes, flushed), "of {input:?}");
+        assert_eq!(rt;
+            (inner.writes, inner.flushed),
+            (writes, flushed),
+            "of {input:?}"
+        );
     }
     Ok(())
 }
@@ -477,7 +487,10 @@ fn more_than_1000_small_reads(rt: HostRuntime) -> Result<(), Fail> {
         fails: usize::MAX,
     });
     let mut writer = Device::new(Unflushed {});
-    assert_eq!(rt; engine::check_io(alloc, &mut reader, &mut writer), Err(IoFault::Write));
+    assert_eq!(rt;
+        engine::check_io(alloc, &mut reader, &mut writer),
+        Err(IoFault::Write)
+    );
     assert!(rt; reader.calls() > 1000);
     Ok(())
 }

@@ -175,7 +175,6 @@ module _ {A : Type 0} where
   counts_of s token (Err refusals.ViewInFirst) n is keeps other = tt
   counts_of s token (Err refusals.OutOfMemory) n is keeps other = tt
 
-
   when_at_end : (made : Operands A) (part : Part) (s : State A) → ended made part s (tokens.Word words.When) ≡ refused_with refusals.Unexpected
   when_at_end made parts.First s = refl
   when_at_end made parts.Left s = refl
@@ -226,7 +225,6 @@ module _ {A : Type 0} where
     pub behind : from ≤ at
     pub rests : (other : List ℕ) → SameUpTo text other at → run made most other from s ≡ Err TooManyRules
 
-
   stepped_too_many : (at : ℕ) (r : Result (State A) Refusal) → stepped at r ≡ Err TooManyRules → r ≡ refused_with refusals.TooManyRules
   stepped_too_many at (Ok s) e = absurd cc
   stepped_too_many at (Err refusal) e = ap refused_with (too_many_at at refusal (let same : fault_at at refusal ≡ TooManyRules = cc in same))
@@ -268,7 +266,6 @@ module _ {A : Type 0} where
             let alike = token_values text other from _ one.read one.token within same.bytes in
             run_is made most other from s ∙ ap (λ r. r >>= onward (run made most other)) (one_same made text other from s alike ∙ taken) ∙ rest.rests other same;
       }
-
 
   go_on : (made : Operands A) (most : ℕ) (text : List ℕ) (from : ℕ) (s s' : State A) (end : Option ℕ) → begun_rules s ≤ 32 → ((next : ℕ) → begun_rules s' ≤ 32 → run made most text next s' ≡ Err TooManyRules → TooMany made most text next s')
       → one_token made text from s ≡ Ok (s', end) → onward (run made most text) (s', end) ≡ Err TooManyRules → TooMany made (suc most) text from s

@@ -172,11 +172,11 @@ fn shortest_of_many_texts(rt: HostRuntime) -> Result<(), Fail> {
 #[test]
 fn most_rules(rt: HostRuntime) -> Result<(), Fail> {
     let alloc = rt.alloc();
-    let mut text = String::from_str(alloc, "first 1;")?;
+    let mut text = String::from_str(alloc, "first1;")?;
     for _ in 0..32 {
-        text.push_str("when 1==1write 1;")?;
+        text.push_str("when1==1write1;")?;
     }
-    text.push_str("else write 1;")?;
+    text.push_str("else write1;")?;
     let printed = print(alloc, &parse(alloc, &text)?)?;
     assert_eq!(rt; printed.as_str(), text.as_str());
     Ok(())

@@ -287,7 +287,10 @@ fn messages(rt: HostRuntime) -> Result<(), Fail> {
         (ParseFault::TooLong, "the protocol has more than 4096 bytes"),
         (ParseFault::BadToken(7), "no token at byte 7"),
         (ParseFault::Unexpected(7), "unexpected token at byte 7"),
-        (ParseFault::TooDeep(7), "more than 32 open parentheses at byte 7"),
+        (
+            ParseFault::TooDeep(7),
+            "more than 32 open parentheses at byte 7",
+        ),
         (ParseFault::TooManyRules, "more than 32 rules"),
         (
             ParseFault::ViewInFirst(7),

@@ -20,8 +20,7 @@ loop-rest-preserved c =
     let some = some_bytes rest len c.in-Some.ensures.ends in
     let within = within_text rest len c.in-Some.ensures.exact in
     let other = subst (λ line. bytes_eq line (codes "events") ≡ false) c.cut.ensures.before (search rules) in
-    let next = step_blocks inv.0 c.loop-rest.setup c.in_ok-setup.setup rest _ len inv.1 some within other (sym c.in-Some.ensures.exact) c.in_ok-setup.ensures.block (behind rest len _ refl) in
-    (
+    let next = step_blocks inv.0 c.loop-rest.setup c.in_ok-setup.setup rest _ len inv.1 some within other (sym c.in-Some.ensures.exact) c.in_ok-setup.ensures.block (behind rest len _ refl) in (
       next.0,
       next.1,
       inv.2 ∙ next.2,
