@@ -55,3 +55,7 @@ calls_within (Some input) (Some rest) xs before calls consumed few = rw (consume
 
 pub no_calls : (known : Option (List ℕ)) (calls : ℕ) → IfSome known (λ input. calls ≤ calls + length input + 1)
 no_calls known calls = calls_within known known [] calls calls (Consumes-none known) (omega arith)
+
+-- what is left of a text behind its first bytes, as a slice of it, is shorter by these
+pub rest_shorter : (text : List ℕ) (n m : ℕ) → m ≡ length text → n ≤ length text → length (take (m - n) (drop n text)) + n ≡ length text
+rest_shorter text n m m_is within = rw (take_all (m - n) (drop n text) (rw (length-drop n text, m_is) (omega arith)), length-drop n text) (omega arith)

@@ -38,7 +38,7 @@ pub fn check_io<R: Read, W: Write>(
     ensures once { IfSome (R.remaining reader.old.inner) (λ input. reader.new.calls ≤ reader.old.calls + length input + 1) }
 {
     let input = read_input(alloc, reader)?;
-    let report = judge(alloc, &input)?;
-    write_output(writer, report.output.as_bytes())?;
-    Ok(report.outcome)
+    let answer = judge(alloc, &input)?;
+    write_output(writer, answer.output.as_bytes())?;
+    Ok(answer.outcome)
 }

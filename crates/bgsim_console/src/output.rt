@@ -13,7 +13,7 @@ pub fn write_output<W: Write>(writer: &mut Device<W>, output: &[u8]) -> Result<(
     ensures written { OnOk result (Appends (W.contents writer.old.inner) (W.contents writer.new.inner) output.now) }
     ensures part { IfErr result (λ fault. (fault ≡ WriteFault) × AppendsPart (W.contents writer.old.inner) (W.contents writer.new.inner) output.now writer.old.calls writer.new.calls) }
     // Each write takes a byte at least, so none is of nothing.
-    ensures writes { OnOk result (writer.new.calls ≤ writer.old.calls + length output.now) }
+    ensures writes { writer.new.calls ≤ writer.old.calls + length output.now }
     ensures flushed { OnOk result (writer.new.flushed ≡ true) }
     ensures failed { writer.new.failed ≡ (writer.old.failed || is_err result) }
 {

@@ -33,7 +33,7 @@ impl Model for Setup {
     ghost use Rattle.std.specs.Coded.{codes};
     ghost use Rattle.protocol_lang.specs.Codes.{expression_code};
     ghost use Rattle.std.specs.Prelude.{◌≡◌, [], string_bytes};
-    ghost use Rattle.history_checker.specs.Verdicts.{HasHeard, specs_of, names_of};
+    ghost use Rattle.history_checker.specs.Verdicts.{HasProcessed, specs_of, names_of};
     ghost use Rattle.bgsim_console.specs.Check.{Setup as SetupSpec};
 
     ghost Value = { SetupSpec };
@@ -42,7 +42,7 @@ impl Model for Setup {
 
     ghost view = { λ setup. record { rooms = specs_of setup.rooms; refused = string_bytes setup.refused; line = setup.line } };
 
-    ghost invariant = { λ setup. HasHeard setup.rooms [] × (setup.names.items ≡ names_of (specs_of setup.rooms)) };
+    ghost invariant = { λ setup. HasProcessed setup.rooms [] × (setup.names.items ≡ names_of (specs_of setup.rooms)) };
 }
 
 impl Setup {

@@ -42,7 +42,7 @@ module _ {A : Type 0} (made : Operands A) where
   no_end_of parts.First s s' e = absurd cc
   no_end_of parts.Left s s' e = absurd cc
   no_end_of (parts.Right comparator) s s' e = absurd cc
-  no_end_of (parts.Command kind) s s' e = absurd cc
+  no_end_of (parts.ActionRule kind) s s' e = absurd cc
   no_end_of (parts.Last kind) s s' e = absurd cc
 
   no_end_in : (outer : List Level) (s s' : State A) → in_outermost made s outer tokens.End ≡ Ok s' → ⊥

@@ -7,7 +7,7 @@ use Rattle.std.proofs.lemmas.Bool.{cases_Bool, cases_lt, lt-ltb, le-ltb, ltb-fal
 use Rattle.protocol_lang.specs.Tokens.{name_of, call_of, operator_of, comparator_of, kind_of, is_end}
 use Rattle.protocol_lang.specs.Trees.{is_sum, RuleOf, Tree}
 use Rattle.protocol_lang.specs.Formulas.{Operands, trees}
-use Rattle.protocol_lang.specs.Reading.{◌>>=◌, extent_of, past_blanks, next_token, State, opening, is_hidden, is_first, opened, word_operand, operand, call_opened, with_infix, closed, first_ended, left_ended, right_ended, command_ended, last_ended, ended, in_outermost, behind, begun, rule, last, step_at, step, fault_at, stepped, one_token, onward, run, most_tokens, tree_read, reading, IsReading}
+use Rattle.protocol_lang.specs.Reading.{◌>>=◌, extent_of, past_blanks, next_token, State, opening, is_hidden, is_first, opened, word_operand, operand, call_opened, with_infix, closed, first_ended, left_ended, right_ended, action_rule_ended, last_ended, ended, in_outermost, behind, begun, rule, last, step_at, step, fault_at, stepped, one_token, onward, run, most_tokens, tree_read, reading, IsReading}
 use Rattle.protocol_lang.specs.Grammar.{place_of, AreTokens, is_when, IsLocal}
 use Rattle.protocol_lang.specs.declared.fault.ParseFault.{ParseFault}
 use Rattle.protocol_lang.specs.declared.fault.ParseFault.TheVariants.{TooLong, BadToken, Unexpected, TooDeep, TooManyRules, ViewInFirst, NumberTooLarge, OutOfMemory}
@@ -41,7 +41,7 @@ abbrev in_rule : Part → ℕ
 in_rule parts.First = 0
 in_rule parts.Left = 1
 in_rule (parts.Right comparator) = 1
-in_rule (parts.Command kind) = 1
+in_rule (parts.ActionRule kind) = 1
 in_rule (parts.Last kind) = 0
 
 abbrev open_rules : Expected → Part → ℕ
@@ -119,9 +119,9 @@ module _ {A : Type 0} where
   first_keeps made s (tokens.Symbol symbols.Semicolon) = refl
   first_keeps made s token = tt
 
-  command_keeps : (made : Operands A) (kind : Kind) (s : State A) (token : Token) → Keeps (command_ended made kind s token) (length s.rules + 1)
-  command_keeps made kind s (tokens.Symbol symbols.Semicolon) = omega (arith, length-append {A = RuleOf A})
-  command_keeps made kind s token = tt
+  action_rule_keeps : (made : Operands A) (kind : Kind) (s : State A) (token : Token) → Keeps (action_rule_ended made kind s token) (length s.rules + 1)
+  action_rule_keeps made kind s (tokens.Symbol symbols.Semicolon) = omega (arith, length-append {A = RuleOf A})
+  action_rule_keeps made kind s token = tt
 
   last_keeps : (s : State A) (token : Token) → Keeps (last_ended s token) (length s.rules + 0)
   last_keeps s (tokens.Symbol symbols.Semicolon) = refl
@@ -131,7 +131,7 @@ module _ {A : Type 0} where
   ended_keeps made parts.First s token = first_keeps made s token
   ended_keeps made parts.Left s token = left_keeps made s (comparator_of token)
   ended_keeps made (parts.Right comparator) s token = right_keeps made comparator s token (kind_of token)
-  ended_keeps made (parts.Command kind) s token = command_keeps made kind s token
+  ended_keeps made (parts.ActionRule kind) s token = action_rule_keeps made kind s token
   ended_keeps made (parts.Last kind) s token = last_keeps s token
 
   outermost_keeps : (made : Operands A) (s : State A) (outer : List Level) (token : Token) → Keeps (in_outermost made s outer token) (length s.rules + in_rule s.part)
@@ -179,7 +179,7 @@ module _ {A : Type 0} where
   when_at_end made parts.First s = refl
   when_at_end made parts.Left s = refl
   when_at_end made (parts.Right comparator) s = refl
-  when_at_end made (parts.Command kind) s = refl
+  when_at_end made (parts.ActionRule kind) s = refl
   when_at_end made (parts.Last kind) s = refl
 
   when_behind : (made : Operands A) (s : State A) (outer : List Level) → in_outermost made s outer (tokens.Word words.When) ≡ refused_with refusals.Unexpected

@@ -5,7 +5,7 @@ use Rattle.std.specs.Fmt.{decimal}
 use Rattle.protocol_lang.specs.Numbers.{greatest, is_digit}
 use Rattle.protocol_lang.specs.Tokens.{is_blank, is_letter, word_spelling, symbol_spelling, reads_view}
 use Rattle.protocol_lang.specs.Trees as trees
-use Rattle.protocol_lang.specs.Trees.{Expression, is_sum, ComparisonOf, CommandOf, RuleOf, TreeOf, Tree}
+use Rattle.protocol_lang.specs.Trees.{Expression, is_sum, ComparisonOf, ActionRuleOf, RuleOf, TreeOf, Tree}
 use Rattle.protocol_lang.specs.Reading.{extent_of, next_token, reading}
 use Rattle.protocol_lang.specs.declared.token.Word.{Word}
 use Rattle.protocol_lang.specs.declared.token.Word.TheVariants as words
@@ -139,22 +139,22 @@ abbrev pub conditions_tokens : Word → List (ComparisonOf Written) → List Tok
 conditions_tokens word [] = []
 conditions_tokens word (comparison ∷ more) = tokens.Word word ∷ (comparison_tokens comparison ++ conditions_tokens words.And more)
 
-abbrev pub command_tokens : CommandOf Written → List Token
-command_tokens command = tokens.Word (kind_word command.kind) ∷ (expression_tokens command.value ++ tokens.Symbol symbols.Semicolon ∷ [])
+abbrev pub action_rule_tokens : ActionRuleOf Written → List Token
+action_rule_tokens action_rule = tokens.Word (kind_word action_rule.kind) ∷ (expression_tokens action_rule.value ++ tokens.Symbol symbols.Semicolon ∷ [])
 
 abbrev pub rule_tokens : RuleOf Written → List Token
-rule_tokens rule = conditions_tokens words.When rule.conditions ++ command_tokens rule.command
+rule_tokens rule = conditions_tokens words.When rule.conditions ++ action_rule_tokens rule.action_rule
 
 -- "first" E ";" { "when" C action ";" } "else" action ";"
 abbrev pub tree_tokens : TreeOf Written → List Token
 tree_tokens tree =
-    tokens.Word words.First ∷ (expression_tokens tree.first ++ tokens.Symbol symbols.Semicolon ∷ (flat_map rule_tokens tree.rules ++ tokens.Word words.Else ∷ command_tokens tree.last))
+    tokens.Word words.First ∷ (expression_tokens tree.first ++ tokens.Symbol symbols.Semicolon ∷ (flat_map rule_tokens tree.rules ++ tokens.Word words.Else ∷ action_rule_tokens tree.last))
 
 abbrev pub is_comparison : ComparisonOf Written → Bool
 is_comparison comparison = is_expression comparison.left && is_expression comparison.right
 
 abbrev pub is_rule : RuleOf Written → Bool
-is_rule rule = nat_le 1 (length rule.conditions) && nat_le (length rule.conditions) 8 && list_all is_comparison rule.conditions && is_expression rule.command.value
+is_rule rule = nat_le 1 (length rule.conditions) && nat_le (length rule.conditions) 8 && list_all is_comparison rule.conditions && is_expression rule.action_rule.value
 
 -- the text keeps to the grammar and to its limits
 pub record IsFormed (tree : TreeOf Written) : Type 0 where
@@ -168,14 +168,14 @@ pub record IsFormed (tree : TreeOf Written) : Type 0 where
 abbrev pub comparison_of : ComparisonOf Written → ComparisonOf Expression
 comparison_of comparison = record { left = expression_of comparison.left; comparator = comparison.comparator; right = expression_of comparison.right }
 
-abbrev pub command_of : CommandOf Written → CommandOf Expression
-command_of command = record { kind = command.kind; value = expression_of command.value }
+abbrev pub action_rule_of : ActionRuleOf Written → ActionRuleOf Expression
+action_rule_of action_rule = record { kind = action_rule.kind; value = expression_of action_rule.value }
 
 abbrev pub rule_of : RuleOf Written → RuleOf Expression
-rule_of rule = record { conditions = map comparison_of rule.conditions; command = command_of rule.command }
+rule_of rule = record { conditions = map comparison_of rule.conditions; action_rule = action_rule_of rule.action_rule }
 
 abbrev pub tree_of : TreeOf Written → Tree
-tree_of tree = record { first = expression_of tree.first; rules = map rule_of tree.rules; last = command_of tree.last }
+tree_of tree = record { first = expression_of tree.first; rules = map rule_of tree.rules; last = action_rule_of tree.last }
 
 -- ---- the bytes of tokens
 

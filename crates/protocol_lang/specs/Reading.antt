@@ -186,14 +186,14 @@ abbrev pub compared_with : {A : Type 0} → Operands A → Comparator → Part �
 compared_with made comparator part s = record (cleared s) { expected = next.Operand; part = part; left = last_of made []; conditions = s.conditions ++ record { left = s.left; comparator = comparator; right = value_read made s } ∷ [] }
 
 abbrev pub right_ended : {A : Type 0} → Operands A → Comparator → State A → Token → Option Kind → Result (State A) Refusal
-right_ended made comparator s token (Some kind) = Ok (compared_with made comparator (parts.Command kind) s)
+right_ended made comparator s token (Some kind) = Ok (compared_with made comparator (parts.ActionRule kind) s)
 right_ended made comparator s (tokens.Word words.And) None = if nat_lt (length s.conditions) 7 then Ok (compared_with made comparator parts.Left s) else Err refusals.Unexpected
 right_ended made comparator s token None = Err refusals.Unexpected
 
-abbrev pub command_ended : {A : Type 0} → Operands A → Kind → State A → Token → Result (State A) Refusal
-command_ended made kind s (tokens.Symbol symbols.Semicolon) =
-    Ok (record (cleared s) { expected = next.Rule; conditions = []; rules = s.rules ++ record { conditions = s.conditions; command = record { kind = kind; value = value_read made s } } ∷ [] })
-command_ended made kind s token = Err refusals.Unexpected
+abbrev pub action_rule_ended : {A : Type 0} → Operands A → Kind → State A → Token → Result (State A) Refusal
+action_rule_ended made kind s (tokens.Symbol symbols.Semicolon) =
+    Ok (record (cleared s) { expected = next.Rule; conditions = []; rules = s.rules ++ record { conditions = s.conditions; action_rule = record { kind = kind; value = value_read made s } } ∷ [] })
+action_rule_ended made kind s token = Err refusals.Unexpected
 
 abbrev pub last_ended : {A : Type 0} → State A → Token → Result (State A) Refusal
 last_ended s (tokens.Symbol symbols.Semicolon) = Ok (record s { expected = next.End })
@@ -203,7 +203,7 @@ abbrev pub ended : {A : Type 0} → Operands A → Part → State A → Token �
 ended made parts.First s token = first_ended made s token
 ended made parts.Left s token = left_ended made s (comparator_of token)
 ended made (parts.Right comparator) s token = right_ended made comparator s token (kind_of token)
-ended made (parts.Command kind) s token = command_ended made kind s token
+ended made (parts.ActionRule kind) s token = action_rule_ended made kind s token
 ended made (parts.Last kind) s token = last_ended s token
 
 abbrev pub in_outermost : {A : Type 0} → Operands A → State A → List Level → Token → Result (State A) Refusal
