@@ -1,6 +1,6 @@
 -- Blocks taken one by one.
-use Rattle.std.proofs.Common.{◌≡◌, ◌∙◌, ℕ, zero, suc, ◌+◌, ◌-◌, ◌<◌, ◌≤◌, true, false, List, [], ◌∷◌, ◌++◌, min, length, take, drop, Option, Some, None, refl, sym, ap, subst, arith, inl, inr}
-use Rattle.std.specs.Prelude.{◌⊎◌, codes}
+use Rattle.std.proofs.Common.{◌≡◌, ◌∙◌, ℕ, zero, suc, ◌+◌, ◌-◌, ◌<◌, ◌≤◌, true, false, List, [], ◌∷◌, ◌++◌, min, length, take, drop, Option, Some, None, Result, refl, sym, ap, subst, arith, inl, inr}
+use Rattle.std.specs.Prelude.{◌⊎◌, IsOk, codes}
 use Rattle.std.specs.Option.{option_map}
 use Rattle.std.specs.Str.{bytes_eq}
 use Rattle.std.proofs.Math.Nat.{min-le_right}
@@ -9,8 +9,10 @@ use Rattle.room_spec.specs.Rooms.{RoomSpec}
 use Rattle.room_spec.specs.Texts.{first_line}
 use Rattle.room_spec.specs.Blocks.{body_len, block_len}
 use Rattle.room_spec.specs.Grammar.{EndsAt, text_of}
-use Rattle.history_checker.specs.Verdicts.{RoomState, HasHeard, has_room, names_of, specs_of}
-use Rattle.bgsim_console.specs.Check.{Setup, refuse, open_room, after_block, blocks_from}
+use Rattle.history_checker.specs.Verdicts.{RoomState, HasProcessed, has_room, names_of, specs_of}
+use Rattle.bgsim_console.specs.Check.{Setup, refuse, open_room, after_block, blocks_from, events_behind, BeginsWithBlock, IsFaultOr}
+use Rattle.bgsim_console.specs.declared.fault.IoFault.{IoFault}
+use Rattle.bgsim_console.specs.declared.fault.IoFault.TheVariants.{Read, Write, TooLong, BadInput, Memory}
 
 pub some_bytes : (text : List ℕ) (len : ℕ) → EndsAt text len → 0 < len
 some_bytes text len ends = by ends.bytes (length-append (text_of ends.lines) (codes "end"))
@@ -55,6 +57,22 @@ refused_name rooms after refused line setup room result view_is same known is =
     is ∙ ap (λ (rs : List RoomState). refuse (record { rooms = specs_of rs; refused = refused; line = line }) (codes "41")) same
     ∙ ap (λ (s : Setup). refuse s (codes "41")) view_is ∙ sym (opens setup room (subst (λ (s : Setup). has_room room.name s.rooms ≡ true) view_is known))
 
--- rooms that stay as they were still have heard nothing, and their names are the same
-pub unheard_still : (rooms after : List RoomState) (names : List (List ℕ)) → after ≡ rooms → HasHeard rooms [] × (names ≡ names_of (specs_of rooms)) → HasHeard after [] × (names ≡ names_of (specs_of after))
-unheard_still rooms after names same before = subst (λ (rs : List RoomState). HasHeard rs [] × (names ≡ names_of (specs_of rs))) (sym same) before
+-- rooms that stay as they were still have processed nothing, and their names are the same
+pub unfed_still : (rooms after : List RoomState) (names : List (List ℕ)) → after ≡ rooms → HasProcessed rooms [] × (names ≡ names_of (specs_of rooms)) → HasProcessed after [] × (names ≡ names_of (specs_of after))
+unfed_still rooms after names same before = subst (λ (rs : List RoomState). HasProcessed rs [] × (names ≡ names_of (specs_of rs))) (sym same) before
+
+-- want of memory comes only behind the beginning of a block
+pub begins : (input rest : List ℕ) (len : ℕ) → (rest ≡ input) ⊎ BeginsWithBlock input → bytes_eq (first_line rest) (codes "events") ≡ false → block_len rest ≡ Some len → BeginsWithBlock input
+begins input rest len (inl same) other found = subst BeginsWithBlock same (other, rw found refl)
+begins input rest len (inr before) other found = before
+
+pub refused_block : {A : Type 0} (memory : Type 0) (read : Result A (ℕ × ℕ)) (fault : IoFault) → fault ≡ Memory → memory → IsFaultOr memory read fault
+refused_block memory read fault is lacks = rw is lacks
+
+-- a fault of the blocks is that of the whole input
+pub blocks_fault : (input : List ℕ) (read : Result (Setup × List ℕ) (ℕ × ℕ)) (fault : IoFault) → IsFaultOr (BeginsWithBlock input) read fault → IsFaultOr (BeginsWithBlock input ⊎ IsOk (events_behind read)) (events_behind read) fault
+blocks_fault input read (BadInput line code) bad = rw bad refl
+blocks_fault input read Memory bad = inl bad
+blocks_fault input read Read bad = absurd bad
+blocks_fault input read Write bad = absurd bad
+blocks_fault input read TooLong bad = absurd bad

@@ -2,6 +2,6 @@ pub mod Blocks
 pub mod LineLists
 pub mod Naming
 pub mod Streams
-pub mod Telling
+pub mod Feeding
 pub mod Verdicts
 pub mod Worked

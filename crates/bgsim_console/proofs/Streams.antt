@@ -1,5 +1,5 @@
 -- What reads took off a stream and writes put onto one, over several calls.
-use Rattle.std.proofs.Common.{◌≡◌, ◌∙◌, ℕ, ◌<◌, ◌-◌, List, [], take, drop, ◌++◌, length, Option, Some, None, refl, sym, ap, arith}
+use Rattle.std.proofs.Common.{◌≡◌, ◌∙◌, ℕ, ◌+◌, ◌<◌, ◌≤◌, ◌-◌, List, [], take, drop, ◌++◌, length, Option, Some, None, refl, sym, ap, arith}
 use Rattle.std.specs.Prelude.{IfSome}
 use Rattle.std.specs.Io.KnownBytes.{Appends, Consumes, IsAtEnd, Keeps}
 use Rattle.std.proofs.lemmas.List.{append_assoc, append-nil, length-append, length-drop, take_all, take-append-drop}
@@ -46,3 +46,16 @@ pub part_more : (whole part rest : List ℕ) (n m : ℕ) → whole ≡ part ++ r
 part_more whole part rest n m split m_is =
     let all : take (m - n) (drop n rest) ≡ drop n rest = take_all (m - n) (drop n rest) (rw (length-drop n rest, m_is) (omega arith)) in
     split ∙ ap (λ r. part ++ r) (sym (take-append-drop n rest)) ∙ sym (append_assoc part (take n rest) (drop n rest)) ∙ ap (λ r. (part ++ take n rest) ++ r) (sym all)
+
+-- so many calls, of which all but one gave a byte at least, are one more than all bytes at most
+pub calls_within : (old new : Option (List ℕ)) (xs : List ℕ) (before calls : ℕ) → Consumes old new xs → calls ≤ before + length xs + 1 → IfSome old (λ input. calls ≤ before + length input + 1)
+calls_within None new xs before calls consumed few = tt
+calls_within (Some input) None xs before calls consumed few = absurd consumed
+calls_within (Some input) (Some rest) xs before calls consumed few = rw (consumed, length-append xs rest) (omega (arith, few))
+
+pub no_calls : (known : Option (List ℕ)) (calls : ℕ) → IfSome known (λ input. calls ≤ calls + length input + 1)
+no_calls known calls = calls_within known known [] calls calls (Consumes-none known) (omega arith)
+
+-- what is left of a text behind its first bytes, as a slice of it, is shorter by these
+pub rest_shorter : (text : List ℕ) (n m : ℕ) → m ≡ length text → n ≤ length text → length (take (m - n) (drop n text)) + n ≡ length text
+rest_shorter text n m m_is within = rw (take_all (m - n) (drop n text) (rw (length-drop n text, m_is) (omega arith)), length-drop n text) (omega arith)

@@ -10,17 +10,17 @@ use Rattle.std.proofs.lemmas.Option.{slice_get_within, slice_get_cases, slice_ge
 use Rattle.std.proofs.Math.Seq.{take-suc}
 use Rattle.std.specs.Option.{option_map}
 use Rattle.room_spec.specs.Rooms.{RoomSpec}
-use Rattle.history_checker.specs.Verdicts.{Told, IsVerdict, told_of, names_of}
+use Rattle.history_checker.specs.Verdicts.{FedEvent, IsVerdict, fed_to, names_of}
 use Rattle.history_checker.specs.declared.rooms.Verdict.{Verdict}
 use Rattle.bgsim_console.specs.declared.fault.Outcome.{Outcome}
 use Rattle.bgsim_console.specs.Check.{Judged, IsJustified, IsOutput, judged_line, verdict_line, is_run, outcome_if}
 
 -- the verdicts on the first rooms stand behind the lines of the refused blocks
-abbrev pub SoFar : List RoomSpec → List ℕ → List Told → ℕ → List ℕ → Bool → Type 0
-SoFar rooms refused told count output well =
+abbrev pub SoFar : List RoomSpec → List ℕ → List FedEvent → ℕ → List ℕ → Bool → Type 0
+SoFar rooms refused fed count output well =
     (all : List Judged)
     × (map (λ one. one.room) all ≡ take count rooms)
-    × All (IsJustified told) all
+    × All (IsJustified fed) all
     × (output ≡ refused ++ flat_map judged_line all)
     × (well ≡ ((length refused == 0) && list_all (λ one. is_run one.verdict) all))
 
@@ -32,14 +32,14 @@ and_assoc : (a b c : Bool) → ((a && b) && c) ≡ (a && (b && c))
 and_assoc true b c = refl
 and_assoc false b c = refl
 
-pub none_yet : (rooms : List RoomSpec) (refused : List ℕ) (told : List Told) (well : Bool) → well ≡ (length refused == 0) → SoFar rooms refused told 0 refused well
-none_yet rooms refused told well is =
-    ([], refl, All-nil (IsJustified told), sym (append-nil refused), is ∙ and_true (length refused == 0))
+pub none_yet : (rooms : List RoomSpec) (refused : List ℕ) (fed : List FedEvent) (well : Bool) → well ≡ (length refused == 0) → SoFar rooms refused fed 0 refused well
+none_yet rooms refused fed well is =
+    ([], refl, All-nil (IsJustified fed), sym (append-nil refused), is ∙ and_true (length refused == 0))
 
-pub one_more : (rooms : List RoomSpec) (refused : List ℕ) (told : List Told) (count : ℕ) (output : List ℕ) (well : Bool) (room : RoomSpec) (verdict : Verdict) (output_now : List ℕ) (well_now : Bool)
-    → SoFar rooms refused told count output well → slice_get rooms count ≡ Some room → IsVerdict room (told_of room.name told) verdict
-    → output_now ≡ output ++ verdict_line room.name verdict → well_now ≡ (well && is_run verdict) → SoFar rooms refused told (count + 1) output_now well_now
-one_more rooms refused told count output well room verdict output_now well_now so_far there justified output_is well_is =
+pub one_more : (rooms : List RoomSpec) (refused : List ℕ) (fed : List FedEvent) (count : ℕ) (output : List ℕ) (well : Bool) (room : RoomSpec) (verdict : Verdict) (output_now : List ℕ) (well_now : Bool)
+    → SoFar rooms refused fed count output well → slice_get rooms count ≡ Some room → IsVerdict room (fed_to room.name fed) verdict
+    → output_now ≡ output ++ verdict_line room.name verdict → well_now ≡ (well && is_run verdict) → SoFar rooms refused fed (count + 1) output_now well_now
+one_more rooms refused fed count output well room verdict output_now well_now so_far there justified output_is well_is =
     let all = so_far.0 in
     let one : Judged = record { room = room; verdict = verdict } in
     let within = slice_get_within rooms count room there in
@@ -47,15 +47,15 @@ one_more rooms refused told count output well room verdict output_now well_now s
     let next : take (count + 1) rooms ≡ take count rooms ++ room ∷ [] = ap (λ n. take n rooms) plus ∙ take-suc rooms count room within ∙ ap (λ r. take count rooms ++ r ∷ []) (get_or_from_slice_get rooms count room room there) in (
       all ++ one ∷ [],
       map_push (λ (o : Judged). o.room) all one ∙ ap (λ rs. rs ++ room ∷ []) so_far.1 ∙ sym next,
-      All-push (IsJustified told) all one so_far.2 justified,
+      All-push (IsJustified fed) all one so_far.2 justified,
       output_is ∙ ap (λ o. o ++ verdict_line room.name verdict) so_far.3 ∙ append_assoc refused (flat_map judged_line all) (verdict_line room.name verdict)
           ∙ ap (λ o. refused ++ (flat_map judged_line all ++ o)) (sym (append-nil (verdict_line room.name verdict))) ∙ ap (λ o. refused ++ o) (sym (flat_map-append judged_line all (one ∷ []))),
       well_is ∙ ap (λ w. w && is_run verdict) so_far.4 ∙ and_assoc ((length refused == 0)) (list_all (λ (o : Judged). is_run o.verdict) all) (is_run verdict)
           ∙ ap (λ w. (length refused == 0) && (list_all (λ (o : Judged). is_run o.verdict) all && w)) (and_true (is_run verdict)) ∙ ap (λ w. (length refused == 0) && w) (sym (list_all-append (λ (o : Judged). is_run o.verdict) all (one ∷ []))),
     )
 
-pub all_judged : (rooms : List RoomSpec) (refused : List ℕ) (told : List Told) (count : ℕ) (output : List ℕ) (well : Bool) (outcome : Outcome) → length rooms ≤ count → outcome ≡ outcome_if well → SoFar rooms refused told count output well → IsOutput rooms refused told outcome output
-all_judged rooms refused told count output well outcome all_of outcome_is so_far = record {
+pub all_judged : (rooms : List RoomSpec) (refused : List ℕ) (fed : List FedEvent) (count : ℕ) (output : List ℕ) (well : Bool) (outcome : Outcome) → length rooms ≤ count → outcome ≡ outcome_if well → SoFar rooms refused fed count output well → IsOutput rooms refused fed outcome output
+all_judged rooms refused fed count output well outcome all_of outcome_is so_far = record {
   all = so_far.0;
   each_room = so_far.1 ∙ take_all count rooms all_of;
   justified = so_far.2;
@@ -67,23 +67,23 @@ some_verdict : (verdict other : Verdict) → Some verdict ≡ Some other → ver
 some_verdict verdict other is = cc
 
 -- where there is a verdict there is its room
-pub room_judged : (found : Option RoomSpec) (result : Option Verdict) (verdict : Verdict) (told : List Told) → result ≡ Some verdict → MatchOption found (result ≡ None) (λ spec. IsSomeAnd result (IsVerdict spec (told_of spec.name told)))
-    → (room : RoomSpec) × (found ≡ Some room) × IsVerdict room (told_of room.name told) verdict
-room_judged None result verdict told is none = absurd cc
-room_judged (Some room) result verdict told is some = (room, refl, subst (λ r. IsSomeAnd r (IsVerdict room (told_of room.name told))) is some)
+pub room_judged : (found : Option RoomSpec) (result : Option Verdict) (verdict : Verdict) (fed : List FedEvent) → result ≡ Some verdict → MatchOption found (result ≡ None) (λ spec. IsSomeAnd result (IsVerdict spec (fed_to spec.name fed)))
+    → (room : RoomSpec) × (found ≡ Some room) × IsVerdict room (fed_to room.name fed) verdict
+room_judged None result verdict fed is none = absurd cc
+room_judged (Some room) result verdict fed is some = (room, refl, subst (λ r. IsSomeAnd r (IsVerdict room (fed_to room.name fed))) is some)
 
-no_room : (found : Option RoomSpec) (result : Option Verdict) (told : List Told) → result ≡ None → MatchOption found (result ≡ None) (λ spec. IsSomeAnd result (IsVerdict spec (told_of spec.name told))) → found ≡ None
-no_room None result told is none = refl
-no_room (Some room) result told is some = absurd (subst (λ r. IsSomeAnd r (IsVerdict room (told_of room.name told))) is some)
+no_room : (found : Option RoomSpec) (result : Option Verdict) (fed : List FedEvent) → result ≡ None → MatchOption found (result ≡ None) (λ spec. IsSomeAnd result (IsVerdict spec (fed_to spec.name fed))) → found ≡ None
+no_room None result fed is none = refl
+no_room (Some room) result fed is some = absurd (subst (λ r. IsSomeAnd r (IsVerdict room (fed_to room.name fed))) is some)
 
 pub as_many : (rooms : List RoomSpec) (names : List (List ℕ)) → names ≡ names_of rooms → length names ≡ length rooms
 as_many rooms names names_are = ap length names_are ∙ length-map rooms (λ (room : RoomSpec). room.name)
 
 -- each room has a verdict
-pub never_none : (rooms : List RoomSpec) (names : List (List ℕ)) (index : ℕ) (result : Option Verdict) (told : List Told) → names ≡ names_of rooms → index < length names → result ≡ None
-    → MatchOption (slice_get rooms index) (result ≡ None) (λ spec. IsSomeAnd result (IsVerdict spec (told_of spec.name told))) → ⊥
-never_none rooms names index result told names_are within is verdict =
-    let none = no_room (slice_get rooms index) result told is verdict in
+pub never_none : (rooms : List RoomSpec) (names : List (List ℕ)) (index : ℕ) (result : Option Verdict) (fed : List FedEvent) → names ≡ names_of rooms → index < length names → result ≡ None
+    → MatchOption (slice_get rooms index) (result ≡ None) (λ spec. IsSomeAnd result (IsVerdict spec (fed_to spec.name fed))) → ⊥
+never_none rooms names index result fed names_are within is verdict =
+    let none = no_room (slice_get rooms index) result fed is verdict in
     let many : index < length rooms = subst (λ n. index < n) (as_many rooms names names_are) within in
     elim (slice_get_cases rooms index).1 as (λ x. ⊥) [
       | inl there ↦ let some = there.2 in absurd cc

@@ -1,5 +1,5 @@
 -- What `check` answers for an input.
-use Rattle.std.specs.Prelude.{◌≡◌, ℕ, ◌+◌, ◌≤◌, ◌<◌, Bool, true, false, ◌&&◌, ◌==◌, List, [], ◌∷◌, ◌++◌, length, suc, zero, take, drop, map, Option, Some, None, Result, Ok, Err, if◌then◌else◌, codes, decimal}
+use Rattle.std.specs.Prelude.{◌≡◌, ◌⊎◌, ℕ, ◌+◌, ◌≤◌, ◌<◌, Bool, true, false, ◌&&◌, ◌==◌, List, [], ◌∷◌, ◌++◌, length, suc, zero, take, drop, map, Option, Some, None, IsSome, Result, Ok, Err, IsOk, if◌then◌else◌, codes, decimal}
 use Rattle.std.specs.List.{All, flat_map, list_all}
 use Rattle.std.specs.Str.{bytes_eq}
 use Rattle.protocol_lang.specs.Faults.{code_of as protocol_code}
@@ -13,7 +13,7 @@ use Rattle.transcript.specs.Faults.{code_of as line_code}
 use Rattle.transcript.specs.Lines.{line_in}
 use Rattle.transcript.specs.declared.event.Event.{Event}
 use Rattle.transcript.specs.declared.fault.LineFault.{LineFault}
-use Rattle.history_checker.specs.Verdicts.{Told, IsVerdict, has_room, told_of}
+use Rattle.history_checker.specs.Verdicts.{FedEvent, IsVerdict, has_room, fed_to}
 use Rattle.history_checker.specs.declared.rooms.Verdict.{Verdict}
 use Rattle.history_checker.specs.declared.rooms.Verdict.TheVariants.{Run, Broken}
 use Rattle.bgsim_console.specs.Lines.{text_lines}
@@ -98,29 +98,29 @@ blocks_in input = blocks_from (suc (length input)) no_blocks input
 
 -- ---- the events
 
-abbrev pub of_known_room : List RoomSpec → ℕ → Result (List ℕ × Event) LineFault → Result Told (ℕ × ℕ)
+abbrev pub of_known_room : List RoomSpec → ℕ → Result (List ℕ × Event) LineFault → Result FedEvent (ℕ × ℕ)
 of_known_room rooms line (Err fault) = Err (line, line_code fault)
 of_known_room rooms line (Ok read) = if has_room read.0 rooms then Ok (record { name = read.0; event = read.1; line = line }) else Err (line, 40)
 
-abbrev pub then_told : (List Told → Result (List Told) (ℕ × ℕ)) → List Told → Result Told (ℕ × ℕ) → Result (List Told) (ℕ × ℕ)
-then_told later told (Ok one) = later (told ++ one ∷ [])
-then_told later told (Err fault) = Err fault
+abbrev pub then_fed : (List FedEvent → Result (List FedEvent) (ℕ × ℕ)) → List FedEvent → Result FedEvent (ℕ × ℕ) → Result (List FedEvent) (ℕ × ℕ)
+then_fed later fed (Ok one) = later (fed ++ one ∷ [])
+then_fed later fed (Err fault) = Err fault
 
--- what was told so far, and what these lines tell, the first of which has this number
-unfoldable pub told_from : List RoomSpec → List Told → ℕ → List (List ℕ) → Result (List Told) (ℕ × ℕ)
-told_from rooms told line [] = Ok told
-told_from rooms told line (text ∷ texts) = then_told (λ so_far. told_from rooms so_far (line + 1) texts) told (of_known_room rooms line (line_in text))
+-- what was fed so far, and what these lines tell, the first of which has this number
+unfoldable pub fed_from : List RoomSpec → List FedEvent → ℕ → List (List ℕ) → Result (List FedEvent) (ℕ × ℕ)
+fed_from rooms fed line [] = Ok fed
+fed_from rooms fed line (text ∷ texts) = then_fed (λ so_far. fed_from rooms so_far (line + 1) texts) fed (of_known_room rooms line (line_in text))
 
-abbrev pub with_told : Setup → Result (List Told) (ℕ × ℕ) → Result (Setup × List Told) (ℕ × ℕ)
-with_told setup (Ok told) = Ok (setup, told)
-with_told setup (Err fault) = Err fault
+abbrev pub with_fed : Setup → Result (List FedEvent) (ℕ × ℕ) → Result (Setup × List FedEvent) (ℕ × ℕ)
+with_fed setup (Ok fed) = Ok (setup, fed)
+with_fed setup (Err fault) = Err fault
 
-abbrev pub events_behind : Result (Setup × List ℕ) (ℕ × ℕ) → Result (Setup × List Told) (ℕ × ℕ)
-events_behind (Ok read) = with_told read.0 (told_from read.0.rooms [] read.0.line (text_lines read.1))
+abbrev pub events_behind : Result (Setup × List ℕ) (ℕ × ℕ) → Result (Setup × List FedEvent) (ℕ × ℕ)
+events_behind (Ok read) = with_fed read.0 (fed_from read.0.rooms [] read.0.line (text_lines read.1))
 events_behind (Err fault) = Err fault
 
 -- what an input says: its blocks and its events, or the line and the code of its first fault
-abbrev pub input_says : List ℕ → Result (Setup × List Told) (ℕ × ℕ)
+abbrev pub input_says : List ℕ → Result (Setup × List FedEvent) (ℕ × ℕ)
 input_says input = events_behind (blocks_in input)
 
 -- ---- the verdicts
@@ -129,9 +129,9 @@ pub record Judged : Type 0 where
   pub room : RoomSpec
   pub verdict : Verdict
 
--- the verdict rests on what was told of the room alone
-abbrev pub IsJustified : List Told → Judged → Type 0
-IsJustified told one = IsVerdict one.room (told_of one.room.name told) one.verdict
+-- the verdict rests on what was fed of the room alone
+abbrev pub IsJustified : List FedEvent → Judged → Type 0
+IsJustified fed one = IsVerdict one.room (fed_to one.room.name fed) one.verdict
 
 abbrev pub verdict_line : List ℕ → Verdict → List ℕ
 verdict_line name Run = name ++ codes " is a run\n"
@@ -152,26 +152,38 @@ abbrev pub outcome_of : List ℕ → List Judged → Outcome
 outcome_of refused all = outcome_if ((length refused == 0) && list_all (λ one. is_run one.verdict) all)
 
 -- the verdicts on the rooms, in order, and the output
-pub record IsOutput (rooms : List RoomSpec) (refused : List ℕ) (told : List Told) (outcome : Outcome) (output : List ℕ) : Type 0 where
+pub record IsOutput (rooms : List RoomSpec) (refused : List ℕ) (fed : List FedEvent) (outcome : Outcome) (output : List ℕ) : Type 0 where
   pub all : List Judged
   pub each_room : map (λ one. one.room) all ≡ rooms
-  pub justified : All (IsJustified told) all
+  pub justified : All (IsJustified fed) all
   pub output_is : output ≡ refused ++ flat_map judged_line all
   pub outcome_is : outcome ≡ outcome_of refused all
 
 -- ---- the answer
 
--- the fault is the one that reading gave; want of memory may come in its place
+-- the fault is the one that reading gave; where `memory` holds, memory may have been refused
+abbrev pub IsFaultOr : {A : Type 0} → Type 0 → Result A (ℕ × ℕ) → IoFault → Type 0
+IsFaultOr memory read (BadInput line code) = read ≡ Err (line, code)
+IsFaultOr memory read Memory = memory
+IsFaultOr memory read Read = ⊥
+IsFaultOr memory read Write = ⊥
+IsFaultOr memory read TooLong = ⊥
+
+-- nothing takes memory there
 abbrev pub IsFaultOf : {A : Type 0} → Result A (ℕ × ℕ) → IoFault → Type 0
-IsFaultOf read (BadInput line code) = read ≡ Err (line, code)
-IsFaultOf read Memory = Unit {0}
-IsFaultOf read Read = ⊥
-IsFaultOf read Write = ⊥
-IsFaultOf read TooLong = ⊥
+IsFaultOf read fault = IsFaultOr ⊥ read fault
+
+-- the input begins with a block, which takes memory
+abbrev pub BeginsWithBlock : List ℕ → Type 0
+BeginsWithBlock input = (bytes_eq (first_line input) (codes "events") ≡ false) × IsSome (block_len input)
+
+-- memory may be refused to a block, and to the output for an input that has no fault
+abbrev pub MayLackMemory : List ℕ → Type 0
+MayLackMemory input = BeginsWithBlock input ⊎ IsOk (input_says input)
 
 -- the output for an input that has no fault
 abbrev pub IsOutputFor : List ℕ → Outcome → List ℕ → Type 0
-IsOutputFor input outcome output = (setup : Setup) × (told : List Told) × (input_says input ≡ Ok (setup, told)) × IsOutput setup.rooms setup.refused told outcome output
+IsOutputFor input outcome output = (setup : Setup) × (fed : List FedEvent) × (input_says input ≡ Ok (setup, fed)) × IsOutput setup.rooms setup.refused fed outcome output
 
 -- a beginning of the output for an input that has no fault
 abbrev pub IsPartFor : List ℕ → List ℕ → Type 0

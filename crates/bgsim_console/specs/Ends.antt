@@ -1,5 +1,5 @@
 -- The program's exit statuses.
-use Rattle.std.specs.Prelude.{ℕ, Bool, true, false, Result, Ok, Err}
+use Rattle.std.specs.Prelude.{ℕ, Bool, true, false, Result, Ok, Err, if◌then◌else◌}
 use Rattle.clap.specs.declared.error.kind.ErrorKind.{ErrorKind}
 use Rattle.clap.specs.declared.error.kind.ErrorKind.TheVariants.{DisplayHelp, DisplayVersion, OutOfMemory}
 use Rattle.bgsim_console.specs.declared.fault.Outcome.{Outcome}
@@ -46,3 +46,7 @@ is_write_failed (Err Write) = true
 is_write_failed (Err TooLong) = false
 is_write_failed (Err (BadInput line code)) = false
 is_write_failed (Err Memory) = false
+
+-- how many writes failed
+abbrev pub failed_writes : {A : Type 0} → Result A IoFault → ℕ
+failed_writes result = if is_write_failed result then 1 else 0

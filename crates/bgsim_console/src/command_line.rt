@@ -37,7 +37,7 @@ fn command<'a>(alloc: Global) -> Result<Command<'a>, Error>
 
 /// What `clap` finds in the words.
 fn read_words<'a, S: AsStr>(alloc: Global, words: &'a [S]) -> Result<ArgMatches<'a>, Error>
-    ensures found { IfOk result (λ matches. subcommand_rows_of matches ≡ subcommand_of bgsim_app (map S.text words.entry.now)) }
+    ensures sound { IfOk result (λ matches. subcommand_rows_of matches ≡ subcommand_of bgsim_app (map S.text words.entry.now)) }
     ensures kinds { FailsBy (fault_of bgsim_app (map S.text words.entry.now)) result }
 {
     command(alloc)?.try_get_matches_from(words)

@@ -1,5 +1,5 @@
 //! Readers and writers that know whether they failed.
-ghost use Rattle.std.specs.Prelude.{◌≡◌, ◌+◌, ◌-◌, ◌^◌, ◌<◌, ◌||◌, min, false, is_err, IfOk};
+ghost use Rattle.std.specs.Prelude.{◌≡◌, ◌+◌, ◌-◌, ◌^◌, ◌<◌, ◌||◌, min, true, false, is_err, IfOk, OnOk};
 ghost use Rattle.std.specs.Io.{ReadsAtMost, WritesAtMost};
 ghost use Rattle.std.specs.Io.KnownBytes.{Appends, Keeps, ReadConsumes, WriteAppends};
 
@@ -9,23 +9,26 @@ use std::io::{Read, Write};
 #[derive(Clone, Copy, Debug, PartialEq, Eq)]
 pub struct DeviceFailed;
 
-/// A reader or a writer that counts its reads or writes and remembers whether one failed.
+/// A reader or a writer that counts its reads or writes and remembers whether one failed, and whether
+/// what was written was flushed.
 #[derive(Drop)]
 pub struct Device<D> {
     inner: D,
     calls: u64,
     failed: bool,
+    flushed: bool,
 }
 
 impl<D> Device<D> {
     /// The device before its first call.
     pub fn new(inner: D) -> Device<D>
-        ensures { result ≡ record { inner = inner; calls = 0; failed = false } }
+        ensures { result ≡ record { inner = inner; calls = 0; failed = false; flushed = true } }
     {
         Device {
             inner,
             calls: 0,
             failed: false,
+            flushed: true,
         }
     }
 
@@ -34,6 +37,13 @@ impl<D> Device<D> {
         ensures { result ≡ self.now.failed }
     {
         self.failed
+    }
+
+    /// Whether the device was flushed after its last write.
+    pub fn is_flushed(&self) -> bool
+        ensures { result ≡ self.now.flushed }
+    {
+        self.flushed
     }
 
     /// How many reads or writes were made on the device. It stops at `u64::MAX`.
@@ -79,8 +89,10 @@ impl<W: Write> Device<W> {
         ensures bytes { WriteAppends (W.contents self.old.inner) (W.contents self.new.inner) result bytes.now }
         ensures failed { self.new.failed ≡ (self.old.failed || is_err result) }
         ensures calls { self.new.calls ≡ min (self.old.calls + 1) (2 ^ 64 - 1) }
+        ensures flushed { self.new.flushed ≡ false }
     {
         self.calls = self.calls.saturating_add(1);
+        self.flushed = false;
         match self.inner.write(bytes) {
             Ok(count) if count > 0 => Ok(count),
             _ => {
@@ -99,9 +111,13 @@ impl<W: Write> Device<W> {
         ensures bytes { Keeps (W.contents self.old.inner) (W.contents self.new.inner) }
         ensures failed { self.new.failed ≡ (self.old.failed || is_err result) }
         ensures calls { self.new.calls ≡ self.old.calls }
+        ensures flushed { OnOk result (self.new.flushed ≡ true) }
     {
         match self.inner.flush() {
-            Ok(()) => Ok(()),
+            Ok(()) => {
+                self.flushed = true;
+                Ok(())
+            }
             Err(_) => {
                 self.failed = true;
                 Err(DeviceFailed)

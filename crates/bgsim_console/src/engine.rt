@@ -1,8 +1,8 @@
 //! From bytes to bytes.
-ghost use Rattle.std.specs.Prelude.{◌≡◌, ◌+◌, ◌≤◌, List, ℕ, false, IfSome};
+ghost use Rattle.std.specs.Prelude.{◌≡◌, ◌+◌, ◌≤◌, List, ℕ, true, false, length, IfSome, OnOk};
 ghost use Rattle.std.specs.Io.KnownBytes.{Appends};
 ghost use Rattle.bgsim_console.specs.Check.{IsAnswer};
-ghost use Rattle.bgsim_console.specs.Ends.{is_read_failed, is_write_failed};
+ghost use Rattle.bgsim_console.specs.Ends.{is_read_failed, is_write_failed, failed_writes};
 
 use crate::device::Device;
 use crate::fault::{IoFault, Outcome};
@@ -25,15 +25,20 @@ pub fn check_io<R: Read, W: Write>(
 ) -> Result<Outcome, IoFault>
     requires reader { reader.old.failed ≡ false }
     requires writer { writer.old.failed ≡ false }
-    // What is written is the output for what was read, and the answer goes with it.
+    // What is written is the output for what was read, and the answer goes with it. No write is of nothing.
     ensures text { IfSome (R.remaining reader.old.inner) (λ input. (output : List ℕ) × IsAnswer input result output
-        × Appends (W.contents writer.old.inner) (W.contents writer.new.inner) output) }
+        × Appends (W.contents writer.old.inner) (W.contents writer.new.inner) output
+        × (writer.new.calls ≤ writer.old.calls + length output + failed_writes result)) }
+    // What is written has left the writer's hands.
+    ensures flushed { OnOk result (writer.new.flushed ≡ true) }
     ensures read_failed { reader.new.failed ≡ is_read_failed result }
     ensures write_failed { writer.new.failed ≡ is_write_failed result }
     ensures reads { reader.new.calls ≤ reader.old.calls + 16777217 }
+    // Once the reader is at its end it is not asked again.
+    ensures once { IfSome (R.remaining reader.old.inner) (λ input. reader.new.calls ≤ reader.old.calls + length input + 1) }
 {
     let input = read_input(alloc, reader)?;
-    let report = judge(alloc, &input)?;
-    write_output(writer, report.output.as_bytes())?;
-    Ok(report.outcome)
+    let answer = judge(alloc, &input)?;
+    write_output(writer, answer.output.as_bytes())?;
+    Ok(answer.outcome)
 }

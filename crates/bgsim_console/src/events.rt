@@ -1,9 +1,9 @@
 //! Events fed to their rooms.
 ghost use Rattle.std.specs.Prelude.{◌≡◌, ◌+◌, ◌<◌, ◌^◌, ◌∷◌, ◌++◌, [], List, Ok, IfErr, OnOk, length};
 ghost use Rattle.transcript.specs.Lines.{line_in};
-ghost use Rattle.history_checker.specs.Verdicts.{Told, HasHeard, specs_of};
+ghost use Rattle.history_checker.specs.Verdicts.{FedEvent, HasProcessed, specs_of};
 ghost use Rattle.bgsim_console.specs.Lines.{text_lines};
-ghost use Rattle.bgsim_console.specs.Check.{of_known_room, told_from, IsFaultOf};
+ghost use Rattle.bgsim_console.specs.Check.{of_known_room, fed_from, IsFaultOf};
 
 use crate::fault::IoFault;
 use crate::lines::next_line;
@@ -12,11 +12,11 @@ use transcript::read_line;
 
 /// Feeds the rooms the events of a transcript, whose first line has this number.
 pub fn feed_events(rooms: &mut Rooms, first_line: u64, transcript: &[u8]) -> Result<(), IoFault>
-    requires heard { HasHeard rooms.old [] }
+    requires processed { HasProcessed rooms.old [] }
     requires fits { first_line + length transcript.now < 2 ^ 64 }
-    ensures told { OnOk result ((told : List Told) × (told_from (specs_of rooms.old) [] first_line (text_lines transcript.now) ≡ Ok told) × HasHeard rooms.new told) }
+    ensures fed { OnOk result ((fed : List FedEvent) × (fed_from (specs_of rooms.old) [] first_line (text_lines transcript.now) ≡ Ok fed) × HasProcessed rooms.new fed) }
     ensures rooms { OnOk result (specs_of rooms.new ≡ specs_of rooms.old) }
-    ensures err { IfErr result (IsFaultOf (told_from (specs_of rooms.old) [] first_line (text_lines transcript.now))) }
+    ensures err { IfErr result (IsFaultOf (fed_from (specs_of rooms.old) [] first_line (text_lines transcript.now))) }
 {
     let mut rest = transcript;
     let mut line = first_line;
@@ -29,7 +29,7 @@ pub fn feed_events(rooms: &mut Rooms, first_line: u64, transcript: &[u8]) -> Res
 }
 
 fn feed_line(rooms: &mut Rooms, line: u64, text: &[u8]) -> Result<(), IoFault>
-    ensures told { OnOk result ((one : Told) × (of_known_room (specs_of rooms.old) line (line_in text.now) ≡ Ok one) × ((told : List Told) → HasHeard rooms.old told → HasHeard rooms.new (told ++ one ∷ []))) }
+    ensures fed { OnOk result ((one : FedEvent) × (of_known_room (specs_of rooms.old) line (line_in text.now) ≡ Ok one) × ((fed : List FedEvent) → HasProcessed rooms.old fed → HasProcessed rooms.new (fed ++ one ∷ []))) }
     ensures rooms { specs_of rooms.new ≡ specs_of rooms.old }
     ensures err { IfErr result (IsFaultOf (of_known_room (specs_of rooms.old) line (line_in text.now))) }
 {

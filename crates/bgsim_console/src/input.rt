@@ -22,6 +22,8 @@ pub fn read_input<R: Read>(alloc: Global, reader: &mut Device<R>) -> Result<Vec<
     ensures err { IfErr result IsReadFault }
     ensures failed { reader.new.failed ≡ is_read_failed result }
     ensures reads { reader.new.calls ≤ reader.old.calls + 16777217 }
+    // Once the reader is at its end it is not asked again.
+    ensures once { IfSome (R.remaining reader.old.inner) (λ input. reader.new.calls ≤ reader.old.calls + length input + 1) }
 {
     let mut piece = empty_piece(alloc)?;
     let mut text = Vec::new(alloc);

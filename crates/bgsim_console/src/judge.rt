@@ -1,7 +1,7 @@
 //! The answer to a whole input.
 ghost use Rattle.std.specs.Prelude.{◌≡◌, ◌≤◌, List, Ok, IfOk, IfErr, length, string_bytes};
-ghost use Rattle.history_checker.specs.Verdicts.{Told, HasHeard, specs_of, names_of};
-ghost use Rattle.bgsim_console.specs.Check.{IsFaultOf, IsOutput, IsOutputFor, input_says, is_run, outcome_if};
+ghost use Rattle.history_checker.specs.Verdicts.{FedEvent, HasProcessed, specs_of, names_of};
+ghost use Rattle.bgsim_console.specs.Check.{IsFaultOr, MayLackMemory, IsOutput, IsOutputFor, input_says, is_run, outcome_if};
 
 use crate::events::feed_events;
 use crate::fault::{IoFault, Outcome};
@@ -11,18 +11,18 @@ use history_checker::{Rooms, Verdict};
 use room_spec::Name;
 use std::alloc::{AllocError, Global};
 
-/// An output, and the outcome that goes with it.
+/// The output, and the outcome that goes with it.
 #[derive(Drop)]
-pub struct Report {
+pub struct Answer {
     pub output: String,
     pub outcome: Outcome,
 }
 
 /// Judges an input.
-pub fn judge(alloc: Global, input: &[u8]) -> Result<Report, IoFault>
+pub fn judge(alloc: Global, input: &[u8]) -> Result<Answer, IoFault>
     requires { length input.now ≤ 16777216 }
-    ensures output { IfOk result (λ report. IsOutputFor input.now report.outcome (string_bytes report.output)) }
-    ensures err { IfErr result (IsFaultOf (input_says input.now)) }
+    ensures output { IfOk result (λ answer. IsOutputFor input.now answer.outcome (string_bytes answer.output)) }
+    ensures err { IfErr result (IsFaultOr (MayLackMemory input.now) (input_says input.now)) }
 {
     let (setup, transcript) = read_blocks(alloc, input)?;
     let Setup {
@@ -32,19 +32,19 @@ pub fn judge(alloc: Global, input: &[u8]) -> Result<Report, IoFault>
         line,
     } = setup;
     feed_events(&mut rooms, line, transcript)?;
-    Ok(report_on(alloc, &rooms, &names, refused)?)
+    Ok(answer_of(alloc, &rooms, &names, refused)?)
 }
 
 /// Puts the rooms' verdicts behind the lines of the refused blocks.
-fn report_on(
+fn answer_of(
     alloc: Global,
     rooms: &Rooms,
     names: &[Name],
     refused: String,
-) -> Result<Report, AllocError>
+) -> Result<Answer, AllocError>
     requires names { names.now ≡ names_of (specs_of rooms.now) }
-    requires heard { (told : List Told) × HasHeard rooms.now told }
-    ensures { IfOk result (λ report. (told : List Told) → HasHeard rooms.now told → IsOutput (specs_of rooms.now) (string_bytes refused) told report.outcome (string_bytes report.output)) }
+    requires processed { (fed : List FedEvent) × HasProcessed rooms.now fed }
+    ensures { IfOk result (λ answer. (fed : List FedEvent) → HasProcessed rooms.now fed → IsOutput (specs_of rooms.now) (string_bytes refused) fed answer.outcome (string_bytes answer.output)) }
 {
     let mut all_well = refused.is_empty();
     let mut output = refused;
@@ -56,7 +56,7 @@ fn report_on(
         let line = verdict_line(alloc, name, verdict)?;
         output.push_str(line.as_str())?;
     }
-    Ok(Report {
+    Ok(Answer {
         output,
         outcome: outcome_if(all_well),
     })

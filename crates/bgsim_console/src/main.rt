@@ -1,8 +1,9 @@
 //! Judges transcripts of protocols on write-snapshot memory.
 #![tactic(auto)]
 
-ghost use Rattle.std.specs.Prelude.{◌≡◌, ◌≤◌};
+ghost use Rattle.std.specs.Prelude.{◌≡◌, ◌≤◌, List, ℕ, IfSome};
 ghost use Rattle.clap.specs.Values.{kind_of};
+ghost use Rattle.bgsim_console.specs.Check.{IsAnswer};
 ghost use Rattle.bgsim_console.specs.Ends.{ending_status, fault_status, words_status};
 
 mod command_line;
@@ -63,7 +64,9 @@ fn check(rt: &HostRuntime, file: Option<&str>) -> Result<Outcome, IoFault> {
     }
 }
 
-fn check_input<R: Read + Drop>(rt: &HostRuntime, input: R) -> Result<Outcome, IoFault> {
+fn check_input<R: Read + Drop>(rt: &HostRuntime, input: R) -> Result<Outcome, IoFault>
+    ensures { IfSome (R.remaining input) (λ bytes. (output : List ℕ) × IsAnswer bytes result output) }
+{
     let mut reader = Device::new(input);
     let mut writer = Device::new(rt.stdout());
     engine::check_io(rt.alloc(), &mut reader, &mut writer)

@@ -2,7 +2,7 @@
 ghost use Rattle.std.specs.Prelude.{◌≡◌, ◌+◌, ◌<◌, ◌^◌, ◌≤◌, [], Ok, IfOk, IfErr, length, string_bytes, codes};
 ghost use Rattle.bgsim_console.specs.declared.fault.IoFault.TheVariants.{Memory};
 ghost use Rattle.room_spec.specs.Blocks.{block_in};
-ghost use Rattle.bgsim_console.specs.Check.{no_blocks, refuse, open_room, after_block, pass_lines, blocks_in, fault_text, IsFaultOf};
+ghost use Rattle.bgsim_console.specs.Check.{no_blocks, refuse, open_room, after_block, pass_lines, blocks_in, fault_text, BeginsWithBlock, IsFaultOr};
 
 use crate::fault::IoFault;
 use crate::lines::count_lines;
@@ -33,7 +33,7 @@ impl Model for Setup {
     ghost use Rattle.std.specs.Coded.{codes};
     ghost use Rattle.protocol_lang.specs.Codes.{expression_code};
     ghost use Rattle.std.specs.Prelude.{◌≡◌, [], string_bytes};
-    ghost use Rattle.history_checker.specs.Verdicts.{HasHeard, specs_of, names_of};
+    ghost use Rattle.history_checker.specs.Verdicts.{HasProcessed, specs_of, names_of};
     ghost use Rattle.bgsim_console.specs.Check.{Setup as SetupSpec};
 
     ghost Value = { SetupSpec };
@@ -42,7 +42,7 @@ impl Model for Setup {
 
     ghost view = { λ setup. record { rooms = specs_of setup.rooms; refused = string_bytes setup.refused; line = setup.line } };
 
-    ghost invariant = { λ setup. HasHeard setup.rooms [] × (setup.names.items ≡ names_of (specs_of setup.rooms)) };
+    ghost invariant = { λ setup. HasProcessed setup.rooms [] × (setup.names.items ≡ names_of (specs_of setup.rooms)) };
 }
 
 impl Setup {
@@ -124,7 +124,7 @@ pub fn read_blocks(alloc: Global, input: &[u8]) -> Result<(Setup, &[u8]), IoFaul
     requires { length input.now ≤ 16777216 }
     ensures read { IfOk result (λ read. blocks_in input.now ≡ Ok (read.0, read.1.now)) }
     ensures fits { IfOk result (λ read. read.0.line + length read.1.now < 2 ^ 64) }
-    ensures err { IfErr result (IsFaultOf (blocks_in input.now)) }
+    ensures err { IfErr result (IsFaultOr (BeginsWithBlock input.now) (blocks_in input.now)) }
 {
     let mut setup = Setup::new(alloc);
     let mut rest = input;

@@ -1,6 +1,7 @@
 use super::*;
 use crate::command_line::Line;
 use crate::device::DeviceFailed;
+use std::alloc::{AllocError, Global};
 use std::io::Write;
 use std::test::*;
 
@@ -348,5 +349,163 @@ fn failing_flush(rt: HostRuntime) -> Result<(), Fail> {
     let mut writer = Device::new(Unflushed {});
     let found = engine::check_io(alloc, &mut reader, &mut writer);
     assert_eq!(rt; found, Err(IoFault::Write));
+    Ok(())
+}
+
+/// It gives its bytes, then no bytes once, and then more: who asks past the end is found out.
+#[derive(Drop)]
+struct Resuming {
+    calls: u8,
+}
+
+impl Read for Resuming {
+    fn read(&mut self, buffer: &mut [u8]) -> io::Result<usize> {
+        self.calls = self.calls.saturating_add(1);
+        if self.calls == 2 || buffer.is_empty() {
+            return Ok(0);
+        }
+        buffer[0] = b'x';
+        Ok(1)
+    }
+}
+
+#[test]
+fn end_of_input(rt: HostRuntime) {
+    let mut inner = Resuming { calls: 0 };
+    let mut reader = Device::new(&mut inner);
+    let mut writer = Device::new(Unflushed {});
+    let answer = engine::check_io(rt.alloc(), &mut reader, &mut writer);
+    assert_eq!(rt; answer, Err(IoFault::BadInput { line: 2, code: 61 }));
+    assert_eq!(rt; reader.calls(), 2);
+    assert_eq!(rt; inner.calls, 2);
+}
+
+/// It counts its calls, and is interrupted at its first write where that is asked for.
+#[derive(Drop)]
+struct Counting {
+    interrupted: bool,
+    writes: u8,
+    flushes: u8,
+    flushed: bool,
+}
+
+impl Counting {
+    fn new(interrupted: bool) -> Counting {
+        Counting {
+            interrupted,
+            writes: 0,
+            flushes: 0,
+            flushed: false,
+        }
+    }
+}
+
+impl Write for Counting {
+    fn write(&mut self, bytes: &[u8]) -> io::Result<usize> {
+        self.writes = self.writes.saturating_add(1);
+        self.flushed = false;
+        if self.interrupted && self.writes == 1 {
+            return Err(io::ErrorKind::Interrupted.into());
+        }
+        Ok(bytes.len())
+    }
+
+    fn flush(&mut self) -> io::Result<()> {
+        self.flushes = self.flushes.saturating_add(1);
+        self.flushed = true;
+        Ok(())
+    }
+}
+
+#[test]
+fn calls_of_writers(rt: HostRuntime) -> Result<(), Fail> {
+    let alloc = rt.alloc();
+    let one = format!(in alloc; "{ONE}events\n")?;
+    for (input, interrupted, answer, writes, flushed) in [
+        ("events\n", false, Ok(Outcome::AllWell), 0, true),
+        (one.as_str(), false, Ok(Outcome::AllWell), 1, true),
+        (one.as_str(), true, Err(IoFault::Write), 1, false),
+        (
+            ONE,
+            false,
+            Err(IoFault::BadInput { line: 11, code: 61 }),
+            0,
+            false,
+        ),
+    ] {
+        let mut inner = Counting::new(interrupted);
+        let mut reader = Device::new(input.as_bytes());
+        let mut writer = Device::new(&mut inner);
+        assert_eq!(rt; engine::check_io(alloc, &mut reader, &mut writer), answer);
+        assert_eq!(rt; writer.is_flushed(), flushed || writes == 0, "of {input:?}");
+        assert_eq!(rt;
+            (inner.writes, inner.flushed),
+            (writes, flushed),
+            "of {input:?}"
+        );
+    }
+    Ok(())
+}
+
+/// So many rooms of different names, then the line `events`, and the output for them.
+fn many_rooms(alloc: Global, count: u32) -> Result<(String, String), AllocError> {
+    let mut input = String::from_str(alloc, "")?;
+    let mut output = String::from_str(alloc, "")?;
+    for number in 0..count {
+        let block = format!(in alloc;
+            "bgsim 1\nroom room-{number}\ninputs 5\nsimulators 1\nrounds 1\nturns 10\nprotocol\nfirst input;else decide mine;\nend\n"
+        )?;
+        input.push_str(block.as_str())?;
+        let verdict = format!(in alloc; "room-{number} is a run\n")?;
+        output.push_str(verdict.as_str())?;
+    }
+    input.push_str("events\n")?;
+    Ok((input, output))
+}
+
+#[test]
+fn many_rooms_in_one_write(rt: HostRuntime) -> Result<(), Fail> {
+    let alloc = rt.alloc();
+    let (input, output) = many_rooms(alloc, 1001)?;
+    let mut written = Vec::new(alloc);
+    let mut reader = Device::new(input.as_bytes());
+    let mut writer = Device::new(&mut written);
+    let found = engine::check_io(alloc, &mut reader, &mut writer);
+    assert_eq!(rt; found, Ok(Outcome::AllWell));
+    assert_eq!(rt; writer.calls(), 1);
+    assert_eq!(rt; written.as_slice(), output.as_bytes());
+    Ok(())
+}
+
+#[test]
+fn more_than_1000_small_reads(rt: HostRuntime) -> Result<(), Fail> {
+    let alloc = rt.alloc();
+    let (input, _) = many_rooms(alloc, 12)?;
+    let mut reader = Device::new(Trickle {
+        bytes: input.as_bytes(),
+        calls: 0,
+        fails: usize::MAX,
+    });
+    let mut writer = Device::new(Unflushed {});
+    assert_eq!(rt;
+        engine::check_io(alloc, &mut reader, &mut writer),
+        Err(IoFault::Write)
+    );
+    assert!(rt; reader.calls() > 1000);
+    Ok(())
+}
+
+#[test]
+fn messages(rt: HostRuntime) -> Result<(), Fail> {
+    for (fault, text) in [
+        (IoFault::Read, "read failed"),
+        (IoFault::Write, "write failed"),
+        (IoFault::TooLong, "input too long"),
+        (IoFault::BadInput { line: 7, code: 61 }, "line 7: fault 61"),
+        (IoFault::Memory, "out of memory"),
+    ] {
+        let found = format!(in rt.alloc(); "{fault}")?;
+        assert_eq!(rt; found.as_str(), text);
+    }
     Ok(())
 }

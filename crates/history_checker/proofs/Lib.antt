@@ -1,4 +1,4 @@
 pub mod Tracking
 pub mod Runs
-pub mod Hearing
+pub mod Feeding
 pub mod RoomLists

@@ -12,7 +12,7 @@ use Rattle.std.proofs.lemmas.List.{map-append, append-nil}
 use Rattle.std.proofs.lemmas.List.Elements.{recursion_from_All, All-from_recursion}
 use Rattle.std.proofs.lemmas.Slice.Eq.{bytes_eq-Decides}
 use Rattle.room_spec.specs.Rooms.{RoomSpec}
-use Rattle.history_checker.specs.Verdicts.{Told, RoomState, StandsAfter, HasHeardOwn, HasHeard, told_of, specs_of, names_of, has_room, rooms_in, IsKeyed}
+use Rattle.history_checker.specs.Verdicts.{FedEvent, RoomState, StandsAfter, HasProcessedOwn, HasProcessed, fed_to, specs_of, names_of, has_room, rooms_in, IsKeyed}
 
 abbrev pub Entries : Type 0
 Entries = List (List ℕ × RoomState)
@@ -54,23 +54,23 @@ found_any name (entry ∷ entries) = elim (bytes_eq name entry.0) as (λ b. is_s
 pub has_room-lookup : (name : List ℕ) (entries : Entries) → IsKeyed entries → has_room name (specs_of (rooms_in entries)) ≡ is_some (lookup (bytes_eq name) entries)
 has_room-lookup name entries keyed = ap (list_any (bytes_eq name)) (sym keyed) ∙ sym (found_any name entries)
 
--- ---- what they have heard
+-- ---- what they have processed
 
-filter-push : (p : Told → Bool) (told : List Told) (one : Told) → filter p (told ++ one ∷ []) ≡ filter p told ++ cond (p one) (one ∷ []) []
+filter-push : (p : FedEvent → Bool) (fed : List FedEvent) (one : FedEvent) → filter p (fed ++ one ∷ []) ≡ filter p fed ++ cond (p one) (one ∷ []) []
 filter-push p [] one = refl
-filter-push p (first ∷ told) one = elim (p first) as (λ b. cond b (first ∷ filter p (told ++ one ∷ [])) (filter p (told ++ one ∷ [])) ≡ cond b (first ∷ filter p told) (filter p told) ++ cond (p one) (one ∷ []) []) [
-  | true ↦ ap (λ ts. first ∷ ts) (filter-push p told one)
-  | false ↦ filter-push p told one
+filter-push p (first ∷ fed) one = elim (p first) as (λ b. cond b (first ∷ filter p (fed ++ one ∷ [])) (filter p (fed ++ one ∷ [])) ≡ cond b (first ∷ filter p fed) (filter p fed) ++ cond (p one) (one ∷ []) []) [
+  | true ↦ ap (λ ts. first ∷ ts) (filter-push p fed one)
+  | false ↦ filter-push p fed one
 ]
 
-pub told_of_own : (name : List ℕ) (told : List Told) (one : Told) → bytes_eq name one.name ≡ true → told_of name (told ++ one ∷ []) ≡ told_of name told ++ one ∷ []
-told_of_own name told one own = filter-push (λ o. bytes_eq name o.name) told one ∙ rw own refl
+pub fed_of_own : (name : List ℕ) (fed : List FedEvent) (one : FedEvent) → bytes_eq name one.name ≡ true → fed_to name (fed ++ one ∷ []) ≡ fed_to name fed ++ one ∷ []
+fed_of_own name fed one own = filter-push (λ o. bytes_eq name o.name) fed one ∙ rw own refl
 
-told_of_other : (name : List ℕ) (told : List Told) (one : Told) → bytes_eq name one.name ≡ false → told_of name (told ++ one ∷ []) ≡ told_of name told
-told_of_other name told one other = filter-push (λ o. bytes_eq name o.name) told one ∙ rw other (simp append-nil)
+fed_of_other : (name : List ℕ) (fed : List FedEvent) (one : FedEvent) → bytes_eq name one.name ≡ false → fed_to name (fed ++ one ∷ []) ≡ fed_to name fed
+fed_of_other name fed one other = filter-push (λ o. bytes_eq name o.name) fed one ∙ rw other (simp append-nil)
 
-hears_other : (told : List Told) (one : Told) (room : RoomState) → bytes_eq room.spec.name one.name ≡ false → HasHeardOwn told room → HasHeardOwn (told ++ one ∷ []) room
-hears_other told one room other heard = rw (told_of_other room.spec.name told one other) heard
+processed_other : (fed : List FedEvent) (one : FedEvent) (room : RoomState) → bytes_eq room.spec.name one.name ≡ false → HasProcessedOwn fed room → HasProcessedOwn (fed ++ one ∷ []) room
+processed_other fed one room other processed = rw (fed_of_other room.spec.name fed one other) processed
 
 differs : (a b c : List ℕ) → bytes_eq a b ≡ true → bytes_eq b c ≡ false → bytes_eq c a ≡ false
 differs a b c ab bc =
@@ -80,12 +80,12 @@ differs a b c ab bc =
     let yes : bytes_eq b c ≡ true = (bytes_eq-Decides b c).1 (sym a_is ∙ sym c_is) in
     true≢false (sym yes ∙ bc))
 
--- the rooms whose names differ from this one hear nothing
-all_other : (told : List Told) (one : Told) (key : List ℕ) (rooms : List RoomState) → bytes_eq one.name key ≡ true → AllByRecursion (λ name. bytes_eq key name ≡ false) (names_of (specs_of rooms))
-    → AllByRecursion (HasHeardOwn told) rooms → AllByRecursion (HasHeardOwn (told ++ one ∷ [])) rooms
-all_other told one key [] own others heard = tt
-all_other told one key (room ∷ rooms) own others heard =
-    (hears_other told one room (differs one.name key room.spec.name own others.0) heard.0, all_other told one key rooms own others.1 heard.1)
+-- the rooms whose names differ from this one process nothing
+all_other : (fed : List FedEvent) (one : FedEvent) (key : List ℕ) (rooms : List RoomState) → bytes_eq one.name key ≡ true → AllByRecursion (λ name. bytes_eq key name ≡ false) (names_of (specs_of rooms))
+    → AllByRecursion (HasProcessedOwn fed) rooms → AllByRecursion (HasProcessedOwn (fed ++ one ∷ [])) rooms
+all_other fed one key [] own others processed = tt
+all_other fed one key (room ∷ rooms) own others processed =
+    (processed_other fed one room (differs one.name key room.spec.name own others.0) processed.0, all_other fed one key rooms own others.1 processed.1)
 
 -- of distinct names, a later one differs from the first
 later_differs : (first name : List ℕ) (names : List (List ℕ)) (i : ℕ) → AllByRecursion (λ other. bytes_eq first other ≡ false) names → slice_get names i ≡ Some name → bytes_eq first name ≡ false
@@ -108,51 +108,51 @@ own_name name entries i room keyed found there =
     let passes = (position-Some (bytes_eq name) names i room.spec.name (subst (λ ks. position (bytes_eq name) ks ≡ Some i) keyed found)).1 in
     subst (λ n. bytes_eq name n ≡ true) (get_or_from_slice_get names i room.spec.name room.spec.name (name_at (rooms_in entries) i room there)) passes
 
-heard_on : (told : List Told) (one : Told) (rooms : List RoomState) (i : ℕ) (old new : RoomState) → IsDistinct bytes_eq (names_of (specs_of rooms)) → slice_get rooms i ≡ Some old → bytes_eq one.name old.spec.name ≡ true
-    → HasHeardOwn (told ++ one ∷ []) new → AllByRecursion (HasHeardOwn told) rooms → AllByRecursion (HasHeardOwn (told ++ one ∷ [])) (set rooms i new)
+processed_on : (fed : List FedEvent) (one : FedEvent) (rooms : List RoomState) (i : ℕ) (old new : RoomState) → IsDistinct bytes_eq (names_of (specs_of rooms)) → slice_get rooms i ≡ Some old → bytes_eq one.name old.spec.name ≡ true
+    → HasProcessedOwn (fed ++ one ∷ []) new → AllByRecursion (HasProcessedOwn fed) rooms → AllByRecursion (HasProcessedOwn (fed ++ one ∷ [])) (set rooms i new)
 unfolding IsDistinct
-heard_on told one [] i old new distinct there own now heard = tt
-heard_on told one (room ∷ rooms) zero old new distinct there own now heard =
+processed_on fed one [] i old new distinct there own now processed = tt
+processed_on fed one (room ∷ rooms) zero old new distinct there own now processed =
     let same : room ≡ old = some_room room old there in
-    (now, all_other told one room.spec.name rooms (subst (λ (r : RoomState). bytes_eq one.name r.spec.name ≡ true) (sym same) own) distinct.0 heard.1)
-heard_on told one (room ∷ rooms) (suc i) old new distinct there own now heard =
+    (now, all_other fed one room.spec.name rooms (subst (λ (r : RoomState). bytes_eq one.name r.spec.name ≡ true) (sym same) own) distinct.0 processed.1)
+processed_on fed one (room ∷ rooms) (suc i) old new distinct there own now processed =
     let name_there = name_at rooms i old there in
     let apart : bytes_eq room.spec.name old.spec.name ≡ false = later_differs room.spec.name old.spec.name (names_of (specs_of rooms)) i distinct.0 name_there in
     let apart_one : bytes_eq room.spec.name one.name ≡ false = subst (λ n. bytes_eq room.spec.name n ≡ false) (sym ((bytes_eq-Decides one.name old.spec.name).0 own)) apart in
-    (hears_other told one room apart_one heard.0, heard_on told one rooms i old new distinct.1 there own now heard.1)
+    (processed_other fed one room apart_one processed.0, processed_on fed one rooms i old new distinct.1 there own now processed.1)
 
--- one room hears an event of its own, and the others nothing
-pub HasHeard-set : (told : List Told) (one : Told) (rooms : List RoomState) (i : ℕ) (old new : RoomState) → IsDistinct bytes_eq (names_of (specs_of rooms)) → slice_get rooms i ≡ Some old → bytes_eq one.name old.spec.name ≡ true
-    → HasHeardOwn (told ++ one ∷ []) new → HasHeard rooms told → HasHeard (set rooms i new) (told ++ one ∷ [])
-HasHeard-set told one rooms i old new distinct there own now heard =
-    All-from_recursion (HasHeardOwn (told ++ one ∷ [])) (set rooms i new) (heard_on told one rooms i old new distinct there own now (recursion_from_All (HasHeardOwn told) rooms heard))
+-- one room is fed an event of its own, and the others nothing
+pub HasProcessed-set : (fed : List FedEvent) (one : FedEvent) (rooms : List RoomState) (i : ℕ) (old new : RoomState) → IsDistinct bytes_eq (names_of (specs_of rooms)) → slice_get rooms i ≡ Some old → bytes_eq one.name old.spec.name ≡ true
+    → HasProcessedOwn (fed ++ one ∷ []) new → HasProcessed rooms fed → HasProcessed (set rooms i new) (fed ++ one ∷ [])
+HasProcessed-set fed one rooms i old new distinct there own now processed =
+    All-from_recursion (HasProcessedOwn (fed ++ one ∷ [])) (set rooms i new) (processed_on fed one rooms i old new distinct there own now (recursion_from_All (HasProcessedOwn fed) rooms processed))
 
 pub rooms_in-with_room : (entries : Entries) (i : ℕ) (new : RoomState) → rooms_in (with_room entries i new) ≡ set (rooms_in entries) i new
 rooms_in-with_room [] i new = refl
 rooms_in-with_room (entry ∷ entries) zero new = refl
 rooms_in-with_room (entry ∷ entries) (suc i) new = ap (λ rs. entry.1 ∷ rs) (rooms_in-with_room entries i new)
 
-heard_at : (rooms : List RoomState) (told : List Told) (i : ℕ) (room : RoomState) → slice_get rooms i ≡ Some room → AllByRecursion (HasHeardOwn told) rooms → HasHeardOwn told room
-heard_at [] told i room there heard = absurd cc
-heard_at (first ∷ rooms) told zero room there heard = let same : first ≡ room = some_room first room there in subst (HasHeardOwn told) same heard.0
-heard_at (first ∷ rooms) told (suc i) room there heard = heard_at rooms told i room there heard.1
+processed_at : (rooms : List RoomState) (fed : List FedEvent) (i : ℕ) (room : RoomState) → slice_get rooms i ≡ Some room → AllByRecursion (HasProcessedOwn fed) rooms → HasProcessedOwn fed room
+processed_at [] fed i room there processed = absurd cc
+processed_at (first ∷ rooms) fed zero room there processed = let same : first ≡ room = some_room first room there in subst (HasProcessedOwn fed) same processed.0
+processed_at (first ∷ rooms) fed (suc i) room there processed = processed_at rooms fed i room there processed.1
 
--- a room of the map hears an event of its own, and the others nothing
-pub HasHeard-with_room : (entries : Entries) (i : ℕ) (old new : RoomState) (told : List Told) (one : Told) → IsKeyed entries → IsDistinct bytes_eq (keys_in entries) → position (bytes_eq one.name) (keys_in entries) ≡ Some i
+-- a room of the map is fed an event of its own, and the others nothing
+pub HasProcessed-with_room : (entries : Entries) (i : ℕ) (old new : RoomState) (fed : List FedEvent) (one : FedEvent) → IsKeyed entries → IsDistinct bytes_eq (keys_in entries) → position (bytes_eq one.name) (keys_in entries) ≡ Some i
     → slice_get (rooms_in entries) i ≡ Some old → new.spec ≡ old.spec
-    → (StandsAfter old (told_of old.spec.name told) old.broken → StandsAfter new (told_of old.spec.name told ++ one ∷ []) new.broken)
-    → HasHeard (rooms_in entries) told → HasHeard (rooms_in (with_room entries i new)) (told ++ one ∷ [])
-HasHeard-with_room entries i old new told one keyed unique found there same hears heard =
+    → (StandsAfter old (fed_to old.spec.name fed) old.broken → StandsAfter new (fed_to old.spec.name fed ++ one ∷ []) new.broken)
+    → HasProcessed (rooms_in entries) fed → HasProcessed (rooms_in (with_room entries i new)) (fed ++ one ∷ [])
+HasProcessed-with_room entries i old new fed one keyed unique found there same is_fed processed =
     let own = own_name one.name entries i old keyed found there in
-    let before : HasHeardOwn told old = heard_at (rooms_in entries) told i old there (recursion_from_All (HasHeardOwn told) (rooms_in entries) heard) in
-    let after : StandsAfter new (told_of old.spec.name (told ++ one ∷ [])) new.broken = rw (told_of_own old.spec.name told one (flip one.name old.spec.name own)) (hears before) in
-    let now : HasHeardOwn (told ++ one ∷ []) new = subst (λ (spec : RoomSpec). StandsAfter new (told_of spec.name (told ++ one ∷ [])) new.broken) (sym same) after in
+    let before : HasProcessedOwn fed old = processed_at (rooms_in entries) fed i old there (recursion_from_All (HasProcessedOwn fed) (rooms_in entries) processed) in
+    let after : StandsAfter new (fed_to old.spec.name (fed ++ one ∷ [])) new.broken = rw (fed_of_own old.spec.name fed one (flip one.name old.spec.name own)) (is_fed before) in
+    let now : HasProcessedOwn (fed ++ one ∷ []) new = subst (λ (spec : RoomSpec). StandsAfter new (fed_to spec.name (fed ++ one ∷ [])) new.broken) (sym same) after in
     rw (rooms_in-with_room entries i new)
-    (HasHeard-set told one (rooms_in entries) i old new (subst (IsDistinct bytes_eq) keyed unique) there own now heard)
+    (HasProcessed-set fed one (rooms_in entries) i old new (subst (IsDistinct bytes_eq) keyed unique) there own now processed)
 
--- a room of the map stands after what was told of it
-pub heard_there : (entries : Entries) (told : List Told) (i : ℕ) (room : RoomState) → slice_get (rooms_in entries) i ≡ Some room → HasHeard (rooms_in entries) told → HasHeardOwn told room
-heard_there entries told i room there heard = heard_at (rooms_in entries) told i room there (recursion_from_All (HasHeardOwn told) (rooms_in entries) heard)
+-- a room of the map stands after what was fed of it
+pub processed_there : (entries : Entries) (fed : List FedEvent) (i : ℕ) (room : RoomState) → slice_get (rooms_in entries) i ≡ Some room → HasProcessed (rooms_in entries) fed → HasProcessedOwn fed room
+processed_there entries fed i room there processed = processed_at (rooms_in entries) fed i room there (recursion_from_All (HasProcessedOwn fed) (rooms_in entries) processed)
 
 pub spec_there : (rooms : List RoomState) (i : ℕ) (room : RoomState) → slice_get rooms i ≡ Some room → slice_get (specs_of rooms) i ≡ Some room.spec
 spec_there rooms i room there = slice_get-map (λ (r : RoomState). r.spec) rooms i ∙ ap (option_map (λ (r : RoomState). r.spec)) there
@@ -162,14 +162,14 @@ room_there entries i entry there = slice_get-map (λ (e : List ℕ × RoomState)
 
 -- ---- one room more
 
--- a room of a new name, which has heard nothing of what was told
-pub HasHeard-push : (entries : Entries) (key : List ℕ) (room : RoomState) (told : List Told) → HasHeard (rooms_in entries) told → HasHeardOwn told room → HasHeard (rooms_in (entries ++ (key, room) ∷ [])) told
-HasHeard-push entries key room told heard own =
-    All-from_recursion (HasHeardOwn told) (rooms_in (entries ++ (key, room) ∷ [])) (pushed entries (recursion_from_All (HasHeardOwn told) (rooms_in entries) heard))
+-- a room of a new name, which has processed nothing of what was fed
+pub HasProcessed-push : (entries : Entries) (key : List ℕ) (room : RoomState) (fed : List FedEvent) → HasProcessed (rooms_in entries) fed → HasProcessedOwn fed room → HasProcessed (rooms_in (entries ++ (key, room) ∷ [])) fed
+HasProcessed-push entries key room fed processed own =
+    All-from_recursion (HasProcessedOwn fed) (rooms_in (entries ++ (key, room) ∷ [])) (pushed entries (recursion_from_All (HasProcessedOwn fed) (rooms_in entries) processed))
   where
-    pushed : (entries : Entries) → AllByRecursion (HasHeardOwn told) (rooms_in entries) → AllByRecursion (HasHeardOwn told) (rooms_in (entries ++ (key, room) ∷ []))
-    pushed [] heard = (own, tt)
-    pushed (entry ∷ entries) heard = (heard.0, pushed entries heard.1)
+    pushed : (entries : Entries) → AllByRecursion (HasProcessedOwn fed) (rooms_in entries) → AllByRecursion (HasProcessedOwn fed) (rooms_in (entries ++ (key, room) ∷ []))
+    pushed [] processed = (own, tt)
+    pushed (entry ∷ entries) processed = (processed.0, pushed entries processed.1)
 
 pub specs-push : (entries : Entries) (key : List ℕ) (room : RoomState) → specs_of (rooms_in (entries ++ (key, room) ∷ [])) ≡ specs_of (rooms_in entries) ++ room.spec ∷ []
 specs-push [] key room = refl
@@ -194,8 +194,8 @@ pub known_by : (name key : List ℕ) (entries : Entries) (rooms : List RoomState
 known_by name key entries rooms keyed view_is key_is =
     ap (λ r. has_room name (specs_of r)) (sym view_is) ∙ has_room-lookup name entries keyed ∙ ap (λ k. is_some (lookup (bytes_eq k) entries)) (sym key_is)
 
--- a room that has heard nothing, where nothing was told of it
-pub nothing_heard : (room : RoomState) (spec : RoomSpec) (told : List Told) → room.spec ≡ spec → told_of spec.name told ≡ [] → HasHeardOwn [] room → HasHeardOwn told room
-nothing_heard room spec told same none heard =
-    let own : told_of room.spec.name told ≡ [] = ap (λ (s : RoomSpec). told_of s.name told) same ∙ none in
-    rw own heard
+-- a room that has processed nothing, where nothing was fed of it
+pub nothing_processed : (room : RoomState) (spec : RoomSpec) (fed : List FedEvent) → room.spec ≡ spec → fed_to spec.name fed ≡ [] → HasProcessedOwn [] room → HasProcessedOwn fed room
+nothing_processed room spec fed same none processed =
+    let own : fed_to room.spec.name fed ≡ [] = ap (λ (s : RoomSpec). fed_to s.name fed) same ∙ none in
+    rw own processed

@@ -12,31 +12,31 @@ use Rattle.history_checker.specs.declared.rooms.AddFault.{AddFault}
 use Rattle.history_checker.specs.declared.rooms.AddFault.TheVariants.{NameTaken, OutOfMemory}
 use Rattle.history_checker.specs.Processes.{Tracks}
 
--- an event that was told, of which room, and on which line
-pub record Told : Type 0 where
+-- an event that was fed, of which room, and on which line
+pub record FedEvent : Type 0 where
   pub name : List ℕ
   pub event : Event
   pub line : ℕ
 
-abbrev pub events_of : List Told → List Event
-events_of told = map (λ one. one.event) told
+abbrev pub events_of : List FedEvent → List Event
+events_of fed = map (λ one. one.event) fed
 
--- what was told of one room
-abbrev pub told_of : List ℕ → List Told → List Told
-told_of name told = filter (λ one. bytes_eq name one.name) told
+-- what was fed of one room
+abbrev pub fed_to : List ℕ → List FedEvent → List FedEvent
+fed_to name fed = filter (λ one. bytes_eq name one.name) fed
 
--- the first event that may not follow those before it was told on this line
-pub record BreaksOn (spec : RoomSpec) (told : List Told) (line : ℕ) : Type 0 where
+-- the first event that may not follow those before it was fed on this line
+pub record BreaksOn (spec : RoomSpec) (fed : List FedEvent) (line : ℕ) : Type 0 where
   pub place : ℕ
-  pub first : IsFirstBreak spec (events_of told) place
-  pub one : Told
-  pub there : slice_get told place ≡ Some one
+  pub first : IsFirstBreak spec (events_of fed) place
+  pub one : FedEvent
+  pub there : slice_get fed place ≡ Some one
   pub line_is : one.line ≡ line
 
--- the verdict on what was told of a room
-abbrev pub IsVerdict : RoomSpec → List Told → Verdict → Type 0
-IsVerdict spec told Run = IsRun spec (events_of told)
-IsVerdict spec told (Broken line) = BreaksOn spec told line
+-- the verdict on what was fed of a room
+abbrev pub IsVerdict : RoomSpec → List FedEvent → Verdict → Type 0
+IsVerdict spec fed Run = IsRun spec (events_of fed)
+IsVerdict spec fed (Broken line) = BreaksOn spec fed line
 
 -- ---- what is kept of a room
 
@@ -46,17 +46,17 @@ pub record RoomState : Type 0 where
   -- the line of the first event that may not follow those before it
   pub broken : Option ℕ
 
-abbrev pub StandsAfter : RoomState → List Told → Option ℕ → Type 0
-StandsAfter room told None = IsRun room.spec (events_of told) × Tracks room.spec room.processes (events_of told)
-StandsAfter room told (Some line) = BreaksOn room.spec told line
+abbrev pub StandsAfter : RoomState → List FedEvent → Option ℕ → Type 0
+StandsAfter room fed None = IsRun room.spec (events_of fed) × Tracks room.spec room.processes (events_of fed)
+StandsAfter room fed (Some line) = BreaksOn room.spec fed line
 
--- what is kept of the room is so after all that was told, of which the other rooms' part is passed over
-abbrev pub HasHeardOwn : List Told → RoomState → Type 0
-HasHeardOwn told room = StandsAfter room (told_of room.spec.name told) room.broken
+-- what is kept of the room is so after all that was fed, of which the other rooms' part is passed over
+abbrev pub HasProcessedOwn : List FedEvent → RoomState → Type 0
+HasProcessedOwn fed room = StandsAfter room (fed_to room.spec.name fed) room.broken
 
 -- the same of every room
-abbrev pub HasHeard : List RoomState → List Told → Type 0
-HasHeard rooms told = All (HasHeardOwn told) rooms
+abbrev pub HasProcessed : List RoomState → List FedEvent → Type 0
+HasProcessed rooms fed = All (HasProcessedOwn fed) rooms
 
 -- the rooms, in order
 abbrev pub specs_of : List RoomState → List RoomSpec

@@ -1,7 +1,7 @@
 //! Verdicts on many rooms, whose events come mixed.
 ghost use Rattle.std.specs.Prelude.{◌≡◌, ◌↔◌, ℕ, List, [], ◌∷◌, ◌++◌, IsTrue, IsFalse, IsOk, IfOk, IsErrOf, OnOk, OnErr, None, MatchOption, IsSomeAnd, slice_get};
 ghost use Rattle.room_spec.specs.Rooms.{RoomSpec};
-ghost use Rattle.history_checker.specs.Verdicts.{Told, HasHeard, HasHeardOwn, StandsAfter, IsVerdict, specs_of, has_room, told_of, add_code};
+ghost use Rattle.history_checker.specs.Verdicts.{FedEvent, HasProcessed, HasProcessedOwn, StandsAfter, IsVerdict, specs_of, has_room, fed_to, add_code};
 
 use crate::history::open;
 use crate::process::{Process, follow};
@@ -82,7 +82,7 @@ impl Model for Room {
 impl Room {
     fn open(alloc: Global, spec: Spec) -> Result<Room, AllocError>
         ensures spec { IfOk result (λ room. room.spec ≡ spec) }
-        ensures heard { IfOk result (HasHeardOwn []) }
+        ensures processed { IfOk result (HasProcessedOwn []) }
     {
         let mut processes = vec![in alloc; Process::BLANK; spec.n()]?;
         open(&spec, &mut processes);
@@ -93,11 +93,11 @@ impl Room {
         })
     }
 
-    /// Hears an event, which stands on this line.
-    fn hear(&mut self, event: &Event, line: u64)
+    /// Processes an event, which stands on this line.
+    fn feed(&mut self, event: &Event, line: u64)
         ensures spec { self.new.spec ≡ self.old.spec }
-        ensures heard { (told : List Told) (one : Told) → one.event ≡ event.now → one.line ≡ line
-            → StandsAfter self.old told self.old.broken → StandsAfter self.new (told ++ one ∷ []) self.new.broken }
+        ensures processed { (fed : List FedEvent) (one : FedEvent) → one.event ≡ event.now → one.line ≡ line
+            → StandsAfter self.old fed self.old.broken → StandsAfter self.new (fed ++ one ∷ []) self.new.broken }
     {
         if self.broken.is_some() {
             return;
@@ -109,7 +109,7 @@ impl Room {
     }
 
     fn verdict(&self) -> Verdict
-        ensures { (told : List Told) → StandsAfter self.now told self.now.broken → IsVerdict self.now.spec told result }
+        ensures { (fed : List FedEvent) → StandsAfter self.now fed self.now.broken → IsVerdict self.now.spec fed result }
     {
         match self.broken {
             None => Verdict::Run,
@@ -155,8 +155,8 @@ impl Rooms {
     pub fn add(&mut self, alloc: Global, spec: Spec) -> Result<(), AddFault>
         ensures taken { IsErrOf result AddFault.NameTaken ↔ IsTrue (has_room spec.name (specs_of self.old)) }
         ensures added { OnOk result (specs_of self.new ≡ specs_of self.old ++ spec ∷ []) }
-        // What the other rooms have heard stands, and the new one has heard nothing.
-        ensures heard { OnOk result ((told : List Told) → told_of spec.name told ≡ [] → HasHeard self.old told → HasHeard self.new told) }
+        // What the other rooms have processed stands, and the new one has processed nothing.
+        ensures processed { OnOk result ((fed : List FedEvent) → fed_to spec.name fed ≡ [] → HasProcessed self.old fed → HasProcessed self.new fed) }
         ensures err { OnErr result (self.new ≡ self.old) }
     {
         if self.rooms.contains_key(spec.name()) {
@@ -172,7 +172,7 @@ impl Rooms {
     fn push(&mut self, alloc: Global, spec: Spec) -> Result<(), AllocError>
         requires { IsFalse (has_room spec.name (specs_of self.now)) }
         ensures added { OnOk result (specs_of self.new ≡ specs_of self.old ++ spec ∷ []) }
-        ensures heard { OnOk result ((told : List Told) → told_of spec.name told ≡ [] → HasHeard self.old told → HasHeard self.new told) }
+        ensures processed { OnOk result ((fed : List FedEvent) → fed_to spec.name fed ≡ [] → HasProcessed self.old fed → HasProcessed self.new fed) }
         ensures err { OnErr result (self.new ≡ self.old) }
     {
         let name = spec.name().clone()?;
@@ -186,9 +186,9 @@ impl Rooms {
     pub fn feed(&mut self, name: &Name, event: &Event, line: u64) -> Result<(), NoRoom>
         ensures known { IsOk result ↔ IsTrue (has_room name.now (specs_of self.old)) }
         ensures rooms { specs_of self.new ≡ specs_of self.old }
-        // All that was told before, and this.
-        ensures heard { OnOk result ((told : List Told) → HasHeard self.old told
-            → HasHeard self.new (told ++ record { name = name.now; event = event.now; line = line } ∷ [])) }
+        // All that was fed before, and this.
+        ensures processed { OnOk result ((fed : List FedEvent) → HasProcessed self.old fed
+            → HasProcessed self.new (fed ++ record { name = name.now; event = event.now; line = line } ∷ [])) }
         ensures err { OnErr result (self.new ≡ self.old) }
     {
         let Some(index) = self.rooms.get_index_of(name) else {
@@ -197,15 +197,15 @@ impl Rooms {
         let Some(room) = self.rooms.get_index_mut(index) else {
             unreachable!()
         };
-        room.hear(event, line);
+        room.feed(event, line);
         Ok(())
     }
 
     /// The verdict on the room of this index, from 0 in order of adding, or `None` where there is
     /// none.
     pub fn verdict(&self, index: usize) -> Option<Verdict>
-        ensures { (told : List Told) → HasHeard self.now told
-            → MatchOption (slice_get (specs_of self.now) index) (result ≡ None) (λ spec. IsSomeAnd result (IsVerdict spec (told_of spec.name told))) }
+        ensures { (fed : List FedEvent) → HasProcessed self.now fed
+            → MatchOption (slice_get (specs_of self.now) index) (result ≡ None) (λ spec. IsSomeAnd result (IsVerdict spec (fed_to spec.name fed))) }
     {
         match self.rooms.get_index(index) {
             Some((_, room)) => Some(room.verdict()),

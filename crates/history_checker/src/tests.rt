@@ -182,3 +182,28 @@ fn codes(rt: HostRuntime) {
     assert_eq!(rt; AddFault::OutOfMemory.code(), 8);
     assert_eq!(rt; NoRoom.code(), 40);
 }
+
+#[test]
+fn messages(rt: HostRuntime) -> Result<(), Fail> {
+    let taken = format!(in rt.alloc(); "{}", AddFault::NameTaken)?;
+    let memory = format!(in rt.alloc(); "{}", AddFault::OutOfMemory)?;
+    let unknown = format!(in rt.alloc(); "{NoRoom}")?;
+    assert_eq!(rt; taken.as_str(), "a room has this name already");
+    assert_eq!(rt; memory.as_str(), "out of memory");
+    assert_eq!(rt; unknown.as_str(), "no room has this name");
+    Ok(())
+}
+
+#[test]
+fn more_than_4096_rooms(rt: HostRuntime) -> Result<(), Fail> {
+    let alloc = rt.alloc();
+    let mut rooms = Rooms::new(alloc);
+    for number in 0..4097 {
+        let block = format!(in alloc;
+            "bgsim 1\nroom room-{number}\ninputs 5\nsimulators 1\nrounds 1\nturns 10\nprotocol\nfirst input;else decide mine;\nend\n"
+        )?;
+        rooms.add(alloc, room_of(alloc, block.as_str())?)?;
+    }
+    assert_eq!(rt; rooms.verdict(4096), Some(Verdict::Run));
+    Ok(())
+}

@@ -6,8 +6,8 @@ use Rattle.protocol_lang.specs.Tokens.{name_of, call_of, operator_of, comparator
 use Rattle.protocol_lang.specs.Trees.{Expression, is_sum}
 use Rattle.protocol_lang.specs.Formulas.{Operands, trees, after, last_of}
 use Rattle.protocol_lang.specs.Grammar as grammar
-use Rattle.protocol_lang.specs.Grammar.{Written, expression_of, comparison_of, command_of, rule_of, tree_of}
-use Rattle.protocol_lang.specs.Reading.{State, outermost, opening, with_waiting, behind_operand, with_operand, is_hidden, is_first, opened, word_operand, operand, call_opened, with_infix, enclosed, closed, value_read, first_ended, left_ended, compared_with, right_ended, command_ended, last_ended, ended, in_outermost, behind, begun, rule, last, ending, step_at, step, last_kind, tree_read}
+use Rattle.protocol_lang.specs.Grammar.{Written, expression_of, comparison_of, action_rule_of, rule_of, tree_of}
+use Rattle.protocol_lang.specs.Reading.{State, outermost, opening, with_waiting, behind_operand, with_operand, is_hidden, is_first, opened, word_operand, operand, call_opened, with_infix, enclosed, closed, value_read, first_ended, left_ended, compared_with, right_ended, action_rule_ended, last_ended, ended, in_outermost, behind, begun, rule, last, ending, step_at, step, last_kind, tree_read}
 use Rattle.protocol_lang.specs.declared.token.Token.{Token}
 use Rattle.protocol_lang.specs.declared.token.Token.TheVariants as tokens
 use Rattle.protocol_lang.specs.declared.token.Word.TheVariants as words
@@ -122,19 +122,19 @@ compared_of comparator part s =
     ∙ ap (λ value. map comparison_of s.conditions ++ record { left = expression_of s.left; comparator = comparator; right = value } ∷ []) (value_of s))
 
 right_of : (comparator : Comparator) (s : State Written) (token : Token) (kind : Option Kind) → ends_of (right_ended writings comparator s token kind) ≡ right_ended trees comparator (state_of s) token kind
-right_of comparator s token (Some kind) = ap Ok (compared_of comparator (parts.Command kind) s)
+right_of comparator s token (Some kind) = ap Ok (compared_of comparator (parts.ActionRule kind) s)
 right_of comparator s (tokens.Word words.And) None = elim (cases_Bool (ltb (length s.conditions) 7)) [
   | inl room ↦ rw (length-map s.conditions comparison_of, room) (ap Ok (compared_of comparator parts.Left s))
   | inr full ↦ rw (length-map s.conditions comparison_of, full) refl
 ]
 right_of comparator s token None = refl
 
-commands_of : (kind : Kind) (s : State Written) (token : Token) → ends_of (command_ended writings kind s token) ≡ command_ended trees kind (state_of s) token
-commands_of kind s (tokens.Symbol symbols.Semicolon) =
+action_rules_of : (kind : Kind) (s : State Written) (token : Token) → ends_of (action_rule_ended writings kind s token) ≡ action_rule_ended trees kind (state_of s) token
+action_rules_of kind s (tokens.Symbol symbols.Semicolon) =
     ap Ok (ap (λ rules. record (state_of s) { expected = next.Rule; level = outermost; stack = []; conditions = []; rules = rules })
-    (map-append rule_of s.rules (record { conditions = s.conditions; command = record { kind = kind; value = value_read writings s } } ∷ [])
-    ∙ ap (λ value. map rule_of s.rules ++ record { conditions = map comparison_of s.conditions; command = record { kind = kind; value = value } } ∷ []) (value_of s)))
-commands_of kind s token = refl
+    (map-append rule_of s.rules (record { conditions = s.conditions; action_rule = record { kind = kind; value = value_read writings s } } ∷ [])
+    ∙ ap (λ value. map rule_of s.rules ++ record { conditions = map comparison_of s.conditions; action_rule = record { kind = kind; value = value } } ∷ []) (value_of s)))
+action_rules_of kind s token = refl
 
 last_ended_of : (s : State Written) (token : Token) → ends_of (last_ended s token) ≡ last_ended (state_of s) token
 last_ended_of s (tokens.Symbol symbols.Semicolon) = refl
@@ -144,7 +144,7 @@ ended_of : (part : Part) (s : State Written) (token : Token) → ends_of (ended 
 ended_of parts.First s token = first_of s token
 ended_of parts.Left s token = left_of s (comparator_of token)
 ended_of (parts.Right comparator) s token = right_of comparator s token (kind_of token)
-ended_of (parts.Command kind) s token = commands_of kind s token
+ended_of (parts.ActionRule kind) s token = action_rules_of kind s token
 ended_of (parts.Last kind) s token = last_ended_of s token
 
 outermost_of : (s : State Written) (outer : List Level) (token : Token) → ends_of (in_outermost writings s outer token) ≡ in_outermost trees (state_of s) outer token

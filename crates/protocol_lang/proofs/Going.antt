@@ -42,7 +42,7 @@ module _ {A : Type 0} (made : Operands A) where
   no_end_of parts.First s s' e = absurd cc
   no_end_of parts.Left s s' e = absurd cc
   no_end_of (parts.Right comparator) s s' e = absurd cc
-  no_end_of (parts.Command kind) s s' e = absurd cc
+  no_end_of (parts.ActionRule kind) s s' e = absurd cc
   no_end_of (parts.Last kind) s s' e = absurd cc
 
   no_end_in : (outer : List Level) (s s' : State A) → in_outermost made s outer tokens.End ≡ Ok s' → ⊥
@@ -70,17 +70,17 @@ module _ {A : Type 0} (made : Operands A) where
   stepped_ok at (Ok t) s e = cc
   stepped_ok at (Err refusal) s e = absurd cc
 
-  record Took (text : List ℕ) (from : ℕ) (s s' : State A) (end : Option ℕ) : Type 0 where
-    read : Placed
-    token : next_token text from ≡ Ok read
-    after : step made s read.token ≡ Ok s'
-    place : cond (is_end read.token) None (Some read.end) ≡ end
+  pub record Took (text : List ℕ) (from : ℕ) (s s' : State A) (end : Option ℕ) : Type 0 where
+    pub read : Placed
+    pub token : next_token text from ≡ Ok read
+    pub after : step made s read.token ≡ Ok s'
+    pub place : cond (is_end read.token) None (Some read.end) ≡ end
 
   abbrev pair_of : State A → Option ℕ → Result (State A × Option ℕ) ParseFault → State A × Option ℕ
   pair_of s end (Ok read) = read
   pair_of s end (Err fault) = (s, end)
 
-  took : (text : List ℕ) (from : ℕ) (s s' : State A) (end : Option ℕ) → one_token made text from s ≡ Ok (s', end) → Took text from s s' end
+  pub took : (text : List ℕ) (from : ℕ) (s s' : State A) (end : Option ℕ) → one_token made text from s ≡ Ok (s', end) → Took text from s s' end
   unfolding one_token
   took text from s s' end e =
       let read = bind_ok (next_token text from) _ (s', end) e in

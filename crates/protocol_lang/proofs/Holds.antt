@@ -9,7 +9,7 @@ use Rattle.protocol_lang.specs.Tokens.{is_end, name_of, call_of, operator_of, co
 use Rattle.protocol_lang.specs.Trees.{is_sum, ComparisonOf, RuleOf}
 use Rattle.protocol_lang.specs.Formulas.{last_of}
 use Rattle.protocol_lang.specs.Grammar.{Written, Number, Named, Calling, Group, word_for, call_word, operator_symbol, comparator_symbol, kind_word, expression_tokens, comparison_tokens, conditions_tokens, rule_tokens, tree_tokens, is_factor, depth_of, is_expression, needs_no_view, is_comparison, is_rule, IsFormed}
-use Rattle.protocol_lang.specs.Reading.{State, outermost, opening, with_waiting, behind_operand, is_hidden, is_first, opened, word_operand, operand, call_opened, with_infix, enclosed, closed, value_read, cleared, first_ended, left_ended, compared_with, right_ended, command_ended, last_ended, ended, in_outermost, behind, begun, rule, last, ending, step_at, step, last_kind, tree_read}
+use Rattle.protocol_lang.specs.Reading.{State, outermost, opening, with_waiting, behind_operand, is_hidden, is_first, opened, word_operand, operand, call_opened, with_infix, enclosed, closed, value_read, cleared, first_ended, left_ended, compared_with, right_ended, action_rule_ended, last_ended, ended, in_outermost, behind, begun, rule, last, ending, step_at, step, last_kind, tree_read}
 use Rattle.protocol_lang.specs.declared.token.Token.{Token}
 use Rattle.protocol_lang.specs.declared.token.Token.TheVariants as tokens
 use Rattle.protocol_lang.specs.declared.token.Word.{Word}
@@ -50,7 +50,7 @@ abbrev pub header : Part → Written → List (RuleOf Written) → List (Compari
 header parts.First first rules conditions left = tokens.Word words.First ∷ []
 header parts.Left first rules conditions left = begun_tokens first rules ++ conditions_open conditions
 header (parts.Right comparator) first rules conditions left = begun_tokens first rules ++ (conditions_open conditions ++ (expression_tokens left ++ tokens.Symbol (comparator_symbol comparator) ∷ []))
-header (parts.Command kind) first rules conditions left = begun_tokens first rules ++ (conditions_tokens words.When conditions ++ tokens.Word (kind_word kind) ∷ [])
+header (parts.ActionRule kind) first rules conditions left = begun_tokens first rules ++ (conditions_tokens words.When conditions ++ tokens.Word (kind_word kind) ∷ [])
 header (parts.Last kind) first rules conditions left = begun_tokens first rules ++ (tokens.Word words.Else ∷ tokens.Word (kind_word kind) ∷ [])
 
 pub record Past (first : Written) (rules : List (RuleOf Written)) : Type 0 where
@@ -63,7 +63,7 @@ abbrev pub Progress : Part → Written → List (RuleOf Written) → List (Compa
 Progress parts.First first rules conditions left = (rules ≡ []) × (conditions ≡ [])
 Progress parts.Left first rules conditions left = Past first rules × (length rules < 32) × (list_all is_comparison conditions ≡ true) × (length conditions ≤ 7)
 Progress (parts.Right comparator) first rules conditions left = Past first rules × (length rules < 32) × (list_all is_comparison conditions ≡ true) × (length conditions ≤ 7) × (is_expression left ≡ true)
-Progress (parts.Command kind) first rules conditions left = Past first rules × (length rules < 32) × (list_all is_comparison conditions ≡ true) × (1 ≤ length conditions) × (length conditions ≤ 8)
+Progress (parts.ActionRule kind) first rules conditions left = Past first rules × (length rules < 32) × (list_all is_comparison conditions ≡ true) × (1 ≤ length conditions) × (length conditions ≤ 8)
 Progress (parts.Last kind) first rules conditions left = Past first rules
 
 pub record Between (s : State Written) : Type 0 where
@@ -127,7 +127,7 @@ seen_fits : (part : Part) (count : ℕ) (name : Name) → is_hidden part name �
 seen_fits parts.First count name seen room = record { formed = refl; depth = omega (arith, room); view = λ first. rw seen refl }
 seen_fits parts.Left count name seen room = record { formed = refl; depth = omega (arith, room); view = λ first. absurd cc }
 seen_fits (parts.Right comparator) count name seen room = record { formed = refl; depth = omega (arith, room); view = λ first. absurd cc }
-seen_fits (parts.Command kind) count name seen room = record { formed = refl; depth = omega (arith, room); view = λ first. absurd cc }
+seen_fits (parts.ActionRule kind) count name seen room = record { formed = refl; depth = omega (arith, room); view = λ first. absurd cc }
 seen_fits (parts.Last kind) count name seen room = record { formed = refl; depth = omega (arith, room); view = λ first. absurd cc }
 
 name_word : (word : Word) (name : Name) → name_of word ≡ Some name → word ≡ word_for name
@@ -479,8 +479,8 @@ right_step : (comparator : Comparator) (s s' : State Written) (all : List Token)
 right_step comparator s s' all token (Some kind) named is none holds e =
     let c = ended_comparison comparator s in
     let few = (at_part s (parts.Right comparator) all is holds).1.3 in
-    holds_as (compared_with writings comparator (parts.Command kind) s) s' (all ++ token ∷ []) e
-    (right_taken s all comparator (parts.Command kind) token (conditions_tokens words.When (s.conditions ++ c ∷ []) ++ tokens.Word (kind_word kind) ∷ []) is none holds
+    holds_as (compared_with writings comparator (parts.ActionRule kind) s) s' (all ++ token ∷ []) e
+    (right_taken s all comparator (parts.ActionRule kind) token (conditions_tokens words.When (s.conditions ++ c ∷ []) ++ tokens.Word (kind_word kind) ∷ []) is none holds
     (ap (λ t. conditions_tokens words.When (s.conditions ++ c ∷ []) ++ t ∷ []) (kind_token token kind named)) refl
     (λ past less good. (past, less, good, (let n = one_longer s c in omega (arith, n)), (let n = one_longer s c in omega (arith, n, few)))))
 right_step comparator s s' all (tokens.Word words.And) None named is none holds e =
@@ -495,20 +495,20 @@ right_step comparator s s' all (tokens.Word words.And) None named is none holds 
     ]
 right_step comparator s s' all token None named is none holds e = absurd cc
 
--- ---- commands
+-- ---- actions
 
-command_tokens_are : (begun conditions kind value end all : List Token) → all ≡ (begun ++ (conditions ++ kind)) ++ value → all ++ end ≡ begun ++ (conditions ++ (kind ++ (value ++ end)))
-command_tokens_are begun conditions kind value end all e = ap (λ t. t ++ end) e ∙ simp append_assoc
+action_rule_tokens_are : (begun conditions kind value end all : List Token) → all ≡ (begun ++ (conditions ++ kind)) ++ value → all ++ end ≡ begun ++ (conditions ++ (kind ++ (value ++ end)))
+action_rule_tokens_are begun conditions kind value end all e = ap (λ t. t ++ end) e ∙ simp append_assoc
 
-command_step : (kind : Kind) (s s' : State Written) (all : List Token) (token : Token) → s.part ≡ parts.Command kind → s.outer ≡ [] → HoldsAt next.Operator s all → command_ended writings kind s token ≡ done_with s' → Holds s' (all ++ token ∷ [])
-command_step kind s s' all (tokens.Symbol symbols.Semicolon) is none holds e =
-    let here = at_part s (parts.Command kind) all is holds in
+action_rule_step : (kind : Kind) (s s' : State Written) (all : List Token) (token : Token) → s.part ≡ parts.ActionRule kind → s.outer ≡ [] → HoldsAt next.Operator s all → action_rule_ended writings kind s token ≡ done_with s' → Holds s' (all ++ token ∷ [])
+action_rule_step kind s s' all (tokens.Symbol symbols.Semicolon) is none holds e =
+    let here = at_part s (parts.ActionRule kind) all is holds in
     let begun = begun_tokens s.first s.rules in
     let conditions = conditions_tokens words.When s.conditions in
     let w = whole s (begun ++ (conditions ++ tokens.Word (kind_word kind) ∷ [])) all none here.0 in
     let v = value_read writings s in
     let end : List Token = tokens.Symbol symbols.Semicolon ∷ [] in
-    let r : RuleOf Written = record { conditions = s.conditions; command = record { kind = kind; value = v } } in
+    let r : RuleOf Written = record { conditions = s.conditions; action_rule = record { kind = kind; value = v } } in
     let good : is_rule r ≡ true = and_from _ _ (and_from _ _ (and_from _ _ (le-leb 1 (length s.conditions) here.1.3) (le-leb (length s.conditions) 8 here.1.4)) here.1.2) w.expression in
     let past : Past s.first (s.rules ++ r ∷ []) = record {
       first_is = here.1.0.first_is;
@@ -517,10 +517,10 @@ command_step kind s s' all (tokens.Symbol symbols.Semicolon) is none holds e =
       most = let n = length-append s.rules (r ∷ []) in let less = here.1.1 in omega (arith, n, less);
     } in
     holds_as _ s' (all ++ end) e (
-      command_tokens_are begun conditions (tokens.Word (kind_word kind) ∷ []) (expression_tokens v) end all w.tokens_are ∙ sym (rules_snoc s.first s.rules r),
+      action_rule_tokens_are begun conditions (tokens.Word (kind_word kind) ∷ []) (expression_tokens v) end all w.tokens_are ∙ sym (rules_snoc s.first s.rules r),
       record { past = past; none_open = none; level_is = refl; none_waits = refl; no_conditions = refl },
     )
-command_step kind s s' all token is none holds e = absurd cc
+action_rule_step kind s s' all token is none holds e = absurd cc
 
 last_tokens_are : (begun words value end all : List Token) → all ≡ (begun ++ words) ++ value → all ++ end ≡ begun ++ (words ++ (value ++ end))
 last_tokens_are begun words value end all e = ap (λ t. t ++ end) e ∙ simp append_assoc
@@ -548,7 +548,7 @@ ended_step : (part : Part) (s s' : State Written) (all : List Token) (token : To
 ended_step parts.First s s' all token is none holds e = first_step s s' all token is none holds e
 ended_step parts.Left s s' all token is none holds e = left_step s s' all token (comparator_of token) refl is none holds e
 ended_step (parts.Right comparator) s s' all token is none holds e = right_step comparator s s' all token (kind_of token) refl is none holds e
-ended_step (parts.Command kind) s s' all token is none holds e = command_step kind s s' all token is none holds e
+ended_step (parts.ActionRule kind) s s' all token is none holds e = action_rule_step kind s s' all token is none holds e
 ended_step (parts.Last kind) s s' all token is none holds e = last_step kind s s' all token is none holds e
 
 outermost_step : (levels : List Level) (s s' : State Written) (all : List Token) (token : Token) → s.outer ≡ levels → HoldsAt next.Operator s all → in_outermost writings s levels token ≡ done_with s' → Holds s' (all ++ token ∷ [])

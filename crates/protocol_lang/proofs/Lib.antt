@@ -13,6 +13,7 @@ pub mod Holding
 pub mod Holds
 pub mod Sound
 pub mod Locality
+pub mod Whens
 pub mod Only
 pub mod WorkedPrinting
 pub mod Shortest

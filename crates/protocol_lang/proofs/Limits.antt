@@ -7,10 +7,10 @@ use Rattle.std.proofs.lemmas.Bool.{and_parts, and_from, leb-true}
 use Rattle.std.proofs.lemmas.List.Sums.{length-filter, count_by-le-length}
 use Rattle.protocol_lang.specs.Numbers.{greatest}
 use Rattle.protocol_lang.specs.Trees as trees
-use Rattle.protocol_lang.specs.Trees.{Expression, ComparisonOf, CommandOf, RuleOf, TreeOf, Tree}
-use Rattle.protocol_lang.specs.Grammar.{Written, Number, Named, Calling, Operating, Group, expression_of, comparator_symbol, operator_symbol, expression_tokens, comparison_tokens, conditions_tokens, command_tokens, rule_tokens, tree_tokens, comparison_of, rule_of, tree_of, IsText}
+use Rattle.protocol_lang.specs.Trees.{Expression, ComparisonOf, ActionRuleOf, RuleOf, TreeOf, Tree}
+use Rattle.protocol_lang.specs.Grammar.{Written, Number, Named, Calling, Operating, Group, expression_of, comparator_symbol, operator_symbol, expression_tokens, comparison_tokens, conditions_tokens, action_rule_tokens, rule_tokens, tree_tokens, comparison_of, rule_of, tree_of, IsText}
 use Rattle.protocol_lang.specs.Reading.{reading}
-use Rattle.protocol_lang.specs.Meaning.{Situation, entry, present, one_if_there, value_of_name, value_of_call, quotient, remainder, operated, value_of, action, action_of, action_by, applies, first_value, next_action}
+use Rattle.protocol_lang.specs.Meaning.{Environment, entry, present, one_if_there, value_of_name, value_of_call, quotient, remainder, operated, value_of, action, action_of, action_by, applies, first_value, next_action}
 use Rattle.protocol_lang.specs.Limits.{is_small, is_small_comparison, is_small_rule, HasSmallNumerals, IsEntry, action_value}
 use Rattle.protocol_lang.specs.declared.token.Word.{Word}
 use Rattle.protocol_lang.specs.declared.token.Word.TheVariants as words
@@ -53,13 +53,13 @@ small_conditions word (c ∷ cs) all =
     let parts = all_parts (comparison_tokens c) (conditions_tokens words.And cs) all in
     and_from _ _ (small_comparison c parts.0) (small_conditions words.And cs parts.1)
 
-small_command : (command : CommandOf Written) → AreSpellable (command_tokens command) → is_small (expression_of command.value) ≡ true
-small_command command all = small_expression command.value (all_parts (expression_tokens command.value) (tokens.Symbol symbols.Semicolon ∷ []) all).0
+small_action_rule : (action_rule : ActionRuleOf Written) → AreSpellable (action_rule_tokens action_rule) → is_small (expression_of action_rule.value) ≡ true
+small_action_rule action_rule all = small_expression action_rule.value (all_parts (expression_tokens action_rule.value) (tokens.Symbol symbols.Semicolon ∷ []) all).0
 
 small_rule : (rule : RuleOf Written) → AreSpellable (rule_tokens rule) → is_small_rule (rule_of rule) ≡ true
 small_rule rule all =
-    let parts = all_parts (conditions_tokens words.When rule.conditions) (command_tokens rule.command) all in
-    and_from _ _ (small_conditions words.When rule.conditions parts.0) (small_command rule.command parts.1)
+    let parts = all_parts (conditions_tokens words.When rule.conditions) (action_rule_tokens rule.action_rule) all in
+    and_from _ _ (small_conditions words.When rule.conditions parts.0) (small_action_rule rule.action_rule parts.1)
 
 small_rules : (rules : List (RuleOf Written)) → AreSpellable (flat_map rule_tokens rules) → list_all is_small_rule (map rule_of rules) ≡ true
 small_rules [] all = refl
@@ -69,10 +69,10 @@ small_rules (rule ∷ rules) all =
 
 small_tree : (tree : TreeOf Written) → AreSpellable (tree_tokens tree) → HasSmallNumerals (tree_of tree)
 small_tree tree all =
-    let rest = flat_map rule_tokens tree.rules ++ tokens.Word words.Else ∷ command_tokens tree.last in
+    let rest = flat_map rule_tokens tree.rules ++ tokens.Word words.Else ∷ action_rule_tokens tree.last in
     let parts = all_parts (expression_tokens tree.first) (tokens.Symbol symbols.Semicolon ∷ rest) all in
-    let behind = all_parts (flat_map rule_tokens tree.rules) (tokens.Word words.Else ∷ command_tokens tree.last) parts.1 in
-    record { first = small_expression tree.first parts.0; rules = small_rules tree.rules behind.0; last = small_command tree.last behind.1 }
+    let behind = all_parts (flat_map rule_tokens tree.rules) (tokens.Word words.Else ∷ action_rule_tokens tree.last) parts.1 in
+    record { first = small_expression tree.first parts.0; rules = small_rules tree.rules behind.0; last = small_action_rule tree.last behind.1 }
 
 pub small_numerals : (text : List ℕ) (tree : Tree) → IsText text tree → HasSmallNumerals tree
 small_numerals text tree is = subst HasSmallNumerals is.says (small_tree is.written (spellable (tree_tokens is.written) text is.spelled))
@@ -83,8 +83,8 @@ small_if_read text tree read = small_numerals text tree (found text (Ok tree) re
 
 -- ---- what an expression asks for
 
--- what a situation tells is at most the greatest value
-record IsWithin (s : Situation) : Type 0 where
+-- what a environment tells is at most the greatest value
+record IsWithin (s : Environment) : Type 0 where
   input : s.input ≤ greatest
   id : s.id ≤ greatest
   processes : s.processes ≤ greatest
@@ -130,7 +130,7 @@ small_flag : (seen : Option ℕ) → one_if_there seen ≤ greatest
 small_flag None = omega arith
 small_flag (Some value) = omega arith
 
-small_name : (name : Name) (s : Situation) → IsWithin s → value_of_name name s ≤ greatest
+small_name : (name : Name) (s : Environment) → IsWithin s → value_of_name name s ≤ greatest
 small_name names.Input s within = within.input
 small_name names.Id s within = within.id
 small_name names.N s within = within.processes
@@ -140,7 +140,7 @@ small_name names.Count s within = omega (arith, present_few s.view, within.width
 small_name names.Min s within = small_min (present s.view) (small_present s.view within.entries)
 small_name names.Max s within = small_max (present s.view) 0 (small_present s.view within.entries) (omega arith)
 
-small_call : (function : Call) (s : Situation) (x : ℕ) → IsWithin s → value_of_call function s.view x ≤ greatest
+small_call : (function : Call) (s : Environment) (x : ℕ) → IsWithin s → value_of_call function s.view x ≤ greatest
 small_call calls.Cell s x within = small_entry s.view x within.entries
 small_call calls.Seen s x within = small_flag (get_or s.view x None)
 small_call calls.Equal s x within = omega (arith, length-filter (λ value. eqb value x) (present s.view), count_by-le-length (λ value. eqb value x) (present s.view), present_few s.view, within.width)
@@ -162,7 +162,7 @@ small_operated operators.Multiply x y small = omega arith
 small_operated operators.Divide x y small = small_quotient x y small
 small_operated operators.Remainder x y small = small_remainder x y small
 
-small_value : (e : Expression) (s : Situation) → is_small e ≡ true → IsWithin s → value_of e s ≤ greatest
+small_value : (e : Expression) (s : Environment) → is_small e ≡ true → IsWithin s → value_of e s ≤ greatest
 small_value (trees.Number value) s is within = leb-true value greatest is
 small_value (trees.Named name) s is within = small_name name s within
 small_value (trees.Calling function argument) s is within = small_call function s (value_of argument s) within
@@ -180,14 +180,14 @@ small_kind : (kind : Kind) (value : ℕ) → value ≤ greatest → action_value
 small_kind kinds.Write value small = small
 small_kind kinds.Decide value small = small
 
-small_action : (s : Situation) (command : CommandOf Expression) → is_small command.value ≡ true → IsWithin s → action_value (action_of s command) ≤ greatest
-small_action s command is within = small_kind command.kind (value_of command.value s) (small_value command.value s is within)
+small_action : (s : Environment) (action_rule : ActionRuleOf Expression) → is_small action_rule.value ≡ true → IsWithin s → action_value (action_of s action_rule) ≤ greatest
+small_action s action_rule is within = small_kind action_rule.kind (value_of action_rule.value s) (small_value action_rule.value s is within)
 
-small_by : (s : Situation) (last : CommandOf Expression) (rules : List (RuleOf Expression)) → is_small last.value ≡ true → list_all is_small_rule rules ≡ true → IsWithin s → action_value (action_by s last (find (applies s) rules)) ≤ greatest
+small_by : (s : Environment) (last : ActionRuleOf Expression) (rules : List (RuleOf Expression)) → is_small last.value ≡ true → list_all is_small_rule rules ≡ true → IsWithin s → action_value (action_by s last (find (applies s) rules)) ≤ greatest
 small_by s last [] last_small rules_small within = small_action s last last_small within
 small_by s last (rule ∷ rules) last_small rules_small within =
     let parts = and_parts (is_small_rule rule) (list_all is_small_rule rules) rules_small in
-    let own = small_action s rule.command (and_parts (list_all is_small_comparison rule.conditions) (is_small rule.command.value) parts.0).1 within in
+    let own = small_action s rule.action_rule (and_parts (list_all is_small_comparison rule.conditions) (is_small rule.action_rule.value) parts.0).1 within in
     let others = small_by s last rules last_small parts.1 within in
     elim (applies s rule) as (λ b. action_value (action_by s last (cond b (Some rule) (find (applies s) rules))) ≤ greatest) [ true ↦ own | false ↦ others ]
 

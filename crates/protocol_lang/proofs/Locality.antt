@@ -1,15 +1,15 @@
 -- A fault rests on the bytes up to the end of its token alone.
-use Rattle.std.proofs.Common.{arith, ◌≡◌, ℕ, zero, suc, ◌+◌, ◌-◌, ◌<◌, ◌≤◌, Bool, true, false, cond, ltb, leb, List, [], ◌∷◌, ◌++◌, length, take, drop, Option, Some, None, Result, Ok, Err, refl, sym, ap, ◌∙◌, ◌⊎◌, inl, inr}
-use Rattle.std.specs.Prelude.{IfErr, IfSome}
+use Rattle.std.proofs.Common.{arith, ◌≡◌, ℕ, zero, suc, ◌+◌, ◌-◌, ◌<◌, ◌≤◌, Bool, true, false, cond, leb, List, [], ◌∷◌, ◌++◌, length, take, drop, Option, Some, None, Result, Ok, Err, refl, sym, ap, ◌∙◌, ◌⊎◌, inl, inr}
+use Rattle.std.specs.Prelude.{IfSome}
 use Rattle.std.specs.List.{take_while}
-use Rattle.std.proofs.lemmas.Bool.{cases_Bool, cases_lt, ltb-false}
+use Rattle.std.proofs.lemmas.Bool.{cases_Bool, cases_lt}
 use Rattle.std.proofs.lemmas.List.{take-append-drop, append-nil}
 use Rattle.protocol_lang.specs.Numbers.{greatest, is_digit, number_of}
 use Rattle.protocol_lang.specs.Tokens.{is_blank, is_letter, is_end, word_of, symbol_of}
-use Rattle.protocol_lang.specs.Trees.{Expression, Tree}
+use Rattle.protocol_lang.specs.Trees.{Expression}
 use Rattle.protocol_lang.specs.Formulas.{Operands, trees}
-use Rattle.protocol_lang.specs.Reading.{◌>>=◌, word_token, number_token, symbol_token, token_at, extent_of, past_blanks, next_token, State, step, fault_at, stepped, one_token, onward, run, opening, most_tokens, tree_read, reading, IsReading}
-use Rattle.protocol_lang.specs.Grammar.{place_of, SameThrough, IsLocal}
+use Rattle.protocol_lang.specs.Reading.{◌>>=◌, word_token, number_token, symbol_token, token_at, extent_of, past_blanks, next_token, State, step, fault_at, stepped, one_token, onward, run, opening, most_tokens, tree_read, reading, Takes}
+use Rattle.protocol_lang.specs.Grammar.{place_of, SameThrough}
 use Rattle.protocol_lang.specs.declared.fault.ParseFault.{ParseFault}
 use Rattle.protocol_lang.specs.declared.fault.ParseFault.TheVariants.{TooLong, BadToken, Unexpected, TooDeep, TooManyRules, ViewInFirst, NumberTooLarge, OutOfMemory}
 use Rattle.protocol_lang.specs.declared.parser.Refusal.{Refusal}
@@ -25,12 +25,12 @@ use Rattle.protocol_lang.proofs.Onward.{reading_by}
 
 -- the other text is the same up to the end of the token at this place, which is not the text's end
 pub record SameUpTo (text other : List ℕ) (at : ℕ) : Type 0 where
-  some : 0 < extent_of (drop at text)
-  bytes : take (at + extent_of (drop at text)) other ≡ take (at + extent_of (drop at text)) text
-  token_end : extent_of (drop at other) ≡ extent_of (drop at text)
+  pub some : 0 < extent_of (drop at text)
+  pub bytes : take (at + extent_of (drop at text)) other ≡ take (at + extent_of (drop at text)) text
+  pub token_end : extent_of (drop at other) ≡ extent_of (drop at text)
 
 -- a step that failed, or the next one that did
-bind_err : {A B : Type 0} (r : Result A ParseFault) (next : A → Result B ParseFault) (fault : ParseFault) → (r >>= next) ≡ Err fault → (r ≡ Err fault) ⊎ ((x : A) × (r ≡ Ok x) × (next x ≡ Err fault))
+pub bind_err : {A B : Type 0} (r : Result A ParseFault) (next : A → Result B ParseFault) (fault : ParseFault) → (r >>= next) ≡ Err fault → (r ≡ Err fault) ⊎ ((x : A) × (r ≡ Ok x) × (next x ≡ Err fault))
 bind_err (Ok x) next fault e = inr (x, refl, e)
 bind_err (Err first) next fault e = inl cc
 
@@ -75,7 +75,7 @@ front_fault at (byte ∷ bytes) fault e =
       ]
     ]
 
-next_fault : (text : List ℕ) (from : ℕ) (fault : ParseFault) → next_token text from ≡ Err fault → place_of fault ≡ Some (past_blanks text from)
+pub next_fault : (text : List ℕ) (from : ℕ) (fault : ParseFault) → next_token text from ≡ Err fault → place_of fault ≡ Some (past_blanks text from)
 next_fault text from fault e =
     let at = past_blanks text from in
     elim (bind_err (token_at at (drop at text)) (λ token. Ok (placed at (extent_of (drop at text)) token)) fault (sym (next_token_is text from) ∙ e)) [
@@ -84,7 +84,7 @@ next_fault text from fault e =
     ]
 
 -- a token rests on its own bytes and the one behind
-token_values : (text other : List ℕ) (from m : ℕ) (read : Placed) → next_token text from ≡ Ok read → read.end < m → take m other ≡ take m text → next_token other from ≡ next_token text from
+pub token_values : (text other : List ℕ) (from m : ℕ) (read : Placed) → next_token text from ≡ Ok read → read.end < m → take m other ≡ take m text → next_token other from ≡ next_token text from
 token_values text other from m read e within same =
     let reads = token_reads text from read e in
     let at = past_blanks text from in
@@ -92,10 +92,10 @@ token_values text other from m read e within same =
     let ends = extent_same (m - at) (drop at text) (drop at other) (omega arith) (drop_same at m text other (omega arith) same) in
     next_same text other from m (omega arith) (omega arith) same ends
 
-token_onward : (text : List ℕ) (from : ℕ) (read : Placed) → next_token text from ≡ Ok read → from ≤ read.end
+pub token_onward : (text : List ℕ) (from : ℕ) (read : Placed) → next_token text from ≡ Ok read → from ≤ read.end
 token_onward text from read e = let reads = token_reads text from read e in omega (arith, reads.stop)
 
-here_same : (text other : List ℕ) (from : ℕ) → SameUpTo text other (past_blanks text from) → next_token other from ≡ next_token text from
+pub here_same : (text other : List ℕ) (from : ℕ) → SameUpTo text other (past_blanks text from) → next_token other from ≡ next_token text from
 here_same text other from same =
     let at = past_blanks text from in
     next_same text other from (at + extent_of (drop at text)) (omega (arith, same.some)) (omega arith) same.bytes same.token_end
@@ -134,14 +134,14 @@ module _ {A : Type 0} where
   stepped_place at place (Ok s) fault e is = absurd cc
   stepped_place at place (Err refusal) fault e is = let same : fault_at at refusal ≡ fault = cc in refusal_place at place refusal (ap place_of same ∙ is)
 
-  abbrev behind_token : Operands A → State A → Placed → Result (State A × Option ℕ) ParseFault
+  abbrev pub behind_token : Operands A → State A → Placed → Result (State A × Option ℕ) ParseFault
   behind_token made s read = stepped read.at (step made s read.token) >>= λ s'. Ok (s', cond (is_end read.token) None (Some read.end))
 
-  one_is : (made : Operands A) (text : List ℕ) (from : ℕ) (s : State A) → one_token made text from s ≡ (next_token text from >>= behind_token made s)
+  pub one_is : (made : Operands A) (text : List ℕ) (from : ℕ) (s : State A) → one_token made text from s ≡ (next_token text from >>= behind_token made s)
   unfolding one_token
   one_is made text from s = refl
 
-  one_same : (made : Operands A) (text other : List ℕ) (from : ℕ) (s : State A) → next_token other from ≡ next_token text from → one_token made other from s ≡ one_token made text from s
+  pub one_same : (made : Operands A) (text other : List ℕ) (from : ℕ) (s : State A) → next_token other from ≡ next_token text from → one_token made other from s ≡ one_token made text from s
   one_same made text other from s same = one_is made other from s ∙ ap (λ r. r >>= behind_token made s) same ∙ sym (one_is made text from s)
 
   one_fault : (made : Operands A) (text : List ℕ) (from place : ℕ) (s : State A) (fault : ParseFault) → one_token made text from s ≡ Err fault → place_of fault ≡ Some place → place ≡ past_blanks text from
@@ -161,11 +161,11 @@ module _ {A : Type 0} where
       let last : cond (is_end read.0.token) None (Some read.0.end) ≡ Some end = second after.0 s' (cond (is_end read.0.token) None (Some read.0.end)) (Some end) after.2 in
       (read.0, read.1, end_is (is_end read.0.token) read.0.end end last)
 
-  run_is : (made : Operands A) (most : ℕ) (text : List ℕ) (from : ℕ) (s : State A) → run made (suc most) text from s ≡ (one_token made text from s >>= onward (run made most text))
+  pub run_is : (made : Operands A) (most : ℕ) (text : List ℕ) (from : ℕ) (s : State A) → run made (suc most) text from s ≡ (one_token made text from s >>= onward (run made most text))
   unfolding run
   run_is made most text from s = refl
 
-  run_none : (made : Operands A) (text : List ℕ) (from : ℕ) (s : State A) → run made zero text from s ≡ Err TooLong
+  pub run_none : (made : Operands A) (text : List ℕ) (from : ℕ) (s : State A) → run made zero text from s ≡ Err TooLong
   unfolding run
   run_none made text from s = refl
 
@@ -195,17 +195,28 @@ module _ {A : Type 0} where
         | inr taken ↦ onward_rests made most text from place s taken.0.0 taken.0.1 fault (λ next then. run_rests made most text next place taken.0.0 fault then is) taken.1 taken.2
       ]
 
+-- a token's own fault is never want of memory
+pub token_refused : {A : Type 0} (made : Operands A) (text : List ℕ) (from : ℕ) (s s' : State A) (fault : ParseFault) → next_token text from ≡ Err fault → Takes (one_token made text from s) (Err fault) s'
+token_refused made text from s s' OutOfMemory e = let never : place_of OutOfMemory ≡ Some (past_blanks text from) = next_fault text from OutOfMemory e in absurd cc
+token_refused made text from s s' TooLong e = one_is made text from s ∙ ap (λ r. r >>= behind_token made s) e
+token_refused made text from s s' (BadToken at) e = one_is made text from s ∙ ap (λ r. r >>= behind_token made s) e
+token_refused made text from s s' (Unexpected at) e = one_is made text from s ∙ ap (λ r. r >>= behind_token made s) e
+token_refused made text from s s' (TooDeep at) e = one_is made text from s ∙ ap (λ r. r >>= behind_token made s) e
+token_refused made text from s s' TooManyRules e = one_is made text from s ∙ ap (λ r. r >>= behind_token made s) e
+token_refused made text from s s' (ViewInFirst at) e = one_is made text from s ∙ ap (λ r. r >>= behind_token made s) e
+token_refused made text from s s' (NumberTooLarge at) e = one_is made text from s ∙ ap (λ r. r >>= behind_token made s) e
+
 -- ---- whole texts
 
 ends_at : (text : List ℕ) (at : ℕ) → drop at text ≡ [] → text ≡ take at text
 ends_at text at nothing = sym (take-append-drop at text) ∙ ap (λ rest. take at text ++ rest) nothing ∙ append-nil (take at text)
 
-whole_same : (text other : List ℕ) (at : ℕ) → SameThrough text other at → extent_of (drop at text) ≡ 0 → other ≡ text
+pub whole_same : (text other : List ℕ) (at : ℕ) → SameThrough text other at → extent_of (drop at text) ≡ 0 → other ≡ text
 whole_same text other at same none =
     let front : take at other ≡ take at text = take_less at (at + extent_of (drop at text)) text other (omega arith) same.bytes in
     ends_at other at (extent_none (drop at other) (same.token_end ∙ none)) ∙ front ∙ sym (ends_at text at (extent_none (drop at text) none))
 
-abbrev run_whole : List ℕ → Result (State Expression) ParseFault
+abbrev pub run_whole : List ℕ → Result (State Expression) ParseFault
 run_whole text = run trees most_tokens text 0 (opening trees)
 
 whole_rests : (text other : List ℕ) (place : ℕ) (fault : ParseFault) → run_whole text ≡ Err fault → place_of fault ≡ Some place → SameThrough text other place → run_whole other ≡ Err fault
@@ -215,29 +226,10 @@ whole_rests text other place fault e is same =
       | inr none ↦ ap run_whole (whole_same text other place same (omega arith)) ∙ e
     ]
 
-fault_place : (text : List ℕ) (fault : ParseFault) (place : Option ℕ) → reading text ≡ Err fault → place_of fault ≡ place → length text ≤ 4096 → IfSome place (λ at. (other : List ℕ) → SameThrough text other at → reading other ≡ Err fault)
+pub fault_place : (text : List ℕ) (fault : ParseFault) (place : Option ℕ) → reading text ≡ Err fault → place_of fault ≡ place → length text ≤ 4096 → IfSome place (λ at. (other : List ℕ) → SameThrough text other at → reading other ≡ Err fault)
 fault_place text fault None e is short = tt
 fault_place text fault (Some place) e is short = λ other same.
     elim (bind_err (run_whole text) (λ s. Ok (tree_read trees s)) fault (sym (reading_by text short (run_whole text) refl) ∙ e)) [
       | inl failed ↦ reading_by other same.short (Err fault) (whole_rests text other place fault failed is same)
       | inr never ↦ absurd (let e = never.2 in cc)
     ]
-
-text_fault : (text : List ℕ) (fault : ParseFault) → reading text ≡ Err fault → IsLocal text fault
-unfolding reading
-text_fault text fault e =
-    elim (cases_Bool (ltb 4096 (length text))) [
-      | inl long ↦ let refusal = rw long at e in let same : TooLong ≡ fault = cc in rw (← same) tt
-      | inr short ↦ fault_place text fault (place_of fault) e refl (ltb-false 4096 (length text) short)
-    ]
-
-pub local : (text : List ℕ) (read : Result Tree ParseFault) → IsReading text read → IfErr read (IsLocal text)
-local text (Ok tree) e = tt
-local text (Err OutOfMemory) e = tt
-local text (Err TooLong) e = tt
-local text (Err TooManyRules) e = tt
-local text (Err (BadToken at)) e = text_fault text (BadToken at) e
-local text (Err (Unexpected at)) e = text_fault text (Unexpected at) e
-local text (Err (TooDeep at)) e = text_fault text (TooDeep at) e
-local text (Err (ViewInFirst at)) e = text_fault text (ViewInFirst at) e
-local text (Err (NumberTooLarge at)) e = text_fault text (NumberTooLarge at) e

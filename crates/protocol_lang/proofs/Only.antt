@@ -5,9 +5,9 @@ use Rattle.std.proofs.lemmas.Bool.{cases_Bool, and_parts, leb-true, lt-ltb}
 use Rattle.std.proofs.lemmas.List.{append-nil, length-append}
 use Rattle.protocol_lang.specs.Stacks.{pushed}
 use Rattle.protocol_lang.specs.Tokens.{name_of, call_of, operator_of, reads_view}
-use Rattle.protocol_lang.specs.Trees.{is_sum, ComparisonOf, CommandOf, RuleOf, TreeOf, Tree}
+use Rattle.protocol_lang.specs.Trees.{is_sum, ComparisonOf, ActionRuleOf, RuleOf, TreeOf, Tree}
 use Rattle.protocol_lang.specs.Formulas.{trees, last_of}
-use Rattle.protocol_lang.specs.Grammar.{Written, Number, Named, Calling, Operating, Group, word_for, call_word, operator_symbol, comparator_symbol, kind_word, enclosed_tokens, expression_tokens, comparison_tokens, conditions_tokens, command_tokens, rule_tokens, tree_tokens, is_term, is_factor, may_join, is_formed, depth_of, is_expression, needs_no_view, is_comparison, is_rule, IsFormed, tree_of, IsText}
+use Rattle.protocol_lang.specs.Grammar.{Written, Number, Named, Calling, Operating, Group, word_for, call_word, operator_symbol, comparator_symbol, kind_word, enclosed_tokens, expression_tokens, comparison_tokens, conditions_tokens, action_rule_tokens, rule_tokens, tree_tokens, is_term, is_factor, may_join, is_formed, depth_of, is_expression, needs_no_view, is_comparison, is_rule, IsFormed, tree_of, IsText}
 use Rattle.protocol_lang.specs.Reading.{IsReading, IsReadAs, State, opening, with_waiting, is_hidden, is_first, opened, enclosed, step, tree_read, most_tokens, reading}
 use Rattle.protocol_lang.specs.declared.token.Token.{Token}
 use Rattle.protocol_lang.specs.declared.token.Token.TheVariants as tokens
@@ -105,7 +105,7 @@ not_hidden : (part : Part) (name : Name) → (is_first part ≡ true → not (re
 not_hidden parts.First name view = elim (cases_Bool (reads_view name)) [ inl reads ↦ absurd (let never = rw reads at (view refl) in cc) | inr none ↦ none ]
 not_hidden parts.Left name view = refl
 not_hidden (parts.Right comparator) name view = refl
-not_hidden (parts.Command kind) name view = refl
+not_hidden (parts.ActionRule kind) name view = refl
 not_hidden (parts.Last kind) name view = refl
 
 name_taken : (s : State Written) (sum product : Option Operator) (stack : List Written) (name : Name) → length stack ≤ 66 → is_hidden s.part name ≡ false
@@ -338,10 +338,10 @@ and_taken : (comparator : Comparator) (conditions : List (ComparisonOf Written))
     ≡ done_with (wants parts.Left nothing (conditions ++ comparing left comparator (last_of writings (with_waiting writings sum operands)) ∷ []) rules first)
 and_taken comparator conditions rules first left few sum operands = rw (lt-ltb (length conditions) 7 few) refl
 
--- or the command does
+-- or the action does
 kind_taken : (kind : Kind) (comparator : Comparator) (conditions : List (ComparisonOf Written)) (rules : List (RuleOf Written)) (first left : Written) (sum : Option Operator) (operands : List Written)
     → step writings (place (parts.Right comparator) left conditions rules first next.Operator sum operands) (tokens.Word (kind_word kind))
-    ≡ done_with (wants (parts.Command kind) nothing (conditions ++ comparing left comparator (last_of writings (with_waiting writings sum operands)) ∷ []) rules first)
+    ≡ done_with (wants (parts.ActionRule kind) nothing (conditions ++ comparing left comparator (last_of writings (with_waiting writings sum operands)) ∷ []) rules first)
 kind_taken kinds.Write comparator conditions rules first left sum operands = refl
 kind_taken kinds.Decide comparator conditions rules first left sum operands = refl
 
@@ -361,12 +361,12 @@ comparison_then comparison conditions rules first left token f steps is more end
     (comparator_taken comparison.comparator conditions rules first left) both.0 (not_first comparison.left) (expression_tokens comparison.right ++ token ∷ more) end right_read in
     subst (λ all. Goes writings (wants parts.Left left conditions rules first) all end) (sym (append_assoc (expression_tokens comparison.left) (sign ∷ expression_tokens comparison.right) (token ∷ more))) goes
 
--- the conditions of a rule, from behind `when`, and the word of its command
+-- the conditions of a rule, from behind `when`, and the word of its action
 conditions_read : (before : List (ComparisonOf Written)) (comparison : ComparisonOf Written) (more : List (ComparisonOf Written)) (rules : List (RuleOf Written)) (first left : Written) (kind : Kind) → list_all is_comparison (comparison ∷ more) ≡ true → length before + suc (length more) ≤ 8
-    → (rest : List Token) (end : State Written) → Goes writings (wants (parts.Command kind) nothing (before ++ comparison ∷ more) rules first) rest end
+    → (rest : List Token) (end : State Written) → Goes writings (wants (parts.ActionRule kind) nothing (before ++ comparison ∷ more) rules first) rest end
     → Goes writings (wants parts.Left left before rules first) (comparison_tokens comparison ++ (conditions_tokens words.And more ++ tokens.Word (kind_word kind) ∷ rest)) end
 conditions_read before comparison [] rules first left kind is few rest end goes =
-    comparison_then comparison before rules first left (tokens.Word (kind_word kind)) (λ here. wants (parts.Command kind) nothing (before ++ here ∷ []) rules first)
+    comparison_then comparison before rules first left (tokens.Word (kind_word kind)) (λ here. wants (parts.ActionRule kind) nothing (before ++ here ∷ []) rules first)
     (kind_taken kind comparison.comparator before rules first comparison.left) (and_parts (is_comparison comparison) (list_all is_comparison []) is).0 rest end goes
 conditions_read before comparison (second ∷ more) rules first left kind is few rest end goes =
     let both = and_parts (is_comparison comparison) (list_all is_comparison (second ∷ more)) is in
@@ -374,7 +374,7 @@ conditions_read before comparison (second ∷ more) rules first left kind is few
     let after = before ++ comparison ∷ [] in
     let moved : before ++ comparison ∷ second ∷ more ≡ after ++ second ∷ more = sym (append_assoc before (comparison ∷ []) (second ∷ more)) in
     let again = conditions_read after second more rules first nothing kind both.1 (omega (arith, fewer, length-append before (comparison ∷ []))) rest end
-    (subst (λ all. Goes writings (wants (parts.Command kind) nothing all rules first) rest end) moved goes) in
+    (subst (λ all. Goes writings (wants (parts.ActionRule kind) nothing all rules first) rest end) moved goes) in
     let tail = conditions_tokens words.And more ++ tokens.Word (kind_word kind) ∷ rest in
     let read = comparison_then comparison before rules first left (tokens.Word words.And) (λ here. wants parts.Left nothing (before ++ here ∷ []) rules first)
     (and_taken comparison.comparator before rules first comparison.left (omega (arith, fewer))) both.0 (comparison_tokens second ++ tail) end again in
@@ -387,13 +387,13 @@ conditions_read before comparison (second ∷ more) rules first left kind is few
 abbrev next_rule : Part → List (RuleOf Written) → Written → State Written
 next_rule part rules first = place part nothing [] rules first next.Rule None []
 
--- a rule's command
-command_read : (kind : Kind) (value : Written) (conditions : List (ComparisonOf Written)) (rules : List (RuleOf Written)) (first : Written) → is_expression value ≡ true
-    → (rest : List Token) (end : State Written) → Goes writings (next_rule (parts.Command kind) (rules ++ record { conditions = conditions; command = record { kind = kind; value = value } } ∷ []) first) rest end
-    → Goes writings (wants (parts.Command kind) nothing conditions rules first) (expression_tokens value ++ tokens.Symbol symbols.Semicolon ∷ rest) end
-command_read kind value conditions rules first is rest end goes =
-    whole_then (parts.Command kind) nothing conditions rules first value (tokens.Symbol symbols.Semicolon)
-    (λ here. next_rule (parts.Command kind) (rules ++ record { conditions = conditions; command = record { kind = kind; value = here } } ∷ []) first)
+-- a rule's action
+action_rule_read : (kind : Kind) (value : Written) (conditions : List (ComparisonOf Written)) (rules : List (RuleOf Written)) (first : Written) → is_expression value ≡ true
+    → (rest : List Token) (end : State Written) → Goes writings (next_rule (parts.ActionRule kind) (rules ++ record { conditions = conditions; action_rule = record { kind = kind; value = value } } ∷ []) first) rest end
+    → Goes writings (wants (parts.ActionRule kind) nothing conditions rules first) (expression_tokens value ++ tokens.Symbol symbols.Semicolon ∷ rest) end
+action_rule_read kind value conditions rules first is rest end goes =
+    whole_then (parts.ActionRule kind) nothing conditions rules first value (tokens.Symbol symbols.Semicolon)
+    (λ here. next_rule (parts.ActionRule kind) (rules ++ record { conditions = conditions; action_rule = record { kind = kind; value = here } } ∷ []) first)
     (λ sum operands. refl) is (not_first value) rest end goes
 
 regroup : (conditions more value rest : List Token) (word kind semicolon : Token)
@@ -401,19 +401,19 @@ regroup : (conditions more value rest : List Token) (word kind semicolon : Token
 regroup conditions more value rest word kind semicolon = simp append_assoc
 
 -- one rule, by its conditions
-rule_by : (part : Part) (conditions : List (ComparisonOf Written)) (command : CommandOf Written) (rules : List (RuleOf Written)) (first : Written) → is_rule (record { conditions = conditions; command = command }) ≡ true → length rules < 32
-    → (rest : List Token) (end : State Written) → Goes writings (next_rule (parts.Command command.kind) (rules ++ record { conditions = conditions; command = command } ∷ []) first) rest end
-    → Goes writings (next_rule part rules first) (rule_tokens (record { conditions = conditions; command = command }) ++ rest) end
-rule_by part [] command rules first is room rest end goes = absurd (let never : false ≡ true = is in cc)
-rule_by part (comparison ∷ more) command rules first is room rest end goes =
+rule_by : (part : Part) (conditions : List (ComparisonOf Written)) (action_rule : ActionRuleOf Written) (rules : List (RuleOf Written)) (first : Written) → is_rule (record { conditions = conditions; action_rule = action_rule }) ≡ true → length rules < 32
+    → (rest : List Token) (end : State Written) → Goes writings (next_rule (parts.ActionRule action_rule.kind) (rules ++ record { conditions = conditions; action_rule = action_rule } ∷ []) first) rest end
+    → Goes writings (next_rule part rules first) (rule_tokens (record { conditions = conditions; action_rule = action_rule }) ++ rest) end
+rule_by part [] action_rule rules first is room rest end goes = absurd (let never : false ≡ true = is in cc)
+rule_by part (comparison ∷ more) action_rule rules first is room rest end goes =
     let all = comparison ∷ more in
-    let counted = and_parts (leb 1 (length all) && leb (length all) 8 && list_all is_comparison all) (is_expression command.value) is in
+    let counted = and_parts (leb 1 (length all) && leb (length all) 8 && list_all is_comparison all) (is_expression action_rule.value) is in
     let few = and_parts (leb 1 (length all) && leb (length all) 8) (list_all is_comparison all) counted.0 in
     let most : suc (length more) ≤ 8 = leb-true (length all) 8 (and_parts (leb 1 (length all)) (leb (length all) 8) few.0).1 in
-    let after = command_read command.kind command.value all rules first counted.1 rest end goes in
-    let read = conditions_read [] comparison more rules first nothing command.kind few.1 (omega (arith, most)) (expression_tokens command.value ++ tokens.Symbol symbols.Semicolon ∷ rest) end after in
+    let after = action_rule_read action_rule.kind action_rule.value all rules first counted.1 rest end goes in
+    let read = conditions_read [] comparison more rules first nothing action_rule.kind few.1 (omega (arith, most)) (expression_tokens action_rule.value ++ tokens.Symbol symbols.Semicolon ∷ rest) end after in
     subst (λ text. Goes writings (next_rule part rules first) text end)
-    (sym (regroup (comparison_tokens comparison) (conditions_tokens words.And more) (expression_tokens command.value) rest (tokens.Word words.When) (tokens.Word (kind_word command.kind)) (tokens.Symbol symbols.Semicolon)))
+    (sym (regroup (comparison_tokens comparison) (conditions_tokens words.And more) (expression_tokens action_rule.value) rest (tokens.Word words.When) (tokens.Word (kind_word action_rule.kind)) (tokens.Symbol symbols.Semicolon)))
     (wants parts.Left nothing [] rules first, rw (lt-ltb (length rules) 32 room) refl, read)
 
 -- all rules, whichever part was the last
@@ -425,10 +425,10 @@ rules_read part before (rule ∷ more) first is few rest end goes =
     let both = and_parts (is_rule rule) (list_all is_rule more) is in
     let fewer : length before + suc (length more) ≤ 32 = few in
     let moved : before ++ rule ∷ more ≡ (before ++ rule ∷ []) ++ more = sym (append_assoc before (rule ∷ []) more) in
-    let again = rules_read (parts.Command rule.command.kind) (before ++ rule ∷ []) more first both.1 (omega (arith, fewer, length-append before (rule ∷ []))) rest end
+    let again = rules_read (parts.ActionRule rule.action_rule.kind) (before ++ rule ∷ []) more first both.1 (omega (arith, fewer, length-append before (rule ∷ []))) rest end
     (λ part. subst (λ rules. Goes writings (next_rule part rules first) rest end) moved (goes part)) in
     subst (λ text. Goes writings (next_rule part before first) text end) (sym (append_assoc (rule_tokens rule) (flat_map rule_tokens more) rest))
-    (rule_by part rule.conditions rule.command before first both.0 (omega (arith, fewer)) (flat_map rule_tokens more ++ rest) end again)
+    (rule_by part rule.conditions rule.action_rule before first both.0 (omega (arith, fewer)) (flat_map rule_tokens more ++ rest) end again)
 
 -- ---- whole texts
 
@@ -453,11 +453,11 @@ tree_reads tree formed =
     let end = place (parts.Last kind) nothing [] tree.rules tree.first next.End last.sum last.operands in
     let value_goes = goes_on writings (wants (parts.Last kind) nothing [] tree.rules tree.first) (place (parts.Last kind) nothing [] tree.rules tree.first next.Operator last.sum last.operands) end
     (expression_tokens tree.last.value) (semicolon ∷ []) last.goes (end, refl, refl) in
-    let else_goes : (part : Part) → Goes writings (next_rule part tree.rules tree.first) (tokens.Word words.Else ∷ command_tokens tree.last) end =
+    let else_goes : (part : Part) → Goes writings (next_rule part tree.rules tree.first) (tokens.Word words.Else ∷ action_rule_tokens tree.last) end =
     λ part. (place part nothing [] tree.rules tree.first next.Last None [], refl, (wants (parts.Last kind) nothing [] tree.rules tree.first, last_taken kind part tree.rules tree.first, value_goes)) in
-    let rules_go = rules_read parts.First [] tree.rules tree.first formed.rules (omega (arith, formed.most_rules)) (tokens.Word words.Else ∷ command_tokens tree.last) end else_goes in
+    let rules_go = rules_read parts.First [] tree.rules tree.first formed.rules (omega (arith, formed.most_rules)) (tokens.Word words.Else ∷ action_rule_tokens tree.last) end else_goes in
     let first_goes = whole_then parts.First nothing [] [] nothing tree.first semicolon (λ value. next_rule parts.First [] value) (λ sum operands. refl) formed.first (λ first. formed.no_view_in_first)
-    (flat_map rule_tokens tree.rules ++ tokens.Word words.Else ∷ command_tokens tree.last) end rules_go in
+    (flat_map rule_tokens tree.rules ++ tokens.Word words.Else ∷ action_rule_tokens tree.last) end rules_go in
     record {
       end = end;
       goes = (wants parts.First nothing [] [] nothing, refl, first_goes);

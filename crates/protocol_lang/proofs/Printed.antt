@@ -7,9 +7,9 @@ use Rattle.std.proofs.lemmas.List.{append-nil, length-append, length-map}
 use Rattle.std.proofs.lemmas.Fmt.{decimal_nonempty}
 use Rattle.protocol_lang.specs.Numbers.{greatest, is_digit}
 use Rattle.protocol_lang.specs.Tokens.{is_blank, is_letter, word_spelling, symbol_spelling}
-use Rattle.protocol_lang.specs.Trees.{Expression, ComparisonOf, CommandOf, RuleOf, TreeOf, Tree}
-use Rattle.protocol_lang.specs.Grammar.{Written, Number, Named, Calling, Operating, Group, expression_of, word_for, call_word, operator_symbol, comparator_symbol, kind_word, enclosed_tokens, expression_tokens, conditions_tokens, command_tokens, rule_tokens, tree_tokens, is_formed, depth_of, is_expression, is_comparison, is_rule, IsFormed, comparison_of, command_of, rule_of, tree_of, IsSpelled, goes_on, EndsBefore, Spells, IsText}
-use Rattle.protocol_lang.specs.Printing.{grouped_unless, on_left, on_right, shortest, shortest_comparison, shortest_command, shortest_rule, shortest_tree, is_word, spelling, gap, spelled_behind, printed}
+use Rattle.protocol_lang.specs.Trees.{Expression, ComparisonOf, ActionRuleOf, RuleOf, TreeOf, Tree}
+use Rattle.protocol_lang.specs.Grammar.{Written, Number, Named, Calling, Operating, Group, expression_of, word_for, call_word, operator_symbol, comparator_symbol, kind_word, enclosed_tokens, expression_tokens, conditions_tokens, action_rule_tokens, rule_tokens, tree_tokens, is_formed, depth_of, is_expression, is_comparison, is_rule, IsFormed, comparison_of, action_rule_of, rule_of, tree_of, IsSpelled, goes_on, EndsBefore, Spells, IsText}
+use Rattle.protocol_lang.specs.Printing.{grouped_unless, on_left, on_right, shortest, shortest_comparison, shortest_action_rule, shortest_rule, shortest_tree, is_word, spelling, gap, spelled_behind, printed}
 use Rattle.protocol_lang.specs.declared.token.Word.{Word}
 use Rattle.protocol_lang.specs.declared.token.Word.TheVariants as words
 use Rattle.protocol_lang.specs.declared.token.Symbol.{Symbol}
@@ -403,18 +403,18 @@ expression_before token w printing other is plain p = record {
 
 -- ---- rules
 
-command_first : (kind : Word) (value rest : List Token) → (tokens.Word kind ∷ (value ++ tokens.Symbol symbols.Semicolon ∷ [])) ++ rest ≡ tokens.Word kind ∷ (value ++ tokens.Symbol symbols.Semicolon ∷ rest)
-command_first kind value rest = ap (λ all. tokens.Word kind ∷ all) (append_assoc value (tokens.Symbol symbols.Semicolon ∷ []) rest)
+action_rule_first : (kind : Word) (value rest : List Token) → (tokens.Word kind ∷ (value ++ tokens.Symbol symbols.Semicolon ∷ [])) ++ rest ≡ tokens.Word kind ∷ (value ++ tokens.Symbol symbols.Semicolon ∷ rest)
+action_rule_first kind value rest = ap (λ all. tokens.Word kind ∷ all) (append_assoc value (tokens.Symbol symbols.Semicolon ∷ []) rest)
 
-command_before : (command : CommandOf Written) (printing other : List Token) → is_expression command.value ≡ true → meets (tokens.Symbol symbols.Semicolon) printing ≡ true → Printable printing other
-    → Printable (command_tokens (shortest_command (command_of command)) ++ printing) (command_tokens command ++ other)
-command_before command printing other is apart p =
-    let kind = kind_word command.kind in
+action_rule_before : (action_rule : ActionRuleOf Written) (printing other : List Token) → is_expression action_rule.value ≡ true → meets (tokens.Symbol symbols.Semicolon) printing ≡ true → Printable printing other
+    → Printable (action_rule_tokens (shortest_action_rule (action_rule_of action_rule)) ++ printing) (action_rule_tokens action_rule ++ other)
+action_rule_before action_rule printing other is apart p =
+    let kind = kind_word action_rule.kind in
     let semicolon = tokens.Symbol symbols.Semicolon in
-    let s = expression_tokens (shortest (expression_of command.value)) in
-    let w = expression_tokens command.value in
-    moved _ _ (tokens.Word kind ∷ (s ++ semicolon ∷ printing)) (tokens.Word kind ∷ (w ++ semicolon ∷ other)) (command_first kind s printing) (command_first kind w other)
-    (expression_before (tokens.Word kind) command.value (semicolon ∷ printing) (semicolon ∷ other) is refl (token_before semicolon printing other refl apart p))
+    let s = expression_tokens (shortest (expression_of action_rule.value)) in
+    let w = expression_tokens action_rule.value in
+    moved _ _ (tokens.Word kind ∷ (s ++ semicolon ∷ printing)) (tokens.Word kind ∷ (w ++ semicolon ∷ other)) (action_rule_first kind s printing) (action_rule_first kind w other)
+    (expression_before (tokens.Word kind) action_rule.value (semicolon ∷ printing) (semicolon ∷ other) is refl (token_before semicolon printing other refl apart p))
 
 spread : (left right more rest : List Token) (token : Token) → ((left ++ token ∷ right) ++ more) ++ rest ≡ left ++ token ∷ (right ++ (more ++ rest))
 spread left right more rest token = append_assoc (left ++ token ∷ right) more rest ∙ append_assoc left (token ∷ right) (more ++ rest)
@@ -444,7 +444,7 @@ conditions_begin word (c ∷ more) rest first = refl
 
 rule_begins : (rule : RuleOf Written) (rest : List Token) → begins (rule_tokens rule ++ rest) ≡ true
 rule_begins rule rest =
-    subst (λ all. begins all ≡ true) (sym (append_assoc (conditions_tokens words.When rule.conditions) (command_tokens rule.command) rest)) (conditions_begin words.When rule.conditions (command_tokens rule.command ++ rest) refl)
+    subst (λ all. begins all ≡ true) (sym (append_assoc (conditions_tokens words.When rule.conditions) (action_rule_tokens rule.action_rule) rest)) (conditions_begin words.When rule.conditions (action_rule_tokens rule.action_rule ++ rest) refl)
 
 rules_begin : (rules : List (RuleOf Written)) (rest : List Token) → begins rest ≡ true → begins (flat_map rule_tokens rules ++ rest) ≡ true
 rules_begin [] rest first = first
@@ -454,9 +454,9 @@ rules_begin (rule ∷ rules) rest first =
 abbrev printing_rules : List (RuleOf Written) → List (RuleOf Written)
 printing_rules rules = map shortest_rule (map rule_of rules)
 
-rule_parts : (rule : RuleOf Written) → is_rule rule ≡ true → (list_all is_comparison rule.conditions ≡ true) × (is_expression rule.command.value ≡ true) × (leb 1 (length rule.conditions) && leb (length rule.conditions) 8 ≡ true)
+rule_parts : (rule : RuleOf Written) → is_rule rule ≡ true → (list_all is_comparison rule.conditions ≡ true) × (is_expression rule.action_rule.value ≡ true) × (leb 1 (length rule.conditions) && leb (length rule.conditions) 8 ≡ true)
 rule_parts rule is =
-    let counted = and_parts (leb 1 (length rule.conditions) && leb (length rule.conditions) 8 && list_all is_comparison rule.conditions) (is_expression rule.command.value) is in
+    let counted = and_parts (leb 1 (length rule.conditions) && leb (length rule.conditions) 8 && list_all is_comparison rule.conditions) (is_expression rule.action_rule.value) is in
     let few = and_parts (leb 1 (length rule.conditions) && leb (length rule.conditions) 8) (list_all is_comparison rule.conditions) counted.0 in
     (few.1, counted.1, few.0)
 
@@ -470,25 +470,25 @@ rules_before (rule ∷ rules) printing other is first p =
     let rest' = flat_map rule_tokens rules ++ other in
     let behind = rules_before rules printing other parts.1 first p in
     let s = shortest_rule (rule_of rule) in
-    let command = command_before rule.command rest rest' one.1 (semicolon_meets rest (rules_begin (printing_rules rules) printing first)) behind in
-    let conditions = conditions_before words.When rule.conditions (command_tokens s.command ++ rest) (command_tokens rule.command ++ rest') one.0 command in
-    moved _ _ (conditions_tokens words.When s.conditions ++ (command_tokens s.command ++ rest)) (conditions_tokens words.When rule.conditions ++ (command_tokens rule.command ++ rest'))
-    (append_assoc (rule_tokens s) (flat_map rule_tokens (printing_rules rules)) printing ∙ append_assoc (conditions_tokens words.When s.conditions) (command_tokens s.command) rest)
-    (append_assoc (rule_tokens rule) (flat_map rule_tokens rules) other ∙ append_assoc (conditions_tokens words.When rule.conditions) (command_tokens rule.command) rest') conditions
+    let action_rule = action_rule_before rule.action_rule rest rest' one.1 (semicolon_meets rest (rules_begin (printing_rules rules) printing first)) behind in
+    let conditions = conditions_before words.When rule.conditions (action_rule_tokens s.action_rule ++ rest) (action_rule_tokens rule.action_rule ++ rest') one.0 action_rule in
+    moved _ _ (conditions_tokens words.When s.conditions ++ (action_rule_tokens s.action_rule ++ rest)) (conditions_tokens words.When rule.conditions ++ (action_rule_tokens rule.action_rule ++ rest'))
+    (append_assoc (rule_tokens s) (flat_map rule_tokens (printing_rules rules)) printing ∙ append_assoc (conditions_tokens words.When s.conditions) (action_rule_tokens s.action_rule) rest)
+    (append_assoc (rule_tokens rule) (flat_map rule_tokens rules) other ∙ append_assoc (conditions_tokens words.When rule.conditions) (action_rule_tokens rule.action_rule) rest') conditions
 
 -- ---- whole texts
 
-last_before : (command : CommandOf Written) → is_expression command.value ≡ true → Printable (command_tokens (shortest_command (command_of command))) (command_tokens command)
-last_before command is =
-    moved _ _ (command_tokens (shortest_command (command_of command)) ++ []) (command_tokens command ++ []) (sym (append-nil (command_tokens (shortest_command (command_of command))))) (sym (append-nil (command_tokens command)))
-    (command_before command [] [] is refl nothing)
+last_before : (action_rule : ActionRuleOf Written) → is_expression action_rule.value ≡ true → Printable (action_rule_tokens (shortest_action_rule (action_rule_of action_rule))) (action_rule_tokens action_rule)
+last_before action_rule is =
+    moved _ _ (action_rule_tokens (shortest_action_rule (action_rule_of action_rule)) ++ []) (action_rule_tokens action_rule ++ []) (sym (append-nil (action_rule_tokens (shortest_action_rule (action_rule_of action_rule))))) (sym (append-nil (action_rule_tokens action_rule)))
+    (action_rule_before action_rule [] [] is refl nothing)
 
 tree_printable : (tree : TreeOf Written) → IsFormed tree → Printable (tree_tokens (shortest_tree (tree_of tree))) (tree_tokens tree)
 tree_printable tree formed =
     let semicolon = tokens.Symbol symbols.Semicolon in
-    let last = tokens.Word words.Else ∷ command_tokens (shortest_command (command_of tree.last)) in
-    let last' = tokens.Word words.Else ∷ command_tokens tree.last in
-    let rules = rules_before tree.rules last last' formed.rules refl (word_before words.Else (command_tokens (shortest_command (command_of tree.last))) (command_tokens tree.last) (last_before tree.last formed.last)) in
+    let last = tokens.Word words.Else ∷ action_rule_tokens (shortest_action_rule (action_rule_of tree.last)) in
+    let last' = tokens.Word words.Else ∷ action_rule_tokens tree.last in
+    let rules = rules_before tree.rules last last' formed.rules refl (word_before words.Else (action_rule_tokens (shortest_action_rule (action_rule_of tree.last))) (action_rule_tokens tree.last) (last_before tree.last formed.last)) in
     let rest = flat_map rule_tokens (printing_rules tree.rules) ++ last in
     let rest' = flat_map rule_tokens tree.rules ++ last' in
     expression_before (tokens.Word words.First) tree.first (semicolon ∷ rest) (semicolon ∷ rest') formed.first refl
@@ -501,8 +501,8 @@ comparison_says c =
     ap (λ left. record { left = left; comparator = c.comparator; right = expression_of (shortest c.right) }) (shortest_says c.left)
     ∙ ap (λ right. record { left = c.left; comparator = c.comparator; right = right }) (shortest_says c.right)
 
-command_says : (c : CommandOf Expression) → command_of (shortest_command c) ≡ c
-command_says c = ap (λ value. record { kind = c.kind; value = value }) (shortest_says c.value)
+action_rule_says : (c : ActionRuleOf Expression) → action_rule_of (shortest_action_rule c) ≡ c
+action_rule_says c = ap (λ value. record { kind = c.kind; value = value }) (shortest_says c.value)
 
 conditions_say : (cs : List (ComparisonOf Expression)) → map comparison_of (map shortest_comparison cs) ≡ cs
 conditions_say [] = refl
@@ -510,8 +510,8 @@ conditions_say (c ∷ cs) = ap (λ x. x ∷ map comparison_of (map shortest_comp
 
 rule_says : (r : RuleOf Expression) → rule_of (shortest_rule r) ≡ r
 rule_says r =
-    ap (λ conditions. record { conditions = conditions; command = command_of (shortest_command r.command) }) (conditions_say r.conditions)
-    ∙ ap (λ command. record { conditions = r.conditions; command = command }) (command_says r.command)
+    ap (λ conditions. record { conditions = conditions; action_rule = action_rule_of (shortest_action_rule r.action_rule) }) (conditions_say r.conditions)
+    ∙ ap (λ action_rule. record { conditions = r.conditions; action_rule = action_rule }) (action_rule_says r.action_rule)
 
 rules_say : (rs : List (RuleOf Expression)) → map rule_of (map shortest_rule rs) ≡ rs
 rules_say [] = refl
@@ -519,9 +519,9 @@ rules_say (r ∷ rs) = ap (λ x. x ∷ map rule_of (map shortest_rule rs)) (rule
 
 tree_says : (tree : Tree) → tree_of (shortest_tree tree) ≡ tree
 tree_says tree =
-    ap (λ first. record { first = first; rules = map rule_of (map shortest_rule tree.rules); last = command_of (shortest_command tree.last) }) (shortest_says tree.first)
-    ∙ ap (λ rules. record { first = tree.first; rules = rules; last = command_of (shortest_command tree.last) }) (rules_say tree.rules)
-    ∙ ap (λ last. record { first = tree.first; rules = tree.rules; last = last }) (command_says tree.last)
+    ap (λ first. record { first = first; rules = map rule_of (map shortest_rule tree.rules); last = action_rule_of (shortest_action_rule tree.last) }) (shortest_says tree.first)
+    ∙ ap (λ rules. record { first = tree.first; rules = rules; last = action_rule_of (shortest_action_rule tree.last) }) (rules_say tree.rules)
+    ∙ ap (λ last. record { first = tree.first; rules = tree.rules; last = last }) (action_rule_says tree.last)
 
 -- ---- and keeps to the grammar
 
@@ -539,7 +539,7 @@ rule_formed : (r : RuleOf Written) → is_rule r ≡ true → is_rule (shortest_
 rule_formed r is =
     let parts = rule_parts r is in
     let count = subst (λ n. leb 1 n && leb n 8 ≡ true) (sym (as_many r.conditions)) parts.2 in
-    and_from _ _ (and_from _ _ count (conditions_formed r.conditions parts.0)) (shortest_expression r.command.value parts.1)
+    and_from _ _ (and_from _ _ count (conditions_formed r.conditions parts.0)) (shortest_expression r.action_rule.value parts.1)
 
 rules_formed : (rs : List (RuleOf Written)) → list_all is_rule rs ≡ true → list_all is_rule (printing_rules rs) ≡ true
 rules_formed [] is = refl

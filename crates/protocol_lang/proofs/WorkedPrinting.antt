@@ -9,18 +9,18 @@ use Rattle.protocol_lang.specs.declared.tree.Operator.TheVariants.{Add, Subtract
 use Rattle.protocol_lang.specs.declared.tree.Comparator.TheVariants.{Equal, GreaterOrEqual}
 use Rattle.protocol_lang.specs.declared.tree.Kind.TheVariants.{Write, Decide}
 
-abbrev two_commands : Tree
-two_commands = record { first = Named Input; rules = []; last = record { kind = Decide; value = Named Min } }
+abbrev two_action_rules : Tree
+two_action_rules = record { first = Named Input; rules = []; last = record { kind = Decide; value = Named Min } }
 
-two_commands_printed : printed two_commands ≡ codes "first input;else decide min;"
-two_commands_printed = refl
+two_action_rules_printed : printed two_action_rules ≡ codes "first input;else decide min;"
+two_action_rules_printed = refl
 
 abbrev whole : Tree
 whole = record {
   first = Operating Subtract (Operating Multiply (Operating Add (Named Input) (Number 1)) (Number 2)) (Operating Subtract (Number 3) (Named Id));
   rules = record {
     conditions = record { left = Named Count; comparator = GreaterOrEqual; right = Operating Subtract (Named N) (Number 1) } ∷ record { left = Named Mine; comparator = Equal; right = Number 0 } ∷ [];
-    command = record { kind = Decide; value = Named Min };
+    action_rule = record { kind = Decide; value = Named Min };
   } ∷ [];
   last = record { kind = Write; value = Named Mine };
 }

@@ -1,17 +1,18 @@
 -- The grammar of the language, apart from how a text is read.
-use Rattle.std.specs.Prelude.{◌≡◌, ℕ, suc, ◌+◌, ◌≤◌, Bool, true, false, not, ◌&&◌, max, List, [], ◌∷◌, ◌++◌, length, take, drop, map, Option, Some, None, IfSome, Err, nat_le, ◌==◌, if◌then◌else◌}
-use Rattle.std.specs.List.{flat_map, list_all}
+use Rattle.std.specs.Prelude.{◌≡◌, ℕ, suc, ◌+◌, ◌≤◌, Bool, true, false, not, ◌&&◌, max, List, [], ◌∷◌, ◌++◌, length, take, drop, map, Option, Some, None, IfSome, Ok, Err, nat_le, ◌==◌, if◌then◌else◌}
+use Rattle.std.specs.List.{count_by, flat_map, list_all}
 use Rattle.std.specs.Fmt.{decimal}
 use Rattle.protocol_lang.specs.Numbers.{greatest, is_digit}
 use Rattle.protocol_lang.specs.Tokens.{is_blank, is_letter, word_spelling, symbol_spelling, reads_view}
 use Rattle.protocol_lang.specs.Trees as trees
-use Rattle.protocol_lang.specs.Trees.{Expression, is_sum, ComparisonOf, CommandOf, RuleOf, TreeOf, Tree}
-use Rattle.protocol_lang.specs.Reading.{extent_of, reading}
+use Rattle.protocol_lang.specs.Trees.{Expression, is_sum, ComparisonOf, ActionRuleOf, RuleOf, TreeOf, Tree}
+use Rattle.protocol_lang.specs.Reading.{extent_of, next_token, reading}
 use Rattle.protocol_lang.specs.declared.token.Word.{Word}
 use Rattle.protocol_lang.specs.declared.token.Word.TheVariants as words
 use Rattle.protocol_lang.specs.declared.token.Symbol.{Symbol}
 use Rattle.protocol_lang.specs.declared.token.Symbol.TheVariants as symbols
 use Rattle.protocol_lang.specs.declared.token.Token.{Token}
+use Rattle.protocol_lang.specs.declared.lexer.Placed.{Placed}
 use Rattle.protocol_lang.specs.declared.token.Token.TheVariants as tokens
 use Rattle.protocol_lang.specs.declared.fault.ParseFault.{ParseFault}
 use Rattle.protocol_lang.specs.declared.fault.ParseFault.TheVariants.{TooLong, BadToken, Unexpected, TooDeep, TooManyRules, ViewInFirst, NumberTooLarge, OutOfMemory}
@@ -138,22 +139,22 @@ abbrev pub conditions_tokens : Word → List (ComparisonOf Written) → List Tok
 conditions_tokens word [] = []
 conditions_tokens word (comparison ∷ more) = tokens.Word word ∷ (comparison_tokens comparison ++ conditions_tokens words.And more)
 
-abbrev pub command_tokens : CommandOf Written → List Token
-command_tokens command = tokens.Word (kind_word command.kind) ∷ (expression_tokens command.value ++ tokens.Symbol symbols.Semicolon ∷ [])
+abbrev pub action_rule_tokens : ActionRuleOf Written → List Token
+action_rule_tokens action_rule = tokens.Word (kind_word action_rule.kind) ∷ (expression_tokens action_rule.value ++ tokens.Symbol symbols.Semicolon ∷ [])
 
 abbrev pub rule_tokens : RuleOf Written → List Token
-rule_tokens rule = conditions_tokens words.When rule.conditions ++ command_tokens rule.command
+rule_tokens rule = conditions_tokens words.When rule.conditions ++ action_rule_tokens rule.action_rule
 
 -- "first" E ";" { "when" C action ";" } "else" action ";"
 abbrev pub tree_tokens : TreeOf Written → List Token
 tree_tokens tree =
-    tokens.Word words.First ∷ (expression_tokens tree.first ++ tokens.Symbol symbols.Semicolon ∷ (flat_map rule_tokens tree.rules ++ tokens.Word words.Else ∷ command_tokens tree.last))
+    tokens.Word words.First ∷ (expression_tokens tree.first ++ tokens.Symbol symbols.Semicolon ∷ (flat_map rule_tokens tree.rules ++ tokens.Word words.Else ∷ action_rule_tokens tree.last))
 
 abbrev pub is_comparison : ComparisonOf Written → Bool
 is_comparison comparison = is_expression comparison.left && is_expression comparison.right
 
 abbrev pub is_rule : RuleOf Written → Bool
-is_rule rule = nat_le 1 (length rule.conditions) && nat_le (length rule.conditions) 8 && list_all is_comparison rule.conditions && is_expression rule.command.value
+is_rule rule = nat_le 1 (length rule.conditions) && nat_le (length rule.conditions) 8 && list_all is_comparison rule.conditions && is_expression rule.action_rule.value
 
 -- the text keeps to the grammar and to its limits
 pub record IsFormed (tree : TreeOf Written) : Type 0 where
@@ -167,14 +168,14 @@ pub record IsFormed (tree : TreeOf Written) : Type 0 where
 abbrev pub comparison_of : ComparisonOf Written → ComparisonOf Expression
 comparison_of comparison = record { left = expression_of comparison.left; comparator = comparison.comparator; right = expression_of comparison.right }
 
-abbrev pub command_of : CommandOf Written → CommandOf Expression
-command_of command = record { kind = command.kind; value = expression_of command.value }
+abbrev pub action_rule_of : ActionRuleOf Written → ActionRuleOf Expression
+action_rule_of action_rule = record { kind = action_rule.kind; value = expression_of action_rule.value }
 
 abbrev pub rule_of : RuleOf Written → RuleOf Expression
-rule_of rule = record { conditions = map comparison_of rule.conditions; command = command_of rule.command }
+rule_of rule = record { conditions = map comparison_of rule.conditions; action_rule = action_rule_of rule.action_rule }
 
 abbrev pub tree_of : TreeOf Written → Tree
-tree_of tree = record { first = expression_of tree.first; rules = map rule_of tree.rules; last = command_of tree.last }
+tree_of tree = record { first = expression_of tree.first; rules = map rule_of tree.rules; last = action_rule_of tree.last }
 
 -- ---- the bytes of tokens
 
@@ -232,6 +233,31 @@ pub record SameThrough (text other : List ℕ) (at : ℕ) : Type 0 where
   pub bytes : take (at + extent_of (drop at text)) other ≡ take (at + extent_of (drop at text)) text
   pub token_end : extent_of (drop at other) ≡ extent_of (drop at text)
 
--- the fault rests on the bytes up to the end of its token alone
+-- the fault rests on the bytes up to the end of the token at this place alone
+abbrev pub RestsOn : List ℕ → ℕ → ParseFault → Type 0
+RestsOn text at fault = (other : List ℕ) → SameThrough text other at → reading other ≡ Err fault
+
+-- these are the text's tokens from the one place up to the other
+abbrev pub AreTokens : List ℕ → ℕ → List Token → ℕ → Type 0
+AreTokens text from [] to = from ≡ to
+AreTokens text from (token ∷ more) to = (read : Placed) × (next_token text from ≡ Ok read) × (read.token ≡ token) × AreTokens text read.end more to
+
+abbrev pub is_when : Token → Bool
+is_when (tokens.Word words.When) = true
+is_when token = false
+
+-- the token at this place is the text's 33rd `when`
+pub record IsRuleTooMany (text : List ℕ) (at : ℕ) : Type 0 where
+  pub before : List Token
+  pub from : ℕ
+  pub tokens : AreTokens text 0 before from
+  pub rules : count_by is_when before ≡ 32
+  pub read : Placed
+  pub token : next_token text from ≡ Ok read
+  pub when : is_when read.token ≡ true
+  pub place : read.at ≡ at
+
+-- the fault rests on the bytes up to the end of its token alone; TooManyRules is that of the 33rd `when`
 abbrev pub IsLocal : List ℕ → ParseFault → Type 0
-IsLocal text fault = IfSome (place_of fault) (λ at. (other : List ℕ) → SameThrough text other at → reading other ≡ Err fault)
+IsLocal text TooManyRules = (at : ℕ) × IsRuleTooMany text at × RestsOn text at TooManyRules
+IsLocal text fault = IfSome (place_of fault) (λ at. RestsOn text at fault)

@@ -18,7 +18,7 @@ abbrev pub is_small_comparison : ComparisonOf Expression → Bool
 is_small_comparison comparison = is_small comparison.left && is_small comparison.right
 
 abbrev pub is_small_rule : RuleOf Expression → Bool
-is_small_rule rule = list_all is_small_comparison rule.conditions && is_small rule.command.value
+is_small_rule rule = list_all is_small_comparison rule.conditions && is_small rule.action_rule.value
 
 -- each numeral of the tree is at most the greatest value
 pub record HasSmallNumerals (tree : Tree) : Type 0 where

@@ -3,7 +3,7 @@ use Rattle.std.specs.Prelude.{ℕ, Bool, true, false, not, ◌&&◌, ◌||◌, L
 use Rattle.std.specs.Fmt.{decimal}
 use Rattle.protocol_lang.specs.Tokens.{word_spelling, symbol_spelling}
 use Rattle.protocol_lang.specs.Trees as trees
-use Rattle.protocol_lang.specs.Trees.{Expression, is_sum, ComparisonOf, CommandOf, RuleOf, TreeOf, Tree}
+use Rattle.protocol_lang.specs.Trees.{Expression, is_sum, ComparisonOf, ActionRuleOf, RuleOf, TreeOf, Tree}
 use Rattle.protocol_lang.specs.Formulas.{Operands}
 use Rattle.protocol_lang.specs.Grammar.{Written, Number, Named, Calling, Operating, Group, is_term, is_factor, word_for, call_word, operator_symbol, enclosed_tokens, tree_tokens}
 use Rattle.protocol_lang.specs.declared.token.Token.{Token}
@@ -39,14 +39,14 @@ shortest (trees.Operating operator left right) = Operating operator (on_left ope
 abbrev pub shortest_comparison : ComparisonOf Expression → ComparisonOf Written
 shortest_comparison comparison = record { left = shortest comparison.left; comparator = comparison.comparator; right = shortest comparison.right }
 
-abbrev pub shortest_command : CommandOf Expression → CommandOf Written
-shortest_command command = record { kind = command.kind; value = shortest command.value }
+abbrev pub shortest_action_rule : ActionRuleOf Expression → ActionRuleOf Written
+shortest_action_rule action_rule = record { kind = action_rule.kind; value = shortest action_rule.value }
 
 abbrev pub shortest_rule : RuleOf Expression → RuleOf Written
-shortest_rule rule = record { conditions = map shortest_comparison rule.conditions; command = shortest_command rule.command }
+shortest_rule rule = record { conditions = map shortest_comparison rule.conditions; action_rule = shortest_action_rule rule.action_rule }
 
 abbrev pub shortest_tree : Tree → TreeOf Written
-shortest_tree tree = record { first = shortest tree.first; rules = map shortest_rule tree.rules; last = shortest_command tree.last }
+shortest_tree tree = record { first = shortest tree.first; rules = map shortest_rule tree.rules; last = shortest_action_rule tree.last }
 
 -- ---- the bytes
 

@@ -1,10 +1,10 @@
 -- How a text is read: token by token from the left, up to the first fault.
-use Rattle.std.specs.Prelude.{◌≡◌, ℕ, zero, suc, ◌+◌, ◌≤◌, Bool, true, false, ⊤, List, [], ◌∷◌, ◌++◌, length, drop, Option, Some, None, Result, Ok, Err, nat_le, nat_lt, if◌then◌else◌}
+use Rattle.std.specs.Prelude.{◌≡◌, ℕ, zero, suc, ◌+◌, ◌≤◌, Bool, true, false, ⊤, List, [], ◌∷◌, ◌++◌, length, drop, Option, Some, None, Result, Ok, Err, IsOk, nat_le, nat_lt, if◌then◌else◌}
 use Rattle.std.specs.List.{prefix_len, take_while}
 use Rattle.protocol_lang.specs.Numbers.{greatest, is_digit, number_of}
 use Rattle.protocol_lang.specs.Tokens.{is_blank, is_letter, word_of, symbol_spelling, symbol_of, name_of, call_of, operator_of, comparator_of, kind_of, is_end, reads_view}
 use Rattle.protocol_lang.specs.Stacks.{pushed}
-use Rattle.protocol_lang.specs.Trees.{is_sum, ComparisonOf, RuleOf, TreeOf, Tree}
+use Rattle.protocol_lang.specs.Trees.{Expression, is_sum, ComparisonOf, RuleOf, TreeOf, Tree}
 use Rattle.protocol_lang.specs.Formulas.{Operands, trees, most_waiting, with_operator, after, last_of}
 use Rattle.protocol_lang.specs.declared.token.Word.{Word}
 use Rattle.protocol_lang.specs.declared.token.Word.TheVariants as words
@@ -186,14 +186,14 @@ abbrev pub compared_with : {A : Type 0} → Operands A → Comparator → Part �
 compared_with made comparator part s = record (cleared s) { expected = next.Operand; part = part; left = last_of made []; conditions = s.conditions ++ record { left = s.left; comparator = comparator; right = value_read made s } ∷ [] }
 
 abbrev pub right_ended : {A : Type 0} → Operands A → Comparator → State A → Token → Option Kind → Result (State A) Refusal
-right_ended made comparator s token (Some kind) = Ok (compared_with made comparator (parts.Command kind) s)
+right_ended made comparator s token (Some kind) = Ok (compared_with made comparator (parts.ActionRule kind) s)
 right_ended made comparator s (tokens.Word words.And) None = if nat_lt (length s.conditions) 7 then Ok (compared_with made comparator parts.Left s) else Err refusals.Unexpected
 right_ended made comparator s token None = Err refusals.Unexpected
 
-abbrev pub command_ended : {A : Type 0} → Operands A → Kind → State A → Token → Result (State A) Refusal
-command_ended made kind s (tokens.Symbol symbols.Semicolon) =
-    Ok (record (cleared s) { expected = next.Rule; conditions = []; rules = s.rules ++ record { conditions = s.conditions; command = record { kind = kind; value = value_read made s } } ∷ [] })
-command_ended made kind s token = Err refusals.Unexpected
+abbrev pub action_rule_ended : {A : Type 0} → Operands A → Kind → State A → Token → Result (State A) Refusal
+action_rule_ended made kind s (tokens.Symbol symbols.Semicolon) =
+    Ok (record (cleared s) { expected = next.Rule; conditions = []; rules = s.rules ++ record { conditions = s.conditions; action_rule = record { kind = kind; value = value_read made s } } ∷ [] })
+action_rule_ended made kind s token = Err refusals.Unexpected
 
 abbrev pub last_ended : {A : Type 0} → State A → Token → Result (State A) Refusal
 last_ended s (tokens.Symbol symbols.Semicolon) = Ok (record s { expected = next.End })
@@ -203,7 +203,7 @@ abbrev pub ended : {A : Type 0} → Operands A → Part → State A → Token �
 ended made parts.First s token = first_ended made s token
 ended made parts.Left s token = left_ended made s (comparator_of token)
 ended made (parts.Right comparator) s token = right_ended made comparator s token (kind_of token)
-ended made (parts.Command kind) s token = command_ended made kind s token
+ended made (parts.ActionRule kind) s token = action_rule_ended made kind s token
 ended made (parts.Last kind) s token = last_ended s token
 
 abbrev pub in_outermost : {A : Type 0} → Operands A → State A → List Level → Token → Result (State A) Refusal
@@ -295,22 +295,35 @@ reading text = if nat_lt 4096 (length text) then Err TooLong else run trees most
 
 -- ---- what a function returned
 
--- a step ended so, or memory was refused
+-- a step ended so, or memory was refused to a token that has no fault
 abbrev pub Ends : {A : Type 0} → Result (State A) Refusal → Result ⊤ Refusal → State A → Type 0
 Ends wanted (Ok done) s = wanted ≡ Ok s
-Ends wanted (Err refusals.OutOfMemory) s = ⊤
+Ends wanted (Err refusals.OutOfMemory) s = IsOk wanted
 Ends wanted (Err refusal) s = wanted ≡ Err refusal
 
--- a token was taken so, or memory was refused
+-- a token was taken so, or memory was refused to one that has no fault
 abbrev pub Takes : {A : Type 0} → Result (State A × Option ℕ) ParseFault → Result (Option ℕ) ParseFault → State A → Type 0
 Takes wanted (Ok end) s = wanted ≡ Ok (s, end)
-Takes wanted (Err OutOfMemory) s = ⊤
+Takes wanted (Err OutOfMemory) s = IsOk wanted
 Takes wanted (Err fault) s = wanted ≡ Err fault
+
+-- reading comes to a place in this state, and no token before that place has a fault
+pub data Reaches (text : List ℕ) : ℕ → State Expression → Type 0 where
+  at_start : Reaches text 0 (opening trees)
+  one_further : (from end : ℕ) (s s' : State Expression) → Reaches text from s → one_token trees text from s ≡ Ok (s', Some end) → Reaches text end s'
+
+-- where memory may be refused: at a token that has no fault, behind others that have none
+pub record MayLackMemory (text : List ℕ) : Type 0 where
+  pub short : length text ≤ 4096
+  pub from : ℕ
+  pub state : State Expression
+  pub reached : Reaches text from state
+  pub taken : IsOk (one_token trees text from state)
 
 -- what the text says, or memory was refused
 abbrev pub IsReading : List ℕ → Result Tree ParseFault → Type 0
 IsReading text (Ok tree) = reading text ≡ Ok tree
-IsReading text (Err OutOfMemory) = length text ≤ 4096
+IsReading text (Err OutOfMemory) = MayLackMemory text
 IsReading text (Err fault) = reading text ≡ Err fault
 
 -- this tree was read, or memory was refused

@@ -29,20 +29,20 @@ pub record ComparisonOf (A : Type 0) : Type 0 where
   pub comparator : Comparator
   pub right : A
 
-pub record CommandOf (A : Type 0) : Type 0 where
+pub record ActionRuleOf (A : Type 0) : Type 0 where
   pub kind : Kind
   pub value : A
 
--- its command holds where all of its conditions do
+-- its action holds where all of its conditions do
 pub record RuleOf (A : Type 0) : Type 0 where
   pub conditions : List (ComparisonOf A)
-  pub command : CommandOf A
+  pub action_rule : ActionRuleOf A
 
--- the first value, the rules in order, and the command that holds where no rule does
+-- the first value, the rules in order, and the action that holds where no rule does
 pub record TreeOf (A : Type 0) : Type 0 where
   pub first : A
   pub rules : List (RuleOf A)
-  pub last : CommandOf A
+  pub last : ActionRuleOf A
 
 abbrev pub Tree : Type 0
 Tree = TreeOf Expression

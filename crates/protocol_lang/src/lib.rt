@@ -1,6 +1,7 @@
 //! The protocol language of bgsim: its texts, and what they mean.
 #![tactic(auto)]
 
+mod environment;
 mod fault;
 mod formula;
 pub mod laws;
@@ -11,7 +12,6 @@ mod parser;
 mod printer;
 mod protocol;
 mod rules;
-mod situation;
 mod stack;
 mod token;
 mod tree;

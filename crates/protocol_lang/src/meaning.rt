@@ -4,10 +4,10 @@ ghost use Rattle.std.specs.List.{find, list_all};
 ghost use Rattle.std.specs.Option.{option_map};
 ghost use Rattle.protocol_lang.specs.Meaning.{holds, applies, action, action_of, action_in, first_value, next_action};
 
+use crate::environment::Environment;
 use crate::formula::MOST_WAITING;
 use crate::protocol::Protocol;
-use crate::rules::{Command, Comparison, Rule, Tree};
-use crate::situation::Situation;
+use crate::rules::{ActionRule, Comparison, Rule, Tree};
 use crate::stack::Stack;
 use crate::tree::Kind;
 use arrayvec::ArrayVec;
@@ -26,8 +26,8 @@ pub enum Action {
 pub fn first(protocol: &Protocol, input: u32, id: u32, n: u32) -> u32
     ensures { result ≡ first_value protocol.now input id n }
 {
-    let situation = Situation::new(input, id, n, 0, &[]);
-    protocol.tree.first.value(&situation, &mut Stack::new())
+    let environment = Environment::new(input, id, n, 0, &[]);
+    protocol.tree.first.value(&environment, &mut Stack::new())
 }
 
 /// What the process number `id` does after its snapshot `view`, before which it made `round`
@@ -35,31 +35,35 @@ pub fn first(protocol: &Protocol, input: u32, id: u32, n: u32) -> u32
 pub fn next(protocol: &Protocol, input: u32, id: u32, round: u32, view: &View) -> Action
     ensures { result ≡ next_action protocol.now input id round view.now.items }
 {
-    let situation = Situation::new(input, id, view.len() as u32, round, view.as_slice());
+    let environment = Environment::new(input, id, view.len() as u32, round, view.as_slice());
     let mut stack = Stack::new();
-    action_in(&protocol.tree, &situation, &mut stack)
+    action_in(&protocol.tree, &environment, &mut stack)
 }
 
-fn action_in(tree: &Tree, situation: &Situation<'_>, stack: &mut Stack<u32, MOST_WAITING>) -> Action
-    ensures { result ≡ action_in tree.now situation.now }
+fn action_in(
+    tree: &Tree,
+    environment: &Environment<'_>,
+    stack: &mut Stack<u32, MOST_WAITING>,
+) -> Action
+    ensures { result ≡ action_in tree.now environment.now }
 {
-    match action_by(tree.rules.as_slice(), situation, stack) {
+    match action_by(tree.rules.as_slice(), environment, stack) {
         Some(action) => action,
-        None => action_of(&tree.last, situation, stack),
+        None => action_of(&tree.last, environment, stack),
     }
 }
 
 /// What the first rule that applies asks for.
 fn action_by(
     rules: &[Rule],
-    situation: &Situation<'_>,
+    environment: &Environment<'_>,
     stack: &mut Stack<u32, MOST_WAITING>,
 ) -> Option<Action>
-    ensures { result ≡ option_map (λ rule. action_of situation.now rule.command) (find (applies situation.now) rules.now) }
+    ensures { result ≡ option_map (λ rule. action_of environment.now rule.action_rule) (find (applies environment.now) rules.now) }
 {
     for rule in rules {
-        if all_hold(rule.conditions.as_slice(), situation, stack) {
-            return Some(action_of(&rule.command, situation, stack));
+        if all_hold(rule.conditions.as_slice(), environment, stack) {
+            return Some(action_of(&rule.action_rule, environment, stack));
         }
     }
     None
@@ -67,13 +71,13 @@ fn action_by(
 
 fn all_hold(
     comparisons: &[Comparison],
-    situation: &Situation<'_>,
+    environment: &Environment<'_>,
     stack: &mut Stack<u32, MOST_WAITING>,
 ) -> bool
-    ensures { result ≡ list_all (holds situation.now) comparisons.now }
+    ensures { result ≡ list_all (holds environment.now) comparisons.now }
 {
     for comparison in comparisons {
-        if !holds(comparison, situation, stack) {
+        if !holds(comparison, environment, stack) {
             return false;
         }
     }
@@ -82,25 +86,25 @@ fn all_hold(
 
 fn holds(
     comparison: &Comparison,
-    situation: &Situation<'_>,
+    environment: &Environment<'_>,
     stack: &mut Stack<u32, MOST_WAITING>,
 ) -> bool
-    ensures { result ≡ holds situation.now comparison.now }
+    ensures { result ≡ holds environment.now comparison.now }
 {
-    let left = comparison.left.value(situation, stack);
-    let right = comparison.right.value(situation, stack);
+    let left = comparison.left.value(environment, stack);
+    let right = comparison.right.value(environment, stack);
     comparison.comparator.holds(left, right)
 }
 
 fn action_of(
-    command: &Command,
-    situation: &Situation<'_>,
+    action_rule: &ActionRule,
+    environment: &Environment<'_>,
     stack: &mut Stack<u32, MOST_WAITING>,
 ) -> Action
-    ensures { result ≡ action_of situation.now command.now }
+    ensures { result ≡ action_of environment.now action_rule.now }
 {
-    let value = command.value.value(situation, stack);
-    match command.kind {
+    let value = action_rule.value.value(environment, stack);
+    match action_rule.kind {
         Kind::Write => Action::Write(value),
         Kind::Decide => Action::Decide(value),
     }

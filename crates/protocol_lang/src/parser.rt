@@ -2,12 +2,12 @@
 ghost use Rattle.std.specs.Prelude.{◌≡◌, ◌≤◌, ◌<◌, ⊤, [], ◌∷◌, ◌++◌, length, Option, Some, None, Result, Ok, Err, OnOk, IfOk, IfErr, IfSome};
 ghost use Rattle.protocol_lang.specs.Formulas.{trees, after, last_of};
 ghost use Rattle.protocol_lang.specs.Tokens.{operator_of, kind_of};
-ghost use Rattle.protocol_lang.specs.Reading.{Ends, Takes, one_token, IsReading, cleared, opening, step, step_at, operand, word_operand, opened, call_opened, behind, closed, in_outermost, ended, first_ended, left_ended, right_ended, command_ended, last_ended, begun, rule, last, ending, with_waiting, with_operand, behind_operand, with_infix, enclosed, value_read, compared_with, is_hidden, is_first, last_kind, tree_read, fault_at, reading};
+ghost use Rattle.protocol_lang.specs.Reading.{Ends, Takes, one_token, IsReading, cleared, opening, step, step_at, operand, word_operand, opened, call_opened, behind, closed, in_outermost, ended, first_ended, left_ended, right_ended, action_rule_ended, last_ended, begun, rule, last, ending, with_waiting, with_operand, behind_operand, with_infix, enclosed, value_read, compared_with, is_hidden, is_first, last_kind, tree_read, fault_at, reading};
 
 use crate::fault::ParseFault;
 use crate::formula::{Draft, Formula, Instruction};
 use crate::lexer::next_token;
-use crate::rules::{Command, Comparison, Conditions, Rule, Rules, Tree};
+use crate::rules::{ActionRule, Comparison, Conditions, Rule, Rules, Tree};
 use crate::stack::Stack;
 use crate::token::{Symbol, Token, Word};
 use crate::tree::{Call, Comparator, Kind, Name, Operator};
@@ -44,8 +44,8 @@ pub enum Part {
     /// Its right side.
     Right(Comparator),
     /// The value of a rule.
-    Command(Kind),
-    /// The value of the last command.
+    ActionRule(Kind),
+    /// The value of the last action.
     Last(Kind),
 }
 
@@ -344,7 +344,7 @@ impl Parser {
             Part::First => self.end_first(token),
             Part::Left => self.end_left(token.comparator()),
             Part::Right(comparator) => self.end_right(comparator, token),
-            Part::Command(kind) => self.end_command(kind, token),
+            Part::ActionRule(kind) => self.end_action_rule(kind, token),
             Part::Last(_) => self.end_last(token),
         }
     }
@@ -388,7 +388,7 @@ impl Parser {
         ensures { Ends (right_ended trees comparator self.old token (kind_of token)) result self.new }
     {
         match (token.kind(), token) {
-            (Some(kind), _) => self.read_condition(comparator, Part::Command(kind)),
+            (Some(kind), _) => self.read_condition(comparator, Part::ActionRule(kind)),
             (None, Token::Word(Word::And)) if self.conditions.len() < 7 => {
                 self.read_condition(comparator, Part::Left)
             }
@@ -411,8 +411,8 @@ impl Parser {
         Ok(())
     }
 
-    fn end_command(&mut self, kind: Kind, token: Token) -> Result<(), Refusal>
-        ensures { Ends (command_ended trees kind self.old token) result self.new }
+    fn end_action_rule(&mut self, kind: Kind, token: Token) -> Result<(), Refusal>
+        ensures { Ends (action_rule_ended trees kind self.old token) result self.new }
     {
         let Token::Symbol(Symbol::Semicolon) = token else {
             return Err(Refusal::Unexpected);
@@ -421,7 +421,7 @@ impl Parser {
         let conditions = mem::replace(&mut self.conditions, Conditions::new(self.alloc));
         self.rules.push(Rule {
             conditions,
-            command: Command { kind, value },
+            action_rule: ActionRule { kind, value },
         })?;
         self.expected = Expected::Rule;
         Ok(())
@@ -508,7 +508,7 @@ impl Parser {
         Ok(Tree {
             first: self.first,
             rules: self.rules,
-            last: Command { kind, value },
+            last: ActionRule { kind, value },
         })
     }
 }

@@ -4,12 +4,12 @@ ghost use Rattle.std.specs.List.{flat_map};
 ghost use Rattle.protocol_lang.specs.Stacks.{pushed, top_of, below_top};
 ghost use Rattle.protocol_lang.specs.Tokens.{word_spelling, symbol_spelling};
 ghost use Rattle.protocol_lang.specs.Formulas.{most_waiting, after, made_by};
-ghost use Rattle.protocol_lang.specs.Grammar.{word_for, call_word, operator_symbol, comparator_symbol, kind_word, enclosed_tokens, expression_tokens, comparison_tokens, conditions_tokens, command_tokens, rule_tokens, tree_tokens, IsText};
-ghost use Rattle.protocol_lang.specs.Printing.{stands_left, stands_right, shortest, shortest_comparison, shortest_command, shortest_rule, shortest_tree, is_word, spelling, gap, spelled_behind, printed, enclosed_unless, factor, joined, pieces};
+ghost use Rattle.protocol_lang.specs.Grammar.{word_for, call_word, operator_symbol, comparator_symbol, kind_word, enclosed_tokens, expression_tokens, comparison_tokens, conditions_tokens, action_rule_tokens, rule_tokens, tree_tokens, IsText};
+ghost use Rattle.protocol_lang.specs.Printing.{stands_left, stands_right, shortest, shortest_comparison, shortest_action_rule, shortest_rule, shortest_tree, is_word, spelling, gap, spelled_behind, printed, enclosed_unless, factor, joined, pieces};
 
 use crate::formula::{Formula, Instruction, MOST_WAITING};
 use crate::protocol::Protocol;
-use crate::rules::{Command, Comparison, Rule, Tree};
+use crate::rules::{ActionRule, Comparison, Rule, Tree};
 use crate::token::{Symbol, Token, Word};
 use crate::tree::{Call, Comparator, Kind, Name, Operator};
 use std::alloc::{AllocError, Global};
@@ -301,11 +301,15 @@ fn write_conditions(
     Ok(())
 }
 
-fn write_command(alloc: Global, command: &Command, tokens: &mut Tokens) -> Result<(), AllocError>
-    ensures { OnOk result (tokens.new ≡ tokens.old ++ command_tokens (shortest_command command.now)) }
+fn write_action_rule(
+    alloc: Global,
+    action_rule: &ActionRule,
+    tokens: &mut Tokens,
+) -> Result<(), AllocError>
+    ensures { OnOk result (tokens.new ≡ tokens.old ++ action_rule_tokens (shortest_action_rule action_rule.now)) }
 {
-    let value = expression(alloc, &command.value)?;
-    tokens.push(Token::Word(command.kind.word()))?;
+    let value = expression(alloc, &action_rule.value)?;
+    tokens.push(Token::Word(action_rule.kind.word()))?;
     tokens.append(&value)?;
     tokens.push(Token::Symbol(Symbol::Semicolon))
 }
@@ -314,7 +318,7 @@ fn write_rule(alloc: Global, rule: &Rule, tokens: &mut Tokens) -> Result<(), All
     ensures { OnOk result (tokens.new ≡ tokens.old ++ rule_tokens (shortest_rule rule.now)) }
 {
     write_conditions(alloc, rule.conditions.as_slice(), tokens)?;
-    write_command(alloc, &rule.command, tokens)
+    write_action_rule(alloc, &rule.action_rule, tokens)
 }
 
 fn write_rules(alloc: Global, rules: &[Rule], tokens: &mut Tokens) -> Result<(), AllocError>
@@ -335,7 +339,7 @@ fn write_tree(alloc: Global, tree: &Tree, tokens: &mut Tokens) -> Result<(), All
     tokens.push(Token::Symbol(Symbol::Semicolon))?;
     write_rules(alloc, tree.rules.as_slice(), tokens)?;
     tokens.push(Token::Word(Word::Else))?;
-    write_command(alloc, &tree.last, tokens)
+    write_action_rule(alloc, &tree.last, tokens)
 }
 
 /// The bytes of the tokens.

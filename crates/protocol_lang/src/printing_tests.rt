@@ -168,3 +168,16 @@ fn shortest_of_many_texts(rt: HostRuntime) -> Result<(), Fail> {
     }
     Ok(())
 }
+
+#[test]
+fn most_rules(rt: HostRuntime) -> Result<(), Fail> {
+    let alloc = rt.alloc();
+    let mut text = String::from_str(alloc, "first1;")?;
+    for _ in 0..32 {
+        text.push_str("when1==1write1;")?;
+    }
+    text.push_str("else write1;")?;
+    let printed = print(alloc, &parse(alloc, &text)?)?;
+    assert_eq!(rt; printed.as_str(), text.as_str());
+    Ok(())
+}

@@ -36,9 +36,9 @@ impl Model for Protocol {
 /// Reads a protocol's text.
 pub fn parse(alloc: Global, text: &str) -> Result<Protocol, ParseFault>
     // What is accepted is a text of the grammar.
-    ensures found { IfOk result (IsText text.now) }
+    ensures sound { IfOk result (IsText text.now) }
     // What is a text of the grammar is accepted, with its tree.
-    ensures only { (tree : ProtocolTree) → IsText text.now tree → IsReadAs tree result }
+    ensures complete { (tree : ProtocolTree) → IsText text.now tree → IsReadAs tree result }
     ensures exact { IsReading text.now result }
     // A fault rests on the bytes up to its token's end alone.
     ensures local { IfErr result (IsLocal text.now) }
@@ -49,9 +49,9 @@ pub fn parse(alloc: Global, text: &str) -> Result<Protocol, ParseFault>
 /// Reads a protocol's text that need not be UTF-8: a byte outside ASCII begins no token.
 pub fn parse_bytes(alloc: Global, text: &[u8]) -> Result<Protocol, ParseFault>
     // What is accepted is a text of the grammar.
-    ensures found { IfOk result (IsText text.now) }
+    ensures sound { IfOk result (IsText text.now) }
     // What is a text of the grammar is accepted, with its tree.
-    ensures only { (tree : ProtocolTree) → IsText text.now tree → IsReadAs tree result }
+    ensures complete { (tree : ProtocolTree) → IsText text.now tree → IsReadAs tree result }
     ensures exact { IsReading text.now result }
     // A fault rests on the bytes up to its token's end alone.
     ensures local { IfErr result (IsLocal text.now) }

@@ -280,3 +280,27 @@ fn numbers(rt: HostRuntime) {
     assert_eq!(rt; read_number(b"1a"), None);
     assert_eq!(rt; read_number(b""), None);
 }
+
+#[test]
+fn messages(rt: HostRuntime) -> Result<(), Fail> {
+    for (fault, text) in [
+        (ParseFault::TooLong, "the protocol has more than 4096 bytes"),
+        (ParseFault::BadToken(7), "no token at byte 7"),
+        (ParseFault::Unexpected(7), "unexpected token at byte 7"),
+        (
+            ParseFault::TooDeep(7),
+            "more than 32 open parentheses at byte 7",
+        ),
+        (ParseFault::TooManyRules, "more than 32 rules"),
+        (
+            ParseFault::ViewInFirst(7),
+            "the first value can't read the view, at byte 7",
+        ),
+        (ParseFault::NumberTooLarge(7), "number too large at byte 7"),
+        (ParseFault::OutOfMemory, "out of memory"),
+    ] {
+        let found = format!(in rt.alloc(); "{fault}")?;
+        assert_eq!(rt; found.as_str(), text);
+    }
+    Ok(())
+}

@@ -15,7 +15,7 @@ use Rattle.protocol_lang.specs.declared.fault.ParseFault.{ParseFault}
 use Rattle.room_spec.specs.Rooms.{RoomSpec, bits_of, is_value}
 use Rattle.room_spec.specs.Names.{is_name}
 use Rattle.room_spec.specs.Texts.{is_line_end, first_line, later_lines, lines_of, fields_of, pieces_of}
-use Rattle.room_spec.specs.Blocks.{◌>>=◌, is_end, body_len, value_after, named, inputs_of, are_inputs, in_range, up_to, fitting, is_protocol, fuse_in, of_simulator, has_fuse, unrepeated, line_behind, told, told_next, onward, fuses_from, protocol_of, room_in, room_before, block_in}
+use Rattle.room_spec.specs.Blocks.{◌>>=◌, is_end, body_len, value_after, named, inputs_of, are_inputs, in_range, up_to, fitting, is_protocol, fuse_in, of_simulator, has_fuse, unrepeated, line_behind, said, said_next, onward, fuses_from, protocol_of, room_in, room_before, block_in}
 use Rattle.room_spec.specs.Grammar.{is_line, text_of, behind_protocol, are_before_end, EndsAt, line_of, IsLocal, IsOfText}
 use Rattle.room_spec.specs.declared.fault.SpecFault.{SpecFault}
 use Rattle.room_spec.specs.declared.fault.SpecFault.TheVariants.{Truncated, BadLine, BadName, BadProtocol, Inputs, Simulators, Rounds, Turns, TooWide, CrashLine, Repeated}
@@ -129,17 +129,17 @@ drop_one line lines n = let count : 1 + n + 1 ≡ suc (n + 1) = omega arith in a
 behind_other : (line : List ℕ) (lines : List (List ℕ)) → is_protocol line ≡ false → behind_protocol (line ∷ lines) ≡ behind_protocol lines
 behind_other line lines is = rw is (drop_one line lines (position_or_len is_protocol lines))
 
-other_line : {A : Type 0} (judge : List ℕ → Result A SpecFault) (bytes : List ℕ) (x : A) (told : SpecFault) → judge (codes "protocol") ≡ Err told → judge bytes ≡ Ok x → is_protocol bytes ≡ false
-other_line judge bytes x told refused is =
+other_line : {A : Type 0} (judge : List ℕ → Result A SpecFault) (bytes : List ℕ) (x : A) (said : SpecFault) → judge (codes "protocol") ≡ Err said → judge bytes ≡ Ok x → is_protocol bytes ≡ false
+other_line judge bytes x said refused is =
     elim (cases_Bool (is_protocol bytes)) [
-      | inl same ↦ absurd (let e : judge bytes ≡ Err told = ap judge ((bytes_eq-Decides bytes (codes "protocol")).0 same) ∙ refused in cc)
+      | inl same ↦ absurd (let e : judge bytes ≡ Err said = ap judge ((bytes_eq-Decides bytes (codes "protocol")).0 same) ∙ refused in cc)
       | inr other ↦ other
     ]
 
 -- a line of another form
-line_local : {A : Type 0} (line : ℕ) (told : SpecFault) (judge : List ℕ → Result A SpecFault) (next : A → List ℕ → Result RoomSpec SpecFault) → judge (codes "protocol") ≡ Err told → ((bytes : List ℕ) (fault : SpecFault) → judge bytes ≡ Err fault → line_of fault ≡ Some line) → ((x : A) → IsLocalFrom (suc line) behind_protocol (next x)) → IsLocalFrom line behind_protocol (by_line judge next)
-line_local line told judge next refused judged later =
-    judged_local line behind_protocol judge next judged (λ x. (behind_protocol, later x, λ bytes lines is. behind_other bytes lines (other_line judge bytes x told refused is), refl))
+line_local : {A : Type 0} (line : ℕ) (said : SpecFault) (judge : List ℕ → Result A SpecFault) (next : A → List ℕ → Result RoomSpec SpecFault) → judge (codes "protocol") ≡ Err said → ((bytes : List ℕ) (fault : SpecFault) → judge bytes ≡ Err fault → line_of fault ≡ Some line) → ((x : A) → IsLocalFrom (suc line) behind_protocol (next x)) → IsLocalFrom line behind_protocol (by_line judge next)
+line_local line said judge next refused judged later =
+    judged_local line behind_protocol judge next judged (λ x. (behind_protocol, later x, λ bytes lines is. behind_other bytes lines (other_line judge bytes x said refused is), refl))
 
 -- ---- the judgements of lines
 
@@ -153,9 +153,9 @@ word_fault : (line : ℕ) (is : Bool) (fault : SpecFault) → word_test line is 
 word_fault line true fault e = absurd cc
 word_fault line false fault e = let own : BadLine line ≡ fault = cc in ap line_of (sym own)
 
-test_fault : {A : Type 0} (line : ℕ) (is : Bool) (x : A) (told fault : SpecFault) → line_of told ≡ Some line → cond is (Ok x) (Err told) ≡ Err fault → line_of fault ≡ Some line
-test_fault line true x told fault of e = absurd cc
-test_fault line false x told fault of e = let own : told ≡ fault = cc in ap line_of (sym own) ∙ of
+test_fault : {A : Type 0} (line : ℕ) (is : Bool) (x : A) (said fault : SpecFault) → line_of said ≡ Some line → cond is (Ok x) (Err said) ≡ Err fault → line_of fault ≡ Some line
+test_fault line true x said fault of e = absurd cc
+test_fault line false x said fault of e = let own : said ≡ fault = cc in ap line_of (sym own) ∙ of
 
 name_fault : (value : Option (List ℕ)) (fault : SpecFault) → named value ≡ Err fault → line_of fault ≡ Some 2
 name_fault None fault e = let own : BadLine 2 ≡ fault = cc in ap line_of (sym own)
@@ -165,9 +165,9 @@ inputs_fault : (values : Option (List ℕ)) (fault : SpecFault) → in_range val
 inputs_fault None fault e = let own : BadLine 3 ≡ fault = cc in ap line_of (sym own)
 inputs_fault (Some values) fault e = test_fault 3 (are_inputs values) values Inputs fault refl e
 
-number_fault : (most : ℕ) (told : SpecFault) (line : ℕ) (found : Option ℕ) (fault : SpecFault) → line_of told ≡ Some line → up_to most told line found ≡ Err fault → line_of fault ≡ Some line
-number_fault most told line None fault of e = let own : BadLine line ≡ fault = cc in ap line_of (sym own)
-number_fault most told line (Some number) fault of e = test_fault line (nat_le 1 number && nat_le number most) number told fault of e
+number_fault : (most : ℕ) (said : SpecFault) (line : ℕ) (found : Option ℕ) (fault : SpecFault) → line_of said ≡ Some line → up_to most said line found ≡ Err fault → line_of fault ≡ Some line
+number_fault most said line None fault of e = let own : BadLine line ≡ fault = cc in ap line_of (sym own)
+number_fault most said line (Some number) fault of e = test_fault line (nat_le 1 number && nat_le number most) number said fault of e
 
 abbrev number_judge : ℕ → List ℕ → ℕ → SpecFault → List ℕ → Result ℕ SpecFault
 number_judge line word most fault bytes = up_to most fault line (option_and_then number_of (value_after word bytes))
@@ -229,9 +229,9 @@ regroup_onward most m fuses next (Err fault) rest = refl
 regroup_onward most m fuses next (Ok None) rest = refl
 regroup_onward most m fuses next (Ok (Some fuse)) rest = refl
 
-regroup_fuses : (most m : ℕ) (fuses : List (ℕ × ℕ)) (next : List (ℕ × ℕ) → List ℕ → Result RoomSpec SpecFault) (text : List ℕ) → on_from (suc most) m fuses next text ≡ by_line (told_next m fuses) (on_told most m fuses next) text
+regroup_fuses : (most m : ℕ) (fuses : List (ℕ × ℕ)) (next : List (ℕ × ℕ) → List ℕ → Result RoomSpec SpecFault) (text : List ℕ) → on_from (suc most) m fuses next text ≡ by_line (said_next m fuses) (on_told most m fuses next) text
 unfolding fuses_from
-regroup_fuses most m fuses next text = regroup_onward most m fuses next (told_next m fuses (first_line text)) (later_lines text)
+regroup_fuses most m fuses next text = regroup_onward most m fuses next (said_next m fuses (first_line text)) (later_lines text)
 
 of_simulator_fault : (line m : ℕ) (found : Option (ℕ × ℕ)) (fault : SpecFault) → of_simulator line m found ≡ Err fault → line_of fault ≡ Some line
 of_simulator_fault line m None fault e = let own : CrashLine line ≡ fault = cc in ap line_of (sym own)
@@ -241,7 +241,7 @@ unrepeated_fault : (line : ℕ) (has : Bool) (fuse : Option (ℕ × ℕ)) (fault
 unrepeated_fault line true fuse fault e = let own : Repeated line ≡ fault = cc in ap line_of (sym own)
 unrepeated_fault line false fuse fault e = absurd cc
 
-told_fault : (m : ℕ) (fuses : List (ℕ × ℕ)) (line : List ℕ) (found : Option (List ℕ)) (fault : SpecFault) → told m fuses line found ≡ Err fault → line_of fault ≡ Some (line_behind fuses)
+told_fault : (m : ℕ) (fuses : List (ℕ × ℕ)) (line : List ℕ) (found : Option (List ℕ)) (fault : SpecFault) → said m fuses line found ≡ Err fault → line_of fault ≡ Some (line_behind fuses)
 told_fault m fuses line None fault e = test_fault {A = Option (ℕ × ℕ)} (line_behind fuses) (is_protocol line) None (BadLine (line_behind fuses)) fault refl e
 told_fault m fuses line (Some words) fault e =
     elim (err_cases (of_simulator (line_behind fuses) m (fuse_in (fields_of words))) (unrepeated (line_behind fuses) fuses) fault e) [
@@ -249,17 +249,17 @@ told_fault m fuses line (Some words) fault e =
       | inr (fuse, found, there) ↦ unrepeated_fault (line_behind fuses) (has_fuse fuses fuse.0) (Some fuse) fault there
     ]
 
-crash_is_other : (m : ℕ) (fuses : List (ℕ × ℕ)) (line : List ℕ) (fuse : ℕ × ℕ) → told_next m fuses line ≡ Ok (Some fuse) → is_protocol line ≡ false
+crash_is_other : (m : ℕ) (fuses : List (ℕ × ℕ)) (line : List ℕ) (fuse : ℕ × ℕ) → said_next m fuses line ≡ Ok (Some fuse) → is_protocol line ≡ false
 crash_is_other m fuses line fuse is =
     elim (cases_Bool (is_protocol line)) [
-      | inl same ↦ absurd (let e : told_next m fuses (codes "protocol") ≡ Ok (Some fuse) = ap (told_next m fuses) (sym ((bytes_eq-Decides line (codes "protocol")).0 same)) ∙ is in cc)
+      | inl same ↦ absurd (let e : said_next m fuses (codes "protocol") ≡ Ok (Some fuse) = ap (said_next m fuses) (sym ((bytes_eq-Decides line (codes "protocol")).0 same)) ∙ is in cc)
       | inr other ↦ other
     ]
 
-protocol_is_itself : (m : ℕ) (fuses : List (ℕ × ℕ)) (line : List ℕ) → told_next m fuses line ≡ Ok None → is_protocol line ≡ true
+protocol_is_itself : (m : ℕ) (fuses : List (ℕ × ℕ)) (line : List ℕ) → said_next m fuses line ≡ Ok None → is_protocol line ≡ true
 protocol_is_itself m fuses line is = (bytes_eq-Decides line (codes "protocol")).1 (tells_protocol m fuses line is)
 
-local_told : (most m : ℕ) (fuses : List (ℕ × ℕ)) (next : List (ℕ × ℕ) → List ℕ → Result RoomSpec SpecFault) → IsLocalFrom (suc (line_behind fuses)) (λ lines. lines) (next fuses) → ((fuse : ℕ × ℕ) → IsLocalFrom (suc (line_behind fuses)) behind_protocol (on_from most m (fuses ++ fuse ∷ []) next)) → (x : Option (ℕ × ℕ)) → Later (line_behind fuses) behind_protocol (told_next m fuses) (on_told most m fuses next) x
+local_told : (most m : ℕ) (fuses : List (ℕ × ℕ)) (next : List (ℕ × ℕ) → List ℕ → Result RoomSpec SpecFault) → IsLocalFrom (suc (line_behind fuses)) (λ lines. lines) (next fuses) → ((fuse : ℕ × ℕ) → IsLocalFrom (suc (line_behind fuses)) behind_protocol (on_from most m (fuses ++ fuse ∷ []) next)) → (x : Option (ℕ × ℕ)) → Later (line_behind fuses) behind_protocol (said_next m fuses) (on_told most m fuses next) x
 local_told most m fuses next text more None = (λ lines. lines, text, λ bytes lines is. behind_itself bytes lines (protocol_is_itself m fuses bytes is), refl)
 local_told most m fuses next text more (Some fuse) = (behind_protocol, more fuse, λ bytes lines is. behind_other bytes lines (crash_is_other m fuses bytes fuse is), refl)
 
@@ -277,8 +277,8 @@ local_fuses_from : (most m : ℕ) (fuses : List (ℕ × ℕ)) (next : List (ℕ 
 unfolding fuses_from
 local_fuses_from zero m fuses next text = no_line_local fuses (on_from zero m fuses next) (λ t. refl)
 local_fuses_from (suc most) m fuses next text =
-    same_reader (line_behind fuses) behind_protocol (on_from (suc most) m fuses next) (by_line (told_next m fuses) (on_told most m fuses next)) (regroup_fuses most m fuses next)
-    (judged_local (line_behind fuses) behind_protocol (told_next m fuses) (on_told most m fuses next) (λ bytes. told_fault m fuses bytes (value_after (codes "crash ") bytes))
+    same_reader (line_behind fuses) behind_protocol (on_from (suc most) m fuses next) (by_line (said_next m fuses) (on_told most m fuses next)) (regroup_fuses most m fuses next)
+    (judged_local (line_behind fuses) behind_protocol (said_next m fuses) (on_told most m fuses next) (λ bytes. told_fault m fuses bytes (value_after (codes "crash ") bytes))
     (local_told most m fuses next (text (suc (line_behind fuses)) fuses) (λ fuse. subst (λ (line : ℕ). IsLocalFrom line behind_protocol (on_from most m (fuses ++ fuse ∷ []) next)) (longer_line fuses fuse) (local_fuses_from most m (fuses ++ fuse ∷ []) next text))))
 
 local_fuses : (name inputs : List ℕ) (simulators rounds turns : ℕ) → IsLocalFrom 7 behind_protocol (from_fuses name inputs simulators rounds turns)

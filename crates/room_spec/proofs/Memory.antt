@@ -37,22 +37,22 @@ refused fault fact e = rw e tt
 
 pub found_or : (text : List ℕ) (result : Result (RoomSpec × ℕ) SpecFault) → OrMemory result (block_in text) → IfOk result (λ read. IsBlock text read.0 read.1)
 found_or text (Ok read) (inl e) = before_found text (body_len text) read refl (sym e)
-found_or text (Ok read) (inr e) = absurd cc
+found_or text (Ok read) (inr e) = absurd (let never = e.0 in cc)
 found_or text (Err fault) e = tt
 
 pub only_or : (text : List ℕ) (result : Result (RoomSpec × ℕ) SpecFault) → OrMemory result (block_in text) → (room : RoomSpec) (len : ℕ) → IsBlock text room len → OrMemory result (read_as room len)
 only_or text result (inl e) room len block = inl (e ∙ block_again text room len block)
-only_or text result (inr e) room len block = inr e
+only_or text result (inr e) room len block = inr (e.0, tt)
 
 pub local_or : (text : List ℕ) (result : Result (RoomSpec × ℕ) SpecFault) → OrMemory result (block_in text) → IfErr result (λ fault. UnlessMemory fault (IsLocal text fault))
 local_or text (Ok read) e = tt
 local_or text (Err fault) (inl e) = unless fault (IsLocal text fault) (block_local text (Err fault) e)
-local_or text (Err fault) (inr e) = refused fault (IsLocal text fault) cc
+local_or text (Err fault) (inr e) = let same : fault ≡ out_of_memory = (let is = e.0 in cc) in refused fault (IsLocal text fault) same
 
 pub of_text_or : (text : List ℕ) (result : Result (RoomSpec × ℕ) SpecFault) → OrMemory result (block_in text) → IfErr result (λ fault. UnlessMemory fault (IsOfText text fault))
 of_text_or text (Ok read) e = tt
 of_text_or text (Err fault) (inl e) = unless fault (IsOfText text fault) (block_of_text text (Err fault) e)
-of_text_or text (Err fault) (inr e) = refused fault (IsOfText text fault) cc
+of_text_or text (Err fault) (inr e) = let same : fault ≡ out_of_memory = (let is = e.0 in cc) in refused fault (IsOfText text fault) same
 
 -- what is kept of a protocol that was read has small numerals
 pub kept_small : (P : ParseFault → Type 0) (text : List ℕ) (read : Result Protocol ParseFault) (kept : Result Protocol SpecFault) (protocol : Protocol) → IfOk read (IsText text) → MatchResult read (λ tree. kept ≡ Ok tree) P → is_ok kept ≡ is_ok read → kept ≡ Ok protocol → HasSmallNumerals protocol

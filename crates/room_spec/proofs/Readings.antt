@@ -16,7 +16,7 @@ use Rattle.protocol_lang.proofs.Limits.{small_if_read}
 use Rattle.room_spec.specs.Names.{is_name, is_name_byte}
 use Rattle.room_spec.specs.Rooms.{RoomSpec, AreFuses, IsShape, IsWithinLimits, bits_of, is_value}
 use Rattle.room_spec.specs.Texts.{is_line_end, first_line, later_lines}
-use Rattle.room_spec.specs.Blocks.{◌>>=◌, is_end, body_len, version_line, name_line, are_inputs, inputs_line, number_line, fitting, onward, told_next, fuses_from, fuse_lines, protocol_of, room_in, block_in}
+use Rattle.room_spec.specs.Blocks.{◌>>=◌, is_end, body_len, version_line, name_line, are_inputs, inputs_line, number_line, fitting, onward, said_next, fuses_from, fuse_lines, protocol_of, room_in, block_in}
 use Rattle.room_spec.specs.Grammar.{line_end, is_line, text_of, are_before_end, crash_line, head_lines, block_text, IsInFront, IsBlock}
 use Rattle.room_spec.specs.declared.fault.SpecFault.{SpecFault}
 use Rattle.room_spec.specs.declared.fault.SpecFault.TheVariants.{Simulators, Rounds, Turns, TooWide}
@@ -140,16 +140,16 @@ fuse_says m fuses fuse lines line rest read taken is says = record {
   values = says.values;
 }
 
-told_some : (m : ℕ) (fuses : List (ℕ × ℕ)) (line : List ℕ) (found : Option (ℕ × ℕ)) → told_next m fuses line ≡ Ok found → line ≢ []
-told_some m fuses line found told empty = absurd (let h : told_next m fuses [] ≡ Ok found = sym (ap (told_next m fuses) empty) ∙ told in cc)
+told_some : (m : ℕ) (fuses : List (ℕ × ℕ)) (line : List ℕ) (found : Option (ℕ × ℕ)) → said_next m fuses line ≡ Ok found → line ≢ []
+told_some m fuses line found said empty = absurd (let h : said_next m fuses [] ≡ Ok found = sym (ap (said_next m fuses) empty) ∙ said in cc)
 
 values_pushed : (fuses : List (ℕ × ℕ)) (fuse : ℕ × ℕ) → list_all (λ f. is_value f.1) fuses ≡ true → is_value fuse.1 ≡ true → list_all (λ f. is_value f.1) (fuses ++ fuse ∷ []) ≡ true
 values_pushed fuses fuse all is = list_all-append (λ (f : ℕ × ℕ). is_value f.1) fuses (fuse ∷ []) ∙ and_from (list_all (λ f. is_value f.1) fuses) (list_all (λ f. is_value f.1) (fuse ∷ [])) all (and_from (is_value fuse.1) true is refl)
 
-onward_found : (most m : ℕ) (fuses : List (ℕ × ℕ)) (line rest : List ℕ) (lines : List (List ℕ)) (found : Option (ℕ × ℕ)) (read : List (ℕ × ℕ) × List ℕ) → m ≤ 8 → Takes lines line rest → AreFuses fuses m → list_all (λ fuse. is_value fuse.1) fuses ≡ true → ((fuse : ℕ × ℕ) (more : List (List ℕ)) → rest ≡ text_of more → are_lines more ≡ true → AreFuses (fuses ++ fuse ∷ []) m → list_all (λ f. is_value f.1) (fuses ++ fuse ∷ []) ≡ true → fuses_from most m (fuses ++ fuse ∷ []) rest ≡ Ok read → SaysFuses m (fuses ++ fuse ∷ []) more read) → told_next m fuses line ≡ Ok found → onward (fuses_from most m) fuses rest found ≡ Ok read → SaysFuses m fuses lines read
-onward_found most m fuses line rest lines None read few taken are values later told e = protocol_says m fuses lines line rest read are values taken (tells_protocol m fuses line told) (ok_is _ read e)
-onward_found most m fuses line rest lines (Some fuse) read few taken are values later told e =
-    let tells = tells_fuse m fuses line fuse told in
+onward_found : (most m : ℕ) (fuses : List (ℕ × ℕ)) (line rest : List ℕ) (lines : List (List ℕ)) (found : Option (ℕ × ℕ)) (read : List (ℕ × ℕ) × List ℕ) → m ≤ 8 → Takes lines line rest → AreFuses fuses m → list_all (λ fuse. is_value fuse.1) fuses ≡ true → ((fuse : ℕ × ℕ) (more : List (List ℕ)) → rest ≡ text_of more → are_lines more ≡ true → AreFuses (fuses ++ fuse ∷ []) m → list_all (λ f. is_value f.1) (fuses ++ fuse ∷ []) ≡ true → fuses_from most m (fuses ++ fuse ∷ []) rest ≡ Ok read → SaysFuses m (fuses ++ fuse ∷ []) more read) → said_next m fuses line ≡ Ok found → onward (fuses_from most m) fuses rest found ≡ Ok read → SaysFuses m fuses lines read
+onward_found most m fuses line rest lines None read few taken are values later said e = protocol_says m fuses lines line rest read are values taken (tells_protocol m fuses line said) (ok_is _ read e)
+onward_found most m fuses line rest lines (Some fuse) read few taken are values later said e =
+    let tells = tells_fuse m fuses line fuse said in
     fuse_says m fuses fuse lines line rest read taken (crash_line_found m fuses line fuse few tells)
     (later fuse taken.more taken.rest_is taken.whole (fuses_pushed fuses fuse m are tells.below tells.new) (values_pushed fuses fuse values tells.value) e)
 
@@ -157,7 +157,7 @@ fuses_found : (most m : ℕ) (fuses : List (ℕ × ℕ)) (text : List ℕ) (line
 unfolding fuses_from
 fuses_found zero m fuses text lines read few is all are values e = absurd cc
 fuses_found (suc most) m fuses text lines read few is all are values e =
-    let step = bind_ok (told_next m fuses (first_line text)) (onward (fuses_from most m) fuses (later_lines text)) read e in
+    let step = bind_ok (said_next m fuses (first_line text)) (onward (fuses_from most m) fuses (later_lines text)) read e in
     let taken = takes text lines (first_line text) (later_lines text) is all (told_some m fuses (first_line text) step.0 step.1) refl refl in
     onward_found most m fuses (first_line text) (later_lines text) lines step.0 read few taken are values (λ fuse more same whole good goods go. fuses_found most m (fuses ++ fuse ∷ []) (later_lines text) more read few same whole good goods go) step.1 step.2
 
@@ -378,12 +378,12 @@ crash_line_is fuse m few below value =
     let last : is_line (decimal fuse.1) ≡ true = decimal_passes (λ byte. not (is_line_end byte)) fuse.1 (small_value fuse.1 value) digit_no_line_end in
     word_line (codes "crash ") (decimal fuse.0 ++ (codes " after " ++ decimal fuse.1)) refl (word_line (decimal fuse.0) (codes " after " ++ decimal fuse.1) first (word_line (codes " after ") (decimal fuse.1) refl last))
 
-fuses_step : (most m : ℕ) (fuses : List (ℕ × ℕ)) (line : List ℕ) (more : List (List ℕ)) (found : Option (ℕ × ℕ)) → is_line line ≡ true → told_next m fuses line ≡ Ok found → fuses_from (suc most) m fuses (text_of (line ∷ more)) ≡ onward (fuses_from most m) fuses (text_of more) found
+fuses_step : (most m : ℕ) (fuses : List (ℕ × ℕ)) (line : List ℕ) (more : List (List ℕ)) (found : Option (ℕ × ℕ)) → is_line line ≡ true → said_next m fuses line ≡ Ok found → fuses_from (suc most) m fuses (text_of (line ∷ more)) ≡ onward (fuses_from most m) fuses (text_of more) found
 unfolding fuses_from
-fuses_step most m fuses line more found is told =
-    ap (λ (l : List ℕ). told_next m fuses l >>= onward (fuses_from most m) fuses (later_lines (text_of (line ∷ more)))) (first_line-text_of line more is)
-    ∙ ap (λ (rest : List ℕ). told_next m fuses line >>= onward (fuses_from most m) fuses rest) (later_lines-text_of line more is)
-    ∙ ap (λ (r : Result (Option (ℕ × ℕ)) SpecFault). r >>= onward (fuses_from most m) fuses (text_of more)) told
+fuses_step most m fuses line more found is said =
+    ap (λ (l : List ℕ). said_next m fuses l >>= onward (fuses_from most m) fuses (later_lines (text_of (line ∷ more)))) (first_line-text_of line more is)
+    ∙ ap (λ (rest : List ℕ). said_next m fuses line >>= onward (fuses_from most m) fuses rest) (later_lines-text_of line more is)
+    ∙ ap (λ (r : Result (Option (ℕ × ℕ)) SpecFault). r >>= onward (fuses_from most m) fuses (text_of more)) said
 
 abbrev read_fuses : List (ℕ × ℕ) → List ℕ → Result (List (ℕ × ℕ) × List ℕ) SpecFault
 read_fuses fuses rest = Ok (fuses, rest)

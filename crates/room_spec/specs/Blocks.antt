@@ -119,23 +119,23 @@ unrepeated line fuses fuse = if has_fuse fuses fuse.0 then Err (Repeated line) e
 abbrev pub line_behind : List (ℕ × ℕ) → ℕ
 line_behind fuses = 7 + length fuses
 
-abbrev pub told : ℕ → List (ℕ × ℕ) → List ℕ → Option (List ℕ) → Result (Option (ℕ × ℕ)) SpecFault
-told m fuses line None = if is_protocol line then Ok None else Err (BadLine (line_behind fuses))
-told m fuses line (Some words) = of_simulator (line_behind fuses) m (fuse_in (fields_of words)) >>= unrepeated (line_behind fuses) fuses
+abbrev pub said : ℕ → List (ℕ × ℕ) → List ℕ → Option (List ℕ) → Result (Option (ℕ × ℕ)) SpecFault
+said m fuses line None = if is_protocol line then Ok None else Err (BadLine (line_behind fuses))
+said m fuses line (Some words) = of_simulator (line_behind fuses) m (fuse_in (fields_of words)) >>= unrepeated (line_behind fuses) fuses
 
 -- what the line behind the crash lines of these fuses tells: one more fuse, or nothing where it is `protocol`
-abbrev pub told_next : ℕ → List (ℕ × ℕ) → List ℕ → Result (Option (ℕ × ℕ)) SpecFault
-told_next m fuses line = told m fuses line (value_after (codes "crash ") line)
+abbrev pub said_next : ℕ → List (ℕ × ℕ) → List ℕ → Result (Option (ℕ × ℕ)) SpecFault
+said_next m fuses line = said m fuses line (value_after (codes "crash ") line)
 
 abbrev pub onward : (List (ℕ × ℕ) → List ℕ → Result (List (ℕ × ℕ) × List ℕ) SpecFault) → List (ℕ × ℕ) → List ℕ → Option (ℕ × ℕ) → Result (List (ℕ × ℕ) × List ℕ) SpecFault
 onward fuses_from fuses later None = Ok (fuses, later)
 onward fuses_from fuses later (Some fuse) = fuses_from (fuses ++ fuse ∷ []) later
 
--- the fuses of m simulators, of which some were told, and what stands behind the line `protocol`; that is one of the
+-- the fuses of m simulators, of which some were said, and what stands behind the line `protocol`; that is one of the
 -- next `most` lines, since each simulator has one crash line at most
 unfoldable pub fuses_from : ℕ → ℕ → List (ℕ × ℕ) → List ℕ → Result (List (ℕ × ℕ) × List ℕ) SpecFault
 fuses_from zero m fuses text = Err (BadLine (line_behind fuses))
-fuses_from (suc most) m fuses text = told_next m fuses (first_line text) >>= onward (fuses_from most m) fuses (later_lines text)
+fuses_from (suc most) m fuses text = said_next m fuses (first_line text) >>= onward (fuses_from most m) fuses (later_lines text)
 
 abbrev pub fuse_lines : ℕ → List ℕ → Result (List (ℕ × ℕ) × List ℕ) SpecFault
 fuse_lines m text = fuses_from (suc m) m [] text
@@ -175,9 +175,15 @@ Gives view (Err fault) read = read ≡ Err fault
 abbrev pub out_of_memory : SpecFault
 out_of_memory = BadProtocol OutOfMemory
 
--- what a function returned is this, or memory was refused
+-- no line before the protocol's text has a fault
+abbrev pub IsHeadRight : {A : Type 0} → Result A SpecFault → Type 0
+IsHeadRight (Ok read) = Unit {0}
+IsHeadRight (Err (BadProtocol fault)) = Unit {0}
+IsHeadRight (Err fault) = ⊥
+
+-- what a function returned is this, or memory was refused to the protocol, whose lines before it are right
 abbrev pub OrMemory : {A : Type 0} → Result A SpecFault → Result A SpecFault → Type 0
-OrMemory result wanted = (result ≡ wanted) ⊎ (result ≡ Err out_of_memory)
+OrMemory result wanted = (result ≡ wanted) ⊎ ((result ≡ Err out_of_memory) × IsHeadRight wanted)
 
 abbrev pub UnlessMemory : SpecFault → Type 0 → Type 0
 UnlessMemory (BadProtocol OutOfMemory) fact = ⊤

@@ -6,7 +6,7 @@ ghost use Rattle.room_spec.specs.Rooms.{RoomSpec, AreFuses};
 ghost use Rattle.room_spec.specs.Texts.{lines_of, first_line, later_lines, fields_of};
 ghost use Rattle.room_spec.specs.declared.fault.SpecFault.TheVariants.{BadLine};
 ghost use Rattle.room_spec.specs.Grammar.{EndsAt, IsBlock, IsLocal, IsOfText};
-ghost use Rattle.room_spec.specs.Blocks.{body_len, block_len, value_after, version_line, named, name_line, numbers_of, inputs_of, in_range, inputs_line, up_to, number_line, fuse_in, of_simulator, told_next, is_protocol, has_fuse, fuse_lines, room_in, block_in, Gives, OrMemory, UnlessMemory};
+ghost use Rattle.room_spec.specs.Blocks.{body_len, block_len, value_after, version_line, named, name_line, numbers_of, inputs_of, in_range, inputs_line, up_to, number_line, fuse_in, of_simulator, said_next, is_protocol, has_fuse, fuse_lines, room_in, block_in, Gives, OrMemory, UnlessMemory};
 
 use crate::fault::SpecFault;
 use crate::name::Name;
@@ -22,7 +22,7 @@ pub fn block_len(text: &[u8]) -> Option<usize>
     // It is the block's lines up to and with the first `end`.
     ensures ends { IfSome result (λ len. EndsAt text.now len) }
     // Only that is a block.
-    ensures only { (len : ℕ) → EndsAt text.now len → result ≡ Some len }
+    ensures complete { (len : ℕ) → EndsAt text.now len → result ≡ Some len }
     ensures none { IfNone result (All (λ line. line ≢ codes "end") (lines_of text.now)) }
     ensures exact { result ≡ block_len text.now }
 {
@@ -49,9 +49,9 @@ fn body_len(text: &[u8]) -> Option<usize>
 /// block's first line that has one.
 pub fn read_block(alloc: Global, text: &[u8]) -> Result<(Spec, usize), SpecFault>
     // What is read is a block.
-    ensures found { IfOk result (λ read. IsBlock text.now read.0 read.1) }
+    ensures sound { IfOk result (λ read. IsBlock text.now read.0 read.1) }
     // What is a block is read.
-    ensures only { (room : RoomSpec) (len : ℕ) → IsBlock text.now room len → OrMemory result (Ok (room, len)) }
+    ensures complete { (room : RoomSpec) (len : ℕ) → IsBlock text.now room len → OrMemory result (Ok (room, len)) }
     ensures within { IfOk result (λ read. read.1 ≤ length text.now) }
     // A fault rests on the lines up to its own,
     ensures local { IfErr result (λ fault. UnlessMemory fault (IsLocal text.now fault)) }
@@ -212,7 +212,7 @@ fn read_fuse(
 ) -> Result<Option<(u8, u32)>, SpecFault>
     requires simulators { simulators ≤ 8 }
     requires fuses { length fuses.now ≤ 8 }
-    ensures { result ≡ told_next simulators fuses.now line.now }
+    ensures { result ≡ said_next simulators fuses.now line.now }
 {
     let number = 7 + fuses.len();
     let Some(words) = line.strip_prefix(b"crash ".as_slice()) else {

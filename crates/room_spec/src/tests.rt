@@ -384,3 +384,39 @@ fn codes_of_faults(rt: HostRuntime) {
         assert_eq!(rt; fault.code(), code);
     }
 }
+
+#[test]
+fn messages(rt: HostRuntime) -> Result<(), Fail> {
+    for (fault, text) in [
+        (SpecFault::Truncated, "the room block has no line `end`"),
+        (
+            SpecFault::BadLine(3),
+            "line 3 hasn't the form that it should have",
+        ),
+        (SpecFault::BadName, "bad name of a room"),
+        (
+            SpecFault::BadProtocol(ParseFault::TooManyRules),
+            "bad protocol: more than 32 rules",
+        ),
+        (SpecFault::Inputs, "not 1 to 16 inputs up to 4294967295"),
+        (SpecFault::Simulators, "not 1 to 8 simulators"),
+        (SpecFault::Rounds, "not 1 to 15 rounds"),
+        (SpecFault::Turns, "not 1 to 65535 turns"),
+        (
+            SpecFault::TooWide,
+            "simulators, processes and rounds need more than 64 bits",
+        ),
+        (
+            SpecFault::CrashLine(7),
+            "line 7 is no crash of a simulator after up to 4294967295 steps",
+        ),
+        (
+            SpecFault::Repeated(8),
+            "line 8 is a second crash of its simulator",
+        ),
+    ] {
+        let found = format!(in rt.alloc(); "{fault}")?;
+        assert_eq!(rt; found.as_str(), text);
+    }
+    Ok(())
+}

@@ -22,9 +22,9 @@ const MAX_ENTRIES: usize = 16;
 /// Reads an event line, without its line end: the room's name and the event.
 pub fn read_line(line: &[u8]) -> Result<(Name, Event), LineFault>
     // What is read is what the line says.
-    ensures found { IfOk result (λ read. IsEventLine line.now read.0 read.1) }
+    ensures sound { IfOk result (λ read. IsEventLine line.now read.0 read.1) }
     // What a line says is read.
-    ensures only { (name : List ℕ) (event : Event) → IsEventLine line.now name event → result ≡ Ok (name, event) }
+    ensures complete { (name : List ℕ) (event : Event) → IsEventLine line.now name event → result ≡ Ok (name, event) }
     ensures short { IfOk result (λ read. length line.now ≤ 256) }
     // Which fault it is.
     ensures exact { result ≡ line_in line.now }

@@ -113,3 +113,21 @@ fn too_long(rt: HostRuntime) {
     assert_eq!(rt; code_of(&line), 34);
     assert_eq!(rt; code_of(&line[..256]), 30);
 }
+
+#[test]
+fn messages(rt: HostRuntime) -> Result<(), Fail> {
+    for (fault, text) in [
+        (LineFault::BadName, "bad name of a room"),
+        (
+            LineFault::BadWord,
+            "not one of the words `write`, `snap` and `decide`",
+        ),
+        (LineFault::BadNumber, "bad number"),
+        (LineFault::BadLength, "too few or too many fields"),
+        (LineFault::TooLong, "the line has more than 256 bytes"),
+    ] {
+        let found = format!(in rt.alloc(); "{fault}")?;
+        assert_eq!(rt; found.as_str(), text);
+    }
+    Ok(())
+}

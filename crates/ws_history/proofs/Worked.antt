@@ -27,7 +27,7 @@ room = record {
   fuses = [];
   protocol = record {
     first = Named names.Input;
-    rules = record { conditions = record { left = Named names.Round; comparator = comparators.Less; right = Number 2 } ∷ []; command = record { kind = kinds.Write; value = Named names.Count } } ∷ [];
+    rules = record { conditions = record { left = Named names.Round; comparator = comparators.Less; right = Number 2 } ∷ []; action_rule = record { kind = kinds.Write; value = Named names.Count } } ∷ [];
     last = record { kind = kinds.Decide; value = Named names.Max };
   };
 }

@@ -5,4 +5,4 @@ use Rattle.bgsim_console.proofs.command_line.line.Goals as goal
 
 pub returns-clause-file : goal.returns-clause-file
 returns-clause-file g c =
-    is_check (map g.S.AsStr.text c.args.words.now) (subcommand_rows_of c.in_ok-matches.matches) _ (λ none. let zero = no_words g.S.AsStr.text c.args.words.now none in grind (arith, rules)) c.in_ok-matches.ensures.kinds c.in_ok-matches.ensures.found (search rules)
+    is_check (map g.S.AsStr.text c.args.words.now) (subcommand_rows_of c.in_ok-matches.matches) _ (λ none. let zero = no_words g.S.AsStr.text c.args.words.now none in grind (arith, rules)) c.in_ok-matches.ensures.kinds c.in_ok-matches.ensures.sound (search rules)

@@ -1,15 +1,15 @@
 use Rattle.std.proofs.Common.{◌≡◌, ◌+◌, ◌<◌, ◌^◌, List, [], length}
-use Rattle.history_checker.specs.Verdicts.{Told, HasHeard, specs_of}
+use Rattle.history_checker.specs.Verdicts.{FedEvent, HasProcessed, specs_of}
 use Rattle.bgsim_console.specs.Lines.{text_lines}
-use Rattle.bgsim_console.specs.Check.{told_from}
+use Rattle.bgsim_console.specs.Check.{fed_from}
 use Rattle.bgsim_console.proofs.events.feed_events.Given as goal
 
--- what was told so far, and what the lines that are left tell
+-- what was fed so far, and what the lines that are left tell
 abbrev pub invariant-loop-text : goal.invariant-loop-text
 invariant-loop-text l =
-    (told : List Told)
-    × (told_from (specs_of l.initial.rooms) [] l.first_line (text_lines l.transcript) ≡ told_from (specs_of l.initial.rooms) told l.line (text_lines l.rest))
-    × HasHeard l.rooms told
+    (fed : List FedEvent)
+    × (fed_from (specs_of l.initial.rooms) [] l.first_line (text_lines l.transcript) ≡ fed_from (specs_of l.initial.rooms) fed l.line (text_lines l.rest))
+    × HasProcessed l.rooms fed
     × (specs_of l.rooms ≡ specs_of l.initial.rooms)
     × (l.line + length l.rest < 2 ^ 64)
 

@@ -1,7 +1,14 @@
 use Rattle.std.proofs.Common.{◌+◌, ◌<◌, ◌^◌, length, sym, subst}
-use Rattle.bgsim_console.specs.Check.{Setup}
+use Rattle.std.proofs.lemmas.Result.{err_from_is_err_and}
+use Rattle.bgsim_console.specs.Check.{Setup, blocks_in}
+use Rattle.bgsim_console.proofs.Blocks.{blocks_fault}
 use Rattle.bgsim_console.proofs.judge.judge.Goals as goal
 
 pub feed_events-requires-clause-fits : goal.feed_events-requires-clause-fits
 feed_events-requires-clause-fits c =
     subst (λ (setup : Setup). setup.line + length c.in_ok-setup.transcript.now < 2 ^ 64) (sym c.setup.view_is) c.in_ok-setup.ensures.fits
+
+pub returns-in_err-setup-clause-err : goal.returns-in_err-setup-clause-err
+returns-in_err-setup-clause-err c =
+    let p = err_from_is_err_and c.from_residual.result c.from_residual.ensures.1 in
+    rw (p.1, p.2) (blocks_fault c.args.input.now (blocks_in c.args.input.now) c.in_err-setup.field-0.0 c.in_err-setup.ensures.err)

@@ -1,10 +1,10 @@
-use Rattle.std.proofs.Common.{◌≡◌, ◌+◌, ◌≤◌, ℕ, suc, length}
-use Rattle.bgsim_console.specs.Check.{blocks_from, blocks_in}
+use Rattle.std.proofs.Common.{◌≡◌, ◌⊎◌, ◌+◌, ◌≤◌, ℕ, suc, length}
+use Rattle.bgsim_console.specs.Check.{blocks_from, blocks_in, BeginsWithBlock}
 use Rattle.bgsim_console.proofs.setup.read_blocks.Given as goal
 
 -- what is left says the rest
 abbrev pub invariant-loop-rest : goal.invariant-loop-rest
-invariant-loop-rest l = (most : ℕ) × (length l.rest ≤ most) × (blocks_in l.input ≡ blocks_from (suc most) l.setup l.rest) × (l.setup.line + length l.rest ≤ length l.input + 1)
+invariant-loop-rest l = (most : ℕ) × (length l.rest ≤ most) × (blocks_in l.input ≡ blocks_from (suc most) l.setup l.rest) × (l.setup.line + length l.rest ≤ length l.input + 1) × ((l.rest ≡ l.input) ⊎ BeginsWithBlock l.input)
 
 abbrev pub decreases-loop-rest : goal.decreases-loop-rest
 decreases-loop-rest l = length l.rest

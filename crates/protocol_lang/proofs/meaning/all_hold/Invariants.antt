@@ -4,4 +4,4 @@ use Rattle.protocol_lang.specs.Meaning.{holds}
 use Rattle.protocol_lang.proofs.meaning.all_hold.Given as goal
 
 abbrev pub invariant-loop-comparison : goal.invariant-loop-comparison
-invariant-loop-comparison l = list_all (holds l.situation) (drop l.comparison-index l.comparisons) ≡ list_all (holds l.situation) l.comparisons
+invariant-loop-comparison l = list_all (holds l.environment) (drop l.comparison-index l.comparisons) ≡ list_all (holds l.environment) l.comparisons

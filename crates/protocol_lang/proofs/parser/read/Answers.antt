@@ -4,7 +4,7 @@ use Rattle.std.proofs.lemmas.Result.{err_from_is_err_and}
 use Rattle.protocol_lang.specs.Trees.{Expression}
 use Rattle.protocol_lang.specs.Formulas.{trees}
 use Rattle.protocol_lang.specs.Reading.{State, one_token}
-use Rattle.protocol_lang.proofs.Onward.{IsAt, at_start, at_next, too_long, fault_read, text_read}
+use Rattle.protocol_lang.proofs.Onward.{IsAt, at_start, at_next, too_long, fault_read, text_read, end_refused}
 use Rattle.protocol_lang.proofs.parser.read.Goals as goal
 
 pub returns-then-text-gt-MAX_TEXT : goal.returns-then-text-gt-MAX_TEXT
@@ -36,3 +36,10 @@ returns-in-Ok c =
     let from = c.loop-parser.from in
     let taken = subst (λ read. one_token trees text from c.loop-parser.parser ≡ Ok (c.take_next.new.self, read)) c.in_default.is c.in_ok-end.ensures.token in
     text_read text from c.loop-parser.parser c.take_next.new.self c.loop-parser.invariant.0 c.loop-parser.invariant.1 taken ∙ ap Ok (sym c.in-Ok.ensures.value)
+
+pub returns-in-Err : goal.returns-in-Err
+returns-in-Err c =
+    let text = c.args.text.now in
+    let from = c.loop-parser.from in
+    let taken = subst (λ read. one_token trees text from c.loop-parser.parser ≡ Ok (c.take_next.new.self, read)) c.in_default.is c.in_ok-end.ensures.token in
+    rw c.at.ensures (end_refused text from from c.loop-parser.parser c.take_next.new.self c.in-Err.refusal c.loop-parser.invariant.0 c.loop-parser.invariant.1 taken c.in-Err.ensures.err)

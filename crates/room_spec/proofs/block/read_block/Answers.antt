@@ -1,11 +1,11 @@
 use Rattle.room_spec.proofs.Memory.{found_or, only_or, local_or, of_text_or}
 use Rattle.room_spec.proofs.block.read_block.Goals as goal
 
-pub returns-clause-found : goal.returns-clause-found
-returns-clause-found c = found_or c.args.text.now c.read_front.result c.read_front.ensures.exact
+pub returns-clause-sound : goal.returns-clause-sound
+returns-clause-sound c = found_or c.args.text.now c.read_front.result c.read_front.ensures.exact
 
-pub returns-clause-only : goal.returns-clause-only
-returns-clause-only c = only_or c.args.text.now c.read_front.result c.read_front.ensures.exact
+pub returns-clause-complete : goal.returns-clause-complete
+returns-clause-complete c = only_or c.args.text.now c.read_front.result c.read_front.ensures.exact
 
 pub returns-clause-local : goal.returns-clause-local
 returns-clause-local c = local_or c.args.text.now c.read_front.result c.read_front.ensures.exact

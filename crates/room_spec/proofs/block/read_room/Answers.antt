@@ -14,5 +14,5 @@ invariant_of-result c =
       turns = c.in_ok-turns.ensures.range;
       fuses = c.in_ok-fuses.ensures.fuses;
       values = inputs_are_values c.in_ok-inputs.inputs.items are;
-      numerals = kept_small _ c.in_ok-fuses.text.now c.parse_bytes.result c.map_err.result c.in_ok-protocol.protocol c.parse_bytes.ensures.found c.map_err.ensures.cases c.map_err.ensures.variant c.in_ok-protocol.was;
+      numerals = kept_small _ c.in_ok-fuses.text.now c.parse_bytes.result c.map_err.result c.in_ok-protocol.protocol c.parse_bytes.ensures.sound c.map_err.ensures.cases c.map_err.ensures.variant c.in_ok-protocol.was;
     }

@@ -1,7 +1,7 @@
 use Rattle.std.proofs.Common.{Err, ap}
 use Rattle.std.proofs.lemmas.Result.{IfOk-weaker}
 use Rattle.bgsim_console.specs.Check.{Setup}
-use Rattle.bgsim_console.proofs.Blocks.{refused_name, unheard_still}
+use Rattle.bgsim_console.proofs.Blocks.{refused_name, unfed_still}
 use Rattle.bgsim_console.proofs.setup.Setup.open_room.Goals as goal
 
 pub returns-in-Err-NameTaken-clause-room : goal.returns-in-Err-NameTaken-clause-room
@@ -11,4 +11,4 @@ returns-in-Err-NameTaken-clause-room c =
     c.refuse.ensures.refused
 
 pub invariant_of-self-in-Err-NameTaken : goal.invariant_of-self-in-Err-NameTaken
-invariant_of-self-in-Err-NameTaken c = unheard_still c.self.inside.rooms c.add.new.self c.self.inside.names.items c.in-Err-NameTaken.ensures.err c.self.invariant
+invariant_of-self-in-Err-NameTaken c = unfed_still c.self.inside.rooms c.add.new.self c.self.inside.names.items c.in-Err-NameTaken.ensures.err c.self.invariant

@@ -1,6 +1,6 @@
 use Rattle.std.proofs.Common.{◌≡◌, ◌∙◌, true, false, refl, sym, ap, subst}
-use Rattle.history_checker.specs.Verdicts.{Told, HasHeard, told_of, has_room, specs_of}
-use Rattle.history_checker.proofs.RoomLists.{has_room-lookup, specs-with_room, IsKeyed-with_room, HasHeard-with_room}
+use Rattle.history_checker.specs.Verdicts.{FedEvent, HasProcessed, fed_to, has_room, specs_of}
+use Rattle.history_checker.proofs.RoomLists.{has_room-lookup, specs-with_room, IsKeyed-with_room, HasProcessed-with_room}
 use Rattle.history_checker.proofs.rooms.Rooms.feed.Goals as goal
 
 pub returns-in_default-clause-known : goal.returns-in_default-clause-known
@@ -17,16 +17,16 @@ returns-clause-known c =
 
 pub invariant_of-self : goal.invariant_of-self
 invariant_of-self c =
-    IsKeyed-with_room c.self.inside.rooms.entries c.in-Some.index c.in-Some-get_index_mut.room.now c.hear.new.self (sym c.in-Some-get_index_mut.ensures.value) c.hear.ensures.spec c.self.invariant
+    IsKeyed-with_room c.self.inside.rooms.entries c.in-Some.index c.in-Some-get_index_mut.room.now c.feed.new.self (sym c.in-Some-get_index_mut.ensures.value) c.feed.ensures.spec c.self.invariant
 
 pub returns-clause-rooms : goal.returns-clause-rooms
 returns-clause-rooms c =
-    specs-with_room c.self.inside.rooms.entries c.in-Some.index c.in-Some-get_index_mut.room.now c.hear.new.self (sym c.in-Some-get_index_mut.ensures.value) c.hear.ensures.spec ∙ ap specs_of c.self.view_is
+    specs-with_room c.self.inside.rooms.entries c.in-Some.index c.in-Some-get_index_mut.room.now c.feed.new.self (sym c.in-Some-get_index_mut.ensures.value) c.feed.ensures.spec ∙ ap specs_of c.self.view_is
 
-pub returns-clause-heard : goal.returns-clause-heard
-returns-clause-heard c = λ told heard.
-    let one : Told = record { name = c.args.name.now; event = c.args.event.now; line = c.args.line } in
-    HasHeard-with_room c.self.inside.rooms.entries c.in-Some.index c.in-Some-get_index_mut.room.now c.hear.new.self told one c.self.invariant c.get_index_of.ensures.unique (sym c.in-Some.ensures.index) (sym c.in-Some-get_index_mut.ensures.value)
-    c.hear.ensures.spec
-    (c.hear.ensures.heard (told_of c.in-Some-get_index_mut.room.now.spec.name told) one refl refl)
-    (subst (λ rooms. HasHeard rooms told) (sym c.self.view_is) heard)
+pub returns-clause-processed : goal.returns-clause-processed
+returns-clause-processed c = λ fed processed.
+    let one : FedEvent = record { name = c.args.name.now; event = c.args.event.now; line = c.args.line } in
+    HasProcessed-with_room c.self.inside.rooms.entries c.in-Some.index c.in-Some-get_index_mut.room.now c.feed.new.self fed one c.self.invariant c.get_index_of.ensures.unique (sym c.in-Some.ensures.index) (sym c.in-Some-get_index_mut.ensures.value)
+    c.feed.ensures.spec
+    (c.feed.ensures.processed (fed_to c.in-Some-get_index_mut.room.now.spec.name fed) one refl refl)
+    (subst (λ rooms. HasProcessed rooms fed) (sym c.self.view_is) processed)

@@ -2,8 +2,8 @@ use Rattle.std.proofs.Common.{◌≡◌, ◌∙◌, ◌++◌, ◌∷◌, [], sym
 use Rattle.std.specs.Str.{bytes_eq}
 use Rattle.room_spec.specs.Rooms.{RoomSpec}
 use Rattle.indexmap.proofs.CallerLemmas.{insert_entry-new}
-use Rattle.history_checker.specs.Verdicts.{HasHeard, IsKeyed, has_room, specs_of, rooms_in}
-use Rattle.history_checker.proofs.RoomLists.{Entries, none_there, IsKeyed-push, specs-push, HasHeard-push, nothing_heard}
+use Rattle.history_checker.specs.Verdicts.{HasProcessed, IsKeyed, has_room, specs_of, rooms_in}
+use Rattle.history_checker.proofs.RoomLists.{Entries, none_there, IsKeyed-push, specs-push, HasProcessed-push, nothing_processed}
 use Rattle.history_checker.proofs.rooms.Rooms.push.Goals as goal
 
 -- the entries after the call: those before it, and the room under its name
@@ -26,10 +26,10 @@ returns-clause-added c =
     ∙ ap (λ rooms. specs_of rooms ++ c.in_ok-room.room.spec ∷ []) c.self.view_is
     ∙ ap (λ spec. specs_of c.args.self.now ++ spec ∷ []) c.in_ok-room.ensures.spec
 
-pub returns-clause-heard : goal.returns-clause-heard
-returns-clause-heard c = λ told none heard.
+pub returns-clause-processed : goal.returns-clause-processed
+returns-clause-processed c = λ fed none processed.
     let room = c.in_ok-room.room in
-    let P : Entries → Type 0 = λ entries. HasHeard (rooms_in entries) told in
+    let P : Entries → Type 0 = λ entries. HasProcessed (rooms_in entries) fed in
     subst P (sym (pushed c))
-    (HasHeard-push c.self.inside.rooms.entries room.spec.name room told (subst (λ rooms. HasHeard rooms told) (sym c.self.view_is) heard)
-    (nothing_heard room c.args.spec told c.in_ok-room.ensures.spec none c.in_ok-room.ensures.heard))
+    (HasProcessed-push c.self.inside.rooms.entries room.spec.name room fed (subst (λ rooms. HasProcessed rooms fed) (sym c.self.view_is) processed)
+    (nothing_processed room c.args.spec fed c.in_ok-room.ensures.spec none c.in_ok-room.ensures.processed))
