@@ -139,7 +139,7 @@ moved_fields room fields i limits are may =
 
 -- ---- a simulator that is told that it is idle
 
-woken_fields : (room : RoomState) (fields : Fields) (i : ℕ) → IsWithinLimits room.spec → i < room.spec.simulators → AreFieldsOf room fields → AreFieldsOf (with_sweep room i (woken (sweep_at room i))) (record fields { quiet = changed fields.quiet i 0 })
+pub woken_fields : (room : RoomState) (fields : Fields) (i : ℕ) → IsWithinLimits room.spec → i < room.spec.simulators → AreFieldsOf room fields → AreFieldsOf (with_sweep room i (woken (sweep_at room i))) (record fields { quiet = changed fields.quiet i 0 })
 woken_fields room fields i limits below are =
     let own = woken (sweep_at room i) in
     let place : i < length room.sweeps = let count = sweep_count room (shapes (configuration_of room) limits are.run) in omega arith in
@@ -381,6 +381,16 @@ module _ (P : Fields → Type 0) (spec : RoomSpec) (limits : IsWithinLimits spec
 
   pub settle_by : (room : RoomState) (fields : Fields) → room.spec ≡ spec → AreFieldsOf room fields → P fields → IsSettling P spec (room_after_settle room) (fields_after_settle spec fields)
   settle_by room fields same are holds = settled_alike room_kind (fields_kind spec) spec.simulators (IsSettling P spec) settling room fields (record { same = same; are = are; holds = holds })
+
+module _ (P : Fields → Type 0) (spec : RoomSpec) (limits : IsWithinLimits spec) (room : RoomState) (fields : Fields) (i : ℕ) where
+  pub step_are : IsSettling P spec room fields → AreFieldsOf (room_after_step room i) (fields_after_step spec fields i)
+  step_are is = subst (λ (s : RoomSpec). AreFieldsOf (room_after_step room i) (fields_after_step s fields i)) is.same (step_in_fields room fields i (subst IsWithinLimits (sym is.same) limits) is.are).1
+
+  pub in_turn_alike : i < spec.simulators → IsSettling P spec room fields → not (is_resting (sweep_at room i).mind.line) ≡ not (is_resting (fields.mind i).line)
+  in_turn_alike below is = ap (λ (mind : MindState). not (is_resting mind.line)) (sym (mind_here room i) ∙ (fields_stand room fields (subst IsWithinLimits (sym is.same) limits) is.are).minds i (subst (λ (s : RoomSpec). i < s.simulators) (sym is.same) below))
+
+  pub has_step_alike : i < spec.simulators → IsSettling P spec room fields → is_step (ready_at room i) ≡ is_step (ready_in spec fields i)
+  has_step_alike below is = ap is_step (sym (same_ready room fields i (subst IsWithinLimits (sym is.same) limits) (subst (λ (s : RoomSpec). i < s.simulators) (sym is.same) below) is.are) ∙ ap (λ (s : RoomSpec). ready_in s fields i) is.same)
 
 -- Settling makes fields of the room that it makes.
 pub settle_in_fields : (room : RoomState) (fields : Fields) → IsWithinLimits room.spec → AreFieldsOf room fields → AreFieldsOf (room_after_settle room) (fields_after_settle room.spec fields)
