@@ -353,35 +353,6 @@ pub record IsSettling (P : Fields → Type 0) (spec : RoomSpec) (room : RoomStat
   pub are : AreFieldsOf room fields
   pub holds : P fields
 
-module _ (P : Fields → Type 0) (spec : RoomSpec) (limits : IsWithinLimits spec)
-    (steps_on : (room : RoomState) (fields : Fields) (i : ℕ) → room.spec ≡ spec → AreFieldsOf room fields → P fields → P (fields_after_step spec fields i))
-    (wakes : (fields : Fields) (quiet : ℕ → ℕ) → P fields → P (with_quiet fields quiet)) where
-  on_step : (room : RoomState) (fields : Fields) (i : ℕ) → IsSettling P spec room fields → IsSettling P spec (room_after_step room i) (fields_after_step spec fields i)
-  on_step room fields i is = record {
-    same = same_spec_step room i ∙ is.same;
-    are = subst (λ (s : RoomSpec). AreFieldsOf (room_after_step room i) (fields_after_step s fields i)) is.same (step_in_fields room fields i (subst IsWithinLimits (sym is.same) limits) is.are).1;
-    holds = steps_on room fields i is.same is.are is.holds;
-  }
-
-  settling : AreAlike room_kind (fields_kind spec) spec.simulators (IsSettling P spec)
-  settling = record {
-    count = λ room fields is. ap (λ (s : RoomSpec). s.simulators) is.same;
-    other_count = λ room fields is. refl;
-    most = λ room fields is. ap most_steps is.same;
-    crashed = λ room fields i below is. (fields_stand room fields (subst IsWithinLimits (sym is.same) limits) is.are).crashed i (subst (λ (s : RoomSpec). i < s.simulators) (sym is.same) below);
-    in_turn = λ room fields i below is. ap (λ (mind : MindState). not (is_resting mind.line)) (sym (mind_here room i) ∙ (fields_stand room fields (subst IsWithinLimits (sym is.same) limits) is.are).minds i (subst (λ (s : RoomSpec). i < s.simulators) (sym is.same) below));
-    has_step = λ room fields i below is. ap is_step (sym (same_ready room fields i (subst IsWithinLimits (sym is.same) limits) (subst (λ (s : RoomSpec). i < s.simulators) (sym is.same) below) is.are) ∙ ap (λ (s : RoomSpec). ready_in s fields i) is.same);
-    step = λ room fields i below is. on_step room fields i is;
-    wake = λ room fields i below is. record {
-      same = is.same;
-      are = woken_fields room fields i (subst IsWithinLimits (sym is.same) limits) (subst (λ (s : RoomSpec). i < s.simulators) (sym is.same) below) is.are;
-      holds = wakes fields (changed fields.quiet i 0) is.holds;
-    };
-  }
-
-  pub settle_by : (room : RoomState) (fields : Fields) → room.spec ≡ spec → AreFieldsOf room fields → P fields → IsSettling P spec (room_after_settle room) (fields_after_settle spec fields)
-  settle_by room fields same are holds = settled_alike room_kind (fields_kind spec) spec.simulators (IsSettling P spec) settling room fields (record { same = same; are = are; holds = holds })
-
 module _ (P : Fields → Type 0) (spec : RoomSpec) (limits : IsWithinLimits spec) (room : RoomState) (fields : Fields) (i : ℕ) where
   pub step_are : IsSettling P spec room fields → AreFieldsOf (room_after_step room i) (fields_after_step spec fields i)
   step_are is = subst (λ (s : RoomSpec). AreFieldsOf (room_after_step room i) (fields_after_step s fields i)) is.same (step_in_fields room fields i (subst IsWithinLimits (sym is.same) limits) is.are).1
@@ -391,6 +362,32 @@ module _ (P : Fields → Type 0) (spec : RoomSpec) (limits : IsWithinLimits spec
 
   pub has_step_alike : i < spec.simulators → IsSettling P spec room fields → is_step (ready_at room i) ≡ is_step (ready_in spec fields i)
   has_step_alike below is = ap is_step (sym (same_ready room fields i (subst IsWithinLimits (sym is.same) limits) (subst (λ (s : RoomSpec). i < s.simulators) (sym is.same) below) is.are) ∙ ap (λ (s : RoomSpec). ready_in s fields i) is.same)
+
+module _ (P : Fields → Type 0) (spec : RoomSpec) (limits : IsWithinLimits spec)
+    (steps_on : (room : RoomState) (fields : Fields) (i : ℕ) → room.spec ≡ spec → AreFieldsOf room fields → P fields → P (fields_after_step spec fields i))
+    (wakes : (fields : Fields) (quiet : ℕ → ℕ) → P fields → P (with_quiet fields quiet)) where
+  settling : AreAlike room_kind (fields_kind spec) spec.simulators (IsSettling P spec)
+  settling = record {
+    count = λ room fields is. ap (λ (s : RoomSpec). s.simulators) is.same;
+    other_count = λ room fields is. refl;
+    most = λ room fields is. ap most_steps is.same;
+    crashed = λ room fields i below is. (fields_stand room fields (subst IsWithinLimits (sym is.same) limits) is.are).crashed i (subst (λ (s : RoomSpec). i < s.simulators) (sym is.same) below);
+    in_turn = λ room fields i below is. in_turn_alike P spec limits room fields i below is;
+    has_step = λ room fields i below is. has_step_alike P spec limits room fields i below is;
+    step = λ room fields i below is. record {
+      same = same_spec_step room i ∙ is.same;
+      are = step_are P spec limits room fields i is;
+      holds = steps_on room fields i is.same is.are is.holds;
+    };
+    wake = λ room fields i below is. record {
+      same = is.same;
+      are = woken_fields room fields i (subst IsWithinLimits (sym is.same) limits) (subst (λ (s : RoomSpec). i < s.simulators) (sym is.same) below) is.are;
+      holds = wakes fields (changed fields.quiet i 0) is.holds;
+    };
+  }
+
+  pub settle_by : (room : RoomState) (fields : Fields) → room.spec ≡ spec → AreFieldsOf room fields → P fields → IsSettling P spec (room_after_settle room) (fields_after_settle spec fields)
+  settle_by room fields same are holds = settled_alike room_kind (fields_kind spec) spec.simulators (IsSettling P spec) settling room fields (record { same = same; are = are; holds = holds })
 
 -- Settling makes fields of the room that it makes.
 pub settle_in_fields : (room : RoomState) (fields : Fields) → IsWithinLimits room.spec → AreFieldsOf room fields → AreFieldsOf (room_after_settle room) (fields_after_settle room.spec fields)

@@ -19,7 +19,7 @@ use Rattle.room_core.proofs.Alone.{IsUp, has_step, in_turn, has_step_means, in_t
 use Rattle.room_core.proofs.Maps.{changed_here}
 use Rattle.room_core.proofs.Marks.{IsBlockedCount, blocked_anew}
 use Rattle.room_core.proofs.Blocking.{unresolved}
-use Rattle.room_core.proofs.Quieted.{IsStepOf, stands, wakes, moves, step_of, IsStuck, stored, passed, inside, IsKeptBut, kept_step, blocks_step}
+use Rattle.room_core.proofs.Quieted.{IsStepOf, stands, wakes, moves, step_of, IsStuck, IsKeptBut, kept_step, blocks_step, stuck_quiet}
 use Rattle.room_core.proofs.Idling.{Rests, idle_all}
 
 module _ (spec : RoomSpec) (limits : IsWithinLimits spec) where
@@ -157,18 +157,13 @@ module _ (spec : RoomSpec) (limits : IsWithinLimits spec) where
         over = λ a less. over_kept i fields after a (λ e. omega (arith, e, less)) kept (is.over a less);
       }
 
-  stuck_quiet : (fields : Fields) (quiet : ℕ → ℕ) (j : ℕ) → IsStuck spec fields j → IsStuck spec (record fields { quiet = quiet }) j
-  stuck_quiet fields quiet j (stored a below out) = stored a below out
-  stuck_quiet fields quiet j (passed value fixed asks) = passed value (record { simulator = fixed.simulator; below = fixed.below; two = fixed.two; seen = λ a below blind. fixed.seen a below (record { process = blind.process; round = blind.round; line = blind.line }) }) asks
-  stuck_quiet fields quiet j (inside a k below crashed low high one) = inside a k below crashed low high one
-
   alone_awake : (i : ℕ) (fields : Fields) → AreOver i fields → IsAlone i (record fields { quiet = changed fields.quiet i 0 })
   alone_awake i fields is = record {
     rests = λ a less other. is.rests a less;
     blocks = subst (λ (q : ℕ). IsBlockedCount (unresolved spec fields) (fields.mind i) q) (sym (changed_here fields.quiet i 0 i refl)) (blocked_anew {S = StepMap} (unresolved spec fields) (fields.mind i));
     over = λ a less alive. elim (is.over a less alive) [
       | inl out ↦ inl out
-      | inr stuck ↦ inr (λ j low. stuck_quiet fields (changed fields.quiet i 0) j (stuck j low))
+      | inr stuck ↦ inr (λ j low. stuck_quiet spec fields (changed fields.quiet i 0) j (stuck j low))
     ];
   }
 

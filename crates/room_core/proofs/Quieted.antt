@@ -58,6 +58,12 @@ pub data IsStuck (spec : RoomSpec) (fields : Fields) (j : ℕ) : Type 0 where
   passed : (value : ℕ) → IsFixedAt spec fields j spec.rounds → asks spec fields j spec.rounds ≡ actions.Write value → IsStuck spec fields j
   inside : (a k : ℕ) → a < spec.simulators → fields.crashed a ≡ true → 1 ≤ k → k ≤ spec.rounds → fields.level a j k ≡ 1 → IsStuck spec fields j
 
+-- a quiet count has no part in it
+pub stuck_quiet : (spec : RoomSpec) (fields : Fields) (quiet : ℕ → ℕ) (j : ℕ) → IsStuck spec fields j → IsStuck spec (record fields { quiet = quiet }) j
+stuck_quiet spec fields quiet j (stored a below out) = stored a below out
+stuck_quiet spec fields quiet j (passed value fixed asks) = passed value (record { simulator = fixed.simulator; below = fixed.below; two = fixed.two; seen = λ a below blind. fixed.seen a below (record { process = blind.process; round = blind.round; line = blind.line }) }) asks
+stuck_quiet spec fields quiet j (inside a k below crashed low high one) = inside a k below crashed low high one
+
 -- after a step of simulator i: the others have the same in mind, nobody has crashed, and what was stuck is so
 pub record IsKeptBut (spec : RoomSpec) (i : ℕ) (fields after : Fields) : Type 0 where
   pub crashed : (a : ℕ) → after.crashed a ≡ fields.crashed a
@@ -88,14 +94,9 @@ module _ (room : RoomState) (fields : Fields) (i : ℕ) (limits : IsWithinLimits
       let other : a ≢ i = λ e. absurd (let wrong : true ≡ false = sym crashed ∙ ap fields.crashed e ∙ alive_is may in cc) in
       inside a k below (line_crashed may a ∙ crashed) low high (level_else may a j k other ∙ one)
 
-  pub stuck_woken : (quiet : ℕ → ℕ) (j : ℕ) → IsStuck room.spec fields j → IsStuck room.spec (record fields { quiet = quiet }) j
-  stuck_woken quiet j (stored a below out) = stored a below out
-  stuck_woken quiet j (passed value fixed asks) = passed value (record { simulator = fixed.simulator; below = fixed.below; two = fixed.two; seen = λ a below blind. fixed.seen a below (record { process = blind.process; round = blind.round; line = blind.line }) }) asks
-  stuck_woken quiet j (inside a k below crashed low high one) = inside a k below crashed low high one
-
   pub kept_by : (after : Fields) → IsStepOf room fields i after → (HasLine (configuration_of room) i → AgreedStays room.spec fields (line room.spec fields i)) → IsKeptBut room.spec i fields after
   kept_by after stands stays = record { crashed = λ a. refl; minds = λ a other. refl; stuck = λ j is. is }
-  kept_by after wakes stays = record { crashed = λ a. refl; minds = λ a other. refl; stuck = stuck_woken (changed fields.quiet i 0) }
+  kept_by after wakes stays = record { crashed = λ a. refl; minds = λ a other. refl; stuck = stuck_quiet room.spec fields (changed fields.quiet i 0) }
   kept_by after (moves may is) stays =
       let effect = line_effect (configuration_of room) fields i (shapes (configuration_of room) limits are.run) (fields_stand room fields limits are) may in
       record { crashed = line_crashed may; minds = λ a other. ap (λ (own : Own). own.mind) (effect.others a other); stuck = stuck_line may (stays may) }
