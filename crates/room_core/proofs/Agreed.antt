@@ -96,14 +96,14 @@ module _ (room : RoomState) (fields : Fields) (limits : IsWithinLimits room.spec
   abbrev Stay : Fields → Type 0
   Stay after = AgreedStays room.spec fields after
 
-  on_line : (i : ℕ) → HasLine (configuration_of room) i → Stay (line room.spec fields i)
-  on_line i may = agreed_line (configuration_of room) fields i (shapes (configuration_of room) limits are.run) (fields_stand room fields limits are) may (small_values room.spec limits) (fields_within room fields limits are) (fields_known room fields limits are) (fields_sound room fields limits are)
+  pub agreed_on_line : (i : ℕ) → HasLine (configuration_of room) i → Stay (line room.spec fields i)
+  agreed_on_line i may = agreed_line (configuration_of room) fields i (shapes (configuration_of room) limits are.run) (fields_stand room fields limits are) may (small_values room.spec limits) (fields_within room fields limits are) (fields_known room fields limits are) (fields_sound room fields limits are)
 
   agreed_step : (i : ℕ) → Stay (fields_after_step room.spec fields i)
-  agreed_step i = step_keeps room fields limits are Stay (agreed_other room.spec fields fields.quiet fields.crashed) on_line (agreed_other room.spec fields) i
+  agreed_step i = step_keeps room fields limits are Stay (agreed_other room.spec fields fields.quiet fields.crashed) agreed_on_line (agreed_other room.spec fields) i
 
   agreed_crash : (i : ℕ) → Stay (fields_after_crash room.spec fields i)
-  agreed_crash i = crash_keeps room fields limits are Stay (agreed_other room.spec fields fields.quiet fields.crashed) on_line (agreed_other room.spec fields) i
+  agreed_crash i = crash_keeps room fields limits are Stay (agreed_other room.spec fields fields.quiet fields.crashed) agreed_on_line (agreed_other room.spec fields) i
 
 agreed_twice : (spec : RoomSpec) (first second third : Fields) → AgreedStays spec first second → AgreedStays spec second third → AgreedStays spec first third
 agreed_twice spec first second third one two = record {

@@ -139,7 +139,7 @@ moved_fields room fields i limits are may =
 
 -- ---- a simulator that is told that it is idle
 
-woken_fields : (room : RoomState) (fields : Fields) (i : ℕ) → IsWithinLimits room.spec → i < room.spec.simulators → AreFieldsOf room fields → AreFieldsOf (with_sweep room i (woken (sweep_at room i))) (record fields { quiet = changed fields.quiet i 0 })
+pub woken_fields : (room : RoomState) (fields : Fields) (i : ℕ) → IsWithinLimits room.spec → i < room.spec.simulators → AreFieldsOf room fields → AreFieldsOf (with_sweep room i (woken (sweep_at room i))) (record fields { quiet = changed fields.quiet i 0 })
 woken_fields room fields i limits below are =
     let own = woken (sweep_at room i) in
     let place : i < length room.sweeps = let count = sweep_count room (shapes (configuration_of room) limits are.run) in omega arith in
@@ -353,25 +353,32 @@ pub record IsSettling (P : Fields → Type 0) (spec : RoomSpec) (room : RoomStat
   pub are : AreFieldsOf room fields
   pub holds : P fields
 
+module _ (P : Fields → Type 0) (spec : RoomSpec) (limits : IsWithinLimits spec) (room : RoomState) (fields : Fields) (i : ℕ) where
+  pub step_are : IsSettling P spec room fields → AreFieldsOf (room_after_step room i) (fields_after_step spec fields i)
+  step_are is = subst (λ (s : RoomSpec). AreFieldsOf (room_after_step room i) (fields_after_step s fields i)) is.same (step_in_fields room fields i (subst IsWithinLimits (sym is.same) limits) is.are).1
+
+  pub in_turn_alike : i < spec.simulators → IsSettling P spec room fields → not (is_resting (sweep_at room i).mind.line) ≡ not (is_resting (fields.mind i).line)
+  in_turn_alike below is = ap (λ (mind : MindState). not (is_resting mind.line)) (sym (mind_here room i) ∙ (fields_stand room fields (subst IsWithinLimits (sym is.same) limits) is.are).minds i (subst (λ (s : RoomSpec). i < s.simulators) (sym is.same) below))
+
+  pub has_step_alike : i < spec.simulators → IsSettling P spec room fields → is_step (ready_at room i) ≡ is_step (ready_in spec fields i)
+  has_step_alike below is = ap is_step (sym (same_ready room fields i (subst IsWithinLimits (sym is.same) limits) (subst (λ (s : RoomSpec). i < s.simulators) (sym is.same) below) is.are) ∙ ap (λ (s : RoomSpec). ready_in s fields i) is.same)
+
 module _ (P : Fields → Type 0) (spec : RoomSpec) (limits : IsWithinLimits spec)
     (steps_on : (room : RoomState) (fields : Fields) (i : ℕ) → room.spec ≡ spec → AreFieldsOf room fields → P fields → P (fields_after_step spec fields i))
     (wakes : (fields : Fields) (quiet : ℕ → ℕ) → P fields → P (with_quiet fields quiet)) where
-  on_step : (room : RoomState) (fields : Fields) (i : ℕ) → IsSettling P spec room fields → IsSettling P spec (room_after_step room i) (fields_after_step spec fields i)
-  on_step room fields i is = record {
-    same = same_spec_step room i ∙ is.same;
-    are = subst (λ (s : RoomSpec). AreFieldsOf (room_after_step room i) (fields_after_step s fields i)) is.same (step_in_fields room fields i (subst IsWithinLimits (sym is.same) limits) is.are).1;
-    holds = steps_on room fields i is.same is.are is.holds;
-  }
-
   settling : AreAlike room_kind (fields_kind spec) spec.simulators (IsSettling P spec)
   settling = record {
     count = λ room fields is. ap (λ (s : RoomSpec). s.simulators) is.same;
     other_count = λ room fields is. refl;
     most = λ room fields is. ap most_steps is.same;
     crashed = λ room fields i below is. (fields_stand room fields (subst IsWithinLimits (sym is.same) limits) is.are).crashed i (subst (λ (s : RoomSpec). i < s.simulators) (sym is.same) below);
-    in_turn = λ room fields i below is. ap (λ (mind : MindState). not (is_resting mind.line)) (sym (mind_here room i) ∙ (fields_stand room fields (subst IsWithinLimits (sym is.same) limits) is.are).minds i (subst (λ (s : RoomSpec). i < s.simulators) (sym is.same) below));
-    has_step = λ room fields i below is. ap is_step (sym (same_ready room fields i (subst IsWithinLimits (sym is.same) limits) (subst (λ (s : RoomSpec). i < s.simulators) (sym is.same) below) is.are) ∙ ap (λ (s : RoomSpec). ready_in s fields i) is.same);
-    step = λ room fields i below is. on_step room fields i is;
+    in_turn = λ room fields i below is. in_turn_alike P spec limits room fields i below is;
+    has_step = λ room fields i below is. has_step_alike P spec limits room fields i below is;
+    step = λ room fields i below is. record {
+      same = same_spec_step room i ∙ is.same;
+      are = step_are P spec limits room fields i is;
+      holds = steps_on room fields i is.same is.are is.holds;
+    };
     wake = λ room fields i below is. record {
       same = is.same;
       are = woken_fields room fields i (subst IsWithinLimits (sym is.same) limits) (subst (λ (s : RoomSpec). i < s.simulators) (sym is.same) below) is.are;

@@ -14,6 +14,13 @@ pub mod FieldReplays
 pub mod Settling
 pub mod FieldCalls
 pub mod Alone
+pub mod Marks
+pub mod Blocking
+pub mod Finishing
+pub mod Quieted
+pub mod Idling
+pub mod InOrder
+pub mod Ending
 pub mod Decoding
 pub mod Prefixes
 pub mod Stages

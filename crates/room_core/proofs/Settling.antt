@@ -19,7 +19,7 @@ by_tests Related false false r s q t is one two = two
 by_tests Related true false r s q t is one two = absurd cc
 by_tests Related false true r s q t is one two = absurd cc
 
-while_alike : {R Q : Type 0} (Related : R → Q → Type 0) (step : R → ℕ → R) (step' : Q → ℕ → Q) (test : R → ℕ → Bool) (test' : Q → ℕ → Bool) (i most : ℕ) (r : R) (q : Q)
+pub while_alike : {R Q : Type 0} (Related : R → Q → Type 0) (step : R → ℕ → R) (step' : Q → ℕ → Q) (test : R → ℕ → Bool) (test' : Q → ℕ → Bool) (i most : ℕ) (r : R) (q : Q)
     → ((r : R) (q : Q) → Related r q → test r i ≡ test' q i) → ((r : R) (q : Q) → Related r q → Related (step r i) (step' q i)) → Related r q → Related (steps_while step test most r i) (steps_while step' test' most q i)
 while_alike Related step step' test test' i zero r q same keeps are = are
 while_alike Related step step' test test' i (suc most) r q same keeps are =

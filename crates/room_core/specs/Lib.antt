@@ -6,4 +6,5 @@ pub mod Reading
 pub mod Agreements
 pub mod Moments
 pub mod Passed
+pub mod Settled
 pub mod Contents

@@ -11,9 +11,11 @@ ghost use Rattle.simulator.specs.Minds.{goal_at};
 ghost use Rattle.simulator.specs.declared.goal.Goal.TheVariants.{Spent};
 ghost use Rattle.room_core.specs.Moments.{IsMoment};
 ghost use Rattle.room_core.specs.Agreements.{AgreementsStay, IsFixedAt, IsInsideTurn};
+ghost use Rattle.room_core.specs.Settled.{IsSettledFor};
 ghost use Rattle.room_core.specs.Settling.{steps_while};
+ghost use Rattle.simulator.specs.Sweeps.{is_resting};
 ghost use Rattle.room_core.specs.Calls.{Call, RoomState, configuration_of, has_crashed, most_steps, replies_to, room_after_calls, room_after_step, room_kind, sweep_at};
-ghost use Rattle.room_core.specs.Fields.{Fields, levels_at, entry_of_steps, fields_after_call, fields_after_calls, opening_fields, replay_fields, replies_in};
+ghost use Rattle.room_core.specs.Fields.{Fields, levels_at, entry_of_steps, fields_after_call, fields_after_calls, fields_after_settle, opening_fields, replay_fields, replies_in};
 ghost use Rattle.room_spec.specs.Sizes.{sizes_in};
 ghost use Rattle.room_core.specs.Reading.{AgreeIn, AreFieldsOf, Reads, fields_in};
 ghost use Rattle.room_core.specs.Rooms.{HasLine, IsAlive, IsOneInterleaving, IsShaped, Configuration, crashed_by, mind_at, opening, stepped, times};
@@ -138,4 +140,12 @@ pub fn rooms_agree()
 pub fn values_in_range()
     ensures value { (room : RoomState) (fields : Fields) → IsWithinLimits room.spec → AreFieldsOf room fields → (i p r : ℕ) → fields.value i p r ≤ greatest }
     ensures out { (room : RoomState) (fields : Fields) → IsWithinLimits room.spec → AreFieldsOf room fields → (i p : ℕ) → i < room.spec.simulators → p < processes room.spec → fields.out i p ≤ greatest + 1 }
+{}
+
+/// After settling, where a simulator that hasn't crashed has a turn left, each process has decided,
+/// or has made all its writes and is asked for one more, or is held by a simulator that has crashed
+/// inside an agreement on one of its snapshots. And everyone else stands between two turns.
+pub fn settles()
+    ensures settled { (room : RoomState) (fields : Fields) → IsWithinLimits room.spec → AreFieldsOf room fields → (i j : ℕ) → i < room.spec.simulators → j < processes room.spec → (fields_after_settle room.spec fields).crashed i ≡ false → ((fields_after_settle room.spec fields).mind i).turns < room.spec.turns → IsSettledFor room.spec (fields_after_settle room.spec fields) j }
+    ensures rests { (room : RoomState) (fields : Fields) → IsWithinLimits room.spec → AreFieldsOf room fields → (i : ℕ) → i < room.spec.simulators → (fields_after_settle room.spec fields).crashed i ≡ false → is_resting ((fields_after_settle room.spec fields).mind i).line ≡ true }
 {}

@@ -1,7 +1,7 @@
 //! A room.
 ghost use Rattle.std.specs.Prelude.{ℕ, ◌≡◌, ◌<◌, ◌≤◌, false, length, map, replicate, slice_index, IfOk};
 ghost use Rattle.std.specs.List.{range_with_len};
-ghost use Rattle.room_spec.specs.Rooms.{IsWithinLimits};
+ghost use Rattle.room_spec.specs.Rooms.{IsWithinLimits, processes};
 ghost use Rattle.room_spec.specs.Sizes.{sizes_in};
 ghost use Rattle.view_table.specs.Places.{words_of};
 ghost use Rattle.simulator.specs.Minds.{goal_at};
@@ -15,6 +15,7 @@ ghost use Rattle.room_core.specs.Fields.{Fields, crash_reply_in, fields_after_cr
 ghost use Rattle.room_core.specs.Agreements.{AgreementsStay};
 ghost use Rattle.room_core.specs.Reading.{AreFieldsOf, Reads};
 ghost use Rattle.room_core.specs.Calls.{CountsQuietTurns, crash_reply, configuration_of, has_crashed, marked, moved, opening_state, operation_at, ready_at, room_after_crash, room_after_settle, room_after_step, room_kind, step_reply, sweep_after, sweep_at, with_sweep, woken};
+ghost use Rattle.room_core.specs.Settled.{IsSettledFor};
 ghost use Rattle.room_core.specs.Settling.{each_in_order, ran_alone, turn_ended};
 
 use crate::reply::{CrashReply, StepReply};
@@ -180,6 +181,8 @@ impl RoomCore {
         ensures fields { (fields : Fields) → AreFieldsOf self.old fields → AreFieldsOf self.new (fields_after_settle self.old.spec fields) }
         // What was agreed on stays.
         ensures agreement { (fields : Fields) → AreFieldsOf self.old fields → AgreementsStay self.old.spec fields (fields_after_settle self.old.spec fields) }
+        // Where a simulator that hasn't crashed has a turn left, each process has decided, is spent, or is held by one that has.
+        ensures settled { (fields : Fields) → AreFieldsOf self.old fields → (i j : ℕ) → i < self.old.spec.simulators → j < processes self.old.spec → (fields_after_settle self.old.spec fields).crashed i ≡ false → ((fields_after_settle self.old.spec fields).mind i).turns < self.old.spec.turns → IsSettledFor self.old.spec (fields_after_settle self.old.spec fields) j }
     {
         self.finish_turns();
         self.run_each();
