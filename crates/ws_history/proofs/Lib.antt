@@ -17,3 +17,4 @@ pub mod SameReports
 pub mod RoomFields
 pub mod Held
 pub mod Deciders
+pub mod Settled

@@ -35,6 +35,12 @@ abbrev pub is_held : ProcessState → Bool
 is_held (Held i) = true
 is_held state = false
 
+-- nothing is left to do for it
+abbrev pub is_over : ProcessState → Bool
+is_over (Decided v) = true
+is_over Spent = true
+is_over state = false
+
 abbrev pub held_or_going : Option ℕ → ProcessState
 held_or_going (Some i) = Held i
 held_or_going None = Going

@@ -1,5 +1,5 @@
 //! Laws of histories that are made from the snapshots that were agreed on.
-ghost use Rattle.std.specs.Prelude.{◌≡◌, ◌<◌, ◌≤◌, ◌↔◌, ◌==◌, ℕ, Bool, length};
+ghost use Rattle.std.specs.Prelude.{◌≡◌, ◌<◌, ◌≤◌, ◌↔◌, ◌+◌, ◌==◌, ℕ, Bool, length};
 ghost use Rattle.std.specs.List.{count_by, Contains};
 ghost use Rattle.room_spec.specs.Rooms.{RoomSpec, IsWithinLimits, processes};
 ghost use Rattle.transcript.specs.Runs.{IsRun, is_write_by, is_snap_by};
@@ -8,7 +8,8 @@ ghost use Rattle.room_core.specs.Calls.{RoomState};
 ghost use Rattle.room_core.specs.Fields.{Fields};
 ghost use Rattle.room_core.specs.Reading.{AreFieldsOf};
 ghost use Rattle.room_core.specs.Passed.{HasAgreed};
-ghost use Rattle.ws_history.specs.Reports.{crashed_in, held_in, is_held, state_of, states_of};
+ghost use Rattle.room_core.specs.Settled.{IsSettledFor};
+ghost use Rattle.ws_history.specs.Reports.{crashed_in, held_in, is_held, is_over, state_of, states_of};
 ghost use Rattle.ws_history.specs.declared.states.ProcessState.TheVariants.{Decided};
 ghost use Rattle.ws_history.specs.Sources.{history_of};
 ghost use Rattle.ws_history.specs.Histories.{Snapshot, Source, IsSource, history_from};
@@ -56,4 +57,10 @@ pub fn few_are_held()
 /// A process has decided exactly what its history says.
 pub fn decided_in_history()
     ensures { (room : RoomState) (fields : Fields) → IsWithinLimits room.spec → AreFieldsOf room fields → (j v : ℕ) → j < processes room.spec → (state_of room.spec fields j ≡ Decided v) ↔ Contains (history_of room.spec fields) (Decide j v) }
+{}
+
+/// Where each process of a room has settled, all have decided or are spent but for at most as many
+/// as simulators have crashed.
+pub fn settled_rooms()
+    ensures { (room : RoomState) (fields : Fields) → IsWithinLimits room.spec → AreFieldsOf room fields → ((j : ℕ) → j < processes room.spec → IsSettledFor room.spec fields j) → processes room.spec ≤ count_by is_over (states_of room.spec fields) + length (crashed_in room.spec fields) }
 {}
