@@ -4,11 +4,12 @@ use Rattle.std.specs.List.{All, flat_map, list_all}
 use Rattle.std.specs.Str.{bytes_eq}
 use Rattle.protocol_lang.specs.Faults.{code_of as protocol_code}
 use Rattle.protocol_lang.specs.Grammar.{place_of}
+use Rattle.room_spec.specs.Faults.{code_of as block_code}
 use Rattle.room_spec.specs.Rooms.{RoomSpec}
 use Rattle.room_spec.specs.Texts.{first_line, later_lines}
 use Rattle.room_spec.specs.Blocks.{block_len, block_in}
 use Rattle.room_spec.specs.declared.fault.SpecFault.{SpecFault}
-use Rattle.room_spec.specs.declared.fault.SpecFault.TheVariants.{Truncated, BadLine, BadName, BadProtocol, Inputs, Simulators, Rounds, Turns, TooWide, CrashLine, Repeated}
+use Rattle.room_spec.specs.declared.fault.SpecFault.TheVariants.{BadLine, BadProtocol, CrashLine, Repeated}
 use Rattle.transcript.specs.Faults.{code_of as line_code}
 use Rattle.transcript.specs.Lines.{line_in}
 use Rattle.transcript.specs.declared.event.Event.{Event}
@@ -30,19 +31,17 @@ abbrev pub protocol_text : ℕ → Option ℕ → List ℕ
 protocol_text code None = decimal code
 protocol_text code (Some at) = decimal code ++ (codes " " ++ decimal at)
 
+-- the numbers behind a fault's code: its line, or what is wrong with the protocol
+abbrev pub numbers_behind : SpecFault → List ℕ
+numbers_behind (BadLine line) = codes " " ++ decimal line
+numbers_behind (BadProtocol fault) = codes " " ++ protocol_text (protocol_code fault) (place_of fault)
+numbers_behind (CrashLine line) = codes " " ++ decimal line
+numbers_behind (Repeated line) = codes " " ++ decimal line
+numbers_behind fault = []
+
 -- the fault's code and the numbers behind it
 abbrev pub fault_text : SpecFault → List ℕ
-fault_text (BadLine line) = codes "11 " ++ decimal line
-fault_text (BadProtocol fault) = codes "13 " ++ protocol_text (protocol_code fault) (place_of fault)
-fault_text Truncated = codes "10"
-fault_text BadName = codes "12"
-fault_text Inputs = codes "14"
-fault_text Simulators = codes "15"
-fault_text Rounds = codes "16"
-fault_text Turns = codes "17"
-fault_text TooWide = codes "18"
-fault_text (CrashLine line) = codes "19 " ++ decimal line
-fault_text (Repeated line) = codes "20 " ++ decimal line
+fault_text fault = decimal (block_code fault) ++ numbers_behind fault
 
 abbrev pub refused_line : ℕ → List ℕ → List ℕ
 refused_line line fault = codes "line " ++ (decimal line ++ (codes " refused " ++ (fault ++ codes "\n")))

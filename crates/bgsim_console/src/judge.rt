@@ -50,7 +50,7 @@ fn answer_of(
     let mut output = refused;
     for (index, name) in names.iter().enumerate() {
         let Some(verdict) = rooms.verdict(index) else {
-            unreachable!()
+            unreachable!() // each name is that of the room of its index
         };
         all_well &= is_run(verdict);
         let line = verdict_line(alloc, name, verdict)?;

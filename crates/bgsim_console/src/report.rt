@@ -13,21 +13,22 @@ use std::alloc::{AllocError, Global};
 pub fn fault_text(alloc: Global, fault: SpecFault) -> Result<String, AllocError>
     ensures { IfOk result (λ text. string_bytes text ≡ fault_text fault) }
 {
+    let code = fault.code();
     match fault {
-        SpecFault::BadLine(line) => format!(in alloc; "11 {line}"),
+        SpecFault::BadLine(line) | SpecFault::CrashLine(line) | SpecFault::Repeated(line) => {
+            format!(in alloc; "{code} {line}")
+        }
         SpecFault::BadProtocol(fault) => {
             let text = protocol_text(alloc, fault)?;
-            format!(in alloc; "13 {text}")
+            format!(in alloc; "{code} {text}")
         }
-        SpecFault::Truncated => format!(in alloc; "10"),
-        SpecFault::BadName => format!(in alloc; "12"),
-        SpecFault::Inputs => format!(in alloc; "14"),
-        SpecFault::Simulators => format!(in alloc; "15"),
-        SpecFault::Rounds => format!(in alloc; "16"),
-        SpecFault::Turns => format!(in alloc; "17"),
-        SpecFault::TooWide => format!(in alloc; "18"),
-        SpecFault::CrashLine(line) => format!(in alloc; "19 {line}"),
-        SpecFault::Repeated(line) => format!(in alloc; "20 {line}"),
+        SpecFault::Truncated
+        | SpecFault::BadName
+        | SpecFault::Inputs
+        | SpecFault::Simulators
+        | SpecFault::Rounds
+        | SpecFault::Turns
+        | SpecFault::TooWide => format!(in alloc; "{code}"),
     }
 }
 

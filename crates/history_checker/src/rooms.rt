@@ -195,7 +195,7 @@ impl Rooms {
             return Err(NoRoom);
         };
         let Some(room) = self.rooms.get_index_mut(index) else {
-            unreachable!()
+            unreachable!() // the name was found at this index
         };
         room.feed(event, line);
         Ok(())

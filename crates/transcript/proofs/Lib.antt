@@ -5,3 +5,4 @@ pub mod Rows
 pub mod Histories
 pub mod Runs
 pub mod Worked
+pub mod FirstFault

@@ -4,6 +4,7 @@ use Rattle.std.specs.Prelude.{codes}
 use Rattle.std.specs.Fmt.{digits}
 use Rattle.transcript.specs.declared.event.Event.TheVariants.{Write, Snap, Decide}
 use Rattle.transcript.specs.declared.fault.LineFault.TheVariants.{BadName, BadWord, BadNumber, BadLength}
+use Rattle.transcript.specs.Faults.{first_fault}
 use Rattle.transcript.specs.Grammar.{event_line}
 use Rattle.transcript.specs.Lines.{line_in}
 
@@ -36,6 +37,21 @@ empty_field = refl
 
 empty_line : line_in [] ≡ Err BadName
 empty_line = refl
+
+no_fault : first_fault (codes "pair 0 snap 7 .") ≡ None
+no_fault = refl
+
+few_fields_first : first_fault (codes "one 16 wrote") ≡ Some BadLength
+few_fields_first = refl
+
+process_before_word : first_fault (codes "one 16 wrote 5 6") ≡ Some BadNumber
+process_before_word = refl
+
+fields_before_values : first_fault (codes "one 0 write . 6") ≡ Some BadLength
+fields_before_values = refl
+
+no_dot_behind_write : first_fault (codes "one 0 write .") ≡ Some BadNumber
+no_dot_behind_write = refl
 
 write_spelled : event_line (codes "one") (Write 0 5) ≡ codes "one 0 write 5"
 unfolding digits

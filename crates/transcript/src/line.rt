@@ -2,6 +2,7 @@
 ghost use Rattle.std.specs.Prelude.{◌≡◌, ◌∷◌, ◌≤◌, ℕ, List, length, IfOk};
 ghost use Rattle.std.specs.List.{count_by};
 ghost use Rattle.room_spec.specs.Texts.{is_space, fields_of};
+ghost use Rattle.transcript.specs.Faults.{fault_in, first_fault};
 ghost use Rattle.transcript.specs.Grammar.{IsEventLine};
 ghost use Rattle.transcript.specs.Lines.{number_in, entry_in, entries_in, value_in, row_in, event_of, event_in, line_in, Gives};
 
@@ -26,7 +27,8 @@ pub fn read_line(line: &[u8]) -> Result<(Name, Event), LineFault>
     // What a line says is read.
     ensures complete { (name : List ℕ) (event : Event) → IsEventLine line.now name event → result ≡ Ok (name, event) }
     ensures short { IfOk result (λ read. length line.now ≤ 256) }
-    // Which fault it is.
+    // It is the first of the line's faults, in the order of the format.
+    ensures first { fault_in result ≡ first_fault line.now }
     ensures exact { result ≡ line_in line.now }
 {
     read_named_event(line)

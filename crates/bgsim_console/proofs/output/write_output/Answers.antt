@@ -6,8 +6,7 @@ use Rattle.bgsim_console.proofs.output.write_output.Goals as goal
 pub loop-rest-preserved : goal.loop-rest-preserved
 loop-rest-preserved g c =
     let written = c.loop-rest.invariant.0 in
-    let more = take c.in-Ok.count c.loop-rest.rest.now in
-    (
+    let more = take c.in-Ok.count c.loop-rest.rest.now in (
       written ++ more,
       part_more c.args.output.now written c.loop-rest.rest.now c.in-Ok.count _ c.loop-rest.invariant.1 refl,
       Appends-then _ _ _ written more c.loop-rest.invariant.2 c.in-Ok.ensures.bytes,
