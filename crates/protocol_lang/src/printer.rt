@@ -20,7 +20,7 @@ pub fn print(alloc: Global, protocol: &Protocol) -> Result<String, AllocError>
     // The tokens of the protocol with the parentheses that its grouping needs, one space between two words and nothing
     // between other tokens.
     ensures exact { IfOk result (λ text. string_bytes text ≡ printed protocol.now) }
-    // The text is one of the protocol: by the clause `only` of `parse`, reading it gives the protocol again.
+    // The text is one of the protocol: by the clause `complete` of `parse`, reading it gives the protocol again.
     ensures again { IfOk result (λ text. IsText (string_bytes text) protocol.now) }
     // No text of the protocol is shorter.
     ensures shortest { IfOk result (λ text. (other : List ℕ) → IsText other protocol.now → length (string_bytes text) ≤ length other) }
