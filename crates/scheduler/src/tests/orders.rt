@@ -84,26 +84,34 @@ fn have_same_words(one: &RoomCore, other: &RoomCore) -> bool {
 fn are_same(one: &Report, other: &Report) -> bool {
     one.states.as_slice() == other.states.as_slice()
         && one.crashed.as_slice() == other.crashed.as_slice()
-        && one.history.as_slice() == other.history.as_slice()
+        && one.history.events() == other.history.events()
 }
 
 /// The report of an order over shared words, where words and report are also those over words of its
-/// own, and the history is a run.
+/// own, before they settle and after, and the history is a run.
 fn told(alloc: Global, text: &str, order: &[Stretch]) -> Result<Report, Fail> {
-    let shared = shared(alloc, text, order)?;
-    let alone = alone(alloc, text, order)?;
-    if !have_same_words(&shared, &alone) {
-        return Err(Fail::from("the same words"));
-    }
-    let found = report(alloc, &shared)?;
-    let expected = report(alloc, &alone)?;
-    if !are_same(&found, &expected) {
-        return Err(Fail::from("the same report"));
-    }
-    match check(shared.spec(), found.history.as_slice()) {
+    let mut shared = shared(alloc, text, order)?;
+    let mut alone = alone(alloc, text, order)?;
+    let found = same_report(alloc, &shared, &alone)?;
+    shared.settle();
+    alone.settle();
+    let _ = same_report(alloc, &shared, &alone)?;
+    match check(shared.spec(), found.history.events()) {
         Ok(()) => Ok(found),
         Err(_) => Err(Fail::from("a run")),
     }
+}
+
+fn same_report(alloc: Global, shared: &RoomCore, alone: &RoomCore) -> Result<Report, Fail> {
+    if !have_same_words(shared, alone) {
+        return Err(Fail::from("the same words"));
+    }
+    let found = report(alloc, shared)?;
+    let expected = report(alloc, alone)?;
+    if !are_same(&found, &expected) {
+        return Err(Fail::from("the same report"));
+    }
+    Ok(found)
 }
 
 #[test]
@@ -130,7 +138,7 @@ fn the_smallest_room(rt: HostRuntime) -> Result<(), Fail> {
         report.states.as_slice(),
         [ProcessState::Decided(5)].as_slice()
     );
-    assert_eq!(rt; report.history.len(), 3);
+    assert_eq!(rt; report.history.events().len(), 3);
     Ok(())
 }
 
@@ -145,7 +153,7 @@ fn a_late_proposer(rt: HostRuntime) -> Result<(), Fail> {
         report.states.as_slice(),
         [ProcessState::Decided(7), ProcessState::Decided(3)].as_slice()
     );
-    assert_eq!(rt; report.history.len(), 6);
+    assert_eq!(rt; report.history.events().len(), 6);
     Ok(())
 }
 
@@ -161,7 +169,7 @@ fn a_half_done_agreement(rt: HostRuntime) -> Result<(), Fail> {
         [ProcessState::Held(0), ProcessState::Decided(3)].as_slice()
     );
     assert_eq!(rt; report.crashed.as_slice(), [0].as_slice());
-    assert_eq!(rt; report.history.len(), 4);
+    assert_eq!(rt; report.history.events().len(), 4);
     Ok(())
 }
 
@@ -176,7 +184,7 @@ fn one_step_before_the_window(rt: HostRuntime) -> Result<(), Fail> {
         report.states.as_slice(),
         [ProcessState::Decided(3), ProcessState::Decided(3)].as_slice()
     );
-    assert_eq!(rt; report.history.len(), 6);
+    assert_eq!(rt; report.history.events().len(), 6);
     Ok(())
 }
 
@@ -208,7 +216,7 @@ fn an_own_entry_too_large(rt: HostRuntime) -> Result<(), Fail> {
         report.states.as_slice(),
         [ProcessState::Decided(6)].as_slice()
     );
-    assert_eq!(rt; report.history.len(), 5);
+    assert_eq!(rt; report.history.events().len(), 5);
     Ok(())
 }
 
@@ -225,7 +233,7 @@ fn two_crashes_in_one_agreement(rt: HostRuntime) -> Result<(), Fail> {
         [ProcessState::Held(0)].as_slice()
     );
     assert_eq!(rt; report.crashed.as_slice(), [0, 1].as_slice());
-    assert_eq!(rt; report.history.len(), 1);
+    assert_eq!(rt; report.history.events().len(), 1);
     Ok(())
 }
 
@@ -241,15 +249,20 @@ fn a_whole_word(rt: HostRuntime) -> Result<(), Fail> {
     for state in report.states.as_slice() {
         assert_eq!(rt; *state, ProcessState::Spent);
     }
-    assert_eq!(rt; report.history.len(), 48);
+    assert_eq!(rt; report.history.events().len(), 48);
     Ok(())
 }
 
 #[test]
 fn a_spent_process(rt: HostRuntime) -> Result<(), Fail> {
-    let report = told(rt.alloc(), WRITER, &[(0, 100, Stop::Idle)])?;
-    assert_eq!(rt; report.states.as_slice(), [ProcessState::Spent].as_slice());
-    assert_eq!(rt; report.history.len(), 2);
+    let before = told(rt.alloc(), WRITER, &[(0, 100, Stop::Idle)])?;
+    assert_eq!(rt; before.states.as_slice(), [ProcessState::Spent].as_slice());
+    assert_eq!(rt; before.history.events().len(), 2);
+    // Settling finds nothing left to do.
+    let mut room = shared(rt.alloc(), WRITER, &[(0, 100, Stop::Idle)])?;
+    room.settle();
+    let after = report(rt.alloc(), &room)?;
+    assert!(rt; are_same(&before, &after));
     Ok(())
 }
 

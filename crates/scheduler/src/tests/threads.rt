@@ -113,7 +113,7 @@ fn run<R: Threads + Sync>(
 /// have crashed.
 fn judged(alloc: Global, room: &RoomCore) -> Result<Report, Fail> {
     let report = report(alloc, room)?;
-    if check(room.spec(), report.history.as_slice()).is_err() {
+    if check(room.spec(), report.history.events()).is_err() {
         return Err(Fail::from("a run"));
     }
     let held = report
