@@ -156,9 +156,11 @@ fn rooms_that_are_left(rt: HostRuntime) -> Result<(), Fail> {
             assert_eq!(rt; words(alloc, &reply)?.as_str(), "step 1 Stepped");
         }
     }
-    for k in 0..100 {
-        let text = format!(in alloc; "r{}", 2 * k + 1)?;
-        let _ = service.apply(alloc, Command::Close(name(text.as_str())?));
+    for k in 0..200 {
+        if k % 2 == 1 {
+            let text = format!(in alloc; "r{k}")?;
+            let _ = service.apply(alloc, Command::Close(name(text.as_str())?));
+        }
     }
     let rooms = service.into_rooms();
     assert_eq!(rt; rooms.len(), 100);
