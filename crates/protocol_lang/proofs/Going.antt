@@ -107,7 +107,7 @@ module _ {A : Type 0} (made : Operands A) where
   is_end_token tokens.End e = refl
   is_end_token token e = absurd cc
 
-  is_no_end : (token : Token) → is_end token ≡ false → token ≡ tokens.End → ⊥
+  pub is_no_end : (token : Token) → is_end token ≡ false → token ≡ tokens.End → ⊥
   is_no_end token e same = let never : true ≡ false = rw same at e in absurd cc
 
   run_zero : (text : List ℕ) (from : ℕ) (s s' : State A) → run made zero text from s ≡ Ok s' → ⊥
@@ -165,7 +165,7 @@ word_some : (word : Word) → 0 < length (word_spelling word)
 word_some words.First = omega arith
 word_some word = omega arith
 
-spelled_some : (token : Token) (bytes : List ℕ) → IsSpelled token bytes → 0 < length bytes
+pub spelled_some : (token : Token) (bytes : List ℕ) → IsSpelled token bytes → 0 < length bytes
 spelled_some (tokens.Word word) bytes is = rw is (word_some word)
 spelled_some (tokens.Number number) bytes is = rw is.0 (decimal_nonempty number (omega (arith, is.1)))
 spelled_some (tokens.Symbol symbols.Semicolon) bytes is = rw is (omega arith)

@@ -130,7 +130,7 @@ seen_fits (parts.Right comparator) count name seen room = record { formed = refl
 seen_fits (parts.ActionRule kind) count name seen room = record { formed = refl; depth = omega (arith, room); view = λ first. absurd cc }
 seen_fits (parts.Last kind) count name seen room = record { formed = refl; depth = omega (arith, room); view = λ first. absurd cc }
 
-name_word : (word : Word) (name : Name) → name_of word ≡ Some name → word ≡ word_for name
+pub name_word : (word : Word) (name : Name) → name_of word ≡ Some name → word ≡ word_for name
 name_word words.Input name e = let same : names.Input ≡ name = cc in rw (← same) refl
 name_word words.Id name e = let same : names.Id ≡ name = cc in rw (← same) refl
 name_word words.N name e = let same : names.N ≡ name = cc in rw (← same) refl
@@ -141,7 +141,7 @@ name_word words.Min name e = let same : names.Min ≡ name = cc in rw (← same)
 name_word words.Max name e = let same : names.Max ≡ name = cc in rw (← same) refl
 name_word word name e = absurd cc
 
-call_is : (word : Word) (function : Call) → call_of word ≡ Some function → word ≡ call_word function
+pub call_is : (word : Word) (function : Call) → call_of word ≡ Some function → word ≡ call_word function
 call_is words.Cell function e = let same : calls.Cell ≡ function = cc in rw (← same) refl
 call_is words.Seen function e = let same : calls.Seen ≡ function = cc in rw (← same) refl
 call_is words.Equal function e = let same : calls.Equal ≡ function = cc in rw (← same) refl

@@ -15,6 +15,9 @@ pub mod Sound
 pub mod Locality
 pub mod Whens
 pub mod Only
+pub mod Reasons
+pub mod Following
+pub mod Causes
 pub mod WorkedPrinting
 pub mod Shortest
 pub mod Printed

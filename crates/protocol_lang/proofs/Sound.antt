@@ -24,7 +24,7 @@ written_step s token t (Ok w) e is = (w, e, (let same : state_of w ≡ t = cc in
 written_step s token t (Err refusal) e is = absurd cc
 
 -- the same tokens, read with their parentheses
-goes_written : (all : List Token) (s : State Written) (t : State Expression) → Goes trees (state_of s) all t → (w : State Written) × Goes writings s all w × (state_of w ≡ t)
+pub goes_written : (all : List Token) (s : State Written) (t : State Expression) → Goes trees (state_of s) all t → (w : State Written) × Goes writings s all w × (state_of w ≡ t)
 goes_written [] s t goes = (s, refl, goes)
 goes_written (token ∷ all) s t goes =
     let one = written_step s token goes.0 (step writings s token) refl (step_of s token ∙ goes.1) in

@@ -44,7 +44,7 @@ token_reads text from read e =
 
 -- ---- what was read is spelled there
 
-stands : (at : ℕ) (text : List ℕ) (token : Token) → token_at at text ≡ Ok token → (token ≡ End → ⊥) → Stands token text (extent_of text)
+pub stands : (at : ℕ) (text : List ℕ) (token : Token) → token_at at text ≡ Ok token → (token ≡ End → ⊥) → Stands token text (extent_of text)
 stands at [] token e more = absurd (more cc)
 stands at (byte ∷ bytes) token e more = front_read at byte bytes token e
 
@@ -52,7 +52,7 @@ nothing_left : (at : ℕ) (text : List ℕ) → token_at at text ≡ Ok End → 
 nothing_left at [] e = refl
 nothing_left at (byte ∷ bytes) e = absurd (front_read at byte bytes End e).spelled
 
-behind_blanks : (text : List ℕ) (from : ℕ) → drop from text ≡ take (prefix_len is_blank (drop from text)) (drop from text) ++ drop (past_blanks text from) text
+pub behind_blanks : (text : List ℕ) (from : ℕ) → drop from text ≡ take (prefix_len is_blank (drop from text)) (drop from text) ++ drop (past_blanks text from) text
 behind_blanks text from =
     let blanks = prefix_len is_blank (drop from text) in
     sym (take-append-drop blanks (drop from text)) ∙ ap (λ rest. take blanks (drop from text) ++ rest) (drop-drop blanks from text)

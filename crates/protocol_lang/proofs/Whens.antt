@@ -69,7 +69,7 @@ end_place true x end e = absurd cc
 end_place false x end e = cc
 
 module _ {A : Type 0} where
-  abbrev begun_rules : State A → ℕ
+  abbrev pub begun_rules : State A → ℕ
   begun_rules s = length s.rules + open_rules s.expected s.part
 
   abbrev done_with : State A → Result (State A) Refusal
@@ -161,7 +161,7 @@ module _ {A : Type 0} where
   -- ---- a rule is begun by `when` alone
 
   -- one more rule was begun where the token is `when`, and never more than 32; the 33rd is refused
-  abbrev Counts : State A → Token → Result (State A) Refusal → Type 0
+  abbrev pub Counts : State A → Token → Result (State A) Refusal → Type 0
   Counts s token (Ok s') = (begun_rules s' ≡ begun_rules s + cond (is_when token) 1 0) × (begun_rules s ≤ 32 → begun_rules s' ≤ 32)
   Counts s token (Err refusals.TooManyRules) = (is_when token ≡ true) × (32 ≤ begun_rules s)
   Counts s token (Err refusal) = Unit {0}
@@ -207,7 +207,7 @@ module _ {A : Type 0} where
   counts_at made next.End s (tokens.Number number) is = tt
   counts_at made next.End s (tokens.Symbol symbol) is = tt
 
-  step_counts : (made : Operands A) (s : State A) (token : Token) → Counts s token (step made s token)
+  pub step_counts : (made : Operands A) (s : State A) (token : Token) → Counts s token (step made s token)
   step_counts made s token = counts_at made s.expected s token refl
 
   -- ---- the place
@@ -307,7 +307,7 @@ rule_fault text e short =
       | inr other ↦ absurd (let e = other.2 in cc)
     ]
 
-text_short : (text : List ℕ) (fault : ParseFault) → reading text ≡ Err fault → (fault ≡ TooLong → ⊥) → length text ≤ 4096
+pub text_short : (text : List ℕ) (fault : ParseFault) → reading text ≡ Err fault → (fault ≡ TooLong → ⊥) → length text ≤ 4096
 unfolding reading
 text_short text fault e other =
     elim (cases_Bool (ltb 4096 (length text))) [

@@ -1,10 +1,11 @@
 //! A protocol's shortest text.
-ghost use Rattle.std.specs.Prelude.{◌≡◌, ◌≤◌, ◌∷◌, ◌++◌, [], ℕ, List, true, false, IfOk, OnOk, length, map, string_bytes};
+ghost use Rattle.std.specs.Prelude.{◌≡◌, ◌≤◌, ◌∷◌, ◌++◌, [], ℕ, List, true, false, IfOk, OnOk, Ok, length, map, string_bytes};
 ghost use Rattle.std.specs.List.{flat_map};
 ghost use Rattle.protocol_lang.specs.Stacks.{pushed, top_of, below_top};
 ghost use Rattle.protocol_lang.specs.Tokens.{word_spelling, symbol_spelling};
 ghost use Rattle.protocol_lang.specs.Formulas.{most_waiting, after, made_by};
 ghost use Rattle.protocol_lang.specs.Grammar.{word_for, call_word, operator_symbol, comparator_symbol, kind_word, enclosed_tokens, expression_tokens, comparison_tokens, conditions_tokens, action_rule_tokens, rule_tokens, tree_tokens, IsText};
+ghost use Rattle.protocol_lang.specs.Reading.{reading};
 ghost use Rattle.protocol_lang.specs.Printing.{stands_left, stands_right, shortest, shortest_comparison, shortest_action_rule, shortest_rule, shortest_tree, is_word, spelling, gap, spelled_behind, printed, enclosed_unless, factor, joined, pieces};
 
 use crate::formula::{Formula, Instruction, MOST_WAITING};
@@ -20,8 +21,10 @@ pub fn print(alloc: Global, protocol: &Protocol) -> Result<String, AllocError>
     // The tokens of the protocol with the parentheses that its grouping needs, one space between two words and nothing
     // between other tokens.
     ensures exact { IfOk result (λ text. string_bytes text ≡ printed protocol.now) }
-    // The text is one of the protocol: by the clause `complete` of `parse`, reading it gives the protocol again.
+    // The text is one of the protocol,
     ensures again { IfOk result (λ text. IsText (string_bytes text) protocol.now) }
+    // and reading it, as `parse` does, gives the protocol again.
+    ensures round { IfOk result (λ text. reading (string_bytes text) ≡ Ok protocol.now) }
     // No text of the protocol is shorter.
     ensures shortest { IfOk result (λ text. (other : List ℕ) → IsText other protocol.now → length (string_bytes text) ≤ length other) }
 {

@@ -2,7 +2,7 @@
 ghost use Rattle.std.specs.Prelude.{◌≡◌, IfOk, IfErr};
 ghost use Rattle.protocol_lang.specs.Reading.{IsReading, IsReadAs};
 ghost use Rattle.protocol_lang.specs.Trees.{Tree as ProtocolTree};
-ghost use Rattle.protocol_lang.specs.Grammar.{IsText, IsLocal};
+ghost use Rattle.protocol_lang.specs.Grammar.{IsText, IsLocal, IsFirstFault};
 
 use crate::fault::ParseFault;
 use crate::parser;
@@ -42,6 +42,8 @@ pub fn parse(alloc: Global, text: &str) -> Result<Protocol, ParseFault>
     ensures exact { IsReading text.now result }
     // A fault rests on the bytes up to its token's end alone.
     ensures local { IfErr result (IsLocal text.now) }
+    // Before a fault's place stands the beginning of a text; what stands there can't follow it, or is no token.
+    ensures first { IfErr result (IsFirstFault text.now) }
 {
     parse_bytes(alloc, text.as_bytes())
 }
@@ -55,6 +57,8 @@ pub fn parse_bytes(alloc: Global, text: &[u8]) -> Result<Protocol, ParseFault>
     ensures exact { IsReading text.now result }
     // A fault rests on the bytes up to its token's end alone.
     ensures local { IfErr result (IsLocal text.now) }
+    // Before a fault's place stands the beginning of a text; what stands there can't follow it, or is no token.
+    ensures first { IfErr result (IsFirstFault text.now) }
 {
     let tree = parser::read(alloc, text)?;
     Ok(Protocol { tree })

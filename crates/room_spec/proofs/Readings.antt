@@ -13,6 +13,8 @@ use Rattle.protocol_lang.specs.Reading.{reading}
 use Rattle.protocol_lang.specs.declared.protocol.Protocol.{Protocol}
 use Rattle.protocol_lang.specs.declared.fault.ParseFault.{ParseFault}
 use Rattle.protocol_lang.proofs.Limits.{small_if_read}
+use Rattle.protocol_lang.proofs.Sound.{found as text_read}
+use Rattle.protocol_lang.proofs.Only.{only}
 use Rattle.room_spec.specs.Names.{is_name, is_name_byte}
 use Rattle.room_spec.specs.Rooms.{RoomSpec, AreFuses, IsShape, IsWithinLimits, bits_of, is_value}
 use Rattle.room_spec.specs.Texts.{is_line_end, first_line, later_lines}
@@ -338,7 +340,7 @@ block_found text body room ends read =
       fuses = found.fuses;
       lines = found.more;
       no_end = before_parts (head_lines room) found.more (subst (λ (l : List (List ℕ)). are_before_end l ≡ true) found.parts end.no_end);
-      protocol = found.protocol;
+      protocol = text_read (text_of found.more) (Ok room.protocol) found.protocol;
       bytes = subst (λ n. IsInFront (block_text room (text_of found.more)) text (min n (length text))) len (front_from (block_text room (text_of found.more)) text end.later whole);
     }
 
@@ -476,4 +478,4 @@ block_again text room len block =
     let lines : text_of (head_lines room ++ block.lines) ≡ text_of (head_lines room) ++ text_of block.lines = flat_map-append (λ line. line ++ line_end) (head_lines room) block.lines in
     let whole : text ≡ text_of (head_lines room ++ block.lines) ++ (codes "end" ++ with_line_end front.0) = front.1 ∙ sym (regrouped (text_of (head_lines room)) (text_of block.lines) (codes "end") (with_line_end front.0)) ∙ ap (λ (t : List ℕ). t ++ (codes "end" ++ with_line_end front.0)) (sym lines) in
     let len_is : min (length (text_of (head_lines room ++ block.lines)) + 4) (length text) ≡ len = omega (arith, front.2, ap length lines, length-append (text_of (head_lines room)) (text_of block.lines), length-append (text_of (head_lines room)) (text_of block.lines ++ codes "end"), length-append (text_of block.lines) (codes "end")) in
-    read_to_end text (head_lines room ++ block.lines) front.0 room len whole (head_no_end room block.lines block.limits block.fuses block.no_end) (room_again room block.lines block.limits block.fuses block.protocol) len_is
+    read_to_end text (head_lines room ++ block.lines) front.0 room len whole (head_no_end room block.lines block.limits block.fuses block.no_end) (room_again room block.lines block.limits block.fuses (only (text_of block.lines) room.protocol block.protocol)) len_is

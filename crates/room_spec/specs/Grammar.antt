@@ -3,6 +3,7 @@ use Rattle.std.specs.Prelude.{◌≡◌, ◌≢◌, ℕ, All, ◌+◌, Bool, tru
 use Rattle.std.specs.List.{after_first, flat_map, join_with_byte, list_all}
 use Rattle.std.specs.Fmt.{decimal}
 use Rattle.protocol_lang.specs.Reading.{reading}
+use Rattle.protocol_lang.specs.Grammar.{IsText}
 use Rattle.room_spec.specs.Rooms.{RoomSpec, IsWithinLimits, is_value}
 use Rattle.room_spec.specs.Texts.{is_line_end, lines_of}
 use Rattle.room_spec.specs.Blocks.{is_end, is_protocol, block_in}
@@ -65,7 +66,7 @@ pub record IsBlock (input : List ℕ) (room : RoomSpec) (len : ℕ) : Type 0 whe
   pub fuses : list_all (λ fuse. is_value fuse.1) room.fuses ≡ true
   pub lines : List (List ℕ)
   pub no_end : are_before_end lines ≡ true
-  pub protocol : reading (text_of lines) ≡ Ok room.protocol
+  pub protocol : IsText (text_of lines) room.protocol
   pub bytes : IsInFront (block_text room (text_of lines)) input len
 
 -- ---- faults
