@@ -1,6 +1,7 @@
 //! A room.
-ghost use Rattle.std.specs.Prelude.{ℕ, ◌≡◌, ◌<◌, ◌≤◌, false, length, map, replicate, slice_index, IfOk};
+ghost use Rattle.std.specs.Prelude.{ℕ, ◌≡◌, ◌<◌, ◌≤◌, false, length, map, replicate, slice_index, IfErr, IfOk};
 ghost use Rattle.std.specs.List.{range_with_len};
+ghost use Rattle.std.specs.Allocator.{alloc_error};
 ghost use Rattle.room_spec.specs.Rooms.{IsWithinLimits, processes};
 ghost use Rattle.room_spec.specs.Sizes.{sizes_in};
 ghost use Rattle.view_table.specs.Places.{words_of};
@@ -51,20 +52,36 @@ impl Model for RoomCore {
 }
 
 impl RoomCore {
-    /// A room in which nobody has taken a step. Where memory is refused, the spec is dropped.
+    /// A room in which nobody has taken a step.
+    ///
+    /// # Errors
+    ///
+    /// Where memory is refused to the words of the room, which are all that it takes memory for. The
+    /// spec is dropped then.
     pub fn fresh(alloc: Global, spec: Spec) -> Result<RoomCore, AllocError>
         ensures room { IfOk result (λ room. room ≡ opening_state spec) }
         ensures fields { IfOk result (λ room. AreFieldsOf room (opening_fields spec)) }
+        ensures refused { IfErr result (λ error. error ≡ alloc_error) }
     {
         let words = zeros(alloc, words(&spec.shape()))?;
+        Ok(RoomCore::opening(spec, words))
+    }
+
+    /// The opening room on these words, which are all 0. It takes no memory.
+    fn opening(spec: Spec, words: Vec<u64>) -> RoomCore
+        requires { words.items ≡ replicate (words_of (sizes_in spec)) 0 }
+        ensures room { result ≡ opening_state spec }
+        ensures fields { AreFieldsOf result (opening_fields spec) }
+    {
+        let _shape = spec.shape(); // A spec is within its limits.
         let sweeps = opening_sweeps(&spec);
         let crashed = nobody(spec.m());
-        Ok(RoomCore {
+        RoomCore {
             spec,
             words,
             sweeps,
             crashed,
-        })
+        }
     }
 
     /// A room of these words, sweeps and marks of crashes, to which some list of atomic steps and
@@ -306,7 +323,8 @@ fn perform(words: &mut Vec<u64>, next: Move) -> u64
     }
 }
 
-fn zeros(alloc: Global, count: usize) -> Result<Vec<u64>, AllocError>
+/// So many words that are 0, which is all that a room takes memory for.
+pub(crate) fn zeros(alloc: Global, count: usize) -> Result<Vec<u64>, AllocError>
     ensures { IfOk result (λ words. words.items ≡ replicate count 0) }
 {
     Ok(vec![in alloc; 0; count]?)

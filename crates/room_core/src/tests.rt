@@ -1,4 +1,5 @@
 use super::*;
+use crate::room::zeros;
 use room_spec::read_block;
 use std::test::*;
 use view_table::words;
@@ -32,6 +33,14 @@ fn run(room: &mut RoomCore, i: usize, count: u64) -> (u64, StepReply) {
         }
     }
     (count, StepReply::Stepped)
+}
+
+#[test]
+fn refused_memory(rt: HostRuntime) -> Result<(), Fail> {
+    // The words are all that a room takes memory for, and no memory has room for so many.
+    assert!(rt; zeros(rt.alloc(), usize::MAX).is_err());
+    assert_eq!(rt; zeros(rt.alloc(), 3)?.as_slice(), [0, 0, 0].as_slice());
+    Ok(())
 }
 
 #[test]

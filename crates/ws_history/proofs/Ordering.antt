@@ -1,129 +1,276 @@
--- Snapshots that were put in their places one by one are in order.
-use Rattle.std.proofs.Common.{◌≡◌, ℕ, zero, suc, ◌+◌, ◌<◌, ◌≤◌, Bool, true, false, cond, List, [], ◌∷◌, ◌++◌, length, map, get_or, set, refl, ap, ◌∙◌, inl, inr, eqb, ltb, ltb-true, eqb-true, ne_eqb, eq-eqb, fold, nat_cmp, Ordering, Less, Equal, Greater, arith}
-use Rattle.std.proofs.lemmas.Bool.{cases_Bool, cases_lt, or_cases, and_parts, le-ltb, lt-ltb}
-use Rattle.std.specs.List.{insert, sum}
-use Rattle.std.specs.Ordering.{match_ordering, ordering_then}
-use Rattle.std.specs.Prelude.{◌&&◌, ◌||◌}
-use Rattle.room_core.specs.Passed.{is_passed, row_at}
+-- The passed snapshots as std's sort leaves them are in the order of the history: both lists are in order, and have the same elements
+-- as often.
+use Rattle.std.proofs.Common.{◌≡◌, ◌⊎◌, ℕ, zero, suc, ◌+◌, ◌<◌, Bool, true, false, cond, eqb, ltb, List, [], ◌∷◌, ◌++◌, length, map, get_or, fold, Contains, Ordering, Less, Equal, Greater, nat_cmp, refl, sym, ap, ◌∙◌, subst, arith, inl, inr}
+use Rattle.std.specs.Prelude.{⊤}
+use Rattle.std.specs.Cmp.{IsTotalOrder}
+use Rattle.std.specs.List.{sum_by}
+use Rattle.std.specs.List.Sorted.{IsPermutation, IsSorted, IsSortedBy}
+use Rattle.std.specs.Ordering.{is_lt, match_ordering, on, ordering_reverse, ordering_then, then_cmp}
+use Rattle.std.proofs.lemmas.Bool.{cases_Bool, le-ltb, ne_eqb, eq-eqb}
+use Rattle.std.proofs.lemmas.Cmp.{nat_cmp_total, on_total, ranked, then_total, tied_itself}
+use Rattle.std.proofs.lemmas.List.Elements.{Contains-append_cases}
+use Rattle.std.proofs.lemmas.List.Sorted.{ranks_by, sorted_far, sum_by-IsPermutation}
+use Rattle.std.proofs.lemmas.List.Sums.{sum_by-cons}
 use Rattle.room_core.specs.Calls.{RoomState}
+use Rattle.room_core.specs.Passed.{is_passed}
+use Rattle.room_spec.specs.Rooms.{processes}
 use Rattle.ws_history.specs.declared.snapshots.Agreed.{Agreed}
-use Rattle.ws_history.specs.Histories.{Snapshot}
+use Rattle.ws_history.specs.Histories.{Snapshot, Source, IsBefore, IsRising}
 use Rattle.ws_history.specs.Orders.{inserted, in_order, key_cmp, key_of, passed_of, all_passed}
-use Rattle.ws_history.specs.Placing.{agreed_at, all_placed, blank, is_before, placed, with_passed}
+use Rattle.ws_history.specs.Placing.{agreed_at}
 use Rattle.ws_history.specs.Readings.{read_of}
+use Rattle.ws_history.specs.Sources.{source_of}
+use Rattle.ws_history.proofs.Order.{cons_first, cons_rest, not_empty}
+use Rattle.ws_history.proofs.Sorting.{AreApart, IsAlike, Stand, from_inserted, from_passed, from_passed_of, if_there, rising_in_order, stand}
 
--- ---- one more in its place
+-- ---- two lists in one order, with the same elements as often, are the same
 
-not_back : (s t : Agreed) → is_before t s ≡ true → is_before s t ≡ false
-not_back s t before = elim (or_cases _ _ before) [
-  | inl less ↦
-      let low : t.sum < s.sum = ltb-true _ _ less in
-      let one : ltb s.sum t.sum ≡ false = le-ltb _ _ (omega arith) in
-      let other : eqb s.sum t.sum ≡ false = ne_eqb _ _ (λ e. absurd (omega arith)) in
-      rw (one, other) refl
-  | inr same ↦
-      let parts = and_parts _ _ same in
-      let sums : t.sum ≡ s.sum = eqb-true _ _ parts.0 in
-      let less : t.process < s.process = ltb-true _ _ parts.1 in
-      let one : ltb s.sum t.sum ≡ false = le-ltb _ _ (omega arith) in
-      let other : ltb s.process t.process ≡ false = le-ltb _ _ (omega arith) in
-      elim (cases_Bool (eqb s.sum t.sum)) [ inl yes_it ↦ rw (one, yes_it, other) refl | inr no_it ↦ rw (one, no_it) refl ]
-]
+-- whatever is counted or added up over the one is so over the other
+abbrev HaveSame : {X : Type 0} → List X → List X → Type 0
+HaveSame {X} xs ys = (f : X → ℕ) → sum_by f xs ≡ sum_by f ys
 
-pub placed_over : (s : Agreed) (xs : List Agreed) (i : ℕ) → i < length xs → ((k : ℕ) → k < i → is_before (get_or xs k blank) s ≡ true)
-    → is_before (get_or xs i blank) s ≡ false → is_before s (get_or xs i blank) ≡ false → placed xs s ≡ set xs i s
-placed_over s [] i less before here back = absurd (omega arith)
-placed_over s (t ∷ rest) zero less before here back = rw (back, here) refl
-placed_over s (t ∷ rest) (suc i) less before here back =
-    let first = before 0 (omega arith) in
-    let no_it = not_back s t first in
-    rw (no_it, first) (ap (λ (l : List Agreed). t ∷ l) (placed_over s rest i (omega arith) (λ k below. before (suc k) (omega arith)) here back))
+tied : (p q : Ordering) → p ≡ ordering_reverse q → is_lt p ≡ false → is_lt q ≡ false → p ≡ Equal
+tied Less q is low high = absurd cc
+tied Equal q is low high = refl
+tied Greater Less is low high = absurd cc
+tied Greater Equal is low high = absurd cc
+tied Greater Greater is low high = absurd cc
 
-pub placed_at : (s : Agreed) (xs : List Agreed) (i : ℕ) → i ≤ length xs → ((k : ℕ) → k < i → is_before (get_or xs k blank) s ≡ true)
-    → (i < length xs → is_before s (get_or xs i blank) ≡ true) → placed xs s ≡ insert xs i s
-placed_at s [] zero fits before here = refl
-placed_at s [] (suc i) fits before here = absurd (omega arith)
-placed_at s (t ∷ rest) zero fits before here = let yes_it = here (omega arith) in rw yes_it refl
-placed_at s (t ∷ rest) (suc i) fits before here =
-    let first = before 0 (omega arith) in
-    let no_it = not_back s t first in
-    rw (no_it, first) (ap (λ (l : List Agreed). t ∷ l) (placed_at s rest i (omega arith) (λ k below. before (suc k) (omega arith)) (λ less. here (omega arith))))
+module _ {X : Type 0} (R : X → X → Ordering) (total : IsTotalOrder R) (one : (x y : X) → R x y ≡ Equal → x ≡ y) where
+  abbrev low : X → X → Bool
+  low x y = is_lt (R x y)
 
--- ---- the order of pairs
+  -- none of them goes before x
+  abbrev NoneBefore : X → List X → Type 0
+  NoneBefore x [] = ⊤
+  NoneBefore x (u ∷ rest) = (low u x ≡ false) × NoneBefore x rest
 
-second : {A : Type 0} (c d : ℕ) (x y z : A) → match_ordering (nat_cmp c d) x y z ≡ cond (ltb c d) x (cond (ltb d c) z y)
-second c d x y z = elim (cases_lt c d) [
-  | inl less ↦ let yes_it = lt-ltb c d less in rw yes_it refl
-  | inr rest ↦
-      let no_it = le-ltb c d rest in
-      elim (cases_lt d c) [
-        | inl more ↦ let high = lt-ltb d c more in let apart : eqb c d ≡ false = ne_eqb c d (λ e. absurd (omega arith)) in rw (no_it, apart, high) refl
-        | inr low ↦ let none = le-ltb d c low in let same : eqb c d ≡ true = eq-eqb c d (omega arith) in rw (no_it, same, none) refl
-      ]
-]
+  abbrev InOrder : List X → Type 0
+  InOrder [] = ⊤
+  InOrder (x ∷ rest) = NoneBefore x rest × InOrder rest
 
-both : {A : Type 0} (a b c d : ℕ) (x y z : A) → match_ordering (ordering_then (nat_cmp a b) (nat_cmp c d)) x y z
-    ≡ cond (ltb a b || (eqb a b && ltb c d)) x (cond (ltb b a || (eqb b a && ltb d c)) z y)
-both a b c d x y z = elim (cases_lt a b) [
-  | inl less ↦ let yes_it = lt-ltb a b less in rw yes_it refl
-  | inr rest ↦
-      let no_it = le-ltb a b rest in
-      elim (cases_lt b a) [
-        | inl more ↦ let high = lt-ltb b a more in let apart : eqb a b ≡ false = ne_eqb a b (λ e. absurd (omega arith)) in rw (no_it, apart, high) refl
-        | inr low ↦
-            let none = le-ltb b a low in
-            let same : eqb a b ≡ true = eq-eqb a b (omega arith) in
-            let other : eqb b a ≡ true = eq-eqb b a (omega arith) in
-            rw (no_it, same, none, other) (second c d x y z)
-      ]
-]
+  abbrev before : X → X → ℕ
+  before y u = cond (low u y) 1 0
 
--- ---- all of them
+  none_counted : (y : X) (xs : List X) → NoneBefore y xs → sum_by (before y) xs ≡ 0
+  none_counted y [] none = refl
+  none_counted y (u ∷ rest) none =
+      let here : before y u ≡ 0 = ap (λ (b : Bool). cond b 1 0) none.0 in
+      let more = none_counted y rest none.1 in
+      let all = sum_by-cons (before y) u rest in
+      omega arith
+
+  not_low : (x y : X) (xs ys : List X) → HaveSame (x ∷ xs) (y ∷ ys) → NoneBefore y ys → low x y ≡ false
+  not_low x y xs ys same none = elim (cases_Bool (low x y)) [
+    | inr no_it ↦ no_it
+    | inl is ↦
+        let itself : low y y ≡ false = ap is_lt (tied_itself total y) in
+        let other = none_counted y (y ∷ ys) (itself, none) in
+        let here : before y x ≡ 1 = ap (λ (b : Bool). cond b 1 0) is in
+        let all = sum_by-cons (before y) x xs in
+        let both = same (before y) in
+        absurd (omega arith)
+  ]
+
+  pub same_in_order : (xs ys : List X) → HaveSame xs ys → InOrder xs → InOrder ys → xs ≡ ys
+  same_in_order [] [] same first second = refl
+  same_in_order [] (y ∷ ys) same first second =
+      let all = sum_by-cons (λ (u : X). 1) y ys in
+      let none = same (λ u. 1) in
+      absurd (omega arith)
+  same_in_order (x ∷ xs) [] same first second =
+      let all = sum_by-cons (λ (u : X). 1) x xs in
+      let none = same (λ u. 1) in
+      absurd (omega arith)
+  same_in_order (x ∷ xs) (y ∷ ys) same first second =
+      let is : x ≡ y = one x y (tied (R x y) (R y x) (total.antisymm x y) (not_low x y xs ys same second.0) (not_low y x ys xs (λ f. sym (same f)) first.0)) in
+      let rest : HaveSame xs ys = λ f.
+      let left = sum_by-cons f x xs in
+      let right = sum_by-cons f y ys in
+      let all = same f in
+      let head : f x ≡ f y = ap f is in
+      omega arith in
+      ap (λ (u : X). u ∷ xs) is ∙ ap (λ (l : List X). y ∷ l) (same_in_order xs ys rest first.1 second.1)
+
+  none_from : (x : X) (xs : List X) → ((i : ℕ) (d : X) → i < length xs → low (get_or xs i d) x ≡ false) → NoneBefore x xs
+  none_from x [] each = tt
+  none_from x (u ∷ rest) each = (each 0 u (omega arith), none_from x rest (λ i d less. each (suc i) d (omega arith)))
+
+  -- as a sort says it
+  pub from_sorted : (xs : List X) → IsSortedBy low xs → InOrder xs
+  from_sorted [] sorted = tt
+  from_sorted (x ∷ xs) sorted = (
+    none_from x xs (λ i d less. sorted_far low (ranks_by total (λ u. u)) (x ∷ xs) sorted 0 (suc i) d (omega arith) (omega arith)),
+    from_sorted xs (λ k d least less.
+        let turned : suc k + 1 ≡ suc (k + 1) = omega arith in
+        subst (λ (i : ℕ). low (get_or (x ∷ xs) i d) (get_or (x ∷ xs) (suc k) d) ≡ false) turned (sorted (suc k) d (omega arith) (omega arith))),
+  )
+
+-- ---- a snapshot's place by all of its numbers
+
+abbrev agreed_cmp : Agreed → Agreed → Ordering
+agreed_cmp = then_cmp (on (λ s. s.sum) nat_cmp) (then_cmp (on (λ s. s.process) nat_cmp) (then_cmp (on (λ s. s.round) nat_cmp) (on (λ s. s.word) nat_cmp)))
+
+agreed_total : IsTotalOrder agreed_cmp
+agreed_total = then_total (on_total (λ (s : Agreed). s.sum) nat_cmp_total) (then_total (on_total (λ (s : Agreed). s.process) nat_cmp_total) (then_total (on_total (λ (s : Agreed). s.round) nat_cmp_total) (on_total (λ (s : Agreed). s.word) nat_cmp_total)))
+
+then_tied : (p q : Ordering) → ordering_then p q ≡ Equal → (p ≡ Equal) × (q ≡ Equal)
+then_tied Less q is = absurd cc
+then_tied Equal q is = (refl, is)
+then_tied Greater q is = absurd cc
+
+nat_tied : (x y : ℕ) → nat_cmp x y ≡ Equal → x ≡ y
+nat_tied x y is = ranked x y Equal (sym is)
+
+agreed_one : (s t : Agreed) → agreed_cmp s t ≡ Equal → s ≡ t
+agreed_one s t is =
+    let a = then_tied (nat_cmp s.sum t.sum) _ is in
+    let b = then_tied (nat_cmp s.process t.process) _ a.1 in
+    let c = then_tied (nat_cmp s.round t.round) _ b.1 in
+    let sums = nat_tied s.sum t.sum a.0 in
+    let all = nat_tied s.process t.process b.0 in
+    let rounds = nat_tied s.round t.round c.0 in
+    let words = nat_tied s.word t.word c.1 in
+    ap (λ (x : ℕ). record s { sum = x }) sums
+    ∙ ap (λ (x : ℕ). record s { sum = t.sum; process = x }) all
+    ∙ ap (λ (x : ℕ). record s { sum = t.sum; process = t.process; round = x }) rounds
+    ∙ ap (λ (x : ℕ). record t { word = x }) words
+
+behind_is_greater : (a b : ℕ) → a < b → nat_cmp b a ≡ Greater
+behind_is_greater a b less =
+    let no_it : ltb b a ≡ false = le-ltb b a (omega arith) in
+    let other : eqb b a ≡ false = ne_eqb b a (λ e. absurd (omega arith)) in
+    rw (no_it, other) refl
+
+same_is_tied : (a b : ℕ) → a ≡ b → nat_cmp b a ≡ Equal
+same_is_tied a b same =
+    let no_it : ltb b a ≡ false = le-ltb b a (omega arith) in
+    let is : eqb b a ≡ true = eq-eqb b a (sym same) in
+    rw (no_it, is) refl
+
+-- two of whom the first goes before the second by its sum, or by its process
+not_low_then : (o p : Ordering) → (o ≡ Greater) ⊎ ((o ≡ Equal) × (p ≡ Greater)) → (q : Ordering) → is_lt (ordering_then o (ordering_then p q)) ≡ false
+not_low_then Less p (inl greater) q = absurd cc
+not_low_then Less p (inr parts) q = absurd (let other = parts.0 in cc)
+not_low_then Equal Less (inl greater) q = absurd cc
+not_low_then Equal Less (inr parts) q = absurd (let other = parts.1 in cc)
+not_low_then Equal Equal (inl greater) q = absurd cc
+not_low_then Equal Equal (inr parts) q = absurd (let other = parts.1 in cc)
+not_low_then Equal Greater is q = refl
+not_low_then Greater p is q = refl
+
+not_behind : (s t : Agreed) → (s.sum < t.sum) ⊎ ((s.sum ≡ t.sum) × (s.process < t.process)) → is_lt (agreed_cmp t s) ≡ false
+not_behind s t before = not_low_then (nat_cmp t.sum s.sum) (nat_cmp t.process s.process) (elim before [
+  | inl less ↦ inl (behind_is_greater s.sum t.sum less)
+  | inr same ↦ inr (same_is_tied s.sum t.sum same.0, behind_is_greater s.process t.process same.1)
+]) _
+
+-- ---- no snapshot is found twice
+
+abbrev AreDifferent : List Snapshot → Type 0
+AreDifferent [] = ⊤
+AreDifferent (s ∷ rest) = ((t : Snapshot) → Contains rest t → s ≡ t → ⊥) × AreDifferent rest
+
+different_append : (xs ys : List Snapshot) → AreDifferent xs → AreDifferent ys → ((s t : Snapshot) → Contains xs s → Contains ys t → s ≡ t → ⊥) → AreDifferent (xs ++ ys)
+different_append [] ys first second other = second
+different_append (s ∷ xs) ys first second other = (
+  λ t has is. elim (Contains-append_cases xs ys t has) [ inl old ↦ first.0 t old is | inr new ↦ other s t (cons_first s xs) new is ],
+  different_append xs ys first.1 second (λ u t has. other u t (cons_rest s xs u has)),
+)
+
+different_if : (s : Snapshot) (b : Bool) → AreDifferent (cond b (s ∷ []) [])
+different_if s true = (λ t has is. absurd (not_empty t has), tt)
+different_if s false = tt
+
+different_rounds : (passed : ℕ → ℕ → Bool) (p rounds : ℕ) → AreDifferent (passed_of passed p rounds)
+different_rounds passed p zero = tt
+different_rounds passed p (suc rounds) =
+    let new : Snapshot = record { process = p; round = rounds + 1 } in
+    different_append (passed_of passed p rounds) (cond (passed p (rounds + 1)) (new ∷ []) []) (different_rounds passed p rounds) (different_if new (passed p (rounds + 1))) (λ s t has_s has_t is.
+    let low = (from_passed_of passed p rounds s has_s).2 in
+    let high : rounds + 1 ≡ t.round = ap (λ (u : Snapshot). u.round) (if_there (passed p (rounds + 1)) new t has_t).1 in
+    let same : s.round ≡ t.round = ap (λ (u : Snapshot). u.round) is in
+    absurd (omega arith))
+
+different_passed : (passed : ℕ → ℕ → Bool) (n rounds : ℕ) → AreDifferent (all_passed passed n rounds)
+different_passed passed zero rounds = tt
+different_passed passed (suc n) rounds =
+    different_append (all_passed passed n rounds) (passed_of passed n rounds) (different_passed passed n rounds) (different_rounds passed n rounds) (λ s t has_s has_t is.
+    let low = (from_passed passed n rounds s has_s).process in
+    let high : t.process ≡ n = (from_passed_of passed n rounds t has_t).0 in
+    let same : s.process ≡ t.process = ap (λ (u : Snapshot). u.process) is in
+    absurd (omega arith))
+
+-- ---- so none gives way to another, and all are there as often as before
+
+module _ (src : Source) (g : Snapshot → ℕ) where
+  counted_put : (s t : Snapshot) (rest behind : List Snapshot) (o : Ordering) → Stand src s t o → (IsAlike src s t → ⊥) → sum_by g behind ≡ g s + sum_by g rest
+      → sum_by g (match_ordering o (s ∷ t ∷ rest) (s ∷ rest) (t ∷ behind)) ≡ g s + sum_by g (t ∷ rest)
+  counted_put s t rest behind Less is other more = sum_by-cons g s (t ∷ rest)
+  counted_put s t rest behind Equal same other more = absurd (other same)
+  counted_put s t rest behind Greater is other more =
+      let all = sum_by-cons g t behind in
+      let old = sum_by-cons g t rest in
+      omega arith
+
+  counted_inserted : (xs : List Snapshot) (s : Snapshot) → ((t : Snapshot) → Contains xs t → IsAlike src s t → ⊥) → sum_by g (inserted src.row xs s) ≡ g s + sum_by g xs
+  counted_inserted [] s other = sum_by-cons g s []
+  counted_inserted (t ∷ rest) s other =
+      counted_put s t rest (inserted src.row rest s) (key_cmp (key_of src.row s) (key_of src.row t)) (stand src s t) (other t (cons_first t rest))
+      (counted_inserted rest s (λ u has. other u (cons_rest t rest u has)))
+
+  counted_fold : (xs done : List Snapshot) → AreApart src xs → AreDifferent xs → ((s t : Snapshot) → Contains xs s → Contains done t → IsAlike src s t → ⊥)
+      → sum_by g (fold (inserted src.row) done xs) ≡ sum_by g done + sum_by g xs
+  counted_fold [] done apart different other = omega arith
+  counted_fold (s ∷ xs) done apart different other =
+      let now = counted_inserted done s (λ t has. other s t (cons_first s xs) has) in
+      let more = counted_fold xs (inserted src.row done s) (λ u t has_u has_t. apart u t (cons_rest s xs u has_u) (cons_rest s xs t has_t)) different.1
+      (λ u t has_u has_t alike. elim (from_inserted src.row done s t has_t) [
+        | inl is ↦
+            let there = cons_rest s xs u has_u in
+            let to_s = subst (λ (v : Snapshot). IsAlike src u v) (sym is) alike in
+            different.0 u has_u (sym (apart u s there (cons_first s xs) to_s.0 to_s.1))
+        | inr old ↦ other u t (cons_rest s xs u has_u) old alike
+      ]) in
+      let all = sum_by-cons g s xs in
+      omega arith
+
+  counted : (xs : List Snapshot) → AreApart src xs → AreDifferent xs → sum_by g (in_order src.row xs) ≡ sum_by g xs
+  counted xs apart different =
+      let all = counted_fold xs [] apart different (λ s t has none. absurd (not_empty t none)) in
+      omega arith
+
+-- ---- the order of a room's history
+
+over_map : {X Y : Type 0} (f : Y → ℕ) (h : X → Y) (xs : List X) → sum_by f (map h xs) ≡ sum_by (λ x. f (h x)) xs
+over_map f h [] = refl
+over_map f h (x ∷ xs) =
+    let left = sum_by-cons f (h x) (map h xs) in
+    let right = sum_by-cons (λ y. f (h y)) x xs in
+    let more = over_map f h xs in
+    omega arith
 
 module _ (room : RoomState) where
-  pub placed_append : (agreed : List Agreed) (xs ys : List Snapshot) → all_placed room agreed (xs ++ ys) ≡ all_placed room (all_placed room agreed xs) ys
-  placed_append agreed [] ys = refl
-  placed_append agreed (s ∷ xs) ys = placed_append (placed agreed (agreed_at room s)) xs ys
+  abbrev source : Source
+  source = source_of room.spec (read_of room)
 
-  mapped : (o : Ordering) (x y z : List Snapshot) → map (agreed_at room) (match_ordering o x y z) ≡ match_ordering o (map (agreed_at room) x) (map (agreed_at room) y) (map (agreed_at room) z)
-  mapped Less x y z = refl
-  mapped Equal x y z = refl
-  mapped Greater x y z = refl
+  abbrev passed : List Snapshot
+  passed = all_passed (is_passed room.spec (read_of room)) (processes room.spec) room.spec.rounds
 
-  put : (xs : List Snapshot) (s : Snapshot) → map (agreed_at room) (inserted (row_at room.spec (read_of room)) xs s) ≡ placed (map (agreed_at room) xs) (agreed_at room s)
-  put [] s = refl
-  put (t ∷ rest) s =
-      let row = row_at room.spec (read_of room) in
-      mapped (key_cmp (key_of row s) (key_of row t)) (s ∷ t ∷ rest) (s ∷ rest) (t ∷ inserted row rest s)
-      ∙ both (sum (row s.process s.round)) (sum (row t.process t.round)) s.process t.process (map (agreed_at room) (s ∷ t ∷ rest)) (map (agreed_at room) (s ∷ rest)) (agreed_at room t ∷ map (agreed_at room) (inserted row rest s))
-      ∙ ap (λ (l : List Agreed). cond (is_before (agreed_at room s) (agreed_at room t)) (agreed_at room s ∷ agreed_at room t ∷ map (agreed_at room) rest)
-      (cond (is_before (agreed_at room t) (agreed_at room s)) (agreed_at room t ∷ l) (agreed_at room s ∷ map (agreed_at room) rest))) (put rest s)
+  none_behind : (s : Snapshot) (xs : List Snapshot) → ((t : Snapshot) → Contains xs t → IsBefore source s t) → NoneBefore agreed_cmp agreed_total agreed_one (agreed_at room s) (map (agreed_at room) xs)
+  none_behind s [] each = tt
+  none_behind s (t ∷ rest) each = (not_behind (agreed_at room s) (agreed_at room t) (each t (cons_first t rest)), none_behind s rest (λ u has. each u (cons_rest t rest u has)))
 
-  ordered_on : (xs before : List Snapshot) → map (agreed_at room) (fold (inserted (row_at room.spec (read_of room))) before xs) ≡ all_placed room (map (agreed_at room) before) xs
-  ordered_on [] before = refl
-  ordered_on (s ∷ xs) before =
-      ordered_on xs (inserted (row_at room.spec (read_of room)) before s)
-      ∙ ap (λ (l : List Agreed). all_placed room l xs) (put before s)
+  from_rising : (xs : List Snapshot) → IsRising source xs → InOrder agreed_cmp agreed_total agreed_one (map (agreed_at room) xs)
+  from_rising [] rising = tt
+  from_rising (s ∷ xs) rising = (none_behind s xs rising.0, from_rising xs rising.1)
 
-  pub ordered : (xs : List Snapshot) → map (agreed_at room) (in_order (row_at room.spec (read_of room)) xs) ≡ all_placed room [] xs
-  ordered xs = ordered_on xs []
-
-  abbrev pub passed : ℕ → ℕ → Bool
-  passed = is_passed room.spec (read_of room)
-
-  if_passed : (p r : ℕ) (agreed : List Agreed) (b : Bool) → all_placed room agreed (cond b (record { process = p; round = r } ∷ []) []) ≡ cond b (placed agreed (agreed_at room (record { process = p; round = r }))) agreed
-  if_passed p r agreed true = refl
-  if_passed p r agreed false = refl
-
-  pub round_more : (p r : ℕ) (agreed : List Agreed) → all_placed room agreed (passed_of passed p (r + 1)) ≡ with_passed room p (r + 1) (all_placed room agreed (passed_of passed p r))
-  round_more p r agreed =
-      let turned : r + 1 ≡ suc r = omega arith in
-      ap (λ (k : ℕ). all_placed room agreed (passed_of passed p k)) turned
-      ∙ placed_append agreed (passed_of passed p r) (cond (passed p (r + 1)) (record { process = p; round = r + 1 } ∷ []) [])
-      ∙ if_passed p (r + 1) (all_placed room agreed (passed_of passed p r)) (passed p (r + 1))
-
-  pub process_more : (p rounds : ℕ) (agreed : List Agreed) → all_placed room agreed (all_passed passed (p + 1) rounds) ≡ all_placed room (all_placed room agreed (all_passed passed p rounds)) (passed_of passed p rounds)
-  process_more p rounds agreed =
-      let turned : p + 1 ≡ suc p = omega arith in
-      ap (λ (k : ℕ). all_placed room agreed (all_passed passed k rounds)) turned
-      ∙ placed_append agreed (all_passed passed p rounds) (passed_of passed p rounds)
+  pub sorted_is : (sorted : List Agreed) → AreApart source passed → IsPermutation (map (agreed_at room) passed) sorted → IsSorted agreed_cmp sorted → sorted ≡ map (agreed_at room) source.order
+  sorted_is sorted apart moved rises =
+      same_in_order agreed_cmp agreed_total agreed_one sorted (map (agreed_at room) source.order)
+      (λ f.
+      sum_by-IsPermutation f (map (agreed_at room) passed) sorted moved
+      ∙ over_map f (agreed_at room) passed
+      ∙ sym (over_map f (agreed_at room) source.order ∙ counted source (λ s. f (agreed_at room s)) passed apart (different_passed (is_passed room.spec (read_of room)) (processes room.spec) room.spec.rounds)))
+      (from_sorted agreed_cmp agreed_total agreed_one sorted rises)
+      (from_rising source.order (rising_in_order source passed))

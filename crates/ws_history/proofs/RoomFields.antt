@@ -1,24 +1,31 @@
 -- What a room reads as is what any fields say that it stands for.
-use Rattle.std.proofs.Common.{◌≡◌, ℕ, ◌+◌, ◌≤◌, get_or, min, ap, ◌∙◌, arith}
+use Rattle.std.proofs.Common.{◌≡◌, ℕ, ◌+◌, ◌<◌, ◌≤◌, List, get_or, min, sum, Contains, ap, sym, subst, ◌∙◌, arith}
 use Rattle.protocol_lang.specs.Numbers.{greatest}
-use Rattle.room_spec.specs.Rooms.{IsWithinLimits}
+use Rattle.room_spec.specs.Rooms.{IsWithinLimits, processes}
 use Rattle.room_spec.specs.Sizes.{sizes_in}
 use Rattle.view_table.specs.Words.{word_at}
 use Rattle.view_table.specs.declared.place.Place.TheVariants as places
 use Rattle.sim_memory.specs.Steps.{step_in}
 use Rattle.sim_memory.proofs.Rows.{merged_below}
 use Rattle.sim_memory.proofs.Words.{step_below}
-use Rattle.room_core.specs.Passed.{greatest_step, row_at}
+use Rattle.room_core.specs.Passed.{greatest_step, is_passed, row_at}
 use Rattle.room_core.specs.Calls.{RoomState}
 use Rattle.room_core.specs.Fields.{Fields}
 use Rattle.room_core.specs.Reading.{AgreeIn, AreFieldsOf}
 use Rattle.room_core.proofs.Decoding.{agrees}
 use Rattle.room_core.proofs.LowValues.{fields_low, out_low}
+use Rattle.room_core.proofs.Promises.{rooms_agree}
+use Rattle.ws_history.specs.Histories.{Snapshot}
+use Rattle.ws_history.specs.Orders.{all_passed}
 use Rattle.ws_history.specs.Readings.{read_of, view_word}
-use Rattle.ws_history.specs.Sources.{history_of}
+use Rattle.ws_history.specs.Sources.{history_of, source_of}
+use Rattle.ws_history.proofs.Agreeing.{same_passed, same_row}
+use Rattle.ws_history.proofs.PassedSources.{apart}
 use Rattle.ws_history.proofs.Ranges.{row_low}
 use Rattle.ws_history.specs.Reports.{crashed_in, states_of}
-use Rattle.ws_history.proofs.SameHistories.{same_history}
+use Rattle.ws_history.proofs.SameHistories.{same_all_passed, same_history}
+use Rattle.ws_history.proofs.Sorting.{AreApart, from_passed}
+use Rattle.ws_history.proofs.SourceIs.{is_of_passed}
 use Rattle.ws_history.proofs.SameReports.{same_crashed, same_states}
 
 smaller : (x most : ℕ) → x ≤ most → min x most ≡ x
@@ -47,6 +54,22 @@ module _ (room : RoomState) where
         quiet = a.quiet;
         crashed = a.crashed;
       }
+
+  -- two passed snapshots of a process whose rows have the same sum are one
+  pub apart_in : (fields : Fields) → IsWithinLimits room.spec → AreFieldsOf room fields → AreApart (source_of room.spec (read_of room)) (all_passed (is_passed room.spec (read_of room)) (processes room.spec) room.spec.rounds)
+  apart_in fields limits are s t has_s has_t sums same =
+      let read = read_of room in
+      let agree = read_agrees fields limits are in
+      let least = limits.shape.m_range.0 in
+      let some : 0 < room.spec.simulators = omega arith in
+      let n = processes room.spec in
+      let rounds = room.spec.rounds in
+      let lists = same_all_passed (is_passed room.spec read) (is_passed room.spec fields) n rounds (λ p k. same_passed room.spec read fields some agree p k) in
+      let sum_in : (u : Snapshot) → Contains (all_passed (is_passed room.spec read) n rounds) u → sum (row_at room.spec read u.process u.round) ≡ sum (row_at room.spec fields u.process u.round) =
+      λ u has. let is = from_passed (is_passed room.spec read) n rounds u has in ap sum (same_row room.spec read fields some agree u.process u.round is.process is.positive is.within) in
+      apart room.spec (source_of room.spec fields) (is_passed room.spec fields) (is_of_passed room.spec fields (rooms_agree room fields limits are)) s t
+      (subst (λ (l : List Snapshot). Contains l s) lists has_s) (subst (λ (l : List Snapshot). Contains l t) lists has_t)
+      (sym (sum_in s has_s) ∙ sums ∙ sum_in t has_t) same
 
   pub history_in : (fields : Fields) → IsWithinLimits room.spec → AreFieldsOf room fields → history_of room.spec (read_of room) ≡ history_of room.spec fields
   history_in fields limits are =

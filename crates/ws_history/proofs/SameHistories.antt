@@ -71,7 +71,7 @@ same_passed_of f g p (suc r) same =
     ap (λ (l : List Snapshot). l ++ cond (f p (r + 1)) (record { process = p; round = r + 1 } ∷ []) []) (same_passed_of f g p r (λ k low high. same k low (omega arith)))
     ∙ ap (λ (b : Bool). passed_of g p r ++ cond b (record { process = p; round = r + 1 } ∷ []) []) (same (r + 1) (omega arith) (omega arith))
 
-same_all_passed : (f g : ℕ → ℕ → Bool) (n r : ℕ) → ((p k : ℕ) → p < n → 1 ≤ k → k ≤ r → f p k ≡ g p k) → all_passed f n r ≡ all_passed g n r
+pub same_all_passed : (f g : ℕ → ℕ → Bool) (n r : ℕ) → ((p k : ℕ) → p < n → 1 ≤ k → k ≤ r → f p k ≡ g p k) → all_passed f n r ≡ all_passed g n r
 same_all_passed f g zero r same = refl
 same_all_passed f g (suc n) r same =
     ap (λ (l : List Snapshot). l ++ passed_of f n r) (same_all_passed f g n r (λ p k below. same p k (omega arith)))

@@ -1,9 +1,6 @@
 -- Snapshots in order are in strictly rising order, and are those that were given.
 use Rattle.std.proofs.Common.{◌≡◌, ◌⊎◌, ℕ, zero, suc, ◌+◌, ◌<◌, ◌≤◌, Bool, true, false, cond, List, [], ◌∷◌, sum, fold, Contains, Ordering, Less, Equal, Greater, nat_cmp, refl, sym, ap, ◌∙◌, subst, arith, inl, inr}
-use Rattle.std.specs.Prelude.{⊤}
 use Rattle.std.specs.Ordering.{MatchOrdering, match_ordering, ordering_then}
-use Rattle.std.specs.BTreeMap.{insert_entry}
-use Rattle.std.specs.Map.{values_of}
 use Rattle.std.proofs.lemmas.Bool.{cases_lt}
 use Rattle.std.proofs.lemmas.Cmp.{ranked}
 use Rattle.std.proofs.lemmas.List.Elements.{Contains-append_left, Contains-append_right, Contains-append_cases}
@@ -13,7 +10,7 @@ use Rattle.ws_history.proofs.Order.{snapshot_at, not_empty, cons_cases, cons_fir
 
 -- ---- the test
 
-abbrev IsAlike : Source → Snapshot → Snapshot → Type 0
+abbrev pub IsAlike : Source → Snapshot → Snapshot → Type 0
 IsAlike src s t = (sum (row_of src s) ≡ sum (row_of src t)) × (s.process ≡ t.process)
 
 by_both : (a b c d : ℕ) (q r : Ordering) → MatchOrdering q (a < b) (a ≡ b) (b < a) → MatchOrdering r (c < d) (c ≡ d) (d < c)
@@ -25,10 +22,10 @@ by_both a b c d Equal Equal first second = (first, second)
 by_both a b c d Equal Greater first second = inr (sym first, second)
 
 -- how two snapshots stand to each other
-abbrev Stand : Source → Snapshot → Snapshot → Ordering → Type 0
+abbrev pub Stand : Source → Snapshot → Snapshot → Ordering → Type 0
 Stand src s t o = MatchOrdering o (IsBefore src s t) (IsAlike src s t) (IsBefore src t s)
 
-stand : (src : Source) (s t : Snapshot) → Stand src s t (key_cmp (key_of src.row s) (key_of src.row t))
+pub stand : (src : Source) (s t : Snapshot) → Stand src s t (key_cmp (key_of src.row s) (key_of src.row t))
 stand src s t =
     let a = sum (row_of src s) in
     let b = sum (row_of src t) in
@@ -56,7 +53,7 @@ from_put s t u rest behind Greater more has = elim (cons_cases t behind u has) [
   | inr later ↦ elim (more later) [ inl new ↦ inl new | inr old ↦ inr (cons_rest t rest u old) ]
 ]
 
-from_inserted : (row : ℕ → ℕ → List ℕ) (xs : List Snapshot) (s u : Snapshot) → Contains (inserted row xs s) u → (s ≡ u) ⊎ Contains xs u
+pub from_inserted : (row : ℕ → ℕ → List ℕ) (xs : List Snapshot) (s u : Snapshot) → Contains (inserted row xs s) u → (s ≡ u) ⊎ Contains xs u
 from_inserted row [] s u has = cons_cases s [] u has
 from_inserted row (t ∷ rest) s u has = from_put s t u rest (inserted row rest s) (key_cmp (key_of row s) (key_of row t)) (from_inserted row rest s u) has
 
@@ -144,11 +141,11 @@ to_order src xs apart u has = to_fold src xs [] u (λ s there same. apart s u th
 
 -- ---- the agreements that are passed
 
-if_there : (b : Bool) (s u : Snapshot) → Contains (cond b (s ∷ []) []) u → (b ≡ true) × (s ≡ u)
+pub if_there : (b : Bool) (s u : Snapshot) → Contains (cond b (s ∷ []) []) u → (b ≡ true) × (s ≡ u)
 if_there true s u has = elim (cons_cases s [] u has) [ inl is ↦ (refl, is) | inr none ↦ absurd (not_empty u none) ]
 if_there false s u has = absurd (not_empty u has)
 
-from_passed_of : (passed : ℕ → ℕ → Bool) (p rounds : ℕ) (u : Snapshot) → Contains (passed_of passed p rounds) u → (u.process ≡ p) × (1 ≤ u.round) × (u.round ≤ rounds) × (passed u.process u.round ≡ true)
+pub from_passed_of : (passed : ℕ → ℕ → Bool) (p rounds : ℕ) (u : Snapshot) → Contains (passed_of passed p rounds) u → (u.process ≡ p) × (1 ≤ u.round) × (u.round ≤ rounds) × (passed u.process u.round ≡ true)
 from_passed_of passed p zero u has = absurd (not_empty u has)
 from_passed_of passed p (suc rounds) u has = elim (Contains-append_cases (passed_of passed p rounds) (cond (passed p (rounds + 1)) (snapshot_at p (rounds + 1) ∷ []) []) u has) [
   | inl old ↦ let so_far = from_passed_of passed p rounds u old in (so_far.0, so_far.1, omega (arith, so_far.2), so_far.3)

@@ -1,22 +1,22 @@
 //! The snapshots of a room that were agreed on, in the order of its history.
-ghost use Rattle.std.specs.Prelude.{◌≡◌, ℕ, ◌+◌, ◌<◌, ◌≤◌, true, false, length, map, slice_index, slice_index_or};
+ghost use Rattle.std.specs.Prelude.{◌≡◌, ℕ, ◌+◌, ◌<◌, ◌≤◌, [], ◌∷◌, ◌++◌, length, map, slice_index, if◌then◌else◌};
 ghost use Rattle.std.specs.List.{sum};
 ghost use Rattle.room_spec.specs.Rooms.{processes};
 ghost use Rattle.room_spec.specs.Sizes.{sizes_in};
 ghost use Rattle.view_table.specs.Places.{IsRound};
 ghost use Rattle.room_core.specs.Passed.{is_passed};
-ghost use Rattle.ws_history.specs.Orders.{passed_of};
-ghost use Rattle.ws_history.specs.Placing.{agreed_at, all_placed, blank, is_before, placed, with_passed};
+ghost use Rattle.ws_history.specs.Orders.{all_passed, passed_of};
+ghost use Rattle.ws_history.specs.Placing.{agreed_at};
 ghost use Rattle.ws_history.specs.Readings.{read_of};
 ghost use Rattle.ws_history.specs.Sources.{source_of};
 
-use crate::reading::{is_passed, process_count, round_count, row_of, view_at};
+use crate::reading::{is_passed, process_count, round_count, row_of, shape_of, view_at};
 use arrayvec::ArrayVec;
 use room_core::RoomCore;
 
 /// The snapshot of a process after so many writes of its own: the memory word that it shows, and
-/// how many writes of all processes that word shows.
-#[derive(Clone, Copy, Default)]
+/// how many writes of all processes that word shows, by which snapshots go first, and then by process.
+#[derive(Clone, Copy, Default, PartialEq, Eq, PartialOrd, Ord)]
 pub(crate) struct Agreed {
     pub(crate) sum: usize,
     pub(crate) process: usize,
@@ -31,35 +31,45 @@ pub(crate) type AllAgreed = ArrayVec<Agreed, 240>;
 pub(crate) fn in_order(room: &RoomCore) -> AllAgreed
     ensures { result.items ≡ map (agreed_at room.now) (source_of room.now.spec (read_of room.now)).order }
 {
+    let _shape = shape_of(room);
+    let mut agreed = all_agreed(room);
+    agreed.sort_unstable();
+    agreed
+}
+
+/// The passed snapshots of a room, by process, and then by round.
+fn all_agreed(room: &RoomCore) -> AllAgreed
+    ensures { result.items ≡ map (agreed_at room.now) (all_passed (is_passed room.now.spec (read_of room.now)) (processes room.now.spec) room.now.spec.rounds) }
+{
     let mut agreed = AllAgreed::new();
     for process in 0..process_count(room) {
-        add_rounds(&mut agreed, room, process);
+        push_rounds(&mut agreed, room, process);
     }
     agreed
 }
 
-/// Puts the passed snapshots of this process in their places.
-fn add_rounds(agreed: &mut AllAgreed, room: &RoomCore, process: usize)
+/// Adds the passed snapshots of this process.
+fn push_rounds(agreed: &mut AllAgreed, room: &RoomCore, process: usize)
     requires count { length agreed.old.items ≤ 225 }
     requires process { process < processes room.now.spec }
-    ensures items { agreed.new.items ≡ all_placed room.now agreed.old.items (passed_of (is_passed room.now.spec (read_of room.now)) process room.now.spec.rounds) }
+    ensures items { agreed.new.items ≡ agreed.old.items ++ map (agreed_at room.now) (passed_of (is_passed room.now.spec (read_of room.now)) process room.now.spec.rounds) }
     ensures count { length agreed.new.items ≤ length agreed.old.items + 15 }
 {
     for r in 0..round_count(room) {
-        add(agreed, room, process, r + 1);
+        push_passed(agreed, room, process, r + 1);
     }
 }
 
-/// Puts the snapshot of this process and round in its place, if it is passed.
-fn add(agreed: &mut AllAgreed, room: &RoomCore, process: usize, round: usize)
+/// Adds the snapshot of this process and round, if it is passed.
+fn push_passed(agreed: &mut AllAgreed, room: &RoomCore, process: usize, round: usize)
     requires count { length agreed.old.items < 240 }
     requires process { process < processes room.now.spec }
     requires round { IsRound (sizes_in room.now.spec) round }
-    ensures items { agreed.new.items ≡ with_passed room.now process round agreed.old.items }
+    ensures items { agreed.new.items ≡ agreed.old.items ++ map (agreed_at room.now) (if is_passed room.now.spec (read_of room.now) process round then record { process = process; round = round } ∷ [] else []) }
     ensures count { length agreed.new.items ≤ length agreed.old.items + 1 }
 {
     if is_passed(room, process, round) {
-        insert(agreed, snapshot_at(room, process, round));
+        agreed.push(snapshot_at(room, process, round));
     }
 }
 
@@ -92,38 +102,4 @@ pub(crate) fn sum(row: &[usize]) -> usize
         sum += *entry;
     }
     sum
-}
-
-fn precedes(one: &Agreed, other: &Agreed) -> bool
-    ensures { result ≡ is_before one.now other.now }
-{
-    one.sum < other.sum || (one.sum == other.sum && one.process < other.process)
-}
-
-/// Puts a snapshot in its place; one with the same sum and process gives way.
-fn insert(agreed: &mut AllAgreed, snapshot: Agreed)
-    requires { length agreed.old.items < 240 }
-    ensures items { agreed.new.items ≡ placed agreed.old.items snapshot }
-    ensures count { length agreed.new.items ≤ length agreed.old.items + 1 }
-{
-    let at = place_of(agreed.as_slice(), &snapshot);
-    if at < agreed.len() && !precedes(&snapshot, &agreed[at]) {
-        agreed[at] = snapshot;
-    } else {
-        agreed.insert(at, snapshot);
-    }
-}
-
-/// The index of the first that doesn't precede it.
-fn place_of(agreed: &[Agreed], snapshot: &Agreed) -> usize
-    ensures before { (k : ℕ) → k < result → is_before (slice_index_or agreed.now k blank) snapshot.now ≡ true }
-    ensures here { result < length agreed.now → is_before (slice_index_or agreed.now result blank) snapshot.now ≡ false }
-    ensures within { result ≤ length agreed.now }
-{
-    for (i, one) in agreed.iter().enumerate() {
-        if !precedes(one, snapshot) {
-            return i;
-        }
-    }
-    agreed.len()
 }

@@ -1,14 +1,13 @@
-use Rattle.std.proofs.Common.{◌≡◌, List, Contains, length, get_or, ℕ, sym, ap, ◌∙◌, subst, arith}
+use Rattle.std.proofs.Common.{List, Contains, length, get_or, ℕ, sym, ap, ◌∙◌, subst, arith}
 use Rattle.std.specs.List.{count_by}
 use Rattle.std.proofs.lemmas.List.FromFn.{get_or-map-range_with_len}
 use Rattle.room_spec.specs.Rooms.{processes}
 use Rattle.transcript.specs.declared.event.Event.{Event}
 use Rattle.transcript.specs.declared.event.Event.TheVariants.{Decide}
 use Rattle.transcript.specs.Runs.{IsRun}
-use Rattle.ws_history.specs.declared.states.Report.{Report}
 use Rattle.ws_history.specs.declared.states.ProcessState.{ProcessState}
 use Rattle.ws_history.specs.declared.states.ProcessState.TheVariants.{Going}
-use Rattle.ws_history.specs.Reports.{crashed_in, is_held, state_of, states_of}
+use Rattle.ws_history.specs.Reports.{is_held, state_of}
 use Rattle.ws_history.proofs.Deciders.{decided_there}
 use Rattle.ws_history.proofs.Held.{held_at_most, inside_at_most}
 use Rattle.ws_history.proofs.RoomFields.{crashed_are, states_in}

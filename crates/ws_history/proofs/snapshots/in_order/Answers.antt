@@ -1,28 +1,16 @@
-use Rattle.std.proofs.Common.{◌≡◌, ◌∙◌, ℕ, List, [], ap, sym, arith}
-use Rattle.room_core.specs.Passed.{is_passed}
-use Rattle.room_spec.specs.Rooms.{processes}
+use Rattle.std.proofs.Common.{◌∙◌, List, subst, rules}
+use Rattle.std.specs.List.Sorted.{IsPermutation}
+use Rattle.arrayvec.proofs.ArrayVecLemmas.{items-with_items}
 use Rattle.ws_history.specs.declared.snapshots.Agreed.{Agreed}
-use Rattle.ws_history.specs.Orders.{all_passed, passed_of}
-use Rattle.ws_history.specs.Placing.{all_placed}
-use Rattle.ws_history.specs.Readings.{read_of}
-use Rattle.ws_history.proofs.Ordering.{ordered, process_more}
+use Rattle.ws_history.proofs.Ordering.{sorted_is}
+use Rattle.ws_history.proofs.RoomFields.{apart_in}
 use Rattle.ws_history.proofs.snapshots.in_order.Goals as goal
-
-pub loop-process-preserved : goal.loop-process-preserved
-loop-process-preserved c =
-    let room = c.args.room.now in
-    let more = process_more room c.loop-process.process room.spec.rounds [] in
-    record {
-      so_far = c.add_rounds.ensures.items
-          ∙ ap (λ (l : List Agreed). all_placed room l (passed_of (is_passed room.spec (read_of room)) c.loop-process.process room.spec.rounds)) c.loop-process.invariant.so_far
-          ∙ sym more;
-      count = omega arith;
-    }
 
 pub returns : goal.returns
 returns c =
     let room = c.args.room.now in
-    let all : c.loop-process.process ≡ processes room.spec = omega arith in
-    c.loop-process.invariant.so_far
-    ∙ ap (λ (n : ℕ). all_placed room [] (all_passed (is_passed room.spec (read_of room)) n room.spec.rounds)) all
-    ∙ sym (ordered room (all_passed (is_passed room.spec (read_of room)) (processes room.spec) room.spec.rounds))
+    let at = c.shape_of-shape.ensures.fields in
+    rw (items-with_items c.all_agreed-agreed.result c.sort_unstable.new.self (search rules))
+    (sorted_is room _ (apart_in room at.0 c.shape_of-shape.ensures.limits at.1)
+    (subst (λ (l : List Agreed). IsPermutation l c.sort_unstable.new.self) (c.deref_mut.ensures.value ∙ c.all_agreed-agreed.ensures) c.sort_unstable.ensures.permutation)
+    c.sort_unstable.ensures.sorted)
