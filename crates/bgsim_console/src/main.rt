@@ -15,9 +15,14 @@ mod input;
 mod judge;
 mod lines;
 mod output;
+mod play;
+#[cfg(test)]
+mod play_tests;
+mod reply;
 mod report;
 #[cfg(test)]
 mod room_tests;
+mod script;
 mod setup;
 #[cfg(test)]
 mod tests;
