@@ -1,12 +1,14 @@
 -- What a script asks for.
-use Rattle.std.specs.Prelude.{ℕ, zero, suc, ◌+◌, Bool, ◌&&◌, List, [], ◌∷◌, length, take, drop, Option, Some, None, Result, Ok, Err, nat_le, if◌then◌else◌, codes}
+use Rattle.std.specs.Prelude.{◌≡◌, ◌≤◌, ⊤, true, ℕ, zero, suc, ◌+◌, Bool, ◌&&◌, List, [], ◌∷◌, length, take, drop, Option, Some, None, Result, Ok, Err, nat_le, if◌then◌else◌, codes, decimal}
+use Rattle.std.specs.List.{join_with_byte}
 use Rattle.std.specs.Str.{bytes_eq}
 use Rattle.protocol_lang.specs.Numbers.{number_of}
 use Rattle.room_spec.specs.Names.{is_name}
 use Rattle.room_spec.specs.Texts.{first_line, later_lines, fields_of}
 use Rattle.room_spec.specs.Blocks.{block_len}
 use Rattle.service_core.specs.declared.command.Command.{Command}
-use Rattle.service_core.specs.declared.command.Command.TheVariants.{Step, Crash, Settle, Report, Close}
+use Rattle.service_core.specs.declared.command.Command.TheVariants.{Begin, Step, Crash, Settle, Report, Close}
+use Rattle.service_core.specs.Replies.{name_in}
 use Rattle.bgsim_console.specs.Lines.{text_lines}
 
 -- ---- commands
@@ -50,6 +52,32 @@ command_of (word ∷ name ∷ numbers) = if is_name name then command_to word na
 -- the command that a line is, or nothing; a block is opened by other means
 abbrev pub command_in : List ℕ → Option Command
 command_in line = command_of (fields_of line)
+
+-- ---- the lines of commands
+
+-- the word of a command, the name of its room, and its numbers
+abbrev pub command_fields : Command → List (List ℕ)
+command_fields (Begin spec) = []
+command_fields (Step name sim count) = codes "step" ∷ name ∷ decimal sim ∷ decimal count ∷ []
+command_fields (Crash name sim) = codes "crash" ∷ name ∷ decimal sim ∷ []
+command_fields (Settle name) = codes "settle" ∷ name ∷ []
+command_fields (Report name) = codes "report" ∷ name ∷ []
+command_fields (Close name) = codes "close" ∷ name ∷ []
+
+-- the numbers are in range; a room is begun by a block, and by no single line
+abbrev pub HasNumbers : Command → Type 0
+HasNumbers (Begin spec) = ⊥
+HasNumbers (Step name sim count) = (sim ≤ 255) × (1 ≤ count) × (count ≤ 65535)
+HasNumbers (Crash name sim) = sim ≤ 255
+HasNumbers (Settle name) = ⊤
+HasNumbers (Report name) = ⊤
+HasNumbers (Close name) = ⊤
+
+-- the line asks for the command: its fields, with one space between each two
+pub record IsCommandLine (line : List ℕ) (command : Command) : Type 0 where
+  pub text : line ≡ join_with_byte 32 (command_fields command)
+  pub room : is_name (name_in command) ≡ true
+  pub numbers : HasNumbers command
 
 -- ---- scripts
 

@@ -1,14 +1,26 @@
 //! The lines of a script.
-ghost use Rattle.std.specs.Prelude.{◌≡◌, ◌<◌, ◌≤◌, ◌+◌, MatchOption, IfSome, [], ◌∷◌, length};
+ghost use Rattle.std.specs.Prelude.{◌≡◌, ◌<◌, ◌≤◌, ◌+◌, MatchOption, IfSome, Some, [], ◌∷◌, length};
+ghost use Rattle.service_core.specs.declared.command.Command.{Command as CommandData};
 ghost use Rattle.room_spec.specs.Texts.{fields_of, first_line, later_lines};
-ghost use Rattle.bgsim_console.specs.Script.{bare_command, block_behind, block_extent, command_in, command_of, command_to, is_open, number_within, text_behind};
+ghost use Rattle.bgsim_console.specs.Script.{IsCommandLine, bare_command, block_behind, block_extent, command_in, command_of, command_to, is_open, number_within, text_behind};
 
 use protocol_lang::read_number;
 use room_spec::{Name, block_len, cut};
 use service_core::Command;
 
 /// The command that a line is, or `None`. A block is opened by other means.
+#[tactic(auto, using(crate::proofs::Commands::is_found))]
 pub fn read_command(line: &[u8]) -> Option<Command>
+    // What is read is what the line asks for.
+    ensures sound { IfSome result (λ command. IsCommandLine line.now command) }
+    // What a line asks for is read.
+    ensures complete { (command : CommandData) → IsCommandLine line.now command → result ≡ Some command }
+    ensures exact { result ≡ command_in line.now }
+{
+    command_in(line)
+}
+
+fn command_in(line: &[u8]) -> Option<Command>
     ensures { result ≡ command_in line.now }
 {
     let (word, others) = cut(line, b' ');
