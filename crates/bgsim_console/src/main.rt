@@ -23,6 +23,8 @@ mod report;
 #[cfg(test)]
 mod room_tests;
 mod script;
+#[cfg(test)]
+mod script_tests;
 mod setup;
 #[cfg(test)]
 mod tests;
