@@ -1,7 +1,12 @@
 pub mod Blocks
+pub mod Commands
 pub mod LineLists
 pub mod Naming
+pub mod ReplyTexts
+pub mod Scripts
+pub mod Playing
 pub mod Streams
+pub mod Endings
 pub mod Feeding
 pub mod Verdicts
 pub mod Worked

@@ -15,7 +15,9 @@ use Rattle.clap.specs.Faults.{bundle_fault, bundle_step_fault, entered_fault, fa
 use Rattle.clap.specs.declared.error.kind.ErrorKind.{ErrorKind}
 use Rattle.clap.specs.declared.error.kind.ErrorKind.TheVariants.{InvalidSubcommand, UnknownArgument}
 use Rattle.clap.proofs.WalkLemmas.{first_value-rows}
-use Rattle.bgsim_console.specs.CommandLine.{bgsim_app, check_shape, file_among, file_named, IsCheckOf}
+use Rattle.bgsim_console.specs.CommandLine.{IsAsked, bgsim_app, file_among, file_app, file_named, mode_among, mode_of, word_of}
+use Rattle.bgsim_console.specs.declared.command_line.words.Mode.{Mode}
+use Rattle.bgsim_console.specs.declared.command_line.words.Mode.TheVariants.{Check, Play}
 
 -- ---- no fault
 
@@ -135,7 +137,7 @@ stray_value s names h position word none_there no_sub dashes is none =
     let second = then_none (word_fault s names false idle word h) _ none in
     stray s (rw (no_sub, dashes, is, none_there) at second)
 
--- ---- the words behind `check`
+-- ---- the words behind a subcommand that takes a file
 
 abbrev FILE : Rule
 FILE = with_index 1 (filled (new_rule (codes "FILE")))
@@ -146,8 +148,9 @@ help = filled help_rule
 abbrev version : Rule
 version = filled version_rule
 
-abbrev leaf : Shape
-leaf = built_leaf (inherited (on_top marked_built bgsim_app).top check_shape)
+-- the subcommand of this word, once it is built
+abbrev leaf : Text → Shape
+leaf name = built_leaf (inherited (on_top marked_built bgsim_app).top (file_app name).top)
 
 abbrev leaf_rules : List Rule
 leaf_rules = FILE ∷ help ∷ []
@@ -173,63 +176,63 @@ leaf_asks = (λ name. long (bytes_eq (codes "help") name), λ x. short (104 == x
 abbrev with_file : Text → Held
 with_file word = held [] (Some (codes "FILE", word ∷ []))
 
-abbrev TakesNoMore : Bool → Text → List Text → Type 0
-TakesNoMore trailing word words = walk_fault leaf [] (at (with_file word) 2 trailing) words ≡ []
+abbrev TakesNoMore : Text → Bool → Text → List Text → Type 0
+TakesNoMore name trailing word words = walk_fault (leaf name) [] (at (with_file word) 2 trailing) words ≡ []
     → (fold (walked leaf_rules []) (at (with_file word) 2 trailing) words).held ≡ with_file word
 
-word_more : (word next : Text) (words : List Text) → TakesNoMore true word words → (is : Bool) → bytes_eq next (codes "--") ≡ is → TakesNoMore false word (next ∷ words)
+word_more : (name word next : Text) (words : List Text) → TakesNoMore name true word words → (is : Bool) → bytes_eq next (codes "--") ≡ is → TakesNoMore name false word (next ∷ words)
 unfolding walk_fault
-word_more word next words later true dashes none =
+word_more name word next words later true dashes none =
     let step = step_dashes leaf_rules [] (with_file word) 2 next refl dashes in
-    let rest : walk_fault leaf [] (walked leaf_rules [] (at (with_file word) 2 false) next) words ≡ [] = then_none _ _ none in
-    ap (λ w. (fold (walked leaf_rules []) w words).held) step ∙ later (subst (λ w. walk_fault leaf [] w words ≡ []) step rest)
-word_more word next words later false dashes none =
+    let rest : walk_fault (leaf name) [] (walked leaf_rules [] (at (with_file word) 2 false) next) words ≡ [] = then_none _ _ none in
+    ap (λ w. (fold (walked leaf_rules []) w words).held) step ∙ later (subst (λ w. walk_fault (leaf name) [] w words ≡ []) step rest)
+word_more name word next words later false dashes none =
     let turn = first_none _ _ none in
-    let flag = flag_none leaf [] (with_file word) 2 next refl dashes turn in
+    let flag = flag_none (leaf name) [] (with_file word) 2 next refl dashes turn in
     let is = word_is_value leaf_rules false leaf_asks next [] _ flag in
-    absurd (stray_value leaf [] (with_file word) 2 next refl refl dashes is turn)
+    absurd (stray_value (leaf name) [] (with_file word) 2 next refl refl dashes is turn)
 
-no_more : (trailing : Bool) (word : Text) (words : List Text) → TakesNoMore trailing word words
+no_more : (name : Text) (trailing : Bool) (word : Text) (words : List Text) → TakesNoMore name trailing word words
 unfolding walk_fault
-no_more trailing word [] none = refl
-no_more true word (next ∷ words) none =
-    let turn = first_none (turn_fault leaf [] (at (with_file word) 2 true) next) (walk_fault leaf [] (walked leaf_rules [] (at (with_file word) 2 true) next) words) none in
-    absurd (stray_trailing leaf [] (with_file word) 2 next refl turn)
-no_more false word (next ∷ words) none = word_more word next words (no_more true word words) (bytes_eq next (codes "--")) refl none
+no_more name trailing word [] none = refl
+no_more name true word (next ∷ words) none =
+    let turn = first_none (turn_fault (leaf name) [] (at (with_file word) 2 true) next) (walk_fault (leaf name) [] (walked leaf_rules [] (at (with_file word) 2 true) next) words) none in
+    absurd (stray_trailing (leaf name) [] (with_file word) 2 next refl turn)
+no_more name false word (next ∷ words) none = word_more name word next words (no_more name true word words) (bytes_eq next (codes "--")) refl none
 
 with_file_first : (word : Text) → first_of (codes "FILE") (finished leaf_rules (with_file word)) ≡ Some word
 with_file_first word = refl
 
--- where the words behind `check` are no fault, the file is the one that they name
-abbrev NamesFile : Text → List Text → Type 0
-NamesFile word words = walk_fault leaf [] (at nothing_held 1 false) (word ∷ words) ≡ [] → first_of (codes "FILE") (rows_after leaf_rules [] (word ∷ words)) ≡ file_named (word ∷ words)
+-- where the words behind the subcommand are no fault, the file is the one that they name
+abbrev NamesFile : Text → Text → List Text → Type 0
+NamesFile name word words = walk_fault (leaf name) [] (at nothing_held 1 false) (word ∷ words) ≡ [] → first_of (codes "FILE") (rows_after leaf_rules [] (word ∷ words)) ≡ file_named (word ∷ words)
 
-file_behind : (is_first : Bool) (word : Text) (words : List Text) → bytes_eq word (codes "--") ≡ is_first → NamesFile word words
+file_behind : (name : Text) (is_first : Bool) (word : Text) (words : List Text) → bytes_eq word (codes "--") ≡ is_first → NamesFile name word words
 unfolding walk_fault
-file_behind true word [] dashes none =
+file_behind name true word [] dashes none =
     ap (λ w. first_of (codes "FILE") (finished leaf_rules w.held)) (step_dashes leaf_rules [] nothing_held 1 word refl dashes) ∙ (rw dashes refl)
-file_behind true word (next ∷ words) dashes none =
+file_behind name true word (next ∷ words) dashes none =
     let step = step_dashes leaf_rules [] nothing_held 1 word refl dashes in
     let step_2 = step_trailing leaf_rules [] nothing_held 1 next in
-    let rest : walk_fault leaf [] (walked leaf_rules [] (at nothing_held 1 false) word) (next ∷ words) ≡ [] = then_none (turn_fault leaf [] (at nothing_held 1 false) word) _ none in
-    let rest_2 : walk_fault leaf [] (walked leaf_rules [] (at nothing_held 1 true) next) words ≡ [] = then_none (turn_fault leaf [] (at nothing_held 1 true) next) _ (subst (λ w. walk_fault leaf [] w (next ∷ words) ≡ []) step rest) in
-    let ends = no_more true next words (subst (λ w. walk_fault leaf [] w words ≡ []) step_2 rest_2) in
+    let rest : walk_fault (leaf name) [] (walked leaf_rules [] (at nothing_held 1 false) word) (next ∷ words) ≡ [] = then_none (turn_fault (leaf name) [] (at nothing_held 1 false) word) _ none in
+    let rest_2 : walk_fault (leaf name) [] (walked leaf_rules [] (at nothing_held 1 true) next) words ≡ [] = then_none (turn_fault (leaf name) [] (at nothing_held 1 true) next) _ (subst (λ w. walk_fault (leaf name) [] w (next ∷ words) ≡ []) step rest) in
+    let ends = no_more name true next words (subst (λ w. walk_fault (leaf name) [] w words ≡ []) step_2 rest_2) in
     ap (λ w. first_of (codes "FILE") (finished leaf_rules (fold (walked leaf_rules []) w (next ∷ words)).held)) step
     ∙ ap (λ w. first_of (codes "FILE") (finished leaf_rules (fold (walked leaf_rules []) w words).held)) step_2
     ∙ ap (λ h. first_of (codes "FILE") (finished leaf_rules h)) ends ∙ with_file_first next ∙ (rw dashes refl)
-file_behind false word words dashes none =
-    let turn = first_none (turn_fault leaf [] (at nothing_held 1 false) word) (walk_fault leaf [] (walked leaf_rules [] (at nothing_held 1 false) word) words) none in
-    let flag = flag_none leaf [] nothing_held 1 word refl dashes turn in
+file_behind name false word words dashes none =
+    let turn = first_none (turn_fault (leaf name) [] (at nothing_held 1 false) word) (walk_fault (leaf name) [] (walked leaf_rules [] (at nothing_held 1 false) word) words) none in
+    let flag = flag_none (leaf name) [] nothing_held 1 word refl dashes turn in
     let is = word_is_value leaf_rules false leaf_asks word [] None flag in
     let step = step_value leaf_rules [] nothing_held 1 word refl dashes is in
-    let rest : walk_fault leaf [] (walked leaf_rules [] (at nothing_held 1 false) word) words ≡ [] = then_none (turn_fault leaf [] (at nothing_held 1 false) word) _ none in
-    let ends = no_more false word words (subst (λ w. walk_fault leaf [] w words ≡ []) step rest) in
+    let rest : walk_fault (leaf name) [] (walked leaf_rules [] (at nothing_held 1 false) word) words ≡ [] = then_none (turn_fault (leaf name) [] (at nothing_held 1 false) word) _ none in
+    let ends = no_more name false word words (subst (λ w. walk_fault (leaf name) [] w words ≡ []) step rest) in
     ap (λ w. first_of (codes "FILE") (finished leaf_rules (fold (walked leaf_rules []) w words).held)) step
     ∙ ap (λ h. first_of (codes "FILE") (finished leaf_rules h)) ends ∙ with_file_first word ∙ (rw dashes refl)
 
-file_is : (words : List Text) → walk_fault leaf [] (at nothing_held 1 false) words ≡ [] → first_of (codes "FILE") (rows_after leaf_rules [] words) ≡ file_named words
-file_is [] none = refl
-file_is (word ∷ words) none = file_behind (bytes_eq word (codes "--")) word words refl none
+file_is : (name : Text) (words : List Text) → walk_fault (leaf name) [] (at nothing_held 1 false) words ≡ [] → first_of (codes "FILE") (rows_after leaf_rules [] words) ≡ file_named words
+file_is name [] none = refl
+file_is name (word ∷ words) none = file_behind name (bytes_eq word (codes "--")) word words refl none
 
 -- ---- the first word
 
@@ -240,7 +243,7 @@ abbrev top_rules : List Rule
 top_rules = help ∷ version ∷ []
 
 abbrev top_names : Names
-top_names = (codes "check", []) ∷ []
+top_names = (word_of Check, []) ∷ (word_of Play, []) ∷ []
 
 top_asks : OnlyAsk top_rules
 top_asks = (λ name. long (bytes_eq (codes "help") name) (bytes_eq (codes "version") name), λ x. short (104 == x) (86 == x))
@@ -266,21 +269,26 @@ words_kept rules names name words [] = ap (entered_at name) (sym (append-nil wor
 words_kept rules names name words (word ∷ more) =
     words_kept rules names name (words ++ word ∷ []) more ∙ ap (entered_at name) (append_assoc words (word ∷ []) more)
 
-enters : walked top_rules top_names (at nothing_held 1 false) (codes "check") ≡ entered_at (codes "check") []
+enters : (mode : Mode) → walked top_rules top_names (at nothing_held 1 false) (word_of mode) ≡ entered_at (word_of mode) []
 unfolding walked
-enters = refl
+enters Check = refl
+enters Play = refl
 
-enters_check : (words : List Text) → walk top_rules top_names nothing_held (codes "check" ∷ words) ≡ entered_at (codes "check") words
-enters_check words = ap (λ w. fold (walked top_rules top_names) w words) enters ∙ words_kept top_rules top_names (codes "check") [] words
+enters_mode : (mode : Mode) (words : List Text) → walk top_rules top_names nothing_held (word_of mode ∷ words) ≡ entered_at (word_of mode) words
+enters_mode mode words = ap (λ w. fold (walked top_rules top_names) w words) (enters mode) ∙ words_kept top_rules top_names (word_of mode) [] words
 
-no_other : (word : Text) → bytes_eq (codes "check") word ≡ false → subcommand_met top_names idle word ≡ None
-no_other word other = rw other refl
+-- the word is that of no mode
+abbrev IsOther : Text → Type 0
+IsOther word = (mode : Mode) → bytes_eq (word_of mode) word ≡ false
+
+no_other : (word : Text) → IsOther word → subcommand_met top_names idle word ≡ None
+no_other word other = rw (other Check, other Play) refl
 
 -- without a subcommand there is a fault
 abbrev IsFault : List Text → Type 0
 IsFault words = fault_of bgsim_app words ≡ [] → ⊥
 
-only_dashes : (word : Text) → bytes_eq (codes "check") word ≡ false → bytes_eq word (codes "--") ≡ true → IsFault (word ∷ [])
+only_dashes : (word : Text) → IsOther word → bytes_eq word (codes "--") ≡ true → IsFault (word ∷ [])
 unfolding defaults_fault
 only_dashes word other dashes none =
     let step = step_dashes top_rules top_names nothing_held 1 word (no_other word other) dashes in
@@ -290,7 +298,7 @@ only_dashes word other dashes none =
     let no = subst (λ w. or_else (settle_fault top.rules top.args_override_self w.held) (or_else (defaults_fault (settled top.rules w.held).rows top.rules) (check_fault top (finished top.rules w.held) false)) ≡ []) step behind in
     absurd cc
 
-other_word : (is_dashes : Bool) (word : Text) (words : List Text) → bytes_eq (codes "check") word ≡ false → bytes_eq word (codes "--") ≡ is_dashes → IsFault (word ∷ words)
+other_word : (is_dashes : Bool) (word : Text) (words : List Text) → IsOther word → bytes_eq word (codes "--") ≡ is_dashes → IsFault (word ∷ words)
 unfolding walk_fault
 other_word true word [] other dashes none = only_dashes word other dashes none
 other_word true word (next ∷ words) other dashes none =
@@ -306,26 +314,52 @@ other_word false word words other dashes none =
     let is = word_is_value top_rules false top_asks word [] None flag in
     absurd (stray_value top top_names nothing_held 1 word refl (no_other word other) dashes is turn)
 
--- where the words are no fault, the file is the one that they name
-check_named : (words : List Text) (found : Option (Text × List Row)) → fault_of bgsim_app (codes "check" ∷ words) ≡ [] → found ≡ subcommand_of bgsim_app (codes "check" ∷ words) → file_among found ≡ file_named words
-check_named words found none is =
-    let walk_is = enters_check words in
-    let there : found ≡ Some (codes "check", rows_after leaf_rules [] words) = is ∙ ap (λ w. entered (built bgsim_app) w.stopped) walk_is in
-    let ended = subst (λ w. level_fault top top_names nothing_held (codes "check" ∷ words) (is_some (entered (built bgsim_app) w.stopped)) (entered_fault (built bgsim_app) w.stopped) ≡ []) walk_is none in
-    let below : level_fault leaf [] nothing_held words false [] ≡ [] = first_none _ _ (then_none (walk_fault top top_names (at nothing_held 1 false) (codes "check" ∷ words)) _ ended) in
-    ap file_among there ∙ file_is words (first_none _ _ below)
+-- what was entered has the mode's word, and the rows that its shape makes of the words behind it
+entered_is : (mode : Mode) (words : List Text) → entered (built bgsim_app) (Some (word_of mode, words)) ≡ Some (word_of mode, rows_after leaf_rules [] words)
+entered_is Check words = refl
+entered_is Play words = refl
 
-words_named : (is_check : Bool) (word : Text) (words : List Text) (found : Option (Text × List Row)) → bytes_eq (codes "check") word ≡ is_check
-    → fault_of bgsim_app (word ∷ words) ≡ [] → found ≡ subcommand_of bgsim_app (word ∷ words) → IsCheckOf (word ∷ words) (file_among found)
-words_named true word words found is_check none is =
-    let named : codes "check" ≡ word = (bytes_eq-Decides (codes "check") word).0 is_check in
-    (sym named, check_named words found (subst (λ w. fault_of bgsim_app (w ∷ words) ≡ []) (sym named) none) (is ∙ ap (λ w. subcommand_of bgsim_app (w ∷ words)) (sym named)))
-words_named false word words found is_check none is = absurd (other_word (bytes_eq word (codes "--")) word words is_check refl none)
+below_is : (mode : Mode) (words : List Text) → entered_fault (built bgsim_app) (Some (word_of mode, words)) ≡ level_fault (leaf (word_of mode)) [] nothing_held words false []
+below_is Check words = refl
+below_is Play words = refl
 
-pub is_check : (words : List Text) (found : Option (Text × List Row)) (file : Option Text) → (words ≡ [] → ⊥) → fault_of bgsim_app words ≡ [] → found ≡ subcommand_of bgsim_app words → file ≡ file_among found → IsCheckOf words file
-is_check [] found file some none is file_is = absurd (some refl)
-is_check (word ∷ words) found file some none is file_is =
-    subst (λ f. IsCheckOf (word ∷ words) f) (sym file_is) (words_named (bytes_eq (codes "check") word) word words found refl none is)
+mode_is : (mode : Mode) → mode_of (word_of mode) ≡ mode
+mode_is Check = refl
+mode_is Play = refl
+
+-- where the words are no fault, the subcommand is the mode's, and the file is the one that they name
+mode_asked : (mode : Mode) (words : List Text) (found : Option (Text × List Row)) → fault_of bgsim_app (word_of mode ∷ words) ≡ [] → found ≡ subcommand_of bgsim_app (word_of mode ∷ words)
+    → IsAsked (word_of mode ∷ words) (mode_among found) (file_among found)
+mode_asked mode words found none is =
+    let walk_is = enters_mode mode words in
+    let there : found ≡ Some (word_of mode, rows_after leaf_rules [] words) = is ∙ ap (λ w. entered (built bgsim_app) w.stopped) walk_is ∙ entered_is mode words in
+    let ended = subst (λ w. level_fault top top_names nothing_held (word_of mode ∷ words) (is_some (entered (built bgsim_app) w.stopped)) (entered_fault (built bgsim_app) w.stopped) ≡ []) walk_is none in
+    let below : entered_fault (built bgsim_app) (Some (word_of mode, words)) ≡ [] = first_none _ _ (then_none (walk_fault top top_names (at nothing_held 1 false) (word_of mode ∷ words)) _ ended) in
+    let fine : level_fault (leaf (word_of mode)) [] nothing_held words false [] ≡ [] = sym (below_is mode words) ∙ below in
+    (ap word_of (sym (ap mode_among there ∙ mode_is mode)), ap file_among there ∙ file_is (word_of mode) words (first_none _ _ fine))
+
+asked_as : (mode : Mode) (word : Text) (words : List Text) (found : Option (Text × List Row)) → word_of mode ≡ word → fault_of bgsim_app (word ∷ words) ≡ [] → found ≡ subcommand_of bgsim_app (word ∷ words)
+    → IsAsked (word ∷ words) (mode_among found) (file_among found)
+asked_as mode word words found named none is =
+    subst (λ (w : Text). IsAsked (w ∷ words) (mode_among found) (file_among found)) named
+    (mode_asked mode words found (subst (λ w. fault_of bgsim_app (w ∷ words) ≡ []) (sym named) none) (is ∙ ap (λ w. subcommand_of bgsim_app (w ∷ words)) (sym named)))
+
+words_asked : (is_check is_play : Bool) (word : Text) (words : List Text) (found : Option (Text × List Row)) → bytes_eq (word_of Check) word ≡ is_check → bytes_eq (word_of Play) word ≡ is_play
+    → fault_of bgsim_app (word ∷ words) ≡ [] → found ≡ subcommand_of bgsim_app (word ∷ words) → IsAsked (word ∷ words) (mode_among found) (file_among found)
+words_asked true is_play word words found check play none is = asked_as Check word words found ((bytes_eq-Decides (word_of Check) word).0 check) none is
+words_asked false true word words found check play none is = asked_as Play word words found ((bytes_eq-Decides (word_of Play) word).0 play) none is
+words_asked false false word words found check play none is = absurd (other_word (bytes_eq word (codes "--")) word words other refl none)
+  where
+    other : IsOther word
+    other Check = check
+    other Play = play
+
+pub is_asked : (words : List Text) (found : Option (Text × List Row)) (mode : Mode) (file : Option Text) → (words ≡ [] → ⊥) → fault_of bgsim_app words ≡ [] → found ≡ subcommand_of bgsim_app words
+    → mode ≡ mode_among found → file ≡ file_among found → IsAsked words mode file
+is_asked [] found mode file some none is mode_is file_is = absurd (some refl)
+is_asked (word ∷ words) found mode file some none is mode_is file_is =
+    subst (λ (m : Mode). IsAsked (word ∷ words) m file) (sym mode_is) (subst (λ f. IsAsked (word ∷ words) (mode_among found) f) (sym file_is)
+    (words_asked (bytes_eq (word_of Check) word) (bytes_eq (word_of Play) word) word words found refl refl none is))
 
 pub no_words : {X : Type 0} (f : X → Text) (words : List X) → map f words ≡ [] → length words ≡ 0
 no_words f [] none = refl

@@ -1,6 +1,6 @@
 -- The definitions at worked values.
 use Rattle.std.proofs.Common.{◌≡◌, [], ◌∷◌, Some, None, refl, codes}
-use Rattle.clap.specs.declared.error.kind.ErrorKind.TheVariants.{MissingSubcommand, UnknownArgument}
+use Rattle.clap.specs.declared.error.kind.ErrorKind.TheVariants.{InvalidSubcommand, MissingSubcommand, UnknownArgument}
 use Rattle.clap.proofs.OnLiterals.{clap_on_literals}
 use Rattle.bgsim_console.specs.CommandLine.{file_named, words_fault}
 
@@ -17,9 +17,17 @@ pub check_taken : words_fault (codes "check" ∷ []) ≡ []
 unfolding clap_on_literals
 check_taken = refl
 
+pub play_taken : words_fault (codes "play" ∷ []) ≡ []
+unfolding clap_on_literals
+play_taken = refl
+
 pub file_taken : words_fault (codes "check" ∷ codes "rooms.txt" ∷ []) ≡ []
 unfolding clap_on_literals
 file_taken = refl
+
+pub script_taken : words_fault (codes "play" ∷ codes "script.txt" ∷ []) ≡ []
+unfolding clap_on_literals
+script_taken = refl
 
 pub dashes_taken : words_fault (codes "check" ∷ codes "--" ∷ codes "--rooms" ∷ []) ≡ []
 unfolding clap_on_literals
@@ -28,6 +36,14 @@ dashes_taken = refl
 pub second_file_refused : words_fault (codes "check" ∷ codes "a" ∷ codes "b" ∷ []) ≡ UnknownArgument ∷ []
 unfolding clap_on_literals
 second_file_refused = refl
+
+pub second_script_refused : words_fault (codes "play" ∷ codes "a" ∷ codes "b" ∷ []) ≡ UnknownArgument ∷ []
+unfolding clap_on_literals
+second_script_refused = refl
+
+pub other_word_refused : words_fault (codes "Play" ∷ []) ≡ UnknownArgument ∷ InvalidSubcommand ∷ []
+unfolding clap_on_literals
+other_word_refused = refl
 
 pub dashes_alone_refused : words_fault (codes "--" ∷ []) ≡ MissingSubcommand ∷ []
 unfolding clap_on_literals

@@ -1,31 +1,49 @@
 -- What the words of the command line ask for, and what `clap`'s parse reads of the program's command.
 use Rattle.std.specs.Prelude.{◌≡◌, ℕ, true, List, [], ◌∷◌, Option, None, Some, codes, if◌then◌else◌, option_and_then, slice_get}
+use Rattle.std.specs.Option.{option_map_or}
 use Rattle.std.specs.Str.{bytes_eq}
 use Rattle.clap.specs.Kinds.{Kinds}
 use Rattle.clap.specs.Words.{App, Row, Shape, fault_of, first_of, new_app, new_rule, with_rule, with_subcommand}
+use Rattle.bgsim_console.specs.declared.command_line.words.Mode.{Mode}
+use Rattle.bgsim_console.specs.declared.command_line.words.Mode.TheVariants.{Check, Play}
 
 -- ---- the words
 
--- the file that the words behind `check` name: the first of them, and the second where the first is `--`
+-- the word that asks for a mode
+abbrev pub word_of : Mode → List ℕ
+word_of Check = codes "check"
+word_of Play = codes "play"
+
+-- the file that the words behind a mode's name: the first of them, and the second where the first is `--`
 abbrev pub file_named : List (List ℕ) → Option (List ℕ)
 file_named [] = None
 file_named (word ∷ words) = if bytes_eq word (codes "--") then slice_get words 0 else Some word
 
--- there are no words and no file, or the first word is `check` and those behind it name the file
-abbrev pub IsCheckOf : List (List ℕ) → Option (List ℕ) → Type 0
-IsCheckOf [] file = file ≡ None
-IsCheckOf (word ∷ words) file = (word ≡ codes "check") × (file ≡ file_named words)
+-- the words ask for the mode and the file: there are no words, the mode is `check` and there is no file; or the first word is the
+-- mode's, and those behind it name the file
+abbrev pub IsAsked : List (List ℕ) → Mode → Option (List ℕ) → Type 0
+IsAsked [] mode file = (mode ≡ Check) × (file ≡ None)
+IsAsked (word ∷ words) mode file = (word ≡ word_of mode) × (file ≡ file_named words)
 
 -- ---- the program's command
 
-abbrev pub check_shape : Shape
-check_shape = (with_rule (new_app (codes "check")) (new_rule (codes "FILE"))).top
+-- the subcommand of this word, which takes a file
+abbrev pub file_app : List ℕ → App
+file_app word = with_rule (new_app word) (new_rule (codes "FILE"))
 
 abbrev pub plain_shape : Shape
 plain_shape = record (new_app (codes "bgsim")).top { no_binary_name = true; disable_help_subcommand = true; has_version = true; subcommand_required = true }
 
 abbrev pub bgsim_app : App
-bgsim_app = with_subcommand (record { top = plain_shape; subs = [] }) check_shape
+bgsim_app = with_subcommand (with_subcommand (record { top = plain_shape; subs = [] }) (file_app (word_of Check)).top) (file_app (word_of Play)).top
+
+-- the mode of a word, which is that of a subcommand
+abbrev pub mode_of : List ℕ → Mode
+mode_of word = if bytes_eq word (codes "play") then Play else Check
+
+-- the mode of the subcommand that was found
+abbrev pub mode_among : Option (List ℕ × List Row) → Mode
+mode_among found = option_map_or (λ sub. mode_of sub.0) found Check
 
 -- the file among the values of a subcommand
 abbrev pub file_among : Option (List ℕ × List Row) → Option (List ℕ)

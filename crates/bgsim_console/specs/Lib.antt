@@ -2,5 +2,9 @@ pub mod Check
 pub mod CommandLine
 pub mod Ends
 pub mod Lines
+pub mod Modes
+pub mod Play
 pub mod Reading
+pub mod ReplyTexts
+pub mod Script
 pub mod Writing

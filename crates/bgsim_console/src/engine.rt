@@ -2,13 +2,15 @@
 ghost use Rattle.std.specs.Prelude.{◌≡◌, ◌+◌, ◌≤◌, List, ℕ, true, false, length, IfSome, OnOk};
 ghost use Rattle.std.specs.Io.KnownBytes.{Appends};
 ghost use Rattle.bgsim_console.specs.Check.{IsAnswer};
+ghost use Rattle.bgsim_console.specs.Play.{IsPlayed};
 ghost use Rattle.bgsim_console.specs.Ends.{is_read_failed, is_write_failed, failed_writes};
 
 use crate::device::Device;
 use crate::fault::{IoFault, Outcome};
 use crate::input::read_input;
-use crate::judge::judge;
+use crate::judge::{judge, outcome_if};
 use crate::output::write_output;
+use crate::play::{judge_script, play_script};
 use std::alloc::Global;
 use std::io::{Read, Write};
 
@@ -41,4 +43,40 @@ pub fn check_io<R: Read, W: Write>(
     let answer = judge(alloc, &input)?;
     write_output(writer, answer.output.as_bytes())?;
     Ok(answer.outcome)
+}
+
+/// Plays the script that the reader gives, and writes the replies. The whole script is read and
+/// judged before anything is done.
+///
+/// # Errors
+///
+/// The script's first fault, found before anything is written; a device that failed; or want of
+/// memory. Where a block or a command was refused for want of memory, the script goes on to its end.
+pub fn play_io<R: Read, W: Write>(
+    alloc: Global,
+    reader: &mut Device<R>,
+    writer: &mut Device<W>,
+) -> Result<Outcome, IoFault>
+    requires reader { reader.old.failed ≡ false }
+    requires writer { writer.old.failed ≡ false }
+    // What is written is the text for what was read, and the answer goes with it. No write is of nothing.
+    ensures text { IfSome (R.remaining reader.old.inner) (λ input. (output : List ℕ) × IsPlayed input result output
+        × Appends (W.contents writer.old.inner) (W.contents writer.new.inner) output
+        × (writer.new.calls ≤ writer.old.calls + length output + failed_writes result)) }
+    // What is written has left the writer's hands.
+    ensures flushed { OnOk result (writer.new.flushed ≡ true) }
+    ensures read_failed { reader.new.failed ≡ is_read_failed result }
+    ensures write_failed { writer.new.failed ≡ is_write_failed result }
+    ensures reads { reader.new.calls ≤ reader.old.calls + 16777217 }
+    // Once the reader is at its end it is not asked again.
+    ensures once { IfSome (R.remaining reader.old.inner) (λ input. reader.new.calls ≤ reader.old.calls + length input + 1) }
+{
+    let script = read_input(alloc, reader)?;
+    judge_script(&script)?;
+    let played = play_script(alloc, &script)?;
+    write_output(writer, &played.output)?;
+    if played.lacking {
+        return Err(IoFault::Memory);
+    }
+    Ok(outcome_if(!played.refused))
 }

@@ -68,7 +68,8 @@ fn is_run(verdict: Verdict) -> bool
     matches!(verdict, Verdict::Run)
 }
 
-fn outcome_if(all_well: bool) -> Outcome
+/// The outcome where nothing was refused and each room's events are a run, or not.
+pub fn outcome_if(all_well: bool) -> Outcome
     ensures { result ≡ outcome_if all_well }
 {
     if all_well {

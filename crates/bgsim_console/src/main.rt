@@ -1,10 +1,10 @@
-//! Judges transcripts of protocols on write-snapshot memory.
+//! Simulates rooms of protocols on write-snapshot memory, and judges their transcripts.
 #![tactic(auto)]
 
 ghost use Rattle.std.specs.Prelude.{◌≡◌, ◌≤◌, List, ℕ, IfSome};
 ghost use Rattle.clap.specs.Values.{kind_of};
-ghost use Rattle.bgsim_console.specs.Check.{IsAnswer};
 ghost use Rattle.bgsim_console.specs.Ends.{ending_status, fault_status, words_status};
+ghost use Rattle.bgsim_console.specs.Modes.{IsAnswerIn};
 
 mod command_line;
 mod device;
@@ -15,15 +15,22 @@ mod input;
 mod judge;
 mod lines;
 mod output;
+mod play;
+#[cfg(test)]
+mod play_tests;
+mod reply;
 mod report;
 #[cfg(test)]
 mod room_tests;
+mod script;
+#[cfg(test)]
+mod script_tests;
 mod setup;
 #[cfg(test)]
 mod tests;
 
 use clap::error::ErrorKind;
-use command_line::{Mode, line};
+use command_line::{Line, Mode, line};
 use device::Device;
 use fault::{IoFault, Outcome};
 use std::fs::File;
@@ -42,9 +49,7 @@ fn status(rt: &HostRuntime) -> u8
         return fault_status(rt, IoFault::Memory);
     };
     match line(rt.alloc(), words.as_slice()) {
-        Ok(line) => match line.command {
-            Mode::Check => ending_status(rt, check(rt, line.file)),
-        },
+        Ok(line) => ending_status(rt, ending(rt, &line)),
         Err(error) => words_status(rt, &error),
     }
 }
@@ -54,22 +59,27 @@ fn words(rt: &HostRuntime) -> io::Result<Vec<String>> {
     Ok(std::env::args(rt)?.skip(1).collect(rt.alloc())?)
 }
 
-fn check(rt: &HostRuntime, file: Option<&str>) -> Result<Outcome, IoFault> {
-    match file {
-        None => check_input(rt, rt.stdin()),
+/// How the engine ends that the words ask for, on the file or on standard input.
+fn ending(rt: &HostRuntime, line: &Line<'_>) -> Result<Outcome, IoFault> {
+    match line.file {
+        None => answer(rt, line.command, rt.stdin()),
         Some(path) => match File::open(rt, path) {
-            Ok(input) => check_input(rt, input),
+            Ok(input) => answer(rt, line.command, input),
             Err(_) => Err(IoFault::Read),
         },
     }
 }
 
-fn check_input<R: Read + Drop>(rt: &HostRuntime, input: R) -> Result<Outcome, IoFault>
-    ensures { IfSome (R.remaining input) (λ bytes. (output : List ℕ) × IsAnswer bytes result output) }
+/// The mode's answer to an input, whose text goes to standard output.
+fn answer<R: Read + Drop>(rt: &HostRuntime, mode: Mode, input: R) -> Result<Outcome, IoFault>
+    ensures { IfSome (R.remaining input) (λ bytes. (output : List ℕ) × IsAnswerIn mode bytes result output) }
 {
     let mut reader = Device::new(input);
     let mut writer = Device::new(rt.stdout());
-    engine::check_io(rt.alloc(), &mut reader, &mut writer)
+    match mode {
+        Mode::Check => engine::check_io(rt.alloc(), &mut reader, &mut writer),
+        Mode::Play => engine::play_io(rt.alloc(), &mut reader, &mut writer),
+    }
 }
 
 fn ending_status(rt: &HostRuntime, ending: Result<Outcome, IoFault>) -> u8

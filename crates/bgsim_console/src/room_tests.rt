@@ -29,12 +29,12 @@ const FEW_TURNS: &str =
 
 /// Numbers in a fixed order that looks like none (an xorshift generator).
 #[derive(Drop)]
-struct Random {
-    state: u64,
+pub struct Random {
+    pub state: u64,
 }
 
 impl Random {
-    fn below(&mut self, bound: u64) -> u64
+    pub fn below(&mut self, bound: u64) -> u64
         requires { 0 < bound }
         ensures { result < bound }
     {

@@ -109,7 +109,10 @@ impl Setup {
 }
 
 /// Reads a block, unless memory is refused to its protocol.
-fn read_room(alloc: Global, block: &[u8]) -> Result<Result<(Spec, usize), SpecFault>, AllocError>
+pub fn read_room(
+    alloc: Global,
+    block: &[u8],
+) -> Result<Result<(Spec, usize), SpecFault>, AllocError>
     ensures { IfOk result (λ read. read ≡ block_in block.now) }
 {
     match read_block(alloc, block) {

@@ -1,5 +1,4 @@
 use super::*;
-use crate::command_line::Line;
 use crate::device::DeviceFailed;
 use std::alloc::{AllocError, Global};
 use std::io::Write;
@@ -8,20 +7,47 @@ use std::test::*;
 #[test]
 fn good_words(rt: HostRuntime) -> Result<(), Fail> {
     let alloc = rt.alloc();
-    for (words, file) in [
-        ([].as_slice(), None),
-        (["check"].as_slice(), None),
-        (["check", "rooms.txt"].as_slice(), Some("rooms.txt")),
-        (["check", "check"].as_slice(), Some("check")),
-        (["check", "help"].as_slice(), Some("help")),
-        (["check", "-"].as_slice(), Some("-")),
-        (["check", ""].as_slice(), Some("")),
-        (["check", "--"].as_slice(), None),
-        (["check", "--", "--rooms"].as_slice(), Some("--rooms")),
-        (["check", "rooms.txt", "--"].as_slice(), Some("rooms.txt")),
+    for (words, mode, file) in [
+        ([].as_slice(), Mode::Check, None),
+        (["check"].as_slice(), Mode::Check, None),
+        (
+            ["check", "rooms.txt"].as_slice(),
+            Mode::Check,
+            Some("rooms.txt"),
+        ),
+        (["check", "check"].as_slice(), Mode::Check, Some("check")),
+        (["check", "play"].as_slice(), Mode::Check, Some("play")),
+        (["check", "help"].as_slice(), Mode::Check, Some("help")),
+        (["check", "-"].as_slice(), Mode::Check, Some("-")),
+        (["check", ""].as_slice(), Mode::Check, Some("")),
+        (["check", "--"].as_slice(), Mode::Check, None),
+        (
+            ["check", "--", "--rooms"].as_slice(),
+            Mode::Check,
+            Some("--rooms"),
+        ),
+        (
+            ["check", "rooms.txt", "--"].as_slice(),
+            Mode::Check,
+            Some("rooms.txt"),
+        ),
+        (["play"].as_slice(), Mode::Play, None),
+        (
+            ["play", "script.txt"].as_slice(),
+            Mode::Play,
+            Some("script.txt"),
+        ),
+        (["play", "check"].as_slice(), Mode::Play, Some("check")),
+        (["play", "-"].as_slice(), Mode::Play, Some("-")),
+        (["play", "--"].as_slice(), Mode::Play, None),
+        (
+            ["play", "--", "--script"].as_slice(),
+            Mode::Play,
+            Some("--script"),
+        ),
     ] {
         let found: Line<'_> = line(alloc, words)?;
-        assert_eq!(rt; found.command, Mode::Check, "in {words:?}");
+        assert_eq!(rt; found.command, mode, "in {words:?}");
         assert_eq!(rt; found.file, file, "in {words:?}");
         assert_eq!(rt; found.workers, 2, "in {words:?}");
     }
@@ -35,16 +61,25 @@ fn other_words(rt: HostRuntime) {
         (["--help"].as_slice(), ErrorKind::DisplayHelp),
         (["-h"].as_slice(), ErrorKind::DisplayHelp),
         (["check", "--help"].as_slice(), ErrorKind::DisplayHelp),
+        (["play", "--help"].as_slice(), ErrorKind::DisplayHelp),
         (["--version"].as_slice(), ErrorKind::DisplayVersion),
         (["-V"].as_slice(), ErrorKind::DisplayVersion),
         (["help"].as_slice(), ErrorKind::InvalidSubcommand),
-        (["play"].as_slice(), ErrorKind::InvalidSubcommand),
+        (["Play"].as_slice(), ErrorKind::InvalidSubcommand),
+        (["step"].as_slice(), ErrorKind::InvalidSubcommand),
         (["run"].as_slice(), ErrorKind::InvalidSubcommand),
         (["rooms.txt"].as_slice(), ErrorKind::InvalidSubcommand),
         (["Check"].as_slice(), ErrorKind::InvalidSubcommand),
         ([""].as_slice(), ErrorKind::InvalidSubcommand),
         (["--"].as_slice(), ErrorKind::MissingSubcommand),
         (["--", "check"].as_slice(), ErrorKind::UnknownArgument),
+        (["--", "play"].as_slice(), ErrorKind::UnknownArgument),
+        (["play", "--version"].as_slice(), ErrorKind::UnknownArgument),
+        (
+            ["play", "--workers", "2"].as_slice(),
+            ErrorKind::UnknownArgument,
+        ),
+        (["play", "a", "b"].as_slice(), ErrorKind::UnknownArgument),
         (
             ["check", "--version"].as_slice(),
             ErrorKind::UnknownArgument,
@@ -256,13 +291,21 @@ fn longest_input(rt: HostRuntime) -> Result<(), Fail> {
 
 /// It gives or takes one byte a call, and fails the call of this number, from 0.
 #[derive(Drop)]
-struct Trickle<'a> {
+pub struct Trickle<'a> {
     bytes: &'a [u8],
     calls: usize,
     fails: usize,
 }
 
 impl<'a> Trickle<'a> {
+    pub fn new(bytes: &'a [u8], fails: usize) -> Trickle<'a> {
+        Trickle {
+            bytes,
+            calls: 0,
+            fails,
+        }
+    }
+
     fn call(&mut self) -> io::Result<usize> {
         let call = self.calls;
         self.calls = call.saturating_add(1);
@@ -309,16 +352,8 @@ fn slow_and_failing_devices(rt: HostRuntime) -> Result<(), Fail> {
         (40, never, Err(IoFault::Read)),
         (never, 3, Err(IoFault::Write)),
     ] {
-        let mut reader = Device::new(Trickle {
-            bytes: input.as_bytes(),
-            calls: 0,
-            fails: fails_reading,
-        });
-        let mut writer = Device::new(Trickle {
-            bytes: &[],
-            calls: 0,
-            fails: fails_writing,
-        });
+        let mut reader = Device::new(Trickle::new(input.as_bytes(), fails_reading));
+        let mut writer = Device::new(Trickle::new(&[], fails_writing));
         assert_eq!(rt; engine::check_io(alloc, &mut reader, &mut writer), answer);
     }
     Ok(())
@@ -481,11 +516,7 @@ fn many_rooms_in_one_write(rt: HostRuntime) -> Result<(), Fail> {
 fn more_than_1000_small_reads(rt: HostRuntime) -> Result<(), Fail> {
     let alloc = rt.alloc();
     let (input, _) = many_rooms(alloc, 12)?;
-    let mut reader = Device::new(Trickle {
-        bytes: input.as_bytes(),
-        calls: 0,
-        fails: usize::MAX,
-    });
+    let mut reader = Device::new(Trickle::new(input.as_bytes(), usize::MAX));
     let mut writer = Device::new(Unflushed {});
     assert_eq!(rt;
         engine::check_io(alloc, &mut reader, &mut writer),

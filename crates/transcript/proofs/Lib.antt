@@ -5,4 +5,5 @@ pub mod Rows
 pub mod Histories
 pub mod Runs
 pub mod Worked
+pub mod Writing
 pub mod FirstFault

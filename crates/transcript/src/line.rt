@@ -1,15 +1,19 @@
 //! Event lines.
-ghost use Rattle.std.specs.Prelude.{◌≡◌, ◌∷◌, ◌≤◌, ℕ, List, length, IfOk};
-ghost use Rattle.std.specs.List.{count_by};
+ghost use Rattle.std.specs.Prelude.{◌≡◌, [], ◌∷◌, ◌≤◌, ℕ, List, length, map, string_bytes, IfOk};
+ghost use Rattle.std.specs.List.{count_by, join_with_byte};
+ghost use Rattle.std.specs.Result.{OnOk};
 ghost use Rattle.room_spec.specs.Texts.{is_space, fields_of};
 ghost use Rattle.transcript.specs.Faults.{fault_in, first_fault};
-ghost use Rattle.transcript.specs.Grammar.{IsEventLine};
+ghost use Rattle.transcript.specs.Grammar.{entry_text, event_line, HasValues, IsEventLine};
 ghost use Rattle.transcript.specs.Lines.{number_in, entry_in, entries_in, value_in, row_in, event_of, event_in, line_in, Gives};
+ghost use Rattle.transcript.specs.Runs.{process_of};
 
 use crate::event::Event;
 use crate::fault::LineFault;
 use protocol_lang::{View, read_number};
 use room_spec::{Name, cut};
+use std::alloc::{AllocError, Global};
+use std::fmt::Write;
 
 /// The longest event line, in bytes.
 const MAX_LINE: usize = 256;
@@ -150,4 +154,50 @@ fn read_entry(field: &[u8]) -> Result<Option<u32>, LineFault>
     }
     let value = read_up_to(u32::MAX, field)?;
     Ok(Some(value))
+}
+
+/// Writes the line of an event in the room of this name, without a line end. The one error is want
+/// of memory.
+pub fn write_event(alloc: Global, name: &Name, event: &Event) -> Result<Vec<u8>, AllocError>
+    ensures line { IfOk result (λ line. line.items ≡ event_line name.now event.now) }
+    // An event of a process 0 to 15, with a row of 1 to 16 entries in a snapshot, is read again from it.
+    ensures again { process_of event.now ≤ 15 → HasValues event.now → IfOk result (λ line. line_in line.items ≡ Ok (name.now, event.now)) }
+{
+    write_named_event(alloc, name.as_str(), event)
+}
+
+/// Writes the name and the fields behind it.
+fn write_named_event(alloc: Global, name: &str, event: &Event) -> Result<Vec<u8>, AllocError>
+    ensures { IfOk result (λ line. line.items ≡ event_line name.now event.now) }
+{
+    let mut line = String::with_capacity(alloc, MAX_LINE)?;
+    match event {
+        Event::Write { p, v } => write!(line, "{name} {p} write {v}")?,
+        Event::Snap { p, row } => {
+            write!(line, "{name} {p} snap")?;
+            write_entries(&mut line, row.as_slice())?;
+        }
+        Event::Decide { p, v } => write!(line, "{name} {p} decide {v}")?,
+    }
+    Ok(line.into_bytes())
+}
+
+/// Writes the entries of a snapshot, each behind a space.
+fn write_entries(line: &mut String, entries: &[Option<u32>]) -> Result<(), AllocError>
+    ensures { OnOk result (string_bytes line.new ≡ join_with_byte 32 (string_bytes line.old ∷ map entry_text entries.now)) }
+{
+    for entry in entries {
+        write_entry(line, *entry)?;
+    }
+    Ok(())
+}
+
+/// Writes a space and an entry: a value, or `.` for nothing.
+fn write_entry(line: &mut String, entry: Option<u32>) -> Result<(), AllocError>
+    ensures { OnOk result (string_bytes line.new ≡ join_with_byte 32 (string_bytes line.old ∷ entry_text entry ∷ [])) }
+{
+    match entry {
+        Some(value) => write!(line, " {value}"),
+        None => line.push_str(" ."),
+    }
 }

@@ -1,4 +1,6 @@
 use super::*;
+use protocol_lang::View;
+use room_spec::Name;
 use std::test::*;
 
 #[test]
@@ -64,6 +66,27 @@ fn rows(rt: HostRuntime) -> Result<(), Fail> {
         assert_eq!(rt; p, process, "in {line}");
         assert_eq!(rt; row.as_slice(), entries, "in {line}");
     }
+    Ok(())
+}
+
+#[test]
+fn written_lines(rt: HostRuntime) -> Result<(), Fail> {
+    for line in [
+        "one 0 write 5",
+        "one 0 snap 5",
+        "pair 1 snap . 4294967295",
+        "abcdefghijklmnopqrstuvwxyz_-0123 15 snap . . . . . . . . . . . . . . . .",
+        "0-_z 15 decide 4294967295",
+    ] {
+        let (name, event) = read_line(line.as_bytes()).ok().ok_or("no event")?;
+        let written = write_event(rt.alloc(), &name, &event)?;
+        assert_eq!(rt; written.as_slice(), line.as_bytes());
+    }
+    let name = Name::read(b"one").ok_or("no name")?;
+    let mut row = View::new();
+    row.push(Some(5));
+    let written = write_event(rt.alloc(), &name, &Event::Snap { p: 0, row })?;
+    assert_eq!(rt; written.as_slice(), b"one 0 snap 5".as_slice());
     Ok(())
 }
 

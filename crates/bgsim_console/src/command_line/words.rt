@@ -1,6 +1,6 @@
 //! What the words of the command line ask for.
 ghost use Rattle.std.specs.Prelude.{◌≡◌};
-ghost use Rattle.bgsim_console.specs.declared.command_line.words.Mode.TheVariants as ModeVariants;
+ghost use Rattle.bgsim_console.specs.CommandLine.{mode_of};
 
 const DEFAULT_WORKERS: u8 = 2;
 
@@ -9,6 +9,21 @@ const DEFAULT_WORKERS: u8 = 2;
 pub enum Mode {
     /// Judges a transcript.
     Check,
+    /// Plays a script.
+    Play,
+}
+
+impl Mode {
+    /// The mode that this word asks for. It is one of those that `clap` takes.
+    pub fn of(word: &str) -> Mode
+        ensures { result ≡ mode_of word.now }
+    {
+        if word == "play" {
+            Mode::Play
+        } else {
+            Mode::Check
+        }
+    }
 }
 
 /// What the words ask for.
@@ -21,12 +36,12 @@ pub struct Line<'a> {
 }
 
 impl<'a> Line<'a> {
-    /// To check this file, or standard input.
-    pub fn checks(file: Option<&'a str>) -> Line<'a>
-        ensures { result ≡ record { command = ModeVariants.Check; file = file.entry; workers = 2 } }
+    /// To take this file, or standard input.
+    pub fn of(command: Mode, file: Option<&'a str>) -> Line<'a>
+        ensures { result ≡ record { command = command; file = file.entry; workers = 2 } }
     {
         Line {
-            command: Mode::Check,
+            command,
             file,
             workers: DEFAULT_WORKERS,
         }

@@ -1,0 +1,91 @@
+-- What has come of a script's entries, one by one.
+use Rattle.std.proofs.Common.{◌≡◌, ◌∙◌, ℕ, ◌||◌, Bool, true, false, List, [], ◌∷◌, ◌++◌, Result, Ok, Err, refl, sym, ap, subst}
+use Rattle.std.specs.Result.{OnOk}
+use Rattle.std.specs.List.{flat_map, list_any}
+use Rattle.std.proofs.lemmas.Grind.{flat_map-append}
+use Rattle.std.proofs.lemmas.List.{append-nil}
+use Rattle.service_core.specs.declared.command.Command.{Command}
+use Rattle.service_core.specs.declared.reply.Reply.{Reply}
+use Rattle.service_core.specs.Rooms.{Applies, Entries}
+use Rattle.service_core.proofs.Running.{Ran, begins, goes_on}
+use Rattle.bgsim_console.specs.ReplyTexts.{reply_to_command}
+use Rattle.bgsim_console.specs.Script.{Entry}
+use Rattle.bgsim_console.specs.Play.{AreDone, Done, Replied, HasPlayed, HasRun, IsDone, commands_of, replies_in, command_of, reply_of, done_text, is_lacking, is_refusal, is_refused}
+
+-- ---- the service
+
+as_ran : (commands : List Command) (replies : List Reply) (entries : Entries) → HasRun commands replies entries → Ran commands replies entries
+as_ran commands replies entries run = record { long = run.answers.count; rooms = run.rooms; answers = run.answers.alone; reports = run.answers.reports; wants = run.answers.wants }
+
+of_ran : (commands : List Command) (replies : List Reply) (entries : Entries) → Ran commands replies entries → HasRun commands replies entries
+of_ran commands replies entries ran = record { answers = record { count = ran.long; alone = ran.answers; wants = ran.wants; reports = ran.reports }; rooms = ran.rooms }
+
+-- ---- one entry more
+
+pub or_no : (b : Bool) → b ≡ (b || false)
+or_no true = refl
+or_no false = refl
+
+pub or_yes : (b : Bool) → true ≡ (b || true)
+or_yes true = refl
+or_yes false = refl
+
+any-push : {A : Type 0} (test : A → Bool) (xs : List A) (x : A) → list_any test (xs ++ x ∷ []) ≡ (list_any test xs || test x)
+any-push test [] x = sym (or_no (test x))
+any-push test (y ∷ xs) x = ap (λ b. test y || b) (any-push test xs x) ∙ or_assoc (test y) (list_any test xs) (test x)
+  where
+    or_assoc : (a b c : Bool) → (a || (b || c)) ≡ ((a || b) || c)
+    or_assoc true b c = refl
+    or_assoc false b c = refl
+
+texts-push : (all : List Done) (done : Done) → flat_map done_text (all ++ done ∷ []) ≡ flat_map done_text all ++ done_text done
+texts-push all done = flat_map-append done_text all (done ∷ []) ∙ ap (λ t. flat_map done_text all ++ t) (append-nil (done_text done))
+
+-- an entry of which `done` came: what was written, and what it was marked as
+pub one_more : (all : List Done) (done : Done) (service after : Entries) (output now : List ℕ) (refused refused_now lacking lacking_now : Bool)
+    → HasPlayed all service output refused lacking → HasRun (commands_of (all ++ done ∷ [])) (replies_in (all ++ done ∷ [])) after → now ≡ output ++ done_text done
+    → refused_now ≡ (refused || is_refused done) → lacking_now ≡ (lacking || is_lacking done) → HasPlayed (all ++ done ∷ []) after now refused_now lacking_now
+one_more all done service after output now refused refused_now lacking lacking_now played run text refusal lack = record {
+  ran = run;
+  output_is = text ∙ ap (λ t. t ++ done_text done) played.output_is ∙ sym (texts-push all done);
+  refused_is = refusal ∙ ap (λ b. b || is_refused done) played.refused_is ∙ sym (any-push is_refused all done);
+  lacking_is = lack ∙ ap (λ b. b || is_lacking done) played.lacking_is ∙ sym (any-push is_lacking all done);
+}
+
+pub replied : (command : Command) (reply : Reply) (service after : Entries) (output now : List ℕ) (refused refused_now lacking lacking_now : Bool) → Applies service command reply after
+    → now ≡ output ++ reply_to_command command reply → refused_now ≡ (refused || is_refused (Replied command reply)) → lacking_now ≡ (lacking || is_lacking (Replied command reply))
+    → (all : List Done) → HasPlayed all service output refused lacking → HasPlayed (all ++ Replied command reply ∷ []) after now refused_now lacking_now
+replied command reply service after output now refused refused_now lacking lacking_now applies text refusal lack all played =
+    one_more all (Replied command reply) service after output now refused refused_now lacking lacking_now played run text refusal lack
+  where
+    run : HasRun (commands_of (all ++ Replied command reply ∷ [])) (replies_in (all ++ Replied command reply ∷ [])) after
+    run = subst (λ (cs : List Command). HasRun cs (replies_in (all ++ Replied command reply ∷ [])) after) (sym (flat_map-append command_of all (Replied command reply ∷ [])))
+        (subst (λ (rs : List Reply). HasRun (commands_of all ++ command ∷ []) rs after) (sym (flat_map-append reply_of all (Replied command reply ∷ [])))
+        (of_ran _ _ after (goes_on (commands_of all) (replies_in all) command reply service after (as_ran _ _ service played.ran) applies)))
+
+-- a block that was refused
+pub refused_one : (done : Done) (all : List Done) (service after : Entries) (output now : List ℕ) (refused refused_now lacking lacking_now : Bool) → command_of done ≡ [] → reply_of done ≡ [] → is_refused done ≡ true → after ≡ service
+    → now ≡ output ++ done_text done → refused_now ≡ true → lacking_now ≡ (lacking || is_lacking done)
+    → HasPlayed all service output refused lacking → HasPlayed (all ++ done ∷ []) after now refused_now lacking_now
+refused_one done all service after output now refused refused_now lacking lacking_now no_command no_reply is_refusal same text refusal lack played =
+    one_more all done service after output now refused refused_now lacking lacking_now played run text (refusal ∙ or_yes refused ∙ ap (λ b. refused || b) (sym is_refusal)) lack
+  where
+    none_more : {A : Type 0} (of : Done → List A) → of done ≡ [] → flat_map of (all ++ done ∷ []) ≡ flat_map of all
+    none_more of none = flat_map-append of all (done ∷ []) ∙ ap (λ (l : List _). flat_map of all ++ (l ++ [])) none ∙ append-nil (flat_map of all)
+
+    run : HasRun (commands_of (all ++ done ∷ [])) (replies_in (all ++ done ∷ [])) after
+    run = subst (λ (cs : List Command). HasRun cs (replies_in (all ++ done ∷ [])) after) (sym (none_more command_of no_command))
+        (subst (λ (rs : List Reply). HasRun (commands_of all) rs after) (sym (none_more reply_of no_reply)) (subst (λ (e : Entries). HasRun (commands_of all) (replies_in all) e) (sym same) played.ran))
+
+pub none_played : (service : Entries) (output : List ℕ) → service ≡ [] → output ≡ [] → HasPlayed [] service output false false
+none_played service output empty nothing = record { ran = of_ran [] [] service (begins service empty); output_is = nothing; refused_is = refl; lacking_is = refl }
+
+pub done-push : (entries : List Entry) (all : List Done) (entry : Entry) (done : Done) → AreDone entries all → IsDone entry done → AreDone (entries ++ entry ∷ []) (all ++ done ∷ [])
+done-push [] [] entry done so_far is = (is, tt)
+done-push [] (d ∷ all) entry done so_far is = absurd so_far
+done-push (e ∷ entries) [] entry done so_far is = absurd so_far
+done-push (e ∷ entries) (d ∷ all) entry done so_far is = (so_far.0, done-push entries all entry done so_far.1 is)
+
+pub where_ok : {X E : Type 0} (r : Result X E) (P Q : Type 0) → (P → Q) → OnOk r P → OnOk r Q
+where_ok (Ok x) P Q step holds = step holds
+where_ok (Err e) P Q step holds = tt

@@ -1,0 +1,41 @@
+use Rattle.std.proofs.Common.{◌++◌, ◌∷◌, [], length, arith}
+use Rattle.bgsim_console.specs.Script.{script_says}
+use Rattle.bgsim_console.proofs.Scripts.{behind_none, entry_there, script_ends, step_script}
+use Rattle.bgsim_console.proofs.Playing.{done-push}
+use Rattle.bgsim_console.proofs.play.play_script.Goals as goal
+
+pub loop-line-init : goal.loop-line-init
+loop-line-init c = (length c.args.script.now, [], [], omega arith, behind_none (script_says c.args.script.now), omega arith, tt, c.new-player.ensures)
+
+pub loop-line-preserved : goal.loop-line-preserved
+loop-line-preserved c =
+    let inv = c.loop-line.invariant in
+    let number = c.loop-line.number in
+    let rest = c.loop-line.rest.now in
+    let line = c.in-Some.line.now in
+    let block = c.in-Some.block.now in
+    let shorter = c.in-Some.ensures.shorter in
+    let few = c.count_lines.ensures.within in
+    let within = inv.5 in
+    let there = entry_there inv.0 number rest line block inv.1 (script_says c.args.script.now) inv.3 c.in-Some.ensures.none c.in-Some.ensures.line c.in-Some.ensures.block c.requires.good inv.4 in
+    let next = step_script inv.0 number rest line block c.in-Some.later.now c.count_lines.result there.0 inv.1 (script_says c.args.script.now) inv.3 c.in-Some.ensures.none c.in-Some.ensures.line c.in-Some.ensures.block c.in-Some.ensures.rest (omega arith) c.count_lines.ensures.value there.1 inv.4 in
+    let plays = c.in_ok-take.ensures there.0 there.1 inv.2 inv.7 in (
+      next.0,
+      inv.1 ++ there.0 ∷ [],
+      inv.2 ++ plays.0 ∷ [],
+      next.1,
+      next.2,
+      omega arith,
+      done-push inv.1 inv.2 there.0 plays.0 inv.6 plays.1,
+      plays.2,
+    )
+
+pub returns : goal.returns
+returns c =
+    let inv = c.loop-line.invariant in (
+      inv.1,
+      inv.2,
+      script_ends inv.0 c.loop-line.number c.loop-line.rest.now inv.1 (script_says c.args.script.now) c.in_default.ensures.none inv.4,
+      inv.6,
+      inv.7,
+    )

@@ -1,0 +1,13 @@
+-- What each mode of the program answers.
+use Rattle.std.specs.Prelude.{ℕ, List, Result}
+use Rattle.bgsim_console.specs.Check.{IsAnswer}
+use Rattle.bgsim_console.specs.Play.{IsPlayed}
+use Rattle.bgsim_console.specs.declared.command_line.words.Mode.{Mode}
+use Rattle.bgsim_console.specs.declared.command_line.words.Mode.TheVariants.{Check, Play}
+use Rattle.bgsim_console.specs.declared.fault.Outcome.{Outcome}
+use Rattle.bgsim_console.specs.declared.fault.IoFault.{IoFault}
+
+-- the mode's answer to an input, and what it writes
+abbrev pub IsAnswerIn : Mode → List ℕ → Result Outcome IoFault → List ℕ → Type 0
+IsAnswerIn Check input answer output = IsAnswer input answer output
+IsAnswerIn Play input answer output = IsPlayed input answer output

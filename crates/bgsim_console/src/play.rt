@@ -1,0 +1,170 @@
+//! A script, entry by entry.
+ghost use Rattle.std.specs.Prelude.{◌≡◌, ◌≤◌, ◌<◌, ◌+◌, ◌^◌, ◌||◌, ◌++◌, ◌∷◌, [], true, false, List, Ok, IsOk, IfOk, IfErr, OnOk, is_some, length};
+ghost use Rattle.service_core.specs.declared.reply.Reply.{Reply as ReplyData};
+ghost use Rattle.service_core.specs.Runs.{is_want};
+ghost use Rattle.bgsim_console.specs.Check.{IsFaultOf, refused_line};
+ghost use Rattle.bgsim_console.specs.Play.{AreDone, Done, HasPlayed, IsDone, PlaysOn, Replied, is_refusal};
+ghost use Rattle.bgsim_console.specs.ReplyTexts.{sim_in};
+ghost use Rattle.bgsim_console.specs.Script.{Entry, Open, command_in, entry_at, is_open, script_says};
+
+use crate::fault::IoFault;
+use crate::lines::count_lines;
+use crate::reply::write_reply;
+use crate::report::{fault_text, refused_line};
+use crate::script::{is_open, next_entry, read_command};
+use crate::setup::read_room;
+use service_core::{Command, Refusal, Reply, Service};
+use std::alloc::{AllocError, Global};
+
+/// The code of a line that asks for nothing.
+const BAD_COMMAND: u16 = 60;
+
+/// A service, and what has come of a script's entries so far.
+#[derive(Drop)]
+pub struct Player {
+    service: Service,
+    /// The lines of the replies and of the refused blocks.
+    pub output: Vec<u8>,
+    /// Whether a block or a command was refused.
+    pub refused: bool,
+    /// Whether one was refused for want of memory.
+    pub lacking: bool,
+}
+
+impl Player {
+    fn new(alloc: Global) -> Player
+        ensures { HasPlayed [] result.service result.output.items result.refused result.lacking }
+    {
+        Player {
+            service: Service::new(alloc),
+            output: Vec::new(alloc),
+            refused: false,
+            lacking: false,
+        }
+    }
+
+    /// Does what the line of this number asks for, with the block behind it.
+    fn take(
+        &mut self,
+        alloc: Global,
+        number: u64,
+        line: &[u8],
+        block: &[u8],
+    ) -> Result<(), AllocError>
+        requires { number + 1 < 2 ^ 64 }
+        ensures { OnOk result ((entry : Entry) → entry_at number line.now block.now ≡ Ok entry → (all : List Done) → HasPlayed all self.old.service self.old.output.items self.old.refused self.old.lacking → PlaysOn entry self.new.service self.new.output.items self.new.refused self.new.lacking all) }
+    {
+        if is_open(line) {
+            return self.open(alloc, number + 1, block);
+        }
+        match read_command(line) {
+            Some(command) => self.apply(alloc, command),
+            None => Ok(()), // never in a script that was judged
+        }
+    }
+
+    /// Opens the room of a block whose first line has this number.
+    fn open(&mut self, alloc: Global, number: u64, block: &[u8]) -> Result<(), AllocError>
+        ensures { OnOk result ((all : List Done) → HasPlayed all self.old.service self.old.output.items self.old.refused self.old.lacking → PlaysOn (Open number block.now) self.new.service self.new.output.items self.new.refused self.new.lacking all) }
+    {
+        match read_room(alloc, block) {
+            Ok(Ok((spec, _))) => self.apply(alloc, Command::Begin(spec)),
+            Ok(Err(fault)) => {
+                let text = fault_text(alloc, fault)?;
+                self.refuse(alloc, number, text.as_str())
+            }
+            Err(AllocError) => {
+                self.lacking = true;
+                self.refuse(alloc, number, "8")
+            }
+        }
+    }
+
+    fn refuse(&mut self, alloc: Global, number: u64, fault: &str) -> Result<(), AllocError>
+        ensures output { OnOk result (self.new.output.items ≡ self.old.output.items ++ refused_line number fault.now) }
+        ensures refused { self.new.refused ≡ true }
+        ensures lacking { self.new.lacking ≡ self.old.lacking }
+        ensures service { self.new.service ≡ self.old.service }
+    {
+        self.refused = true;
+        let line = refused_line(alloc, number, fault)?;
+        self.output.extend_from_slice(line.as_bytes())
+    }
+
+    fn apply(&mut self, alloc: Global, command: Command) -> Result<(), AllocError>
+        ensures { OnOk result ((reply : ReplyData) × ((all : List Done) → HasPlayed all self.old.service self.old.output.items self.old.refused self.old.lacking → HasPlayed (all ++ Replied command reply ∷ []) self.new.service self.new.output.items self.new.refused self.new.lacking)) }
+    {
+        let name = command.name().clone()?;
+        let sim = sim_in(&command);
+        let reply = self.service.apply(alloc, command);
+        self.refused |= is_refusal(&reply);
+        self.lacking |= is_want(&reply);
+        write_reply(alloc, &mut self.output, &name, sim, &reply)
+    }
+}
+
+/// The simulator that a command is for, or 0 where it is for none.
+fn sim_in(command: &Command) -> u8
+    ensures { result ≡ sim_in command.now }
+{
+    match command {
+        Command::Step { sim, .. } | Command::Crash { sim, .. } => *sim,
+        _ => 0,
+    }
+}
+
+fn is_refusal(reply: &Reply) -> bool
+    ensures { result ≡ is_refusal reply.now }
+{
+    matches!(reply, Reply::Refused(_))
+}
+
+fn is_want(reply: &Reply) -> bool
+    ensures { result ≡ is_want reply.now }
+{
+    matches!(reply, Reply::Refused(Refusal::OutOfMemory))
+}
+
+/// Judges each line of a script.
+pub fn judge_script(script: &[u8]) -> Result<(), IoFault>
+    requires { length script.now ≤ 16777216 }
+    ensures good { OnOk result (IsOk (script_says script.now)) }
+    ensures err { IfErr result (IsFaultOf (script_says script.now)) }
+{
+    let mut rest = script;
+    let mut number = 1;
+    while let Some((line, block, later)) = next_entry(rest) {
+        if !is_good(line) {
+            return Err(IoFault::BadInput {
+                line: number,
+                code: BAD_COMMAND,
+            });
+        }
+        number += 1 + count_lines(block);
+        rest = later;
+    }
+    Ok(())
+}
+
+fn is_good(line: &[u8]) -> bool
+    ensures { result ≡ (is_open line.now || is_some (command_in line.now)) }
+{
+    is_open(line) || read_command(line).is_some()
+}
+
+/// Does what a script asks for, which has no fault.
+pub fn play_script(alloc: Global, script: &[u8]) -> Result<Player, AllocError>
+    requires good { IsOk (script_says script.now) }
+    requires short { length script.now ≤ 16777216 }
+    ensures { IfOk result (λ player. (entries : List Entry) × (all : List Done) × (script_says script.now ≡ Ok entries) × AreDone entries all × HasPlayed all player.service player.output.items player.refused player.lacking) }
+{
+    let mut player = Player::new(alloc);
+    let mut rest = script;
+    let mut number = 1;
+    while let Some((line, block, later)) = next_entry(rest) {
+        player.take(alloc, number, line, block)?;
+        number += 1 + count_lines(block);
+        rest = later;
+    }
+    Ok(player)
+}

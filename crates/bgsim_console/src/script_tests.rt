@@ -1,0 +1,264 @@
+//! Scripts over several rooms, each reply and each fault, and devices that fail in the middle.
+use crate::device::Device;
+use crate::engine::play_io;
+use crate::fault::IoFault;
+use crate::lines::count_lines;
+use crate::room_tests::Random;
+use crate::tests::Trickle;
+use std::alloc::{AllocError, Global};
+use std::fmt::Write as _;
+use std::io;
+use std::io::Write;
+use std::process::Abort;
+use std::test::*;
+
+const TOP: &str = "bgsim 1\nroom one\n";
+
+const NUMBERS: &str = "inputs 5\nsimulators 1\nrounds 1\nturns 10\n";
+
+const PROTOCOL: &str = "protocol\nfirst input;\nelse decide mine;\nend\n";
+
+/// The replies to a script that can be played.
+fn replies(alloc: Global, script: &str) -> Result<Vec<u8>, Fail> {
+    let mut reader = Device::new(script.as_bytes());
+    let mut written = Vec::new(alloc);
+    let mut writer = Device::new(&mut written);
+    match play_io(alloc, &mut reader, &mut writer) {
+        Ok(_) => Ok(written),
+        Err(_) => Err(Fail::from("a script that can't be played")),
+    }
+}
+
+/// A line to the room of this name, and a block behind it where it is `open`.
+fn random_line(alloc: Global, random: &mut Random, name: &str) -> Result<String, AllocError> {
+    let sim = random.below(3);
+    match random.below(12) {
+        0 => format!(in alloc; "close {name}\n"),
+        1 | 2 => format!(in alloc; "report {name}\n"),
+        3 => format!(in alloc; "settle {name}\n"),
+        4 => format!(in alloc; "crash {name} {sim}\n"),
+        5 | 6 => {
+            format!(in alloc;
+                "open\nbgsim 1\nroom {name}\ninputs 7 3\nsimulators 2\nrounds 1\nturns 3\nprotocol\nfirst input;\nelse decide min;\nend\n"
+            )
+        }
+        _ => {
+            let count = random.below(30) + 1;
+            format!(in alloc; "step {name} {sim} {count}\n")
+        }
+    }
+}
+
+/// The lines that begin with this name.
+fn lines_of(alloc: Global, replies: &[u8], name: &str) -> Result<Vec<u8>, AllocError> {
+    let start = format!(in alloc; "{name} ")?;
+    let mut lines = Vec::new(alloc);
+    for line in replies.split(|byte| *byte == b'\n') {
+        if line.starts_with(start.as_bytes()) {
+            lines.extend_from_slice(line)?;
+            lines.push(b'\n')?;
+        }
+    }
+    Ok(lines)
+}
+
+/// Plays a random script over three rooms, and the lines of each room alone.
+fn play_apart(rt: &impl Abort, alloc: Global, seed: u64) -> Result<(), Fail> {
+    let mut random = Random { state: seed };
+    let mut script = String::new(alloc);
+    let mut parts = [String::new(alloc), String::new(alloc), String::new(alloc)];
+    let names = ["a", "b", "c"];
+    for _ in 0..80 {
+        let room = random.below(3) as usize;
+        let line = random_line(alloc, &mut random, names[room])?;
+        script.push_str(line.as_str())?;
+        parts[room].push_str(line.as_str())?;
+    }
+    let together = replies(alloc, script.as_str())?;
+    for room in 0..3 {
+        let alone = replies(alloc, parts[room].as_str())?;
+        let own = lines_of(alloc, &together, names[room])?;
+        assert_eq!(rt; own.as_slice(), alone.as_slice(), "of {script}");
+    }
+    Ok(())
+}
+
+#[test]
+fn random_scripts(rt: HostRuntime) -> Result<(), Fail> {
+    for seed in 1..41 {
+        play_apart(&rt, rt.alloc(), seed * 1000003)?;
+    }
+    Ok(())
+}
+
+#[test]
+fn each_reply(rt: HostRuntime) -> Result<(), Fail> {
+    let alloc = rt.alloc();
+    let mut script = String::new(alloc);
+    let mut output = String::new(alloc);
+    for name in ["x", "y-2"] {
+        write!(
+            script,
+            "step {name} 0 1\ncrash {name} 0\nsettle {name}\nreport {name}\nclose {name}\n"
+        )?;
+        write!(
+            output,
+            "{name} refused 40\n{name} refused 40\n{name} refused 40\n{name} refused 40\n{name} refused 40\n"
+        )?;
+        let block = format!(in alloc;
+            "open\nbgsim 1\nroom {name}\ninputs 7 3\nsimulators 2\nrounds 1\nturns 1\n{PROTOCOL}"
+        )?;
+        write!(
+            script,
+            "{block}{block}step {name} 0 3\nstep {name} 0 99\nstep {name} 2 1\n"
+        )?;
+        write!(
+            output,
+            "{name} opened\n{name} refused 41\n{name} step 0 3 stepped\n{name} step 0 8 out of turns\n{name} refused 42\n"
+        )?;
+        write!(
+            script,
+            "crash {name} 1\ncrash {name} 1\nstep {name} 1 1\ncrash {name} 255\nsettle {name}\nreport {name}\nclose {name}\nclose {name}\n"
+        )?;
+        write!(
+            output,
+            "{name} crash 1 crashed\n{name} crash 1 already\n{name} step 1 0 crashed\n{name} refused 42\n{name} settled\n"
+        )?;
+        write!(
+            output,
+            "{name} report\n{name} process 0 decided 7\n{name} process 1 going\n{name} crashed 1\n{name} history 3\n{name} 0 write 7\n{name} 0 snap 7 .\n{name} 0 decide 7\n{name} end\n"
+        )?;
+        write!(output, "{name} closed\n{name} refused 40\n")?;
+    }
+    let found = replies(alloc, script.as_str())?;
+    assert_eq!(rt; found.as_slice(), output.as_bytes());
+    Ok(())
+}
+
+#[test]
+fn each_refused_block(rt: HostRuntime) -> Result<(), Fail> {
+    let alloc = rt.alloc();
+    let mut script = String::new(alloc);
+    let mut output = String::new(alloc);
+    let mut line = 2;
+    for (top, numbers, rest, fault) in [
+        ("bgsim 2\n", "", PROTOCOL, "11 1"),
+        ("bgsim 1 \n", NUMBERS, PROTOCOL, "11 1"),
+        ("bgsim 1\nroom One\n", NUMBERS, PROTOCOL, "12"),
+        ("bgsim 1\nroom \n", NUMBERS, PROTOCOL, "12"),
+        (TOP, "inputs \n", PROTOCOL, "11 3"),
+        (TOP, "inputs 05\n", PROTOCOL, "11 3"),
+        (TOP, "inputs\n", PROTOCOL, "14"),
+        (TOP, "inputs 1 4294967296\n", PROTOCOL, "14"),
+        (TOP, "inputs 1\nsimulators 0\n", PROTOCOL, "15"),
+        (TOP, "inputs 1\nsimulators 9\n", PROTOCOL, "15"),
+        (TOP, "inputs 1\nsimulators 1\nrounds 0\n", PROTOCOL, "16"),
+        (TOP, "inputs 1\nsimulators 1\nrounds 16\n", PROTOCOL, "16"),
+        (
+            TOP,
+            "inputs 1 1 1\nsimulators 8\nrounds 4\n",
+            PROTOCOL,
+            "18",
+        ),
+        (
+            TOP,
+            "inputs 1 1 1\nsimulators 6\nrounds 8\n",
+            PROTOCOL,
+            "18",
+        ),
+        (
+            TOP,
+            "inputs 1\nsimulators 1\nrounds 1\nturns 0\n",
+            PROTOCOL,
+            "17",
+        ),
+        (
+            TOP,
+            "inputs 1\nsimulators 1\nrounds 1\nturns 65536\n",
+            PROTOCOL,
+            "17",
+        ),
+        (TOP, NUMBERS, "crash 1 after 3\nend\n", "19 7"),
+        (TOP, NUMBERS, "crash 0 after\nend\n", "19 7"),
+        (
+            TOP,
+            NUMBERS,
+            "crash 0 after 1\ncrash 0 after 2\nend\n",
+            "20 8",
+        ),
+        (
+            TOP,
+            NUMBERS,
+            "crash 0 after 1\ncrash 0 after 1\nend\n",
+            "20 8",
+        ),
+        (TOP, NUMBERS, "protocol\nend\n", "13 3 0"),
+        (TOP, NUMBERS, "protocol\nfirst 05;\nend\n", "13 2 6"),
+        (TOP, NUMBERS, "protocol\nfirst min;\nend\n", "13 6 6"),
+    ] {
+        let block = format!(in alloc; "{top}{numbers}{rest}")?;
+        write!(script, "open\n{block}")?;
+        write!(output, "line {line} refused {fault}\n")?;
+        line += 1 + count_lines(block.as_bytes());
+    }
+    let found = replies(alloc, script.as_str())?;
+    assert_eq!(rt; found.as_slice(), output.as_bytes());
+    Ok(())
+}
+
+/// It takes one byte a call, and fails once it has taken so many.
+#[derive(Drop)]
+struct Filling {
+    taken: Vec<u8>,
+    room: usize,
+}
+
+impl Write for Filling {
+    fn write(&mut self, bytes: &[u8]) -> io::Result<usize> {
+        let Some(byte) = bytes.first() else {
+            return Ok(0);
+        };
+        if self.taken.len() == self.room {
+            return Err(io::ErrorKind::Other.into());
+        }
+        self.taken.push(*byte)?;
+        Ok(1)
+    }
+
+    fn flush(&mut self) -> io::Result<()> {
+        Ok(())
+    }
+}
+
+#[test]
+fn failing_devices(rt: HostRuntime) -> Result<(), Fail> {
+    let alloc = rt.alloc();
+    let script = format!(in alloc;
+        "open\n{TOP}{NUMBERS}{PROTOCOL}step one 0 4\nopen\nend\nreport one\n"
+    )?;
+    let output = replies(alloc, script.as_str())?;
+    for fails in 0..script.len() + 1 {
+        let mut reader = Device::new(Trickle::new(script.as_bytes(), fails));
+        let mut written = Vec::new(alloc);
+        let mut writer = Device::new(&mut written);
+        assert_eq!(rt;
+            play_io(alloc, &mut reader, &mut writer),
+            Err(IoFault::Read)
+        );
+        assert!(rt; written.is_empty());
+    }
+    for room in 0..output.len() {
+        let mut reader = Device::new(script.as_bytes());
+        let mut inner = Filling {
+            taken: Vec::new(alloc),
+            room,
+        };
+        let mut writer = Device::new(&mut inner);
+        assert_eq!(rt;
+            play_io(alloc, &mut reader, &mut writer),
+            Err(IoFault::Write)
+        );
+        assert_eq!(rt; inner.taken.as_slice(), &output[..room]);
+    }
+    Ok(())
+}
