@@ -10,8 +10,7 @@ use Rattle.room_core.specs.Rooms.{Configuration, steps, IsShaped, HasLine}
 use Rattle.room_core.specs.Calls.{Call, Step, Crash, Settle, RoomState, configuration_of, has_crashed, ready_at}
 use Rattle.room_core.specs.Fields.{Fields, opening_fields, replay_fields, line, with_crash, ready_in, fields_when, fields_after_step, fields_after_crash, fields_after_settle, fields_after_call}
 use Rattle.room_core.specs.Reading.{AreFieldsOf, with_quiet}
-use Rattle.room_core.specs.Agreements.{IsFixedAt}
-use Rattle.room_core.specs.Passed.{view_at, asks}
+use Rattle.room_core.specs.Agreements.{IsFixedAt, asks, view_at}
 use Rattle.room_core.specs.Contents.{HasSmallValues}
 use Rattle.room_core.proofs.SmallValues.{small_values}
 use Rattle.room_core.proofs.Replays.{shapes}

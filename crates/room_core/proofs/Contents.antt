@@ -15,7 +15,7 @@ use Rattle.sim_memory.proofs.Rows.{row_at}
 use Rattle.sim_memory.proofs.Greatest.{holder_of_is, holder_merged}
 use Rattle.simulator.specs.Turns.{padded}
 use Rattle.room_core.specs.Fields.{StepMap, Fields, entry_of_steps, holder_of_steps, shown_value}
-use Rattle.room_core.specs.Passed.{first_with, written, asks}
+use Rattle.room_core.specs.Agreements.{first_with, written, asks}
 use Rattle.room_core.specs.Contents.{or_zero, entry_of, shown_by, IsDue, first_write, next_write, IsSmallEntry, AreSmall}
 
 -- ---- the first of a list that passes a test

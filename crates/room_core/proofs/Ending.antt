@@ -9,7 +9,7 @@ use Rattle.safe_agreement.proofs.Clean.{has_level_at, no_level_from}
 use Rattle.room_core.specs.Calls.{RoomState}
 use Rattle.room_core.specs.Fields.{Fields, levels_at, fields_after_settle}
 use Rattle.room_core.specs.Reading.{AreFieldsOf}
-use Rattle.room_core.specs.Passed.{is_out, outs_at, has_out, is_clean}
+use Rattle.room_core.specs.Agreements.{is_out, outs_at, has_out, is_clean}
 use Rattle.room_core.specs.Settled.{IsSettledFor, decided, spent, held}
 use Rattle.room_core.proofs.Quieted.{IsStuck, stored, passed, inside}
 use Rattle.room_core.proofs.Idling.{one_or_none, crashed_inside}

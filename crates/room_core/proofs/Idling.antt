@@ -21,9 +21,8 @@ use Rattle.simulator.specs.Sweeps.{is_resting}
 use Rattle.room_core.specs.Calls.{RoomState, configuration_of}
 use Rattle.room_core.specs.Fields.{StepMap, Fields, levels_at, chosen_at, ready_in}
 use Rattle.room_core.specs.Reading.{AreFieldsOf, worded}
-use Rattle.room_core.specs.Agreements.{IsFixedAt, IsInside}
+use Rattle.room_core.specs.Agreements.{IsFixedAt, IsInside, asks}
 use Rattle.room_core.specs.Contents.{IsDue, first_write, next_write}
-use Rattle.room_core.specs.Passed.{asks}
 use Rattle.room_core.proofs.Replays.{shapes}
 use Rattle.room_core.proofs.FieldCalls.{fields_stand}
 use Rattle.room_core.proofs.Tracks.{AtRest, Tells, stage_of, beside, at_sweep}

@@ -14,8 +14,7 @@ use Rattle.simulator.specs.declared.goal.Goal.TheVariants as goals
 use Rattle.simulator.specs.declared.line.Line.TheVariants.{Raise, GetView, Values, Out}
 use Rattle.simulator.specs.Minds.{MindOf, goal_at, current_goal, current_round}
 use Rattle.room_core.specs.Fields.{StepMap, Fields, levels_at, entry_of_steps, shown_value}
-use Rattle.room_core.specs.Agreements.{IsFixedAt}
-use Rattle.room_core.specs.Passed.{view_at, first_with, written, asks}
+use Rattle.room_core.specs.Agreements.{IsFixedAt, asks, first_with, view_at, written}
 use Rattle.room_core.specs.Contents.{or_zero, shown_by, IsDue, first_write, next_write, AreSmall}
 use Rattle.room_core.proofs.Staying.{LevelsStay}
 use Rattle.room_core.proofs.Fixing.{fixed_has_least}

@@ -1,14 +1,13 @@
 -- Over every call what has been agreed on and what has been decided stays.
-use Rattle.std.proofs.Common.{◌≡◌, ◌≢◌, ℕ, zero, suc, ◌+◌, ◌-◌, ◌<◌, ◌≤◌, Bool, true, false, not, cond, eqb, map, Option, Some, None, inl, inr, refl, sym, ap, ◌∙◌, subst, arith}
+use Rattle.std.proofs.Common.{◌≡◌, ◌≢◌, ℕ, zero, suc, ◌+◌, ◌-◌, ◌<◌, ◌≤◌, Bool, true, false, not, cond, eqb, List, [], ◌∷◌, map, Option, Some, None, inl, inr, refl, sym, ap, ◌∙◌, subst, arith}
 use Rattle.std.specs.List.{find, range_with_len}
 use Rattle.std.specs.Option.{option_map}
 use Rattle.std.proofs.lemmas.Bool.{cases_Bool, eqb-false, not-true, ne_eqb}
 use Rattle.room_spec.specs.Rooms.{RoomSpec, IsWithinLimits, processes}
 use Rattle.room_core.specs.Calls.{Call, RoomState, room_after_call}
-use Rattle.room_core.specs.Fields.{Fields, fields_after_call}
+use Rattle.room_core.specs.Fields.{Fields, fields_after_call, fields_after_calls}
 use Rattle.room_core.specs.Reading.{AreFieldsOf}
-use Rattle.room_core.specs.Agreements.{AgreementsStay}
-use Rattle.room_core.specs.Passed.{decided_in, is_out, outs_at}
+use Rattle.room_core.specs.Agreements.{AgreementsStay, decided_in, is_out, outs_at}
 use Rattle.room_core.proofs.FieldCalls.{call_in_fields, same_spec}
 use Rattle.room_core.proofs.Known.{IsKnown, decided_same}
 use Rattle.room_core.proofs.Knowing.{fields_known}
@@ -90,4 +89,26 @@ agreements_stay room fields call limits are =
           let out = decided_out room.spec fields j decision is in
           let some : fields.out out.0 j ≢ 0 = λ none. omega (arith, none, out.2) in
           out_decided room.spec after out.0 j decision known out.1 low (stays.out out.0 j some ∙ out.2);
+    }
+
+-- over any list of calls
+pub agreements_last : (room : RoomState) (fields : Fields) (calls : List Call) → IsWithinLimits room.spec → AreFieldsOf room fields → AgreementsStay room.spec fields (fields_after_calls room.spec fields calls)
+agreements_last room fields [] limits are = record {
+  passed_is_fixed = passed_fixed room fields limits are;
+  fixed = λ j k at. at;
+  same_view = λ j k first at. refl;
+  same_action = λ j k first at. refl;
+  decided = λ j decision low is. is;
+}
+agreements_last room fields (call ∷ calls) limits are =
+    let here = agreements_stay room fields call limits are in
+    let after = fields_after_call room.spec fields call in
+    let rest : AgreementsStay room.spec after (fields_after_calls room.spec after calls) = subst (λ (spec : RoomSpec). AgreementsStay spec after (fields_after_calls spec after calls)) (same_spec room call)
+    (agreements_last (room_after_call room call) after calls (subst IsWithinLimits (sym (same_spec room call)) limits) (call_in_fields room fields call limits are).1) in
+    record {
+      passed_is_fixed = here.passed_is_fixed;
+      fixed = λ j k at. rest.fixed j k (here.fixed j k at);
+      same_view = λ j k first at. rest.same_view j k first (here.fixed j k at) ∙ here.same_view j k first at;
+      same_action = λ j k first at. rest.same_action j k first (here.fixed j k at) ∙ here.same_action j k first at;
+      decided = λ j decision low is. rest.decided j decision low (here.decided j decision low is);
     }

@@ -14,7 +14,7 @@ use Rattle.room_core.specs.Rooms.{Configuration, ScheduleEvent, steps, crashes, 
 use Rattle.room_core.specs.Calls.{RoomState, configuration_of}
 use Rattle.room_core.specs.Fields.{Fields, changed_pair, line, fields_after}
 use Rattle.room_core.specs.Reading.{AreFieldsOf}
-use Rattle.room_core.specs.Passed.{row_at, shown, shown_by, asks, written}
+use Rattle.room_core.specs.Agreements.{row_at, shown, shown_by, asks, written}
 use Rattle.room_core.specs.Contents.{IsSmallEntry, AreSmall, HasSmallValues}
 use Rattle.room_core.proofs.FieldReplays.{StandsFor}
 use Rattle.room_core.proofs.FieldCalls.{fields_stand}

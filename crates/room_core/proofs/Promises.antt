@@ -14,9 +14,8 @@ use Rattle.sim_memory.proofs.Rows.{row_at, merged_at, merged_reached, merged_bel
 use Rattle.room_core.specs.Calls.{RoomState}
 use Rattle.room_core.specs.Fields.{StepMap, Fields, levels_at}
 use Rattle.room_core.specs.Reading.{AreFieldsOf}
-use Rattle.room_core.specs.Agreements.{IsFixedAt}
-use Rattle.room_core.specs.Passed.{greatest_step, outs_at, is_out, has_out, is_clean, is_passed, asks, HasAgreed}
-use Rattle.room_core.specs.Passed as passed
+use Rattle.room_core.specs.Agreements.{HasAgreed, IsFixedAt, asks, greatest_step, has_out, is_clean, is_out, is_passed, outs_at}
+use Rattle.room_core.specs.Agreements as passed
 use Rattle.room_core.specs.Contents.{IsDue, first_write, next_write}
 use Rattle.room_core.proofs.FieldReplays.{Tracks}
 use Rattle.room_core.proofs.FieldCalls.{fields_stand}

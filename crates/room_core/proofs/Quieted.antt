@@ -12,8 +12,7 @@ use Rattle.room_core.specs.Rooms.{HasLine}
 use Rattle.room_core.specs.Calls.{RoomState, configuration_of, has_crashed, ready_at}
 use Rattle.room_core.specs.Fields.{StepMap, Fields, changed, line, ready_in, fields_when, fields_after_step, with_taken}
 use Rattle.room_core.specs.Reading.{AreFieldsOf}
-use Rattle.room_core.specs.Agreements.{IsFixedAt}
-use Rattle.room_core.specs.Passed.{asks}
+use Rattle.room_core.specs.Agreements.{IsFixedAt, asks}
 use Rattle.room_core.proofs.Replays.{shapes}
 use Rattle.room_core.proofs.States.{has_line}
 use Rattle.room_core.proofs.Maps.{changed_here}

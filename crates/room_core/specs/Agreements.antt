@@ -1,23 +1,57 @@
--- The agreements of a room, as its fields have them: which are fixed, and which have been passed.
-use Rattle.std.specs.Prelude.{◌≡◌, ℕ, ◌<◌, ◌≤◌, true, false, Some}
+-- The agreements of a room, as its fields have them: which are clean, passed and fixed, what they show, and what the protocol asks for
+-- after them.
+use Rattle.std.specs.Prelude.{◌≡◌, ◌≢◌, ◌⊎◌, ℕ, ◌+◌, ◌-◌, ◌<◌, ◌≤◌, Bool, true, false, not, List, map, Option, Some, None, slice_index, unwrap_or, position, nat_le, nat_lt, ◌==◌, ◌&&◌, ◌||◌, if◌then◌else◌}
+use Rattle.std.specs.List.{find, list_any, range_with_len}
+use Rattle.std.specs.Option.{option_map}
+use Rattle.protocol_lang.specs.Meaning.{first_value, next_action}
+use Rattle.protocol_lang.specs.declared.meaning.Action.{Action}
+use Rattle.protocol_lang.specs.declared.meaning.Action.TheVariants as actions
 use Rattle.room_spec.specs.Rooms.{RoomSpec, processes}
+use Rattle.safe_agreement.specs.Levels.{has_level, least_two}
+use Rattle.sim_memory.specs.Steps.{IsRowAtMost, merged_of, row_of}
 use Rattle.simulator.specs.declared.line.Line.{Line}
 use Rattle.simulator.specs.declared.line.Line.TheVariants.{Look, Leave}
 use Rattle.simulator.specs.Minds.{current_round}
-use Rattle.room_core.specs.Fields.{Fields}
-use Rattle.room_core.specs.Passed.{asks, decided_in, is_passed, view_at}
+use Rattle.room_core.specs.Fields.{Fields, StepMap, levels_at}
 
--- the line is one inside an agreement: it has entered, and has not left
-abbrev pub IsInside : Line → Type 0
-IsInside Look = Unit {0}
-IsInside (Leave saw_two) = Unit {0}
-IsInside line = ⊥
+-- ---- what the simulators have done for a process
 
--- the open turn of simulator i is on process j and round k, inside the agreement
-pub record IsInsideTurn (fields : Fields) (i j k : ℕ) : Type 0 where
-  pub process : (fields.mind i).sweep ≡ j
-  pub round : current_round (fields.mind i) ≡ k
-  pub line : IsInside (fields.mind i).line
+-- how many writes of process j have been made: the greatest step number that a simulator has for it
+abbrev pub greatest_step : RoomSpec → Fields → ℕ → ℕ
+greatest_step spec fields j = merged_of spec.simulators fields.step j
+
+-- what each simulator has stored as the decision of process j, in order of the simulators
+abbrev pub outs_at : RoomSpec → Fields → ℕ → List ℕ
+outs_at spec fields j = map (λ i. fields.out i j) (range_with_len 0 spec.simulators)
+
+abbrev pub is_out : ℕ → Bool
+is_out out = not (out == 0)
+
+abbrev pub has_out : RoomSpec → Fields → ℕ → Bool
+has_out spec fields j = list_any is_out (outs_at spec fields j)
+
+-- the decision of process j, if one was stored
+abbrev pub decided_in : RoomSpec → Fields → ℕ → Option ℕ
+decided_in spec fields j = option_map (λ out. out - 1) (find is_out (outs_at spec fields j))
+
+-- ---- the agreement on process j's snapshot in round k
+
+abbrev pub is_clean : RoomSpec → Fields → ℕ → ℕ → Bool
+is_clean spec fields j k = has_level 2 (levels_at spec fields j k) && not (has_level 1 (levels_at spec fields j k))
+
+-- a simulator has gone on from it, or may go on from it now
+abbrev pub is_passed : RoomSpec → Fields → ℕ → ℕ → Bool
+is_passed spec fields j k =
+    is_clean spec fields j k
+    || nat_lt k (greatest_step spec fields j)
+    || (has_out spec fields j && (greatest_step spec fields j == k))
+
+-- the simulator whose proposal it shows
+abbrev pub shown_of : RoomSpec → Fields → ℕ → ℕ → ℕ
+shown_of spec fields j k = unwrap_or (least_two (levels_at spec fields j k)) 0
+
+abbrev pub view_at : RoomSpec → Fields → ℕ → ℕ → StepMap
+view_at spec fields j k = fields.view (shown_of spec fields j k) j k
 
 -- it has looked, has seen no level 2, and has not left yet
 pub record HasLookedBlind (fields : Fields) (i j k : ℕ) : Type 0 where
@@ -32,6 +66,49 @@ pub record IsFixedAt (spec : RoomSpec) (fields : Fields) (j k : ℕ) : Type 0 wh
   pub two : fields.level simulator j k ≡ 2
   pub seen : (i : ℕ) → i < spec.simulators → HasLookedBlind fields i j k → ⊥
 
+-- ---- what it shows
+
+-- how many writes of each process it shows
+abbrev pub row_at : RoomSpec → Fields → ℕ → ℕ → List ℕ
+row_at spec fields j k = row_of spec.simulators (processes spec) (view_at spec fields j k)
+
+-- the least simulator that has counted write r of process p, or 0
+abbrev pub first_with : RoomSpec → Fields → ℕ → ℕ → ℕ
+first_with spec fields p r =
+    unwrap_or (position (λ step. nat_le r step) (map (λ i. fields.step i p) (range_with_len 0 spec.simulators))) 0
+
+-- the value of write r of process p
+abbrev pub written : RoomSpec → Fields → ℕ → ℕ → ℕ
+written spec fields p r = fields.value (first_with spec fields p r) p r
+
+-- the last value of process p after r writes of it
+abbrev pub shown : RoomSpec → Fields → ℕ → ℕ → Option ℕ
+shown spec fields p r = if r == 0 then None else Some (written spec fields p r)
+
+-- what a row shows of each process
+abbrev pub shown_by : RoomSpec → Fields → List ℕ → List (Option ℕ)
+shown_by spec fields row = map (λ p. shown spec fields p (slice_index row p)) (range_with_len 0 (processes spec))
+
+-- what the protocol asks for after this snapshot
+abbrev pub asks : RoomSpec → Fields → ℕ → ℕ → Action
+asks spec fields j k = next_action spec.protocol (slice_index spec.inputs j) j k (shown_by spec fields (row_at spec fields j k))
+
+-- ---- where a simulator is inside it
+
+-- the line is one inside an agreement: it has entered, and has not left
+abbrev pub IsInside : Line → Type 0
+IsInside Look = Unit {0}
+IsInside (Leave saw_two) = Unit {0}
+IsInside line = ⊥
+
+-- the open turn of simulator i is on process j and round k, inside the agreement
+pub record IsInsideTurn (fields : Fields) (i j k : ℕ) : Type 0 where
+  pub process : (fields.mind i).sweep ≡ j
+  pub round : current_round (fields.mind i) ≡ k
+  pub line : IsInside (fields.mind i).line
+
+-- ---- what stays of them
+
 -- From one moment to a later one: what has been agreed on and what has been decided stays. So of an agreement that has been passed all
 -- readings show the same view, at whatever moments they are made.
 pub record AgreementsStay (spec : RoomSpec) (before after : Fields) : Type 0 where
@@ -40,3 +117,19 @@ pub record AgreementsStay (spec : RoomSpec) (before after : Fields) : Type 0 whe
   pub same_view : (j k : ℕ) → 1 ≤ k → IsFixedAt spec before j k → view_at spec after j k ≡ view_at spec before j k
   pub same_action : (j k : ℕ) → 1 ≤ k → IsFixedAt spec before j k → asks spec after j k ≡ asks spec before j k
   pub decided : (j decision : ℕ) → j < processes spec → decided_in spec before j ≡ Some decision → decided_in spec after j ≡ Some decision
+
+-- ---- what a room promises of them
+
+-- What makes the history of these fields a run: what each row shows, and why each write and each decision was made.
+pub record HasAgreed (spec : RoomSpec) (fields : Fields) : Type 0 where
+  -- a row shows of its own process the writes up to its round
+  pub own_entry_is_exact : (j k : ℕ) → j < processes spec → 1 ≤ k → k ≤ spec.rounds → is_passed spec fields j k ≡ true → slice_index (row_at spec fields j k) j ≡ k
+  pub snapshots_compare : (j k p r : ℕ) → j < processes spec → 1 ≤ k → k ≤ spec.rounds → is_passed spec fields j k ≡ true → p < processes spec → 1 ≤ r → r ≤ spec.rounds → is_passed spec fields p r ≡ true
+      → IsRowAtMost (row_at spec fields j k) (row_at spec fields p r) ⊎ IsRowAtMost (row_at spec fields p r) (row_at spec fields j k)
+  -- a row shows no write that nobody has counted
+  pub row_is_within : (j k p : ℕ) → j < processes spec → 1 ≤ k → k ≤ spec.rounds → is_passed spec fields j k ≡ true → p < processes spec → slice_index (row_at spec fields j k) p ≤ greatest_step spec fields p
+  pub steps_are_within : (p : ℕ) → p < processes spec → greatest_step spec fields p ≤ spec.rounds
+  pub first_is_due : (p : ℕ) → p < processes spec → 1 ≤ greatest_step spec fields p → written spec fields p 1 ≡ first_value spec.protocol (slice_index spec.inputs p) p (processes spec)
+  pub next_is_due : (p r : ℕ) → p < processes spec → 1 ≤ r → r < greatest_step spec fields p → asks spec fields p r ≡ actions.Write (written spec fields p (r + 1))
+  pub decisions_agree : (i j : ℕ) → i < spec.simulators → j < processes spec → fields.out i j ≢ 0
+      → (fields.step i j ≡ greatest_step spec fields j) × (asks spec fields j (fields.step i j) ≡ actions.Decide (fields.out i j - 1))

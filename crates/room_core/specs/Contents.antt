@@ -7,9 +7,8 @@ use Rattle.protocol_lang.specs.declared.meaning.Action.TheVariants as actions
 use Rattle.room_spec.specs.Rooms.{RoomSpec, processes}
 use Rattle.sim_memory.specs.Steps.{row_of}
 use Rattle.room_core.specs.Fields.{StepMap, Fields}
-use Rattle.room_core.specs.Agreements.{IsFixedAt}
-use Rattle.room_core.specs.Passed.{shown, asks}
-use Rattle.room_core.specs.Passed as passed
+use Rattle.room_core.specs.Agreements.{IsFixedAt, asks, shown}
+use Rattle.room_core.specs.Agreements as passed
 
 abbrev pub or_zero : Option ℕ → ℕ
 or_zero number = unwrap_or number 0

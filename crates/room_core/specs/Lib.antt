@@ -5,6 +5,5 @@ pub mod Fields
 pub mod Reading
 pub mod Agreements
 pub mod Moments
-pub mod Passed
 pub mod Settled
 pub mod Contents

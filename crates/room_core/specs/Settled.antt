@@ -3,7 +3,7 @@ use Rattle.std.specs.Prelude.{◌≡◌, ℕ, ◌<◌, ◌≤◌, true}
 use Rattle.protocol_lang.specs.declared.meaning.Action.TheVariants.{Write}
 use Rattle.room_spec.specs.Rooms.{RoomSpec}
 use Rattle.room_core.specs.Fields.{Fields}
-use Rattle.room_core.specs.Passed.{asks, has_out, is_clean}
+use Rattle.room_core.specs.Agreements.{asks, has_out, is_clean}
 
 -- It has decided; or it has made all its writes, and its last snapshot asks for one more; or a simulator has crashed inside an
 -- agreement on one of its snapshots.

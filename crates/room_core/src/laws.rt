@@ -4,13 +4,12 @@ ghost use Rattle.room_spec.specs.Rooms.{RoomSpec, IsWithinLimits, processes};
 ghost use Rattle.safe_agreement.specs.Levels.{IsClean, least_two};
 ghost use Rattle.sim_memory.specs.Steps.{IsRowAtMost, row_of};
 ghost use Rattle.room_core.specs.Contents.{IsDue};
-ghost use Rattle.room_core.specs.Passed.{HasAgreed, asks, is_passed};
+ghost use Rattle.room_core.specs.Agreements.{AgreementsStay, HasAgreed, IsFixedAt, IsInsideTurn, asks, is_passed, view_at};
 ghost use Rattle.protocol_lang.specs.Numbers.{greatest};
 ghost use Rattle.protocol_lang.specs.declared.meaning.Action.TheVariants.{Decide};
 ghost use Rattle.simulator.specs.Minds.{goal_at};
 ghost use Rattle.simulator.specs.declared.goal.Goal.TheVariants.{Spent};
 ghost use Rattle.room_core.specs.Moments.{IsMoment};
-ghost use Rattle.room_core.specs.Agreements.{AgreementsStay, IsFixedAt, IsInsideTurn};
 ghost use Rattle.room_core.specs.Settled.{IsSettledFor};
 ghost use Rattle.room_core.specs.Settling.{steps_while};
 ghost use Rattle.simulator.specs.Sweeps.{is_resting};
@@ -85,6 +84,13 @@ pub fn all_before_are_passed()
 /// Over every call what has been agreed on, and what has been decided, stays.
 pub fn agreements_stay()
     ensures { (room : RoomState) (fields : Fields) (call : Call) → IsWithinLimits room.spec → AreFieldsOf room fields → AgreementsStay room.spec fields (fields_after_call room.spec fields call) }
+{}
+
+/// Over any list of calls what has been agreed on, and what has been decided, stays: two readings of
+/// an agreement that was passed show the same view, at whatever moments they are made.
+pub fn agreements_last()
+    ensures stay { (room : RoomState) (fields : Fields) (calls : List Call) → IsWithinLimits room.spec → AreFieldsOf room fields → AgreementsStay room.spec fields (fields_after_calls room.spec fields calls) }
+    ensures passed { (room : RoomState) (fields : Fields) (calls : List Call) → IsWithinLimits room.spec → AreFieldsOf room fields → (j k : ℕ) → j < processes room.spec → 1 ≤ k → is_passed room.spec fields j k ≡ true → view_at room.spec (fields_after_calls room.spec fields calls) j k ≡ view_at room.spec fields j k }
 {}
 
 /// While nobody else steps, a simulator that hasn't crashed comes to the end of its open turn, and

@@ -12,7 +12,7 @@ use Rattle.std.proofs.lemmas.List.Elements.{Contains-append_cases}
 use Rattle.std.proofs.lemmas.List.Sorted.{ranks_by, sorted_far, sum_by-IsPermutation}
 use Rattle.std.proofs.lemmas.List.Sums.{sum_by-cons}
 use Rattle.room_core.specs.Calls.{RoomState}
-use Rattle.room_core.specs.Passed.{is_passed}
+use Rattle.room_core.specs.Agreements.{is_passed}
 use Rattle.room_spec.specs.Rooms.{processes}
 use Rattle.ws_history.specs.declared.snapshots.Agreed.{Agreed}
 use Rattle.ws_history.specs.Histories.{Snapshot, Source, IsBefore, IsRising}

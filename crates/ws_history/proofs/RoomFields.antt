@@ -8,7 +8,7 @@ use Rattle.view_table.specs.declared.place.Place.TheVariants as places
 use Rattle.sim_memory.specs.Steps.{step_in}
 use Rattle.sim_memory.proofs.Rows.{merged_below}
 use Rattle.sim_memory.proofs.Words.{step_below}
-use Rattle.room_core.specs.Passed.{greatest_step, is_passed, row_at}
+use Rattle.room_core.specs.Agreements.{greatest_step, is_passed, row_at}
 use Rattle.room_core.specs.Calls.{RoomState}
 use Rattle.room_core.specs.Fields.{Fields}
 use Rattle.room_core.specs.Reading.{AgreeIn, AreFieldsOf}

@@ -8,7 +8,7 @@ use Rattle.room_spec.specs.Sizes.{sizes_in}
 use Rattle.sim_memory.proofs.Rows.{row_length}
 use Rattle.transcript.specs.declared.event.Event.{Event}
 use Rattle.transcript.specs.declared.event.Event.TheVariants.{Write, Snap}
-use Rattle.room_core.specs.Passed.{greatest_step, decided_in, is_passed, row_at, shown}
+use Rattle.room_core.specs.Agreements.{greatest_step, decided_in, is_passed, row_at, shown}
 use Rattle.room_core.specs.Fields.{Fields}
 use Rattle.room_core.specs.Reading.{AgreeIn}
 use Rattle.ws_history.specs.Histories.{Snapshot, Source, block, blocks, decided, entry_of, last_writes, new_writes, shown_before, shown_row, writes_for}

@@ -5,7 +5,7 @@ use Rattle.std.specs.List.{filter, find, list_any, range_with_len}
 use Rattle.protocol_lang.specs.declared.meaning.Action.{Action}
 use Rattle.room_spec.specs.Rooms.{RoomSpec, processes}
 use Rattle.room_spec.specs.Sizes.{sizes_in}
-use Rattle.room_core.specs.Passed.{asks, decided_in, is_clean, row_at}
+use Rattle.room_core.specs.Agreements.{asks, decided_in, is_clean, row_at}
 use Rattle.room_core.specs.Fields.{Fields}
 use Rattle.room_core.specs.Reading.{AgreeIn}
 use Rattle.ws_history.specs.Reports.{crashed_in, held_by, is_inside, is_spent, is_write, state_by, state_of, states_of}

@@ -11,7 +11,7 @@ use Rattle.room_spec.specs.Rooms.{RoomSpec, IsWithinLimits, processes}
 use Rattle.room_core.specs.Calls.{RoomState}
 use Rattle.room_core.specs.Fields.{Fields}
 use Rattle.room_core.specs.Reading.{AreFieldsOf}
-use Rattle.room_core.specs.Passed.{decided_in, is_clean, is_out, outs_at}
+use Rattle.room_core.specs.Agreements.{decided_in, is_clean, is_out, outs_at}
 use Rattle.room_core.specs.Settled.{IsSettledFor, decided, spent, held}
 use Rattle.ws_history.specs.declared.states.ProcessState.{ProcessState}
 use Rattle.ws_history.specs.Reports.{crashed_in, held_by, is_held, is_inside, is_over, is_spent, is_write, state_by, state_of, states_of}

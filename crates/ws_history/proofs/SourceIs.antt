@@ -13,8 +13,8 @@ use Rattle.ws_history.specs.Histories.{Snapshot, asks, history_from}
 use Rattle.ws_history.specs.Passed.{IsOfPassed}
 use Rattle.sim_memory.proofs.Rows.{row_length}
 use Rattle.room_core.specs.Fields.{Fields}
-use Rattle.room_core.specs.Passed.{outs_at, greatest_step, decided_in, is_passed, view_at, row_at, shown, HasAgreed}
-use Rattle.room_core.specs.Passed as room
+use Rattle.room_core.specs.Agreements.{outs_at, greatest_step, decided_in, is_passed, view_at, row_at, shown, HasAgreed}
+use Rattle.room_core.specs.Agreements as room
 use Rattle.ws_history.specs.Sources.{decision_after, source_of}
 use Rattle.ws_history.proofs.Order.{cons_first, cons_rest}
 use Rattle.ws_history.proofs.PassedSources.{passed_is_run}

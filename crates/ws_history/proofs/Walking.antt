@@ -12,7 +12,7 @@ use Rattle.sim_memory.proofs.Rows.{row_length}
 use Rattle.sim_memory.proofs.Rows.{row_at as row_entry}
 use Rattle.transcript.specs.declared.event.Event.{Event}
 use Rattle.transcript.specs.declared.event.Event.TheVariants.{Snap}
-use Rattle.room_core.specs.Passed.{is_passed, row_at, shown, shown_by}
+use Rattle.room_core.specs.Agreements.{is_passed, row_at, shown, shown_by}
 use Rattle.room_core.specs.Calls.{RoomState}
 use Rattle.ws_history.specs.declared.snapshots.Agreed.{Agreed}
 use Rattle.ws_history.specs.Histories.{Snapshot, Source, block, blocks, by_process, decided, last_writes, new_writes, shown_before}

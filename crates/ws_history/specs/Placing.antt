@@ -1,7 +1,7 @@
 -- Agreed snapshots with the sums of their rows, and what has been shown after each.
 use Rattle.std.specs.Prelude.{ℕ, List, map, max, slice_index, length}
 use Rattle.std.specs.List.{range_with_len, sum}
-use Rattle.room_core.specs.Passed.{row_at}
+use Rattle.room_core.specs.Agreements.{row_at}
 use Rattle.room_core.specs.Calls.{RoomState}
 use Rattle.ws_history.specs.declared.snapshots.Agreed.{Agreed}
 use Rattle.ws_history.specs.Histories.{Snapshot}

@@ -6,7 +6,7 @@ use Rattle.view_table.specs.Words.{word_at}
 use Rattle.view_table.specs.declared.place.Place.TheVariants as places
 use Rattle.room_core.specs.Calls.{RoomState}
 use Rattle.room_core.specs.Fields.{Fields}
-use Rattle.room_core.specs.Passed.{shown_of}
+use Rattle.room_core.specs.Agreements.{shown_of}
 use Rattle.room_core.specs.Reading.{fields_in}
 
 -- values above the greatest read as that

@@ -5,7 +5,7 @@ use Rattle.protocol_lang.specs.declared.meaning.Action.{Action}
 use Rattle.protocol_lang.specs.declared.meaning.Action.TheVariants as actions
 use Rattle.room_spec.specs.Rooms.{RoomSpec, processes}
 use Rattle.room_core.specs.Fields.{Fields}
-use Rattle.room_core.specs.Passed.{asks, decided_in, has_out, is_clean}
+use Rattle.room_core.specs.Agreements.{asks, decided_in, has_out, is_clean}
 use Rattle.ws_history.specs.Sources.{history_of}
 use Rattle.ws_history.specs.declared.states.Report.{Report}
 use Rattle.ws_history.specs.declared.states.ProcessState.{ProcessState}

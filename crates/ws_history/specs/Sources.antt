@@ -3,7 +3,7 @@ use Rattle.std.specs.Prelude.{ℕ, List, Option, None, ◌==◌, if◌then◌els
 use Rattle.room_spec.specs.Rooms.{RoomSpec, processes}
 use Rattle.transcript.specs.declared.event.Event.{Event}
 use Rattle.room_core.specs.Fields.{Fields}
-use Rattle.room_core.specs.Passed.{decided_in, greatest_step, is_passed, row_at, written}
+use Rattle.room_core.specs.Agreements.{decided_in, greatest_step, is_passed, row_at, written}
 use Rattle.ws_history.specs.Histories.{Source, history_from}
 use Rattle.ws_history.specs.Orders.{all_passed, in_order}
 

@@ -4,7 +4,7 @@ ghost use Rattle.room_spec.specs.Rooms.{processes};
 ghost use Rattle.ws_history.specs.Histories.{by_process, decided, new_writes};
 ghost use Rattle.room_core.specs.Fields.{Fields};
 ghost use Rattle.room_core.specs.Reading.{AreFieldsOf};
-ghost use Rattle.room_core.specs.Passed.{row_at, shown_by};
+ghost use Rattle.room_core.specs.Agreements.{row_at, shown_by};
 ghost use Rattle.transcript.specs.Runs.{IsRun};
 ghost use Rattle.transcript.specs.declared.event.Event.TheVariants.{Snap};
 ghost use Rattle.ws_history.specs.Placing.{shown_with};

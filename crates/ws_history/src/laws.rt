@@ -7,7 +7,7 @@ ghost use Rattle.transcript.specs.declared.event.Event.TheVariants.{Decide};
 ghost use Rattle.room_core.specs.Calls.{RoomState};
 ghost use Rattle.room_core.specs.Fields.{Fields};
 ghost use Rattle.room_core.specs.Reading.{AreFieldsOf};
-ghost use Rattle.room_core.specs.Passed.{HasAgreed};
+ghost use Rattle.room_core.specs.Agreements.{HasAgreed};
 ghost use Rattle.room_core.specs.Settled.{IsSettledFor};
 ghost use Rattle.ws_history.specs.Reports.{crashed_in, held_in, is_held, is_over, state_of, states_of};
 ghost use Rattle.ws_history.specs.declared.states.ProcessState.TheVariants.{Decided};

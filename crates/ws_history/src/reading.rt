@@ -7,7 +7,7 @@ ghost use Rattle.view_table.specs.Places.{IsPlace, IsRound};
 ghost use Rattle.view_table.specs.Words.{word_at};
 ghost use Rattle.safe_agreement.specs.Levels.{least_two};
 ghost use Rattle.sim_memory.specs.Steps.{merged_of, row_of, step_in};
-ghost use Rattle.room_core.specs.Passed.{asks, decided_in, first_with, greatest_step, has_out, is_clean, is_passed, row_at, shown, shown_by, shown_of, written};
+ghost use Rattle.room_core.specs.Agreements.{asks, decided_in, first_with, greatest_step, has_out, is_clean, is_passed, row_at, shown, shown_by, shown_of, written};
 ghost use Rattle.room_core.specs.Calls.{configuration_of};
 ghost use Rattle.room_core.specs.Fields.{Fields, levels_at};
 ghost use Rattle.room_core.specs.Reading.{AreFieldsOf, Reads};

@@ -4,7 +4,7 @@ ghost use Rattle.std.specs.List.{sum};
 ghost use Rattle.room_spec.specs.Rooms.{processes};
 ghost use Rattle.room_spec.specs.Sizes.{sizes_in};
 ghost use Rattle.view_table.specs.Places.{IsRound};
-ghost use Rattle.room_core.specs.Passed.{is_passed};
+ghost use Rattle.room_core.specs.Agreements.{is_passed};
 ghost use Rattle.ws_history.specs.Orders.{all_passed, passed_of};
 ghost use Rattle.ws_history.specs.Placing.{agreed_at};
 ghost use Rattle.ws_history.specs.Readings.{read_of};

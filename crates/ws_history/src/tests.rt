@@ -99,6 +99,9 @@ const ONE_REPORT: &str =
 const PAIR_REPORT: &str =
     "process 0 decided 7\nprocess 1 decided 3\ncrashed\nhistory 6\n0 write 7\n0 snap 7 .\n0 decide 7\n1 write 3\n1 snap 7 3\n1 decide 3\n";
 
+const TURNED_REPORT: &str =
+    "process 0 decided 3\nprocess 1 decided 3\ncrashed\nhistory 6\n1 write 3\n1 snap . 3\n1 decide 3\n0 write 7\n0 snap 7 3\n0 decide 3\n";
+
 const LATE_REPORT: &str =
     "process 0 decided 3\nprocess 1 decided 3\ncrashed 0\nhistory 6\n0 write 7\n1 write 3\n0 snap 7 3\n0 decide 3\n1 snap 7 3\n1 decide 3\n";
 
@@ -123,6 +126,14 @@ fn views_in_order_and_a_late_proposer(rt: HostRuntime) -> Result<(), Fail> {
     assert_eq!(rt; told(&rt, &room)?.as_str(), PAIR_REPORT);
     assert_eq!(rt; run(&mut room, 1, 100), 23);
     assert_eq!(rt; told(&rt, &room)?.as_str(), PAIR_REPORT);
+    Ok(())
+}
+
+#[test]
+fn the_later_process_first(rt: HostRuntime) -> Result<(), Fail> {
+    let mut room = room(&rt, PAIR)?;
+    assert_eq!(rt; run(&mut room, 1, 100), 23);
+    assert_eq!(rt; told(&rt, &room)?.as_str(), TURNED_REPORT);
     Ok(())
 }
 

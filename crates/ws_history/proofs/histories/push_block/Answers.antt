@@ -5,7 +5,7 @@ use Rattle.room_spec.specs.Sizes.{sizes_in}
 use Rattle.sim_memory.specs.Steps.{row_of, step_in}
 use Rattle.transcript.specs.declared.event.Event.{Event}
 use Rattle.transcript.specs.declared.event.Event.TheVariants.{Snap}
-use Rattle.room_core.specs.Passed.{row_at, shown_by}
+use Rattle.room_core.specs.Agreements.{row_at, shown_by}
 use Rattle.ws_history.specs.Histories.{by_process, decided, new_writes}
 use Rattle.ws_history.specs.Placing.{shown_with}
 use Rattle.ws_history.specs.Readings.{read_of}

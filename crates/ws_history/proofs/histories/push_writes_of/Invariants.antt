@@ -1,6 +1,6 @@
 use Rattle.std.proofs.Common.{◌≡◌, ◌+◌, ◌++◌, map}
 use Rattle.std.specs.List.{range_with_len}
-use Rattle.room_core.specs.Passed.{written}
+use Rattle.room_core.specs.Agreements.{written}
 use Rattle.transcript.specs.declared.event.Event.TheVariants.{Write}
 use Rattle.ws_history.specs.Readings.{read_of}
 use Rattle.ws_history.proofs.histories.push_writes_of.Given as goal

@@ -4,7 +4,7 @@ use Rattle.std.proofs.lemmas.List.FromFn.{length-map-range_with_len}
 use Rattle.std.specs.Prelude.{replicate}
 use Rattle.room_spec.specs.Rooms.{processes}
 use Rattle.transcript.specs.declared.event.Event.{Event}
-use Rattle.room_core.specs.Passed.{row_at}
+use Rattle.room_core.specs.Agreements.{row_at}
 use Rattle.ws_history.specs.declared.snapshots.Agreed.{Agreed}
 use Rattle.ws_history.specs.Histories.{Snapshot, blocks, by_process, last_writes, new_writes, shown_before}
 use Rattle.ws_history.specs.Placing.{agreed_at, blank, shown_with}

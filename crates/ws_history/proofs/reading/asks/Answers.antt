@@ -4,7 +4,7 @@ use Rattle.protocol_lang.specs.Meaning.{next_action}
 use Rattle.room_spec.specs.Rooms.{RoomSpec, processes}
 use Rattle.room_spec.specs.Sizes.{sizes_in}
 use Rattle.sim_memory.specs.Steps.{row_of, step_in}
-use Rattle.room_core.specs.Passed.{shown_by}
+use Rattle.room_core.specs.Agreements.{shown_by}
 use Rattle.ws_history.specs.Readings.{read_of}
 use Rattle.ws_history.proofs.reading.asks.Goals as goal
 

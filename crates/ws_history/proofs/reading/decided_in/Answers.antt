@@ -1,7 +1,7 @@
 use Rattle.std.proofs.Common.{◌≡◌, ◌≢◌, ◌-◌, ◌<◌, ◌∙◌, ℕ, Option, Some, true, Bool, sym, ap, ne_eqb, arith}
 use Rattle.std.specs.Prelude.{not}
 use Rattle.std.specs.Option.{option_map}
-use Rattle.room_core.specs.Passed.{is_out}
+use Rattle.room_core.specs.Agreements.{is_out}
 use Rattle.ws_history.specs.Readings.{read_of}
 use Rattle.ws_history.proofs.Searching.{finds, finds_none}
 use Rattle.ws_history.proofs.reading.decided_in.Goals as goal

@@ -1,5 +1,5 @@
 use Rattle.std.proofs.Common.{◌≡◌, ℕ, ◌<◌, false}
-use Rattle.room_core.specs.Passed.{is_out}
+use Rattle.room_core.specs.Agreements.{is_out}
 use Rattle.ws_history.specs.Readings.{read_of}
 use Rattle.ws_history.proofs.reading.decided_in.Given as goal
 

@@ -1,6 +1,6 @@
 use Rattle.std.proofs.Common.{◌≡◌, ◌≢◌, ◌<◌, ◌∙◌, ℕ, true, Bool, sym, ap, ne_eqb, arith}
 use Rattle.std.specs.Prelude.{not}
-use Rattle.room_core.specs.Passed.{is_out}
+use Rattle.room_core.specs.Agreements.{is_out}
 use Rattle.ws_history.specs.Readings.{read_of}
 use Rattle.ws_history.proofs.Searching.{anys, anys_none}
 use Rattle.ws_history.proofs.reading.has_out.Goals as goal

@@ -1,6 +1,6 @@
 use Rattle.std.proofs.Common.{ℕ, get_or, arith}
 use Rattle.std.proofs.lemmas.List.FromFn.{map-range_with_len_more}
-use Rattle.room_core.specs.Passed.{shown}
+use Rattle.room_core.specs.Agreements.{shown}
 use Rattle.ws_history.specs.Readings.{read_of}
 use Rattle.ws_history.proofs.reading.shown_by.Goals as goal
 

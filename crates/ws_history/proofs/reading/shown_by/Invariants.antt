@@ -1,7 +1,7 @@
 use Rattle.std.proofs.Common.{◌≡◌, map, get_or}
 use Rattle.std.specs.List.{range_with_len}
 use Rattle.arrayvec.specs.ArrayVec.{array_vec_len}
-use Rattle.room_core.specs.Passed.{shown}
+use Rattle.room_core.specs.Agreements.{shown}
 use Rattle.ws_history.specs.Readings.{read_of}
 use Rattle.ws_history.proofs.reading.shown_by.Given as goal
 

@@ -1,6 +1,6 @@
 use Rattle.std.proofs.Common.{◌≡◌, ◌+◌, ◌∙◌, ◌++◌, ℕ, List, suc, map, ap, sym, arith}
 use Rattle.std.proofs.lemmas.List.{map-append}
-use Rattle.room_core.specs.Passed.{is_passed}
+use Rattle.room_core.specs.Agreements.{is_passed}
 use Rattle.room_spec.specs.Rooms.{processes}
 use Rattle.ws_history.specs.declared.snapshots.Agreed.{Agreed}
 use Rattle.ws_history.specs.Orders.{all_passed, passed_of}

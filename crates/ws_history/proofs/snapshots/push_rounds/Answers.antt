@@ -1,6 +1,6 @@
 use Rattle.std.proofs.Common.{◌≡◌, ◌+◌, ◌∙◌, ◌++◌, ◌∷◌, [], List, suc, cond, map, ap, sym, arith}
 use Rattle.std.proofs.lemmas.List.{append_assoc, map-append}
-use Rattle.room_core.specs.Passed.{is_passed}
+use Rattle.room_core.specs.Agreements.{is_passed}
 use Rattle.ws_history.specs.declared.snapshots.Agreed.{Agreed}
 use Rattle.ws_history.specs.Histories.{Snapshot}
 use Rattle.ws_history.specs.Orders.{passed_of}

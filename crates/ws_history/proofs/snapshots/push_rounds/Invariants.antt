@@ -1,5 +1,5 @@
 use Rattle.std.proofs.Common.{◌≡◌, ◌+◌, ◌≤◌, ◌++◌, length, map}
-use Rattle.room_core.specs.Passed.{is_passed}
+use Rattle.room_core.specs.Agreements.{is_passed}
 use Rattle.ws_history.specs.Orders.{passed_of}
 use Rattle.ws_history.specs.Placing.{agreed_at}
 use Rattle.ws_history.specs.Readings.{read_of}
