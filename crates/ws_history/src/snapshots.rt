@@ -14,8 +14,9 @@ use crate::reading::{is_passed, process_count, round_count, row_of, shape_of, vi
 use arrayvec::ArrayVec;
 use room_core::RoomCore;
 
-/// The snapshot of a process after so many writes of its own: the memory word that it shows, and
-/// how many writes of all processes that word shows, by which snapshots go first, and then by process.
+/// The snapshot of a process after so many writes of its own: how many writes of all processes it
+/// shows, and the memory word that shows them. Snapshots go by that sum, and then by process; no two
+/// that a room has passed share both.
 #[derive(Clone, Copy, Default, PartialEq, Eq, PartialOrd, Ord)]
 pub(crate) struct Agreed {
     pub(crate) sum: usize,
@@ -31,7 +32,7 @@ pub(crate) type AllAgreed = ArrayVec<Agreed, 240>;
 pub(crate) fn in_order(room: &RoomCore) -> AllAgreed
     ensures { result.items ≡ map (agreed_at room.now) (source_of room.now.spec (read_of room.now)).order }
 {
-    let _shape = shape_of(room);
+    let _shape = shape_of(room); // The room stands for some fields, so its rows compare.
     let mut agreed = all_agreed(room);
     agreed.sort_unstable();
     agreed

@@ -19,6 +19,10 @@ pub enum ProcessState {
 }
 
 impl Default for ProcessState {
+    ghost use Rattle.ws_history.specs.declared.states.ProcessState.TheVariants.{Going};
+
+    ghost is_default = { λ state. state ≡ Going };
+
     fn default() -> ProcessState {
         ProcessState::Going
     }
