@@ -1,5 +1,5 @@
 //! A simulator that was given away, and its steps.
-ghost use Rattle.std.specs.Prelude.{◌≡◌, ℕ, []};
+ghost use Rattle.std.specs.Prelude.{◌≡◌, ℕ, ◌<◌, []};
 ghost use Rattle.simulator.specs.Minds.{goal_at};
 ghost use Rattle.simulator.specs.Moves.{IsOperation, move_of};
 ghost use Rattle.simulator.specs.Quiet.{HasNoWrite};
@@ -7,7 +7,7 @@ ghost use Rattle.simulator.specs.Ranges.{IsMind};
 ghost use Rattle.simulator.specs.Sweeps.{is_resting, ready_of};
 ghost use Rattle.room_core.specs.Calls.{reply_when};
 ghost use Rattle.room_core.specs.declared.reply.StepReply.TheVariants.{Idle};
-ghost use Rattle.ruled_room.specs.Parts.{TakesStep};
+ghost use Rattle.ruled_room.specs.Parts.{IsSweepOf, TakesStep};
 ghost use Rattle.ruled_room.specs.Views.{alone, noted};
 
 use crate::room::RuledRoom;
@@ -46,7 +46,8 @@ impl Model for Simulator {
 impl Simulator {
     /// What it has in mind.
     pub fn mind(&self) -> &Mind
-        ensures { result.now ≡ self.now.sweep.mind }
+        ensures value { result.now ≡ self.now.sweep.mind }
+        ensures sweep { IsSweepOf self.now.room.spec self.now.number self.now.sweep }
     {
         self.sweep.mind()
     }
@@ -60,7 +61,10 @@ impl Simulator {
 
     /// Which simulator of the room it is, counted from 0.
     pub fn number(&self) -> usize
-        ensures { result ≡ self.now.number }
+        ensures value { result ≡ self.now.number }
+        ensures small { result < 8 }
+        // It is a simulator of the room: its mind is one of that number, and its quiet count is one of that mind.
+        ensures sweep { IsSweepOf self.now.room.spec self.now.number self.now.sweep }
     {
         self.number
     }

@@ -75,9 +75,22 @@ fewer_unfinished (goals.Spent ∷ list) = omega (arith, fewer_unfinished list)
 
 -- ---- what is left of the turns
 
-abbrev open_turns : Line → ℕ
+abbrev pub open_turns : Line → ℕ
 open_turns Rest = 0
 open_turns line = 1
+
+one_open : (line : Line) → open_turns line ≤ 1
+one_open Rest = omega arith
+one_open Raise = omega arith
+one_open Snap = omega arith
+one_open Show = omega arith
+one_open Enter = omega arith
+one_open Look = omega arith
+one_open (Leave saw_two) = omega arith
+one_open Ask = omega arith
+one_open (GetView chosen) = omega arith
+one_open Values = omega arith
+one_open (Out decision) = omega arith
 
 -- the turns that it has begun, and those that it may still begin
 pub total : {S : Type 0} → ℕ → ℕ → MindOf S → ℕ → ℕ
@@ -196,7 +209,7 @@ at_line (Out decision) spec mind answer quiet is at busy =
     let was = left_open spec.rounds (current_goal mind) turn.left in
     useful (processes spec) spec.rounds goals.Done (counted mind) quiet turn (omega (arith, was, turn.last))
 
-busy_by : (spec : RoomSpec) (mind : MindState) (quiet : ℕ) → ready_of spec mind quiet ≡ ready.Step → is_resting mind.line ≡ true → quiet < unfinished_in mind.goals
+pub busy_by : (spec : RoomSpec) (mind : MindState) (quiet : ℕ) → ready_of spec mind quiet ≡ ready.Step → is_resting mind.line ≡ true → quiet < unfinished_in mind.goals
 busy_by spec mind quiet is rests = leb-false _ _ (enough_by (is_resting mind.line) (leb (unfinished_in mind.goals) quiet) (ltb mind.turns spec.turns) rests is)
 
 -- over each step for which it is ready the two numbers together don't rise
@@ -205,21 +218,26 @@ pub total_falls : (spec : RoomSpec) (mind : MindState) (quiet answer : ℕ) → 
 unfolding total
 total_falls spec mind quiet answer is ready = at_line mind.line spec mind answer quiet is is.at (busy_by spec mind quiet ready)
 
-pub total_most : (spec : RoomSpec) (mind : MindState) (quiet : ℕ) → IsMind spec mind → total (processes spec) spec.rounds mind quiet ≤ mind.turns + (processes spec * spec.rounds + 1) * processes spec
+-- and with the turn that is open there are so many at the most
+pub open_most : (spec : RoomSpec) (mind : MindState) (quiet : ℕ) → IsMind spec mind → total (processes spec) spec.rounds mind quiet + open_turns mind.line ≤ mind.turns + (processes spec * spec.rounds + 1) * processes spec
 unfolding total
-total_most spec mind quiet is =
+open_most spec mind quiet is =
     let n = processes spec in
+    let some = is.limits.shape.n_range.0 in
     let each : (process : ℕ) → process < length mind.goals → IsGoal spec.rounds (goal_at mind.goals process) = λ process below. is.rounds process (omega (arith, below, is.goals)) in
     let most : all_left spec.rounds mind.goals ≤ n * spec.rounds = subst (λ (k : ℕ). all_left spec.rounds mind.goals ≤ k * spec.rounds) is.goals (all_most spec.rounds mind.goals each) in
     let product = mul-le (all_left spec.rounds mind.goals) n (n * spec.rounds) n most (omega arith) in
     let more : (n * spec.rounds + 1) * n ≡ n * spec.rounds * n + n = ap (λ (k : ℕ). k * n) (omega arith) ∙ suc-mul (n * spec.rounds) n in
-    omega (arith, product, more)
+    omega (arith, product, more, one_open mind.line, some)
+
+pub total_most : (spec : RoomSpec) (mind : MindState) (quiet : ℕ) → IsMind spec mind → total (processes spec) spec.rounds mind quiet ≤ mind.turns + (processes spec * spec.rounds + 1) * processes spec
+total_most spec mind quiet is = omega (arith, open_most spec mind quiet is)
 
 pub turns_before : (n rounds : ℕ) (mind : MindState) (quiet : ℕ) → mind.turns ≤ total n rounds mind quiet
 unfolding total
 turns_before n rounds mind quiet = omega arith
 
-falls_all : (spec : RoomSpec) (sweep : SweepState) (answers : List ℕ) → IsMind spec sweep.mind → IsReadyThroughout spec sweep answers
+pub falls_all : (spec : RoomSpec) (sweep : SweepState) (answers : List ℕ) → IsMind spec sweep.mind → IsReadyThroughout spec sweep answers
     → total (processes spec) spec.rounds (answered_all spec sweep answers).mind (answered_all spec sweep answers).quiet ≤ total (processes spec) spec.rounds sweep.mind sweep.quiet
 falls_all spec sweep [] is ready = omega arith
 falls_all spec sweep (answer ∷ answers) is ready =

@@ -6,4 +6,5 @@ pub mod Stepping
 pub mod Asking
 pub mod Counting
 pub mod Bounding
+pub mod Spending
 mod Worked

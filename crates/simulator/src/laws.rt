@@ -78,3 +78,8 @@ pub fn idle_waits()
 pub fn turns_are_bounded()
     ensures { (spec : RoomSpec) (sweep : SweepState) (answers : List ℕ) → IsMind spec sweep.mind → IsReadyThroughout spec sweep answers → (answered_all spec sweep answers).mind.turns ≤ sweep.mind.turns + (processes spec * spec.rounds + 1) * processes spec }
 {}
+
+/// Nor does it take more than `(n * rounds + 1) * n * (n + 10)` atomic steps, a turn that is open at first included.
+pub fn steps_are_bounded()
+    ensures { (spec : RoomSpec) (sweep : SweepState) (answers : List ℕ) → IsMind spec sweep.mind → IsReadyThroughout spec sweep answers → (answered_all spec sweep answers).mind.steps ≤ sweep.mind.steps + (processes spec * spec.rounds + 1) * processes spec * (processes spec + 10) }
+{}

@@ -1,0 +1,3 @@
+pub mod Stepwise
+pub mod Bounds
+pub mod Costs

@@ -1,0 +1,34 @@
+use Rattle.std.proofs.Common.{◌≡◌, ◌≤◌, sym, ◌∙◌, subst}
+use Rattle.room_core.specs.Calls.{most_steps}
+use Rattle.ruled_room.specs.Parts.{RoomName}
+use Rattle.scheduler.specs.Drives.{HasStopped}
+use Rattle.scheduler.proofs.Stepwise.{told_on, told_end, told_stop}
+use Rattle.scheduler.proofs.driving.turn.Goals as goal
+
+pub returns-in-Some-clause-stop : goal.returns-in-Some-clause-stop
+returns-in-Some-clause-stop c =
+    let at = told_stop c.args.fuse.now c.args.simulator.now c.loop-stop.simulator c.advance.new.simulator c.advance.result c.in-Some.stop c.loop-stop.invariant c.advance.ensures.sweep c.in-Some.is c.advance.ensures.stop c.advance.ensures.step in
+    subst (λ (room : RoomName). HasStopped c.args.fuse.now room.spec c.in-Some.stop c.advance.new.simulator.sweep) c.requires at.stops
+
+pub returns-then-resting-clause-steps : goal.returns-then-resting-clause-steps
+returns-then-resting-clause-steps c =
+    let at = told_end c.args.fuse.now c.args.simulator.now c.loop-stop.simulator c.advance.new.simulator c.advance.result c.loop-stop.invariant c.advance.ensures.sweep c.in_default.is c.advance.ensures.stop c.advance.ensures.step (sym c.resting.ensures ∙ c.if-resting.true) in
+    at.steps
+
+pub returns-then-resting-clause-fuse : goal.returns-then-resting-clause-fuse
+returns-then-resting-clause-fuse c =
+    let at = told_end c.args.fuse.now c.args.simulator.now c.loop-stop.simulator c.advance.new.simulator c.advance.result c.loop-stop.invariant c.advance.ensures.sweep c.in_default.is c.advance.ensures.stop c.advance.ensures.step (sym c.resting.ensures ∙ c.if-resting.true) in
+    at.within
+
+pub returns-then-resting-clause-more : goal.returns-then-resting-clause-more
+returns-then-resting-clause-more c =
+    let at = told_end c.args.fuse.now c.args.simulator.now c.loop-stop.simulator c.advance.new.simulator c.advance.result c.loop-stop.invariant c.advance.ensures.sweep c.in_default.is c.advance.ensures.stop c.advance.ensures.step (sym c.resting.ensures ∙ c.if-resting.true) in
+    (at.more, subst (λ (room : RoomName). c.advance.new.simulator.sweep.mind.steps ≤ most_steps room.spec) c.requires at.most)
+
+pub loop-stop-smaller : goal.loop-stop-smaller
+loop-stop-smaller c =
+    (told_on c.args.fuse.now c.args.simulator.now c.loop-stop.simulator c.advance.new.simulator c.advance.result c.loop-stop.invariant c.advance.ensures.sweep c.in_default.is c.advance.ensures.stop c.advance.ensures.step (sym c.resting.ensures ∙ c.if-resting.false)).1
+
+pub loop-stop-preserved : goal.loop-stop-preserved
+loop-stop-preserved c =
+    (told_on c.args.fuse.now c.args.simulator.now c.loop-stop.simulator c.advance.new.simulator c.advance.result c.loop-stop.invariant c.advance.ensures.sweep c.in_default.is c.advance.ensures.stop c.advance.ensures.step (sym c.resting.ensures ∙ c.if-resting.false)).0

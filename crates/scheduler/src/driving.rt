@@ -1,0 +1,81 @@
+//! A simulator that takes step after step.
+ghost use Rattle.std.specs.Prelude.{◌≡◌, ◌+◌, ◌*◌, ◌<◌, ◌≤◌, IfNone, IfSome};
+ghost use Rattle.room_spec.specs.Rooms.{processes};
+ghost use Rattle.room_core.specs.Calls.{most_steps};
+ghost use Rattle.ruled_room.specs.Parts.{IsSweepOf};
+ghost use Rattle.scheduler.specs.Drives.{Advances, Drives, HasStopped, IsWithinFuse, TakesTurn, stop_at};
+
+use crate::fuse::Fuse;
+use crate::gate::Gate;
+use room_core::StepReply;
+use ruled_room::{RuledRoom, Simulator, Stop};
+
+/// Lets a simulator take its steps up to the end of a turn, the open one or else the next, or until
+/// it stops. The fuse is tested before each step, also before one that would find it idle.
+pub fn turn(simulator: &mut Simulator, room: &RuledRoom, fuse: &Fuse) -> Option<Stop>
+    requires { simulator.old.room ≡ room.now }
+    // Nothing exactly after a step that ended a turn, the last that it takes; else why it stopped.
+    ensures steps { TakesTurn fuse.now simulator.old result simulator.new }
+    ensures stop { IfSome result (λ stop. HasStopped fuse.now room.now.spec stop simulator.new.sweep) }
+    ensures fuse { IsWithinFuse fuse.now simulator.old.sweep.mind.steps → IsWithinFuse fuse.now simulator.new.sweep.mind.steps }
+    ensures same { (simulator.new.room ≡ simulator.old.room) × (simulator.new.number ≡ simulator.old.number) }
+    // Steps are taken before a turn's end, and never more in all than all turns have.
+    ensures more { IfNone result ((simulator.old.sweep.mind.steps < simulator.new.sweep.mind.steps) × (simulator.new.sweep.mind.steps ≤ most_steps room.now.spec)) }
+{
+    loop {
+        if let Some(stop) = advance(simulator, room, fuse) {
+            return Some(stop);
+        }
+        if simulator.resting() {
+            return None;
+        }
+    }
+}
+
+/// Lets a simulator take turn after turn until it stops, and passes the gate before each: as the worker
+/// of its number, at its visits of this call, counted from 0.
+pub fn drive(
+    simulator: &mut Simulator,
+    room: &RuledRoom,
+    fuse: &Fuse,
+    gate: &impl Gate,
+) -> Stop
+    requires { simulator.old.room ≡ room.now }
+    // It takes all its steps up to where it stops: crashed exactly where the fuse's number equals the
+    // steps taken, and else idle or out of turns as a call of `step` says.
+    ensures steps { Drives fuse.now simulator.old result simulator.new }
+    ensures stop { HasStopped fuse.now room.now.spec result simulator.new.sweep }
+    ensures fuse { IsWithinFuse fuse.now simulator.old.sweep.mind.steps → IsWithinFuse fuse.now simulator.new.sweep.mind.steps }
+    ensures same { (simulator.new.room ≡ simulator.old.room) × (simulator.new.number ≡ simulator.old.number) }
+    // Whatever others do, it begins at most `(n * rounds + 1) * n` turns, of at most n + 10 steps each.
+    ensures turns { simulator.new.sweep.mind.turns ≤ simulator.old.sweep.mind.turns + (processes room.now.spec * room.now.spec.rounds + 1) * processes room.now.spec }
+    ensures bound { simulator.new.sweep.mind.steps ≤ simulator.old.sweep.mind.steps + (processes room.now.spec * room.now.spec.rounds + 1) * processes room.now.spec * (processes room.now.spec + 10) }
+{
+    let worker = simulator.number() as u8;
+    let mut visit: u64 = 0;
+    loop {
+        gate.pass(worker, visit);
+        if let Some(stop) = turn(simulator, room, fuse) {
+            return stop;
+        }
+        visit = visit.saturating_add(1);
+    }
+}
+
+/// One step, or why it takes none.
+fn advance(simulator: &mut Simulator, room: &RuledRoom, fuse: &Fuse) -> Option<Stop>
+    requires { simulator.old.room ≡ room.now }
+    ensures stop { result ≡ stop_at fuse.now simulator.old }
+    ensures step { Advances simulator.old result simulator.new }
+    ensures sweep { IsSweepOf simulator.old.room.spec simulator.old.number simulator.old.sweep }
+{
+    if fuse.is_burnt(simulator.mind().steps_taken()) {
+        return Some(Stop::Crashed);
+    }
+    match simulator.step(room) {
+        StepReply::Stepped => None,
+        StepReply::Idle => Some(Stop::Idle),
+        StepReply::OutOfTurns => Some(Stop::OutOfTurns),
+        StepReply::Crashed | StepReply::NoSimulator => unreachable!(),
+    }
+}

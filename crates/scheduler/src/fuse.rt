@@ -1,0 +1,47 @@
+//! When a simulator crashes.
+ghost use Rattle.std.specs.Prelude.{◌≡◌, Some, None};
+ghost use Rattle.scheduler.specs.Drives.{is_burnt};
+
+use std::marker::Model;
+
+/// After how many atomic steps of a simulator, counted from its first, it crashes; or that it doesn't.
+#[derive(Clone, Copy, Debug, PartialEq, Eq)]
+pub struct Fuse {
+    after: Option<u64>,
+}
+
+impl Model for Fuse {
+    ghost use Rattle.std.specs.Prelude.{ℕ, Option};
+
+    ghost Value = { Option ℕ };
+
+    ghost view = { λ f. f.after };
+
+    ghost inverse = { λ after. record { after = after } };
+}
+
+impl Fuse {
+    /// It crashes where it has taken exactly so many steps.
+    pub fn after(steps: u64) -> Fuse
+        ensures { result ≡ Some steps }
+    {
+        Fuse { after: Some(steps) }
+    }
+
+    /// It doesn't crash.
+    pub fn none() -> Fuse
+        ensures { result ≡ None }
+    {
+        Fuse { after: None }
+    }
+
+    /// Whether it has burnt down after so many steps.
+    pub(crate) fn is_burnt(&self, steps: u64) -> bool
+        ensures { result ≡ is_burnt self.now steps }
+    {
+        match self.after {
+            Some(after) => after == steps,
+            None => false,
+        }
+    }
+}

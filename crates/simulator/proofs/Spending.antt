@@ -1,0 +1,185 @@
+-- How many atomic steps a simulator takes before it is idle: at most n + 10 for each turn that it begins, and the rest of the
+-- one that is open.
+use Rattle.std.proofs.Common.{◌≡◌, ℕ, ◌+◌, ◌-◌, ◌*◌, ◌<◌, ◌≤◌, min, Bool, true, false, cond, ltb, List, [], ◌∷◌, ◌++◌, length, Option, Some, None, refl, sym, ap, ◌∙◌, arith}
+use Rattle.std.proofs.Math.Nat.{suc-mul, add-mul}
+use Rattle.std.proofs.lemmas.Nat.{mul-le}
+use Rattle.protocol_lang.specs.declared.meaning.Action.{Action}
+use Rattle.protocol_lang.specs.declared.meaning.Action.TheVariants as actions
+use Rattle.protocol_lang.specs.Meaning.{next_action}
+use Rattle.protocol_lang.specs.Numbers.{greatest}
+use Rattle.std.specs.Prelude.{slice_index}
+use Rattle.safe_agreement.specs.Levels.{has_level}
+use Rattle.level_cells.specs.Fields.{levels_of}
+use Rattle.room_spec.specs.Rooms.{RoomSpec, processes}
+use Rattle.simulator.specs.declared.goal.Goal.{Goal}
+use Rattle.simulator.specs.declared.goal.Goal.TheVariants as goals
+use Rattle.simulator.specs.declared.line.Line.{Line}
+use Rattle.simulator.specs.declared.line.Line.TheVariants.{Rest, Raise, Snap, Show, Enter, Look, Leave, Ask, GetView, Values, Out}
+use Rattle.simulator.specs.declared.sweep.Ready.TheVariants as ready
+use Rattle.simulator.specs.declared.turn.Turn.{Turn}
+use Rattle.simulator.specs.declared.turn.Turn.TheVariants.{Useful}
+use Rattle.simulator.specs.Bounds.{answered, answered_all, IsReadyThroughout}
+use Rattle.simulator.specs.Minds.{MindState, goal_at, current_round, next_process, unfinished_in}
+use Rattle.simulator.specs.Moves.{entry_in, chosen_in, taken_at, taken}
+use Rattle.simulator.specs.Ranges.{IsMind}
+use Rattle.simulator.specs.Sweeps.{SweepState, is_resting, ready_of, quiet_after}
+use Rattle.simulator.specs.Turns.{TakenOf, counted, begun, goes_on, ended, asked, after_write, acted, padded, gathered_all, gathered, opened_at, opened}
+use Rattle.simulator.proofs.Bounding.{open_turns, total, falls_all, busy_by, open_most, turns_before}
+use Rattle.simulator.proofs.Keeping.{kept}
+use Rattle.simulator.proofs.Processes.{none_next}
+use Rattle.simulator.proofs.Stepping.{bounded, moves, steps_by_one}
+
+-- ---- one step of a turn
+
+-- no turn is begun, and a turn that stays open has the same steps
+record IsOn (mind : MindState) (after : TakenOf ℕ) : Type 0 where
+  turns : after.mind.turns ≡ mind.turns
+  stays : is_resting after.mind.line ≡ false → after.mind.turn_steps ≡ mind.turn_steps
+
+on_line : (line : Line) (mind : MindState) → IsOn mind (goes_on line mind)
+on_line line mind = record { turns = refl; stays = λ still. refl }
+
+on_end : (turn : Turn) (goal : Goal) (mind : MindState) → IsOn mind (ended turn goal mind)
+on_end turn goal mind = record { turns = refl; stays = λ still. absurd cc }
+
+on_asked : (chosen : Option ℕ) (mind : MindState) → IsOn mind (asked chosen mind)
+on_asked None mind = record { turns = refl; stays = λ still. absurd cc }
+on_asked (Some chosen) mind = on_line (GetView chosen) mind
+
+on_acted : (spec : RoomSpec) (action : Action) (mind : MindState) → IsOn mind (acted spec action mind)
+on_acted spec (actions.Write value) mind = on_end Useful (after_write spec.rounds (current_round mind) value) mind
+on_acted spec (actions.Decide decision) mind = on_line (Out decision) mind
+
+on_test : (b : Bool) (mind : MindState) (one other : TakenOf ℕ) → IsOn mind one → IsOn mind other → IsOn mind (cond b one other)
+on_test true mind one other is that = is
+on_test false mind one other is that = that
+
+on_gathered_all : (spec : RoomSpec) (mind : MindState) → IsOn mind (gathered_all spec mind)
+on_gathered_all spec mind =
+    let action = next_action spec.protocol (slice_index spec.inputs mind.sweep) mind.sweep (current_round mind) mind.entries in
+    on_test (ltb (length mind.entries) (processes spec)) mind (goes_on Values mind) (acted spec action mind) (on_line Values mind) (on_acted spec action mind)
+
+on_gathered : (row : ℕ → ℕ) (spec : RoomSpec) (entries : List (Option ℕ)) (mind : MindState) → IsOn mind (gathered row spec entries mind)
+on_gathered row spec entries mind =
+    let is = on_gathered_all spec (record mind { entries = padded row (processes spec - length entries) entries }) in
+    record { turns = is.turns; stays = is.stays }
+
+on_opened_at : (goal : Goal) (chosen : Option ℕ) (mind : MindState) → IsOn mind (opened_at goal chosen mind)
+on_opened_at (goals.Write round value) chosen mind = on_line Raise mind
+on_opened_at (goals.Ask round) chosen mind = on_asked chosen mind
+on_opened_at goals.Done chosen mind = on_line Rest mind
+on_opened_at goals.Spent chosen mind = on_line Rest mind
+
+in_turn : (line : Line) (spec : RoomSpec) (mind : MindState) (answer : ℕ) → is_resting line ≡ false → IsOn (counted mind) (taken_at line spec (counted mind) answer)
+in_turn Rest spec mind answer still = absurd cc
+in_turn Raise spec mind answer still = on_line Snap (counted mind)
+in_turn Snap spec mind answer still = let is = on_line Show (record (counted mind) { snapshot = answer }) in record { turns = is.turns; stays = is.stays }
+in_turn Show spec mind answer still = on_line Enter (counted mind)
+in_turn Enter spec mind answer still = on_line Look (counted mind)
+in_turn Look spec mind answer still = on_line (Leave (has_level 2 (levels_of answer spec.simulators))) (counted mind)
+in_turn (Leave saw_two) spec mind answer still = on_line Ask (counted mind)
+in_turn Ask spec mind answer still = on_asked (chosen_in spec answer) (counted mind)
+in_turn (GetView chosen) spec mind answer still =
+    let is = on_gathered (entry_in spec answer) spec [] (record (counted mind) { snapshot = answer }) in
+    record { turns = is.turns; stays = is.stays }
+in_turn Values spec mind answer still = on_gathered (entry_in spec mind.snapshot) spec (mind.entries ++ Some (min answer greatest) ∷ []) (counted mind)
+in_turn (Out decision) spec mind answer still = on_end Useful goals.Done (counted mind)
+
+-- ---- the first step of a turn
+
+-- one turn is begun, and it has one step more where it stays open
+record IsBegun (mind : MindState) (after : TakenOf ℕ) : Type 0 where
+  turns : after.mind.turns ≡ mind.turns + 1
+  stays : is_resting after.mind.line ≡ false → after.mind.turn_steps ≡ mind.turn_steps + 1
+
+begins : (spec : RoomSpec) (next : Option ℕ) (mind : MindState) (answer quiet : ℕ) → next_process mind.goals mind.sweep ≡ next → quiet < unfinished_in mind.goals → IsBegun mind (opened next (chosen_in spec answer) (counted mind))
+begins spec None mind answer quiet found busy = absurd (omega (arith, none_next mind.goals mind.sweep found, busy))
+begins spec (Some process) mind answer quiet found busy =
+    let is = on_opened_at (goal_at mind.goals process) (chosen_in spec answer) (begun process (counted mind)) in
+    record { turns = is.turns; stays = is.stays }
+
+at_rest : (line : Line) (spec : RoomSpec) (mind : MindState) (answer quiet : ℕ) → is_resting line ≡ true → quiet < unfinished_in mind.goals → IsBegun mind (taken_at line spec (counted mind) answer)
+at_rest Rest spec mind answer quiet rests busy = begins spec (next_process mind.goals mind.sweep) mind answer quiet refl busy
+at_rest Raise spec mind answer quiet rests busy = absurd cc
+at_rest Snap spec mind answer quiet rests busy = absurd cc
+at_rest Show spec mind answer quiet rests busy = absurd cc
+at_rest Enter spec mind answer quiet rests busy = absurd cc
+at_rest Look spec mind answer quiet rests busy = absurd cc
+at_rest (Leave saw_two) spec mind answer quiet rests busy = absurd cc
+at_rest Ask spec mind answer quiet rests busy = absurd cc
+at_rest (GetView chosen) spec mind answer quiet rests busy = absurd cc
+at_rest Values spec mind answer quiet rests busy = absurd cc
+at_rest (Out decision) spec mind answer quiet rests busy = absurd cc
+
+-- ---- what is spent
+
+-- how many steps the open turn may still take, of so many
+abbrev left_of : Bool → ℕ → ℕ → ℕ
+left_of true most steps = 0
+left_of false most steps = most - steps
+
+-- the steps that a mind has taken, and those that its open turn may still take
+abbrev spent : ℕ → MindState → ℕ
+spent most mind = mind.steps + left_of (is_resting mind.line) most mind.turn_steps
+
+spent_by : (b : Bool) (most steps turn_steps more : ℕ) → (b ≡ false → turn_steps ≡ more) → steps + left_of b most turn_steps ≤ steps + (most - more)
+spent_by true most steps turn_steps more is = omega arith
+spent_by false most steps turn_steps more is = omega (arith, is refl)
+
+spends_by : (b : Bool) (spec : RoomSpec) (mind : MindState) (quiet answer : ℕ) → is_resting mind.line ≡ b → IsMind spec mind → ready_of spec mind quiet ≡ ready.Step
+    → spent (processes spec + 10) (taken spec mind answer).mind + mind.turns * (processes spec + 10) ≤ mind.steps + left_of b (processes spec + 10) mind.turn_steps + (taken spec mind answer).mind.turns * (processes spec + 10)
+spends_by true spec mind quiet answer rests is ready =
+    let after = (taken spec mind answer).mind in
+    let begins = at_rest mind.line spec mind answer quiet rests (busy_by spec mind quiet ready rests) in
+    let left = spent_by (is_resting after.line) (processes spec + 10) after.steps after.turn_steps (mind.turn_steps + 1) begins.stays in
+    let product : after.turns * (processes spec + 10) ≡ mind.turns * (processes spec + 10) + (processes spec + 10) = ap (λ (k : ℕ). k * (processes spec + 10)) (begins.turns ∙ omega arith) ∙ suc-mul mind.turns (processes spec + 10) in
+    omega (arith, left, product, steps_by_one spec mind answer)
+spends_by false spec mind quiet answer still is ready =
+    let after = (taken spec mind answer).mind in
+    let goes = in_turn mind.line spec mind answer still in
+    let few = bounded spec mind is in
+    let left = spent_by (is_resting after.line) (processes spec + 10) after.steps after.turn_steps (mind.turn_steps + 1) goes.stays in
+    let product : after.turns * (processes spec + 10) ≡ mind.turns * (processes spec + 10) = ap (λ (k : ℕ). k * (processes spec + 10)) goes.turns in
+    omega (arith, left, product, few, steps_by_one spec mind answer)
+
+spends : (spec : RoomSpec) (mind : MindState) (quiet answer : ℕ) → IsMind spec mind → ready_of spec mind quiet ≡ ready.Step
+    → spent (processes spec + 10) (taken spec mind answer).mind + mind.turns * (processes spec + 10) ≤ spent (processes spec + 10) mind + (taken spec mind answer).mind.turns * (processes spec + 10)
+spends spec mind quiet answer is ready =
+    let by = spends_by (is_resting mind.line) spec mind quiet answer refl is ready in
+    omega (arith, by)
+
+spends_all : (spec : RoomSpec) (sweep : SweepState) (answers : List ℕ) → IsMind spec sweep.mind → IsReadyThroughout spec sweep answers
+    → spent (processes spec + 10) (answered_all spec sweep answers).mind + sweep.mind.turns * (processes spec + 10) ≤ spent (processes spec + 10) sweep.mind + (answered_all spec sweep answers).mind.turns * (processes spec + 10)
+spends_all spec sweep [] is ready = omega arith
+spends_all spec sweep (answer ∷ answers) is ready =
+    let here = spends spec sweep.mind sweep.quiet answer is ready.0 in
+    let next = kept spec sweep.mind answer is (moves spec sweep.mind sweep.quiet is ready.0) in
+    omega (arith, here, spends_all spec (answered spec sweep answer) answers next ready.1)
+
+-- ---- in all
+
+open_left : (line : Line) (most steps : ℕ) → left_of (is_resting line) most steps ≤ open_turns line * most
+open_left Rest most steps = omega arith
+open_left Raise most steps = omega arith
+open_left Snap most steps = omega arith
+open_left Show most steps = omega arith
+open_left Enter most steps = omega arith
+open_left Look most steps = omega arith
+open_left (Leave saw_two) most steps = omega arith
+open_left Ask most steps = omega arith
+open_left (GetView chosen) most steps = omega arith
+open_left Values most steps = omega arith
+open_left (Out decision) most steps = omega arith
+
+pub steps_bounded : (spec : RoomSpec) (sweep : SweepState) (answers : List ℕ) → IsMind spec sweep.mind → IsReadyThroughout spec sweep answers
+    → (answered_all spec sweep answers).mind.steps ≤ sweep.mind.steps + (processes spec * spec.rounds + 1) * processes spec * (processes spec + 10)
+steps_bounded spec sweep answers is ready =
+    let n = processes spec in
+    let last = answered_all spec sweep answers in
+    let most = (n * spec.rounds + 1) * n in
+    let turns : last.mind.turns + open_turns sweep.mind.line ≤ sweep.mind.turns + most =
+        omega (arith, turns_before n spec.rounds last.mind last.quiet, falls_all spec sweep answers is ready, open_most spec sweep.mind sweep.quiet is) in
+    let product = mul-le (last.mind.turns + open_turns sweep.mind.line) (n + 10) (sweep.mind.turns + most) (n + 10) turns (omega arith) in
+    let one = add-mul last.mind.turns (open_turns sweep.mind.line) (n + 10) in
+    let other = add-mul sweep.mind.turns most (n + 10) in
+    omega (arith, product, one, other, open_left sweep.mind.line (n + 10) sweep.mind.turn_steps, spends_all spec sweep answers is ready)
