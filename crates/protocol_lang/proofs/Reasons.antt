@@ -212,9 +212,6 @@ pub record Counted (s e : State Written) (rest : List Token) : Type 0 where
   pub rules : begun_rules e ≡ begun_rules s + count_by is_when rest
   pub most : begun_rules s ≤ 32 → begun_rules e ≤ 32
 
-
-
-
 abbrev one_if : Bool → ℕ
 one_if test = cond test 1 0
 

@@ -188,15 +188,15 @@ steps_on fuse start at next answer way is none to still =
     let one = steps_one fuse at answer is none in
     let goal : SimulatorData → Type 0 = λ n. (is_resting n.sweep.mind.line ≡ false) → IsOnWay fuse start n × (left n < left at) in
     subst goal (sym to) (λ here. (
-        record {
-          room = way.room;
-          number = way.number;
-          reaches = λ result new takes. way.reaches result new (turn_more fuse at answer result new none here takes);
-          within = λ is. one.within (way.within is);
-          more = omega (arith, way.more, one.steps);
-        },
-        omega (arith, one.steps, one.most),
-      )) still
+      record {
+        room = way.room;
+        number = way.number;
+        reaches = λ result new takes. way.reaches result new (turn_more fuse at answer result new none here takes);
+        within = λ is. one.within (way.within is);
+        more = omega (arith, way.more, one.steps);
+      },
+      omega (arith, one.steps, one.most),
+    )) still
 
 -- what is known at the end of a turn
 pub record HasTurned (fuse : Option ℕ) (start new : SimulatorData) : Type 0 where
@@ -212,13 +212,13 @@ ends_turn fuse start at new answer way is none to rests =
     let one = steps_one fuse at answer is none in
     let goal : SimulatorData → Type 0 = λ n. (is_resting n.sweep.mind.line ≡ true) → HasTurned fuse start n in
     subst goal (sym to) (λ here. record {
-        steps = way.reaches None (stepped_with at answer) (turn_ends fuse at answer none here);
-        within = λ is. one.within (way.within is);
-        room = way.room;
-        number = way.number;
-        more = omega (arith, way.more, one.steps);
-        most = subst (λ (spec : RoomSpec). (stepped_with at answer).sweep.mind.steps ≤ most_steps spec) (ap (λ (room : RoomName). room.spec) way.room) one.most;
-      }) rests
+      steps = way.reaches None (stepped_with at answer) (turn_ends fuse at answer none here);
+      within = λ is. one.within (way.within is);
+      room = way.room;
+      number = way.number;
+      more = omega (arith, way.more, one.steps);
+      most = subst (λ (spec : RoomSpec). (stepped_with at answer).sweep.mind.steps ≤ most_steps spec) (ap (λ (room : RoomName). room.spec) way.room) one.most;
+    }) rests
 
 -- and where it stops
 pub record StopsTurn (fuse : Option ℕ) (start : SimulatorData) (stop : Stop) (new : SimulatorData) : Type 0 where

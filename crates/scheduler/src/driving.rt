@@ -34,12 +34,7 @@ pub fn turn(simulator: &mut Simulator, room: &RuledRoom, fuse: &Fuse) -> Option<
 
 /// Lets a simulator take turn after turn until it stops, and passes the gate before each: as the worker
 /// of its number, at its visits of this call, counted from 0.
-pub fn drive(
-    simulator: &mut Simulator,
-    room: &RuledRoom,
-    fuse: &Fuse,
-    gate: &impl Gate,
-) -> Stop
+pub fn drive(simulator: &mut Simulator, room: &RuledRoom, fuse: &Fuse, gate: &impl Gate) -> Stop
     requires { simulator.old.room ≡ room.now }
     // It takes all its steps up to where it stops: crashed exactly where the fuse's number equals the
     // steps taken, and else idle or out of turns as a call of `step` says.

@@ -178,7 +178,7 @@ steps_bounded spec sweep answers is ready =
     let last = answered_all spec sweep answers in
     let most = (n * spec.rounds + 1) * n in
     let turns : last.mind.turns + open_turns sweep.mind.line ≤ sweep.mind.turns + most =
-        omega (arith, turns_before n spec.rounds last.mind last.quiet, falls_all spec sweep answers is ready, open_most spec sweep.mind sweep.quiet is) in
+    omega (arith, turns_before n spec.rounds last.mind last.quiet, falls_all spec sweep answers is ready, open_most spec sweep.mind sweep.quiet is) in
     let product = mul-le (last.mind.turns + open_turns sweep.mind.line) (n + 10) (sweep.mind.turns + most) (n + 10) turns (omega arith) in
     let one = add-mul last.mind.turns (open_turns sweep.mind.line) (n + 10) in
     let other = add-mul sweep.mind.turns most (n + 10) in
