@@ -2,6 +2,7 @@ pub mod Blocks
 pub mod Commands
 pub mod LineLists
 pub mod Naming
+pub mod Taken
 pub mod ReplyTexts
 pub mod Scripts
 pub mod Playing

@@ -1,5 +1,5 @@
 -- What the words of the command line ask for, and what `clap`'s parse reads of the program's command.
-use Rattle.std.specs.Prelude.{◌≡◌, ℕ, true, List, [], ◌∷◌, Option, None, Some, codes, if◌then◌else◌, option_and_then, slice_get}
+use Rattle.std.specs.Prelude.{◌≡◌, ◌==◌, ℕ, Bool, true, false, List, [], ◌∷◌, Option, None, Some, codes, if◌then◌else◌, option_and_then, slice_get}
 use Rattle.std.specs.Option.{option_map_or}
 use Rattle.std.specs.Str.{bytes_eq}
 use Rattle.clap.specs.Kinds.{Kinds}
@@ -24,6 +24,17 @@ file_named (word ∷ words) = if bytes_eq word (codes "--") then slice_get words
 abbrev pub IsAsked : List (List ℕ) → Mode → Option (List ℕ) → Type 0
 IsAsked [] mode file = (mode ≡ Check) × (file ≡ None)
 IsAsked (word ∷ words) mode file = (word ≡ word_of mode) × (file ≡ file_named words)
+
+abbrev pub begins_with_dash : List ℕ → Bool
+begins_with_dash [] = false
+begins_with_dash (byte ∷ bytes) = byte == 45
+
+-- the words are the mode's, and at most a file behind it that doesn't begin with `-`
+abbrev pub IsPlainly : List (List ℕ) → Mode → Type 0
+IsPlainly [] mode = ⊥
+IsPlainly (word ∷ []) mode = word ≡ word_of mode
+IsPlainly (word ∷ file ∷ []) mode = (word ≡ word_of mode) × (begins_with_dash file ≡ false)
+IsPlainly (word ∷ file ∷ other ∷ others) mode = ⊥
 
 -- ---- the program's command
 

@@ -5,7 +5,8 @@ ghost use Rattle.clap.specs.Values.{kind_of};
 ghost use Rattle.clap.specs.declared.error.kind.ErrorKind.TheVariants.{OutOfMemory};
 ghost use Rattle.clap.specs.declared.builder.command.Command.TheViews.{out-Command};
 ghost use Rattle.clap.specs.Words.{app_of, fault_of, subcommand_of, subcommand_rows_of};
-ghost use Rattle.bgsim_console.specs.CommandLine.{bgsim_app, file_among, file_app, mode_among, words_fault, IsAsked};
+ghost use Rattle.bgsim_console.specs.CommandLine.{bgsim_app, file_among, file_app, mode_among, words_fault, IsAsked, IsPlainly};
+ghost use Rattle.bgsim_console.specs.declared.command_line.words.Mode.{Mode as ModeData};
 ghost use Rattle.bgsim_console.specs.declared.command_line.words.Mode.TheVariants as ModeVariants;
 
 mod words;
@@ -99,6 +100,8 @@ pub fn line<'a, S: AsStr>(alloc: Global, words: &'a [S]) -> Result<Line<'a>, Err
     ensures default { IfOk result (λ line. line.workers ≡ 2) }
     // The first word is the mode's, and those behind it name the file; or there are no words.
     ensures asked { IfOk result (λ line. IsAsked (map S.text words.entry.now) line.command (option_map (λ file. file.now) line.file)) }
+    // Words that are plainly a mode and a file are refused for want of memory alone.
+    ensures plain { (mode : ModeData) → IsPlainly (map S.text words.entry.now) mode → IfErr result (λ error. kind_of error ≡ OutOfMemory) }
     ensures kinds { FailsBy (words_fault (map S.text words.entry.now)) result }
 {
     if words.is_empty() {
