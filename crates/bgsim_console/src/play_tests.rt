@@ -214,10 +214,11 @@ fn two_hundred_tenants(rt: HostRuntime) -> Result<(), Fail> {
             write!(output, "r{k} step 0 {answer}\n")?;
         }
     }
-    for half in 0..100 {
-        let k = 2 * half + 1;
-        write!(script, "close r{k}\n")?;
-        write!(output, "r{k} closed\n")?;
+    for k in 0..200 {
+        if k % 2 == 1 {
+            write!(script, "close r{k}\n")?;
+            write!(output, "r{k} closed\n")?;
+        }
     }
     for k in 0..200 {
         write!(script, "report r{k}\n")?;
