@@ -140,7 +140,7 @@ fn each_refused_block(rt: HostRuntime) -> Result<(), Fail> {
     let alloc = rt.alloc();
     let mut script = String::new(alloc);
     let mut output = String::new(alloc);
-    let mut line = 2;
+    let mut line: u64 = 2;
     for (top, numbers, rest, fault) in [
         ("bgsim 2\n", "", PROTOCOL, "11 1"),
         ("bgsim 1 \n", NUMBERS, PROTOCOL, "11 1"),
@@ -196,10 +196,10 @@ fn each_refused_block(rt: HostRuntime) -> Result<(), Fail> {
         (TOP, NUMBERS, "protocol\nfirst 05;\nend\n", "13 2 6"),
         (TOP, NUMBERS, "protocol\nfirst min;\nend\n", "13 6 6"),
     ] {
-        let block = format!(in alloc; "{top}{numbers}{rest}")?;
-        write!(script, "open\n{block}")?;
+        let lines = format!(in alloc; "open\n{top}{numbers}{rest}")?;
+        script.push_str(lines.as_str())?;
         write!(output, "line {line} refused {fault}\n")?;
-        line += 1 + count_lines(block.as_bytes());
+        line = count_lines(lines.as_bytes()).saturating_add(line);
     }
     let found = replies(alloc, script.as_str())?;
     assert_eq!(rt; found.as_slice(), output.as_bytes());
