@@ -33,6 +33,17 @@ fn feed_line(rooms: &mut Rooms, line: u64, text: &[u8]) -> Result<(), IoFault>
     ensures rooms { specs_of rooms.new ≡ specs_of rooms.old }
     ensures err { IfErr result (IsFaultOf (of_known_room (specs_of rooms.old) line (line_in text.now))) }
 {
+    if rooms.feed_shown(text, line) {
+        return Ok(());
+    }
+    read_and_feed(rooms, line, text)
+}
+
+fn read_and_feed(rooms: &mut Rooms, line: u64, text: &[u8]) -> Result<(), IoFault>
+    ensures fed { OnOk result ((one : FedEvent) × (of_known_room (specs_of rooms.old) line (line_in text.now) ≡ Ok one) × ((fed : List FedEvent) → HasProcessed rooms.old fed → HasProcessed rooms.new (fed ++ one ∷ []))) }
+    ensures rooms { specs_of rooms.new ≡ specs_of rooms.old }
+    ensures err { IfErr result (IsFaultOf (of_known_room (specs_of rooms.old) line (line_in text.now))) }
+{
     let (name, event) = match read_line(text) {
         Ok(read) => read,
         Err(fault) => {

@@ -2,3 +2,4 @@ pub mod Tracking
 pub mod Runs
 pub mod Feeding
 pub mod RoomLists
+pub mod SnapLines

@@ -4,6 +4,7 @@
 mod history;
 mod process;
 mod rooms;
+mod shown;
 
 pub use history::check;
 pub use rooms::{AddFault, NoRoom, Rooms, Verdict};

@@ -1,11 +1,14 @@
 //! Verdicts on many rooms, whose events come mixed.
-ghost use Rattle.std.specs.Prelude.{◌≡◌, ◌↔◌, ℕ, List, [], ◌∷◌, ◌++◌, IsTrue, IsFalse, IsOk, IfOk, IsErrOf, OnOk, OnErr, None, MatchOption, IsSomeAnd, slice_get};
+ghost use Rattle.std.specs.Prelude.{◌≡◌, ◌↔◌, ◌≤◌, ℕ, List, length, [], ◌∷◌, ◌++◌, IsTrue, IsFalse, IsOk, IfOk, IsErrOf, OnOk, OnErr, None, MatchOption, IsSomeAnd, slice_get};
 ghost use Rattle.room_spec.specs.Rooms.{RoomSpec};
 ghost use Rattle.history_checker.specs.Verdicts.{FedEvent, HasProcessed, HasProcessedOwn, StandsAfter, IsVerdict, specs_of, has_room, fed_to, add_code};
+ghost use Rattle.history_checker.specs.Shown.{HasFed};
 
 use crate::history::open;
-use crate::process::{Process, follow};
+use crate::process::{Process, follow, last_writes};
+use crate::shown::{says_row, snap_parts};
 use indexmap::IndexMap;
+use protocol_lang::View;
 use room_spec::{Name, Spec};
 use std::alloc::{AllocError, Global};
 use std::marker::Model;
@@ -199,6 +202,37 @@ impl Rooms {
         };
         room.feed(event, line);
         Ok(())
+    }
+
+    /// Feeds the event of a transcript's line, which has this number, if the line says a snapshot with
+    /// the last writes of its room. No other line is read: they change nothing, and the answer is
+    /// `false`. This takes no memory.
+    ///
+    /// It is there for speed: most snapshots of a run are right, and that a line says the right one is
+    /// seen without reading its entries.
+    pub fn feed_shown(&mut self, line: &[u8], number: u64) -> bool
+        ensures shown { IsTrue result → HasFed line.now number self.old self.new }
+        ensures rooms { specs_of self.new ≡ specs_of self.old }
+        ensures other { IsFalse result → self.new ≡ self.old }
+    {
+        let Some((name, p, entries)) = snap_parts(line) else {
+            return false;
+        };
+        let row = self.shown_row(&name);
+        if row.is_empty() || !says_row(entries, row.as_slice()) {
+            return false;
+        }
+        self.feed(&name, &Event::Snap { p, row }, number).is_ok()
+    }
+
+    /// What a snapshot of this room shows now, or nothing where no room has the name.
+    fn shown_row(&self, name: &Name) -> View
+        ensures { length result.items ≤ 16 }
+    {
+        match self.rooms.get(name) {
+            Some(room) => last_writes(room.processes.as_slice()),
+            None => View::new(),
+        }
     }
 
     /// The verdict on the room of this index, from 0 in order of adding, or `None` where there is

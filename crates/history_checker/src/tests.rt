@@ -207,3 +207,55 @@ fn more_than_4096_rooms(rt: HostRuntime) -> Result<(), Fail> {
     assert_eq!(rt; rooms.verdict(4096), Some(Verdict::Run));
     Ok(())
 }
+
+#[test]
+fn right_snapshots_are_told_by_their_bytes(rt: HostRuntime) -> Result<(), Fail> {
+    let mut rooms = Rooms::new(rt.alloc());
+    rooms
+        .add(rt.alloc(), room_of(rt.alloc(), PAIR)?)
+        .ok()
+        .ok_or("a new room")?;
+    for (number, line) in PAIR_RUN.iter().enumerate() {
+        let shown = rooms.feed_shown(line.as_bytes(), number as u64);
+        assert_eq!(rt; shown, number == 2 || number == 3, "{line}");
+        if !shown {
+            let (name, event) = event_of(line)?;
+            rooms
+                .feed(&name, &event, number as u64)
+                .ok()
+                .ok_or("a known room")?;
+        }
+    }
+    assert_eq!(rt; rooms.verdict(0), Some(Verdict::Run));
+    Ok(())
+}
+
+#[test]
+fn no_other_snapshot_is_told_by_its_bytes(rt: HostRuntime) -> Result<(), Fail> {
+    let mut rooms = Rooms::new(rt.alloc());
+    rooms
+        .add(rt.alloc(), room_of(rt.alloc(), PAIR)?)
+        .ok()
+        .ok_or("a new room")?;
+    for line in [
+        "pair 0 snap . 3",
+        "pair 0 snap 7 .",
+        "pair 0 snap .",
+        "pair 0 snap . . .",
+        "pair 0 snap . . ",
+        "pair 0 snap  . .",
+        "pair 0 snap",
+        "pair 0 snaps . .",
+        "pair 16 snap . .",
+        "pair 00 snap . .",
+        "pairs 0 snap . .",
+        "Pair 0 snap . .",
+    ] {
+        assert_eq!(rt; rooms.feed_shown(line.as_bytes(), 1), false, "{line}");
+    }
+    assert_eq!(rt; rooms.verdict(0), Some(Verdict::Run));
+    // It shows the last writes of all, but its process has not written.
+    assert_eq!(rt; rooms.feed_shown(b"pair 0 snap . .", 2), true);
+    assert_eq!(rt; rooms.verdict(0), Some(Verdict::Broken(2)));
+    Ok(())
+}

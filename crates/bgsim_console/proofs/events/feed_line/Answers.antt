@@ -1,10 +1,10 @@
-use Rattle.std.proofs.Common.{refl}
-use Rattle.history_checker.specs.Verdicts.{FedEvent, specs_of}
+use Rattle.std.proofs.Common.{◌≡◌, ◌∷◌, ◌++◌, [], List, Ok, OnOk, subst}
 use Rattle.transcript.specs.Lines.{line_in}
-use Rattle.bgsim_console.proofs.Feeding.{known_fed}
+use Rattle.history_checker.specs.Verdicts.{FedEvent, HasProcessed, RoomState, specs_of}
+use Rattle.bgsim_console.specs.Check.{of_known_room}
 use Rattle.bgsim_console.proofs.events.feed_line.Goals as goal
 
-pub returns-in-Ok-feed-clause-fed : goal.returns-in-Ok-feed-clause-fed
-returns-in-Ok-feed-clause-fed c =
-    let one : FedEvent = record { name = c.in-Ok.read.0; event = c.in-Ok.read.1; line = c.args.line } in
-    (one, known_fed (specs_of c.args.rooms.now) c.args.line (line_in c.args.text.now) c.in-Ok.read c.in-Ok.ensures.exact (c.in-Ok-feed.ensures.known.0 refl), c.in-Ok-feed.ensures.processed)
+pub returns-clause-fed : goal.returns-clause-fed
+returns-clause-fed c =
+    subst (λ (rooms : List RoomState). OnOk c.read_and_feed.result ((one : FedEvent) × (of_known_room (specs_of rooms) c.args.line (line_in c.args.text.now) ≡ Ok one) × ((fed : List FedEvent) → HasProcessed rooms fed → HasProcessed c.read_and_feed.new.rooms (fed ++ one ∷ []))))
+    (c.feed_shown.ensures.other c.if-feed_shown.false) c.read_and_feed.ensures.fed

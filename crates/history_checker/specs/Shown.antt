@@ -1,0 +1,32 @@
+-- Lines that say a snapshot, as their bytes.
+use Rattle.std.specs.Prelude.{◌≡◌, ◌≤◌, ℕ, true, List, [], ◌∷◌, ◌++◌, Option, Ok, codes}
+use Rattle.std.specs.Fmt.{decimal}
+use Rattle.std.specs.List.{AllByRecursion, flat_map}
+use Rattle.protocol_lang.specs.Limits.{IsEntry}
+use Rattle.room_spec.specs.Names.{is_name}
+use Rattle.transcript.specs.Grammar.{entry_text}
+use Rattle.transcript.specs.Lines.{line_in}
+use Rattle.history_checker.specs.Verdicts.{FedEvent, HasProcessed, RoomState, has_room, specs_of}
+
+-- entries, each behind a space
+abbrev pub spaced : List (Option ℕ) → List ℕ
+spaced entries = flat_map (λ entry. 32 ∷ entry_text entry) entries
+
+-- the text is these entries, which are values or nothing
+pub record SaysRow (text : List ℕ) (entries : List (Option ℕ)) : Type 0 where
+  pub text_is : text ≡ spaced entries
+  pub values : AllByRecursion IsEntry entries
+
+-- a line of a room and a process, and what stands behind the word `snap`
+pub record SaysSnap (line name : List ℕ) (p : ℕ) (entries : List ℕ) : Type 0 where
+  pub text : line ≡ name ++ 32 ∷ (decimal p ++ 32 ∷ (codes "snap" ++ entries))
+  pub room : is_name name ≡ true
+  pub process : p ≤ 15
+
+-- the line with this number says an event of one of the rooms, which they have then processed
+pub record HasFed (line : List ℕ) (number : ℕ) (old new : List RoomState) : Type 0 where
+  pub one : FedEvent
+  pub said : line_in line ≡ Ok (one.name, one.event)
+  pub known : has_room one.name (specs_of old) ≡ true
+  pub numbered : one.line ≡ number
+  pub processed : (fed : List FedEvent) → HasProcessed old fed → HasProcessed new (fed ++ one ∷ [])
