@@ -5,7 +5,7 @@ ghost use Rattle.protocol_lang.specs.Numbers.{number_of};
 ghost use Rattle.room_spec.specs.Rooms.{RoomSpec, AreFuses};
 ghost use Rattle.room_spec.specs.Texts.{lines_of, first_line, later_lines, fields_of};
 ghost use Rattle.room_spec.specs.declared.fault.SpecFault.TheVariants.{BadLine};
-ghost use Rattle.room_spec.specs.Grammar.{EndsAt, IsBlock, IsLocal, IsOfText};
+ghost use Rattle.room_spec.specs.Grammar.{EndsAt, IsBlock, IsLocal, IsOfText, IsFirstFault};
 ghost use Rattle.room_spec.specs.Blocks.{body_len, block_len, value_after, version_line, named, name_line, numbers_of, inputs_of, in_range, inputs_line, up_to, number_line, fuse_in, of_simulator, said_next, is_protocol, has_fuse, fuse_lines, room_in, block_in, Gives, OrMemory, UnlessMemory};
 
 use crate::fault::SpecFault;
@@ -57,6 +57,8 @@ pub fn read_block(alloc: Global, text: &[u8]) -> Result<(Spec, usize), SpecFault
     ensures local { IfErr result (λ fault. UnlessMemory fault (IsLocal text.now fault)) }
     // or on the protocol's text, or there is no line `end`.
     ensures of_text { IfErr result (λ fault. UnlessMemory fault (IsOfText text.now fault)) }
+    // The lines before a fault's own begin some block; it can't follow them, or the protocol's text has its fault.
+    ensures first { IfErr result (λ fault. UnlessMemory fault (IsFirstFault text.now fault)) }
     // Which fault it is.
     ensures exact { OrMemory result (block_in text.now) }
 {
