@@ -10,7 +10,7 @@ ghost use Rattle.room_spec.specs.Blocks.{body_len, block_len, value_after, versi
 
 use crate::fault::SpecFault;
 use crate::name::Name;
-use crate::spec::{Spec, bits};
+use crate::spec::{MAX_BITS, MAX_PROCESSES, MAX_ROUNDS, MAX_SIMULATORS, MAX_TURNS, Spec, bits};
 use crate::text::cut;
 use arrayvec::ArrayVec;
 use protocol_lang::{parse_bytes, read_number};
@@ -82,12 +82,18 @@ fn read_room(alloc: Global, body: &[u8]) -> Result<Spec, SpecFault>
     let rest = read_version(body)?;
     let (name, rest) = read_name(rest)?;
     let (inputs, rest) = read_inputs(rest)?;
-    let (simulators, rest) = read_number_line(rest, 4, b"simulators ", 8, SpecFault::Simulators)?;
-    let (rounds, rest) = read_number_line(rest, 5, b"rounds ", 15, SpecFault::Rounds)?;
-    if usize::from(simulators) * inputs.len() * bits(usize::from(rounds)) > 64 {
+    let (simulators, rest) = read_number_line(
+        rest,
+        4,
+        b"simulators ",
+        MAX_SIMULATORS as u16,
+        SpecFault::Simulators,
+    )?;
+    let (rounds, rest) = read_number_line(rest, 5, b"rounds ", MAX_ROUNDS, SpecFault::Rounds)?;
+    if usize::from(simulators) * inputs.len() * bits(usize::from(rounds)) > MAX_BITS {
         return Err(SpecFault::TooWide);
     }
-    let (turns, rest) = read_number_line(rest, 6, b"turns ", 65535, SpecFault::Turns)?;
+    let (turns, rest) = read_number_line(rest, 6, b"turns ", MAX_TURNS, SpecFault::Turns)?;
     let (fuses, text) = read_fuses(rest, simulators)?;
     let protocol = parse_bytes(alloc, text).map_err(SpecFault::BadProtocol)?;
     Ok(Spec {
@@ -134,7 +140,7 @@ fn read_name(text: &[u8]) -> Result<(Name, &[u8]), SpecFault>
     Ok((name, rest))
 }
 
-fn read_inputs(text: &[u8]) -> Result<(ArrayVec<u32, 16>, &[u8]), SpecFault>
+fn read_inputs(text: &[u8]) -> Result<(ArrayVec<u32, MAX_PROCESSES>, &[u8]), SpecFault>
     ensures { Gives (λ read. (read.0.items, read.1.now)) result (inputs_line text.now) }
 {
     let (line, rest) = split_line(text);
@@ -142,7 +148,7 @@ fn read_inputs(text: &[u8]) -> Result<(ArrayVec<u32, 16>, &[u8]), SpecFault>
     Ok((inputs, rest))
 }
 
-fn inputs_from(line: &[u8]) -> Result<ArrayVec<u32, 16>, SpecFault>
+fn inputs_from(line: &[u8]) -> Result<ArrayVec<u32, MAX_PROCESSES>, SpecFault>
     ensures { Gives (λ values. values.items) result (in_range (inputs_of (fields_of line.now))) }
 {
     let (word, mut rest) = cut(line, b' ');
@@ -188,7 +194,10 @@ fn read_number_line<'a>(
 }
 
 /// Reads the crash lines and the line `protocol`.
-fn read_fuses(text: &[u8], simulators: u16) -> Result<(ArrayVec<(u8, u32), 8>, &[u8]), SpecFault>
+fn read_fuses(
+    text: &[u8],
+    simulators: u16,
+) -> Result<(ArrayVec<(u8, u32), MAX_SIMULATORS>, &[u8]), SpecFault>
     requires { simulators ≤ 8 }
     ensures value { Gives (λ read. (read.0.items, read.1.now)) result (fuse_lines simulators text.now) }
     ensures fuses { IfOk result (λ read. AreFuses read.0.items simulators) }
