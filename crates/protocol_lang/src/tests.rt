@@ -88,6 +88,15 @@ fn repeated(
 }
 
 #[test]
+fn longest_text(rt: HostRuntime) -> Result<(), Fail> {
+    let text = repeated(&rt, "first input;", " ", 4067, "else decide mine;")?;
+    assert_eq!(rt; text.len(), 4096);
+    assert!(rt; parse(rt.alloc(), &text).is_ok());
+    assert!(rt; parse_bytes(rt.alloc(), text.as_bytes()).is_ok());
+    Ok(())
+}
+
+#[test]
 fn limits_of_texts(rt: HostRuntime) -> Result<(), Fail> {
     let deep = repeated(&rt, "first ", "(", 33, "")?;
     assert_eq!(rt;

@@ -84,7 +84,7 @@ pub record TellsFuse (m : ℕ) (fuses : List (ℕ × ℕ)) (line : List ℕ) (fu
   pub value : is_value fuse.1 ≡ true
   pub new : has_fuse fuses fuse.0 ≡ false
 
-of_simulator_ok : (line m : ℕ) (found : Option (ℕ × ℕ)) (fuse : ℕ × ℕ) → of_simulator line m found ≡ Ok fuse → (found ≡ Some fuse) × (nat_lt fuse.0 m ≡ true) × (is_value fuse.1 ≡ true)
+pub of_simulator_ok : (line m : ℕ) (found : Option (ℕ × ℕ)) (fuse : ℕ × ℕ) → of_simulator line m found ≡ Ok fuse → (found ≡ Some fuse) × (nat_lt fuse.0 m ≡ true) × (is_value fuse.1 ≡ true)
 of_simulator_ok line m None fuse e = absurd cc
 of_simulator_ok line m (Some read) fuse e =
     let parts = guard_ok (nat_lt read.0 m && is_value read.1) (CrashLine line) read fuse e in

@@ -63,7 +63,7 @@ value_again word line value is =
     let starts : starts_with nat_eq line word ≡ true = (starts_is Decides-eqb line word (starts_with nat_eq line word) refl).1 value is in
     rw starts (ap Some (ap (drop (length word)) is ∙ drop_at word value (length word) refl))
 
-named_found : (value : Option (List ℕ)) (name : List ℕ) → named value ≡ Ok name → (value ≡ Some name) × (is_name name ≡ true)
+pub named_found : (value : Option (List ℕ)) (name : List ℕ) → named value ≡ Ok name → (value ≡ Some name) × (is_name name ≡ true)
 named_found None name e = absurd cc
 named_found (Some value) name e =
     let parts = guard_ok (is_name value) BadName value name e in
@@ -80,14 +80,14 @@ name_again text name line is = rw (value_again (codes "room ") (first_line text)
 
 -- ---- lines of a word and a number
 
-in_range_found : (most : ℕ) (fault : SpecFault) (line : ℕ) (found : Option ℕ) (number : ℕ) → up_to most fault line found ≡ Ok number → (found ≡ Some number) × (1 ≤ number) × (number ≤ most)
+pub in_range_found : (most : ℕ) (fault : SpecFault) (line : ℕ) (found : Option ℕ) (number : ℕ) → up_to most fault line found ≡ Ok number → (found ≡ Some number) × (1 ≤ number) × (number ≤ most)
 in_range_found most fault line None number e = absurd cc
 in_range_found most fault line (Some read) number e =
     let parts = guard_ok (nat_le 1 read && nat_le read most) fault read number e in
     let range = and_parts (nat_le 1 read) (nat_le read most) parts.0 in
     (ap Some parts.1, omega (arith, leb-true 1 read range.0, parts.1), omega (arith, leb-true read most range.1, parts.1))
 
-decimal_found : (value : Option (List ℕ)) (number : ℕ) → option_and_then number_of value ≡ Some number → number < 2 ^ 64 → value ≡ Some (decimal number)
+pub decimal_found : (value : Option (List ℕ)) (number : ℕ) → option_and_then number_of value ≡ Some number → number < 2 ^ 64 → value ≡ Some (decimal number)
 decimal_found None number e small = absurd cc
 decimal_found (Some text) number e small = ap Some (number_to text number e small)
 
@@ -118,7 +118,7 @@ with_number_found None others values e = absurd cc
 with_number_found (Some number) None values e = absurd cc
 with_number_found (Some number) (Some more) values e = (number, more, refl, refl, cc)
 
-test_found : (b : Bool) (found : Option (List ℕ)) (values : List ℕ) → cond b found None ≡ Some values → (b ≡ true) × (found ≡ Some values)
+pub test_found : (b : Bool) (found : Option (List ℕ)) (values : List ℕ) → cond b found None ≡ Some values → (b ≡ true) × (found ≡ Some values)
 test_found true found values e = (refl, e)
 test_found false found values e = absurd cc
 
@@ -134,13 +134,13 @@ values_found (field ∷ fields) values e all =
     let fields_is : fields ≡ map decimal parts.1 = values_found fields parts.1 parts.3 each.1 in
     ap (λ (f : List ℕ). f ∷ fields) field_is ∙ ap (λ (f : List (List ℕ)). decimal parts.0 ∷ f) fields_is ∙ ap (map decimal) (sym parts.4)
 
-pieces_found : (pieces : List (List ℕ)) (values : List ℕ) → inputs_of pieces ≡ Some values → list_all is_value values ≡ true → pieces ≡ codes "inputs" ∷ map decimal values
+pub pieces_found : (pieces : List (List ℕ)) (values : List ℕ) → inputs_of pieces ≡ Some values → list_all is_value values ≡ true → pieces ≡ codes "inputs" ∷ map decimal values
 pieces_found [] values e all = absurd cc
 pieces_found (word ∷ fields) values e all =
     let parts = test_found (bytes_eq word (codes "inputs")) (numbers_of fields) values e in
     ap (λ (w : List ℕ). w ∷ fields) ((bytes_eq-Decides word (codes "inputs")).0 parts.0) ∙ ap (λ (f : List (List ℕ)). codes "inputs" ∷ f) (values_found fields values parts.1 all)
 
-inputs_in_range : (found : Option (List ℕ)) (values : List ℕ) → in_range found ≡ Ok values → (found ≡ Some values) × (are_inputs values ≡ true)
+pub inputs_in_range : (found : Option (List ℕ)) (values : List ℕ) → in_range found ≡ Ok values → (found ≡ Some values) × (are_inputs values ≡ true)
 inputs_in_range None values e = absurd cc
 inputs_in_range (Some read) values e =
     let parts = guard_ok (are_inputs read) Inputs read values e in

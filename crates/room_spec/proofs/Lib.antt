@@ -9,6 +9,7 @@ pub mod Heads
 pub mod Fuses
 pub mod Readings
 pub mod Locality
+pub mod FirstFaults
 pub mod Memory
 pub mod Values
 pub mod Worked

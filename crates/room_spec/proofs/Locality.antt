@@ -26,7 +26,7 @@ use Rattle.room_spec.proofs.Readings.{from_text, from_fuses, from_turns, from_ro
 
 -- ---- steps that may fail
 
-err_cases : {A B : Type 0} (r : Result A SpecFault) (next : A → Result B SpecFault) (fault : SpecFault) → (r >>= next) ≡ Err fault → (r ≡ Err fault) ⊎ ((x : A) × (r ≡ Ok x) × (next x ≡ Err fault))
+pub err_cases : {A B : Type 0} (r : Result A SpecFault) (next : A → Result B SpecFault) (fault : SpecFault) → (r >>= next) ≡ Err fault → (r ≡ Err fault) ⊎ ((x : A) × (r ≡ Ok x) × (next x ≡ Err fault))
 err_cases (Ok x) next fault e = inr (x, refl, e)
 err_cases (Err own) next fault e = inl (let same : own ≡ fault = cc in ap Err same)
 
@@ -60,7 +60,7 @@ same_reader line behind read same is local = record {
 }
 
 -- one line is judged, and what is behind it is read
-abbrev by_line : {A : Type 0} → (List ℕ → Result A SpecFault) → (A → List ℕ → Result RoomSpec SpecFault) → List ℕ → Result RoomSpec SpecFault
+abbrev pub by_line : {A : Type 0} → (List ℕ → Result A SpecFault) → (A → List ℕ → Result RoomSpec SpecFault) → List ℕ → Result RoomSpec SpecFault
 by_line judge next text = judge (first_line text) >>= λ x. next x (later_lines text)
 
 -- what is read behind a line that says x, and which of the lines behind it are the protocol's
@@ -143,10 +143,10 @@ line_local line said judge next refused judged later =
 
 -- ---- the judgements of lines
 
-abbrev word_test : ℕ → Bool → Result ℕ SpecFault
+abbrev pub word_test : ℕ → Bool → Result ℕ SpecFault
 word_test line is = cond is (Ok 0) (Err (BadLine line))
 
-abbrev word_judge : ℕ → List ℕ → List ℕ → Result ℕ SpecFault
+abbrev pub word_judge : ℕ → List ℕ → List ℕ → Result ℕ SpecFault
 word_judge line word bytes = word_test line (bytes_eq bytes word)
 
 word_fault : (line : ℕ) (is : Bool) (fault : SpecFault) → word_test line is ≡ Err fault → line_of fault ≡ Some line
@@ -169,10 +169,10 @@ number_fault : (most : ℕ) (said : SpecFault) (line : ℕ) (found : Option ℕ)
 number_fault most said line None fault of e = let own : BadLine line ≡ fault = cc in ap line_of (sym own)
 number_fault most said line (Some number) fault of e = test_fault line (nat_le 1 number && nat_le number most) number said fault of e
 
-abbrev number_judge : ℕ → List ℕ → ℕ → SpecFault → List ℕ → Result ℕ SpecFault
+abbrev pub number_judge : ℕ → List ℕ → ℕ → SpecFault → List ℕ → Result ℕ SpecFault
 number_judge line word most fault bytes = up_to most fault line (option_and_then number_of (value_after word bytes))
 
-abbrev fitting_judge : (ℕ → ℕ) → Result ℕ SpecFault → Result ℕ SpecFault
+abbrev pub fitting_judge : (ℕ → ℕ) → Result ℕ SpecFault → Result ℕ SpecFault
 fitting_judge width rounds = rounds >>= λ n. fitting (width n) >>= λ bits. Ok n
 
 fitting_no : (n bits : ℕ) (fits : Bool) (fault : SpecFault) → (cond fits (Ok bits) (Err TooWide) >>= λ b. Ok n) ≡ Err fault → line_of fault ≡ Some 5
@@ -185,14 +185,14 @@ fitting_fault width (Ok n) fault of e = fitting_no n (width n) (nat_le (width n)
 
 -- ---- line by line
 
-abbrev with_rest : {A : Type 0} → Result A SpecFault → List ℕ → Result (A × List ℕ) SpecFault
+abbrev pub with_rest : {A : Type 0} → Result A SpecFault → List ℕ → Result (A × List ℕ) SpecFault
 with_rest r rest = r >>= λ x. Ok (x, rest)
 
-regroup : {A : Type 0} (r : Result A SpecFault) (rest : List ℕ) (next : A → List ℕ → Result RoomSpec SpecFault) → (with_rest r rest >>= λ y. next y.0 y.1) ≡ (r >>= λ x. next x rest)
+pub regroup : {A : Type 0} (r : Result A SpecFault) (rest : List ℕ) (next : A → List ℕ → Result RoomSpec SpecFault) → (with_rest r rest >>= λ y. next y.0 y.1) ≡ (r >>= λ x. next x rest)
 regroup (Ok x) rest next = refl
 regroup (Err fault) rest next = refl
 
-regroup_word : (line : ℕ) (is : Bool) (rest : List ℕ) (next : List ℕ → Result RoomSpec SpecFault) → (cond is (Ok rest) (Err (BadLine line)) >>= next) ≡ (word_test line is >>= λ x. next rest)
+pub regroup_word : (line : ℕ) (is : Bool) (rest : List ℕ) (next : List ℕ → Result RoomSpec SpecFault) → (cond is (Ok rest) (Err (BadLine line)) >>= next) ≡ (word_test line is >>= λ x. next rest)
 regroup_word line true rest next = refl
 regroup_word line false rest next = refl
 
@@ -200,11 +200,11 @@ regroup_fitting_at : (n bits : ℕ) (fits : Bool) (rest : List ℕ) (next : ℕ 
 regroup_fitting_at n bits true rest next = refl
 regroup_fitting_at n bits false rest next = refl
 
-regroup_fitting : (width : ℕ → ℕ) (rounds : Result ℕ SpecFault) (rest : List ℕ) (next : ℕ → List ℕ → Result RoomSpec SpecFault) → (with_rest rounds rest >>= λ y. fitting (width y.0) >>= λ bits. next y.0 y.1) ≡ (fitting_judge width rounds >>= λ x. next x rest)
+pub regroup_fitting : (width : ℕ → ℕ) (rounds : Result ℕ SpecFault) (rest : List ℕ) (next : ℕ → List ℕ → Result RoomSpec SpecFault) → (with_rest rounds rest >>= λ y. fitting (width y.0) >>= λ bits. next y.0 y.1) ≡ (fitting_judge width rounds >>= λ x. next x rest)
 regroup_fitting width (Ok n) rest next = regroup_fitting_at n (width n) (nat_le (width n) 64) rest next
 regroup_fitting width (Err fault) rest next = refl
 
-protocol_fault : (outcome : Result Protocol ParseFault) (next : Protocol → Result RoomSpec SpecFault) (fault : SpecFault) → ((protocol : Protocol) → next protocol ≡ Err fault → ⊥) → (protocol_of outcome >>= next) ≡ Err fault → (own : ParseFault) × (outcome ≡ Err own) × (BadProtocol own ≡ fault)
+pub protocol_fault : (outcome : Result Protocol ParseFault) (next : Protocol → Result RoomSpec SpecFault) (fault : SpecFault) → ((protocol : Protocol) → next protocol ≡ Err fault → ⊥) → (protocol_of outcome >>= next) ≡ Err fault → (own : ParseFault) × (outcome ≡ Err own) × (BadProtocol own ≡ fault)
 protocol_fault (Ok protocol) next fault never e = absurd (never protocol e)
 protocol_fault (Err own) next fault never e = (own, refl, cc)
 
@@ -217,10 +217,10 @@ local_text line name inputs simulators rounds turns fuses = record {
 
 -- the crash lines and the line `protocol`, one by one
 
-abbrev on_from : ℕ → ℕ → List (ℕ × ℕ) → (List (ℕ × ℕ) → List ℕ → Result RoomSpec SpecFault) → List ℕ → Result RoomSpec SpecFault
+abbrev pub on_from : ℕ → ℕ → List (ℕ × ℕ) → (List (ℕ × ℕ) → List ℕ → Result RoomSpec SpecFault) → List ℕ → Result RoomSpec SpecFault
 on_from most m fuses next text = fuses_from most m fuses text >>= λ read. next read.0 read.1
 
-abbrev on_told : ℕ → ℕ → List (ℕ × ℕ) → (List (ℕ × ℕ) → List ℕ → Result RoomSpec SpecFault) → Option (ℕ × ℕ) → List ℕ → Result RoomSpec SpecFault
+abbrev pub on_told : ℕ → ℕ → List (ℕ × ℕ) → (List (ℕ × ℕ) → List ℕ → Result RoomSpec SpecFault) → Option (ℕ × ℕ) → List ℕ → Result RoomSpec SpecFault
 on_told most m fuses next None text = next fuses text
 on_told most m fuses next (Some fuse) text = on_from most m (fuses ++ fuse ∷ []) next text
 
@@ -229,7 +229,7 @@ regroup_onward most m fuses next (Err fault) rest = refl
 regroup_onward most m fuses next (Ok None) rest = refl
 regroup_onward most m fuses next (Ok (Some fuse)) rest = refl
 
-regroup_fuses : (most m : ℕ) (fuses : List (ℕ × ℕ)) (next : List (ℕ × ℕ) → List ℕ → Result RoomSpec SpecFault) (text : List ℕ) → on_from (suc most) m fuses next text ≡ by_line (said_next m fuses) (on_told most m fuses next) text
+pub regroup_fuses : (most m : ℕ) (fuses : List (ℕ × ℕ)) (next : List (ℕ × ℕ) → List ℕ → Result RoomSpec SpecFault) (text : List ℕ) → on_from (suc most) m fuses next text ≡ by_line (said_next m fuses) (on_told most m fuses next) text
 unfolding fuses_from
 regroup_fuses most m fuses next text = regroup_onward most m fuses next (said_next m fuses (first_line text)) (later_lines text)
 
@@ -337,10 +337,10 @@ ended text len at =
     }
 
 -- a fault that is not that of the whole block
-record FaultAt (text : List ℕ) (fault : SpecFault) : Type 0 where
-  len : ℕ
-  at : EndsAt text len
-  read : room_in (text_of at.lines) ≡ Err fault
+pub record FaultAt (text : List ℕ) (fault : SpecFault) : Type 0 where
+  pub len : ℕ
+  pub at : EndsAt text len
+  pub read : room_in (text_of at.lines) ≡ Err fault
 
 fault_before : (text : List ℕ) (found : Option ℕ) (fault : SpecFault) → room_before text found ≡ Err fault → ((fault ≡ Truncated) × (found ≡ None)) ⊎ ((body : ℕ) × (found ≡ Some body) × (room_in (take body text) ≡ Err fault))
 fault_before text None fault e = inl (cc, refl)
@@ -350,7 +350,7 @@ fault_before text (Some body) fault e =
       | inr (room, read, there) ↦ absurd cc
     ]
 
-fault_at : (text : List ℕ) (fault : SpecFault) → block_in text ≡ Err fault → ((fault ≡ Truncated) × (body_len text ≡ None)) ⊎ FaultAt text fault
+pub fault_at : (text : List ℕ) (fault : SpecFault) → block_in text ≡ Err fault → ((fault ≡ Truncated) × (body_len text ≡ None)) ⊎ FaultAt text fault
 fault_at text fault e =
     elim (fault_before text (body_len text) fault e) [
       | inl whole ↦ inl whole
@@ -371,7 +371,7 @@ same_cons line other lines others e = (cc, cc)
 never_end : (line : List ℕ) → is_end line ≡ false → line ≡ codes "end" → ⊥
 never_end line is e = false≢true (sym is ∙ ap is_end e)
 
-agree_lines : (n : ℕ) (lines others pieces rest : List (List ℕ)) → are_before_end lines ≡ true → are_before_end others ≡ true → take n (others ++ codes "end" ∷ rest) ≡ take n (lines ++ codes "end" ∷ pieces) → Agree n (text_of lines) (text_of others)
+pub agree_lines : (n : ℕ) (lines others pieces rest : List (List ℕ)) → are_before_end lines ≡ true → are_before_end others ≡ true → take n (others ++ codes "end" ∷ rest) ≡ take n (lines ++ codes "end" ∷ pieces) → Agree n (text_of lines) (text_of others)
 agree_lines zero lines others pieces rest all all_others same = tt
 agree_lines (suc n) [] [] pieces rest all all_others same = agree_same (suc n) []
 agree_lines (suc n) [] (other ∷ others) pieces rest all all_others same =
@@ -396,7 +396,7 @@ if_some : {A : Type 0} (found : Option A) (P : A → Type 0) → ((x : A) → fo
 if_some None P from = tt
 if_some (Some x) P from = from x refl
 
-same_fault : (text : List ℕ) (fault : SpecFault) (line : ℕ) → line_of fault ≡ Some line → FaultAt text fault → (other : List ℕ) (len : ℕ) → EndsAt other len → take line (lines_of other) ≡ take line (lines_of text) → block_in other ≡ Err fault
+pub same_fault : (text : List ℕ) (fault : SpecFault) (line : ℕ) → line_of fault ≡ Some line → FaultAt text fault → (other : List ℕ) (len : ℕ) → EndsAt other len → take line (lines_of other) ≡ take line (lines_of text) → block_in other ≡ Err fault
 same_fault text fault line is found other len at same =
     let end = ended text found.len found.at in
     let end_other = ended other len at in

@@ -10,12 +10,13 @@ use Rattle.protocol_lang.specs.declared.fault.ParseFault.TheVariants.{OutOfMemor
 use Rattle.protocol_lang.proofs.Limits.{small_numerals}
 use Rattle.room_spec.specs.Rooms.{RoomSpec}
 use Rattle.room_spec.specs.Blocks.{body_len, room_in, room_before, block_in, OrMemory, UnlessMemory, out_of_memory}
-use Rattle.room_spec.specs.Grammar.{IsBlock, IsLocal, IsOfText}
+use Rattle.room_spec.specs.Grammar.{IsBlock, IsLocal, IsOfText, IsFirstFault}
 use Rattle.room_spec.specs.declared.fault.SpecFault.{SpecFault}
 use Rattle.room_spec.specs.declared.fault.SpecFault.TheVariants.{BadProtocol}
 use Rattle.room_spec.proofs.Heads.{bind_ok}
 use Rattle.room_spec.proofs.Readings.{block_found, block_again}
 use Rattle.room_spec.proofs.Locality.{block_local, block_of_text}
+use Rattle.room_spec.proofs.FirstFaults.{block_first}
 
 abbrev read_as : RoomSpec → ℕ → Result (RoomSpec × ℕ) SpecFault
 read_as room len = Ok (room, len)
@@ -53,6 +54,11 @@ pub of_text_or : (text : List ℕ) (result : Result (RoomSpec × ℕ) SpecFault)
 of_text_or text (Ok read) e = tt
 of_text_or text (Err fault) (inl e) = unless fault (IsOfText text fault) (block_of_text text (Err fault) e)
 of_text_or text (Err fault) (inr e) = let same : fault ≡ out_of_memory = (let is = e.0 in cc) in refused fault (IsOfText text fault) same
+
+pub first_or : (text : List ℕ) (result : Result (RoomSpec × ℕ) SpecFault) → OrMemory result (block_in text) → IfErr result (λ fault. UnlessMemory fault (IsFirstFault text fault))
+first_or text (Ok read) e = tt
+first_or text (Err fault) (inl e) = unless fault (IsFirstFault text fault) (block_first text (Err fault) e)
+first_or text (Err fault) (inr e) = let same : fault ≡ out_of_memory = (let is = e.0 in cc) in refused fault (IsFirstFault text fault) same
 
 -- what is kept of a protocol that was read has small numerals
 pub kept_small : (P : ParseFault → Type 0) (text : List ℕ) (read : Result Protocol ParseFault) (kept : Result Protocol SpecFault) (protocol : Protocol) → IfOk read (IsText text) → MatchResult read (λ tree. kept ≡ Ok tree) P → is_ok kept ≡ is_ok read → kept ≡ Ok protocol → HasSmallNumerals protocol

@@ -3,7 +3,7 @@ use Rattle.std.proofs.Common.{◌≡◌, ◌≢◌, ℕ, ◌+◌, ◌*◌, ◌^�
 use Rattle.std.specs.Prelude.{codes, nat_le, nat_lt}
 use Rattle.std.specs.List.{join_with_byte, list_all}
 use Rattle.std.specs.Fmt.{decimal}
-use Rattle.std.proofs.lemmas.Bool.{and_parts, and_from, leb-true, le-leb, ltb-true}
+use Rattle.std.proofs.lemmas.Bool.{and_parts, and_from, leb-true, le-leb, lt-leb, ltb-true}
 use Rattle.std.proofs.lemmas.Bool.Decides.{nat_tests}
 use Rattle.std.proofs.lemmas.List.{take_at, append_assoc, append-nil, length-append}
 use Rattle.std.proofs.lemmas.List.Concat.{flat_map-append}
@@ -19,7 +19,7 @@ use Rattle.room_spec.specs.Names.{is_name, is_name_byte}
 use Rattle.room_spec.specs.Rooms.{RoomSpec, AreFuses, IsShape, IsWithinLimits, bits_of, is_value}
 use Rattle.room_spec.specs.Texts.{is_line_end, first_line, later_lines}
 use Rattle.room_spec.specs.Blocks.{◌>>=◌, is_end, body_len, version_line, name_line, are_inputs, inputs_line, number_line, fitting, onward, said_next, fuses_from, fuse_lines, protocol_of, room_in, block_in}
-use Rattle.room_spec.specs.Grammar.{line_end, is_line, text_of, are_before_end, crash_line, head_lines, block_text, IsInFront, IsBlock}
+use Rattle.room_spec.specs.Grammar.{line_end, is_line, text_of, are_before_end, crash_line, head_lines, block_text, IsInFront, IsBlock, IsHead, width_of}
 use Rattle.room_spec.specs.declared.fault.SpecFault.{SpecFault}
 use Rattle.room_spec.specs.declared.fault.SpecFault.TheVariants.{Simulators, Rounds, Turns, TooWide}
 use Rattle.room_spec.proofs.Lines.{are_lines, first_line-text_of, later_lines-text_of}
@@ -145,7 +145,7 @@ fuse_says m fuses fuse lines line rest read taken is says = record {
 told_some : (m : ℕ) (fuses : List (ℕ × ℕ)) (line : List ℕ) (found : Option (ℕ × ℕ)) → said_next m fuses line ≡ Ok found → line ≢ []
 told_some m fuses line found said empty = absurd (let h : said_next m fuses [] ≡ Ok found = sym (ap (said_next m fuses) empty) ∙ said in cc)
 
-values_pushed : (fuses : List (ℕ × ℕ)) (fuse : ℕ × ℕ) → list_all (λ f. is_value f.1) fuses ≡ true → is_value fuse.1 ≡ true → list_all (λ f. is_value f.1) (fuses ++ fuse ∷ []) ≡ true
+pub values_pushed : (fuses : List (ℕ × ℕ)) (fuse : ℕ × ℕ) → list_all (λ f. is_value f.1) fuses ≡ true → is_value fuse.1 ≡ true → list_all (λ f. is_value f.1) (fuses ++ fuse ∷ []) ≡ true
 values_pushed fuses fuse all is = list_all-append (λ (f : ℕ × ℕ). is_value f.1) fuses (fuse ∷ []) ∙ and_from (list_all (λ f. is_value f.1) fuses) (list_all (λ f. is_value f.1) (fuse ∷ [])) all (and_from (is_value fuse.1) true is refl)
 
 onward_found : (most m : ℕ) (fuses : List (ℕ × ℕ)) (line rest : List ℕ) (lines : List (List ℕ)) (found : Option (ℕ × ℕ)) (read : List (ℕ × ℕ) × List ℕ) → m ≤ 8 → Takes lines line rest → AreFuses fuses m → list_all (λ fuse. is_value fuse.1) fuses ≡ true → ((fuse : ℕ × ℕ) (more : List (List ℕ)) → rest ≡ text_of more → are_lines more ≡ true → AreFuses (fuses ++ fuse ∷ []) m → list_all (λ f. is_value f.1) (fuses ++ fuse ∷ []) ≡ true → fuses_from most m (fuses ++ fuse ∷ []) rest ≡ Ok read → SaysFuses m (fuses ++ fuse ∷ []) more read) → said_next m fuses line ≡ Ok found → onward (fuses_from most m) fuses rest found ≡ Ok read → SaysFuses m fuses lines read
@@ -431,7 +431,7 @@ fitting_again bits fits = rw (le-leb bits 64 fits) refl
 inputs_are : (values : List ℕ) → (1 ≤ length values) × (length values ≤ 16) → list_all is_value values ≡ true → are_inputs values ≡ true
 inputs_are values range all = and_from _ (list_all is_value values) (and_from (nat_le 1 (length values)) (nat_le (length values) 16) (le-leb 1 (length values) range.0) (le-leb (length values) 16 range.1)) all
 
-room_again : (room : RoomSpec) (more : List (List ℕ)) → IsWithinLimits room → list_all (λ fuse. is_value fuse.1) room.fuses ≡ true → reading (text_of more) ≡ Ok room.protocol → room_in (text_of (head_lines room ++ more)) ≡ Ok room
+pub room_again : (room : RoomSpec) (more : List (List ℕ)) → IsWithinLimits room → list_all (λ fuse. is_value fuse.1) room.fuses ≡ true → reading (text_of more) ≡ Ok room.protocol → room_in (text_of (head_lines room ++ more)) ≡ Ok room
 room_again room more limits fuses protocol =
     let memory : room.simulators * length room.inputs * bits_of room.rounds ≤ 64 = limits.shape.memory in
     steps room (text_of (head_lines room ++ more)) (text_of (name_on room ++ more)) (text_of (inputs_on room ++ more)) (text_of (simulators_on room ++ more)) (text_of (rounds_on room ++ more)) (text_of (turns_on room ++ more)) (text_of (fuses_on room ++ more)) (text_of more)
@@ -445,6 +445,35 @@ room_again room more limits fuses protocol =
     (fuses_text room.simulators room.fuses more limits.shape.m_range.1 limits.fuses fuses)
     protocol
 
+-- the limits of a room are those of its head
+head_of : (room : RoomSpec) → IsWithinLimits room → list_all (λ fuse. is_value fuse.1) room.fuses ≡ true → IsHead room
+head_of room limits values = record {
+  name = limits.name;
+  inputs = inputs_are room.inputs limits.shape.n_range limits.values;
+  simulators = limits.shape.m_range;
+  rounds = limits.shape.rounds_range;
+  turns = limits.turns;
+  fuses = limits.fuses;
+  values = values;
+}
+
+steps_to_width : (room : RoomSpec) (a b c d e f : List ℕ) → version_line a ≡ Ok b → name_line b ≡ Ok (room.name, c) → inputs_line c ≡ Ok (room.inputs, d) → number_line 4 (codes "simulators ") 8 Simulators d ≡ Ok (room.simulators, e) → number_line 5 (codes "rounds ") 15 Rounds e ≡ Ok (room.rounds, f) → fitting (room.simulators * length room.inputs * bits_of room.rounds) ≡ Err TooWide → room_in a ≡ Err TooWide
+unfolding room_in
+steps_to_width room a b c d e f ab bc cd de ef wide = rw (ab, bc, cd, de, ef, wide) refl
+
+fitting_never : (bits : ℕ) → 64 < bits → fitting bits ≡ Err TooWide
+fitting_never bits wide = rw (lt-leb bits 64 wide) refl
+
+pub room_too_wide : (room : RoomSpec) (more : List (List ℕ)) → IsHead room → 64 < width_of room room.rounds → room_in (text_of (head_lines room ++ more)) ≡ Err TooWide
+room_too_wide room more head wide =
+    steps_to_width room (text_of (head_lines room ++ more)) (text_of (name_on room ++ more)) (text_of (inputs_on room ++ more)) (text_of (simulators_on room ++ more)) (text_of (rounds_on room ++ more)) (text_of (turns_on room ++ more))
+    (version_text (name_on room ++ more))
+    (name_text room.name (inputs_on room ++ more) head.name)
+    (inputs_text room.inputs (simulators_on room ++ more) head.inputs)
+    (number_text 4 (codes "simulators ") 8 Simulators room.simulators (rounds_on room ++ more) refl (omega arith) head.simulators)
+    (number_text 5 (codes "rounds ") 15 Rounds room.rounds (turns_on room ++ more) refl (omega arith) head.rounds)
+    (fitting_never (width_of room room.rounds) wide)
+
 inputs_no_end : (values : List ℕ) → is_end (join_with_byte 32 (codes "inputs" ∷ map decimal values)) ≡ false
 inputs_no_end [] = refl
 inputs_no_end (value ∷ values) = refl
@@ -456,15 +485,15 @@ fuses_no_end m (fuse ∷ fuses) more few below values all =
     let each = and_parts (is_value fuse.1) (list_all (λ f. is_value f.1) fuses) values in
     line_before (crash_line fuse) ((map crash_line fuses ++ codes "protocol" ∷ []) ++ more) (crash_line_is fuse m few under.0 each.0) refl (fuses_no_end m fuses more few under.1 each.1 all)
 
-head_no_end : (room : RoomSpec) (more : List (List ℕ)) → IsWithinLimits room → list_all (λ fuse. is_value fuse.1) room.fuses ≡ true → are_before_end more ≡ true → are_before_end (head_lines room ++ more) ≡ true
-head_no_end room more limits fuses all =
+pub head_no_end : (room : RoomSpec) (more : List (List ℕ)) → IsHead room → are_before_end more ≡ true → are_before_end (head_lines room ++ more) ≡ true
+head_no_end room more head all =
     line_before (codes "bgsim 1") (name_on room ++ more) refl refl
-    (line_before (codes "room " ++ room.name) (inputs_on room ++ more) (name_line_is room.name limits.name) refl
-    (line_before (join_with_byte 32 (codes "inputs" ∷ map decimal room.inputs)) (simulators_on room ++ more) (inputs_line_is (codes "inputs") room.inputs refl limits.values) (inputs_no_end room.inputs)
-    (line_before (codes "simulators " ++ decimal room.simulators) (rounds_on room ++ more) (number_line_is (codes "simulators ") room.simulators refl (omega (arith, limits.shape.m_range.1))) refl
-    (line_before (codes "rounds " ++ decimal room.rounds) (turns_on room ++ more) (number_line_is (codes "rounds ") room.rounds refl (omega (arith, limits.shape.rounds_range.1))) refl
-    (line_before (codes "turns " ++ decimal room.turns) (fuses_on room ++ more) (number_line_is (codes "turns ") room.turns refl (omega (arith, limits.turns.1))) refl
-    (fuses_no_end room.simulators room.fuses more limits.shape.m_range.1 limits.fuses.below fuses all))))))
+    (line_before (codes "room " ++ room.name) (inputs_on room ++ more) (name_line_is room.name head.name) refl
+    (line_before (join_with_byte 32 (codes "inputs" ∷ map decimal room.inputs)) (simulators_on room ++ more) (inputs_line_is (codes "inputs") room.inputs refl (inputs_are_values room.inputs head.inputs)) (inputs_no_end room.inputs)
+    (line_before (codes "simulators " ++ decimal room.simulators) (rounds_on room ++ more) (number_line_is (codes "simulators ") room.simulators refl (omega (arith, head.simulators.1))) refl
+    (line_before (codes "rounds " ++ decimal room.rounds) (turns_on room ++ more) (number_line_is (codes "rounds ") room.rounds refl (omega (arith, head.rounds.1))) refl
+    (line_before (codes "turns " ++ decimal room.turns) (fuses_on room ++ more) (number_line_is (codes "turns ") room.turns refl (omega (arith, head.turns.1))) refl
+    (fuses_no_end room.simulators room.fuses more head.simulators.1 head.fuses.below head.values all))))))
 
 read_to_end : (text : List ℕ) (lines : List (List ℕ)) (later : Option (List ℕ)) (room : RoomSpec) (len : ℕ) → text ≡ text_of lines ++ (codes "end" ++ with_line_end later) → are_before_end lines ≡ true → room_in (text_of lines) ≡ Ok room → min (length (text_of lines) + 4) (length text) ≡ len → block_in text ≡ Ok (room, len)
 read_to_end text lines later room len whole no_end read len_is =
@@ -478,4 +507,4 @@ block_again text room len block =
     let lines : text_of (head_lines room ++ block.lines) ≡ text_of (head_lines room) ++ text_of block.lines = flat_map-append (λ line. line ++ line_end) (head_lines room) block.lines in
     let whole : text ≡ text_of (head_lines room ++ block.lines) ++ (codes "end" ++ with_line_end front.0) = front.1 ∙ sym (regrouped (text_of (head_lines room)) (text_of block.lines) (codes "end") (with_line_end front.0)) ∙ ap (λ (t : List ℕ). t ++ (codes "end" ++ with_line_end front.0)) (sym lines) in
     let len_is : min (length (text_of (head_lines room ++ block.lines)) + 4) (length text) ≡ len = omega (arith, front.2, ap length lines, length-append (text_of (head_lines room)) (text_of block.lines), length-append (text_of (head_lines room)) (text_of block.lines ++ codes "end"), length-append (text_of block.lines) (codes "end")) in
-    read_to_end text (head_lines room ++ block.lines) front.0 room len whole (head_no_end room block.lines block.limits block.fuses block.no_end) (room_again room block.lines block.limits block.fuses (only (text_of block.lines) room.protocol block.protocol)) len_is
+    read_to_end text (head_lines room ++ block.lines) front.0 room len whole (head_no_end room block.lines (head_of room block.limits block.fuses) block.no_end) (room_again room block.lines block.limits block.fuses (only (text_of block.lines) room.protocol block.protocol)) len_is

@@ -1,7 +1,8 @@
 -- The definitions on blocks that were worked by hand.
-use Rattle.std.proofs.Common.{◌≡◌, ℕ, List, [], ◌∷◌, ◌++◌, take, Some, Ok, Err, refl}
+use Rattle.std.proofs.Common.{◌≡◌, ℕ, List, [], ◌∷◌, ◌++◌, take, Some, Ok, Err, refl, arith}
 use Rattle.std.specs.Prelude.{codes}
 use Rattle.std.specs.Fmt.{digits}
+use Rattle.std.proofs.lemmas.Bool.{ltb-true}
 use Rattle.protocol_lang.specs.Reading.{reading, run, one_token, next_token}
 use Rattle.protocol_lang.specs.declared.tree.Name.TheVariants as names
 use Rattle.protocol_lang.specs.declared.tree.Kind.TheVariants as kinds
@@ -9,8 +10,9 @@ use Rattle.protocol_lang.specs.Trees.{Named}
 use Rattle.protocol_lang.specs.declared.fault.ParseFault.TheVariants.{Unexpected}
 use Rattle.room_spec.specs.Rooms.{RoomSpec}
 use Rattle.room_spec.specs.Blocks.{body_len, block_len, fuses_from, room_in, block_in}
-use Rattle.room_spec.specs.Grammar.{line_end, block_text}
+use Rattle.room_spec.specs.Grammar.{line_end, block_text, IsHead, Begin, IsReason}
 use Rattle.room_spec.specs.declared.fault.SpecFault.TheVariants.{Truncated, BadLine, BadName, BadProtocol, Inputs, TooWide, CrashLine, Repeated}
+use Rattle.room_spec.proofs.Fuses.{no_fuses}
 
 abbrev one : List ℕ
 one = codes "bgsim 1\nroom one\ninputs 5\nsimulators 1\nrounds 1\nturns 10\nprotocol\nfirst input;\nelse decide mine;\nend\n"
@@ -107,3 +109,30 @@ crash_alone = refl
 half_protocol : block_in (codes "bgsim 1\nroom one\ninputs 5\nsimulators 1\nrounds 1\nturns 10\nprotocol\nfirst input;\nend\n") ≡ Err (BadProtocol (Unexpected 13))
 unfolding body_len room_in fuses_from reading run one_token next_token
 half_protocol = refl
+
+-- ---- why a line is the first fault
+
+-- 16 inputs and 8 simulators begin a head, and no rounds can follow
+abbrev sixteen : RoomSpec
+sixteen = record room_one { inputs = 1 ∷ 2 ∷ 3 ∷ 4 ∷ 5 ∷ 6 ∷ 7 ∷ 8 ∷ 9 ∷ 1 ∷ 2 ∷ 3 ∷ 4 ∷ 5 ∷ 6 ∷ 7 ∷ []; simulators = 8 }
+
+abbrev sixteen_lines : List (List ℕ)
+sixteen_lines = codes "bgsim 1" ∷ codes "room one" ∷ codes "inputs 1 2 3 4 5 6 7 8 9 1 2 3 4 5 6 7" ∷ codes "simulators 8" ∷ []
+
+sixteen_head : IsHead sixteen
+sixteen_head = record { name = refl; inputs = refl; simulators = (omega arith, omega arith); rounds = (omega arith, omega arith); turns = (omega arith, omega arith); fuses = no_fuses 8; values = refl }
+
+sixteen_begin : Begin sixteen_lines
+unfolding digits
+sixteen_begin = record { room = sixteen; head = sixteen_head; fits = λ five. absurd (omega (arith, five)); more = codes "rounds 1" ∷ codes "turns 10" ∷ codes "protocol" ∷ []; parts = refl }
+
+sixteen_wide : IsReason TooWide sixteen sixteen_lines (codes "rounds 1")
+unfolding digits
+sixteen_wide = (1, refl, omega arith, omega arith, ltb-true 64 128 refl)
+
+end_has_no_form : IsReason (BadLine 5) sixteen sixteen_lines (codes "end")
+end_has_no_form = λ form. absurd (let never = form.1.1 in cc)
+
+second_of_one : IsReason (Repeated 8) (record room_one { fuses = (0, 3) ∷ [] }) (codes "bgsim 1" ∷ codes "room one" ∷ codes "inputs 5" ∷ codes "simulators 1" ∷ codes "rounds 1" ∷ codes "turns 10" ∷ codes "crash 0 after 3" ∷ []) (codes "crash 0 after 4")
+unfolding digits
+second_of_one = ((0, 4), (refl, omega arith, refl), (codes "bgsim 1" ∷ codes "room one" ∷ codes "inputs 5" ∷ codes "simulators 1" ∷ codes "rounds 1" ∷ codes "turns 10" ∷ [], 3, [], refl))

@@ -1,12 +1,16 @@
 -- The grammar of room blocks, apart from how they are read.
-use Rattle.std.specs.Prelude.{◌≡◌, ◌≢◌, ℕ, All, ◌+◌, Bool, true, not, ◌&&◌, ◌⊎◌, List, [], ◌∷◌, ◌++◌, length, take, map, Option, Some, None, IfSome, Ok, Err, ⊤, codes}
+use Rattle.std.specs.Prelude.{◌≡◌, ◌≢◌, ℕ, suc, All, ◌+◌, ◌*◌, ◌≤◌, ◌<◌, Bool, true, false, not, ◌&&◌, ◌⊎◌, List, [], ◌∷◌, ◌++◌, length, take, map, Option, Some, None, IfSome, Err, ⊤, codes}
 use Rattle.std.specs.List.{after_first, flat_map, join_with_byte, list_all}
 use Rattle.std.specs.Fmt.{decimal}
+use Rattle.protocol_lang.specs.Numbers.{number_of}
 use Rattle.protocol_lang.specs.Reading.{reading}
 use Rattle.protocol_lang.specs.Grammar.{IsText}
-use Rattle.room_spec.specs.Rooms.{RoomSpec, IsWithinLimits, is_value}
-use Rattle.room_spec.specs.Texts.{is_line_end, lines_of}
-use Rattle.room_spec.specs.Blocks.{is_end, is_protocol, block_in}
+use Rattle.protocol_lang.specs.Grammar as texts
+use Rattle.protocol_lang.specs.declared.fault.ParseFault.{ParseFault}
+use Rattle.room_spec.specs.Names.{is_name}
+use Rattle.room_spec.specs.Rooms.{RoomSpec, AreFuses, IsWithinLimits, bits_of, is_value, processes}
+use Rattle.room_spec.specs.Texts.{is_line_end, lines_of, fields_of}
+use Rattle.room_spec.specs.Blocks.{is_end, is_protocol, numbers_of, are_inputs, block_in}
 use Rattle.room_spec.specs.declared.fault.SpecFault.{SpecFault}
 use Rattle.room_spec.specs.declared.fault.SpecFault.TheVariants.{Truncated, BadLine, BadName, BadProtocol, Inputs, Simulators, Rounds, Turns, TooWide, CrashLine, Repeated}
 
@@ -99,3 +103,111 @@ abbrev pub IsOfText : List ℕ → SpecFault → Type 0
 IsOfText text Truncated = All (λ line. line ≢ codes "end") (lines_of text)
 IsOfText text (BadProtocol fault) = (len : ℕ) × (at : EndsAt text len) × (reading (text_of (behind_protocol at.lines)) ≡ Err fault)
 IsOfText text fault = ⊤
+
+-- ---- why a line is the first fault
+
+-- the limits of what a room's head says, but for the width of its step numbers
+pub record IsHead (room : RoomSpec) : Type 0 where
+  pub name : is_name room.name ≡ true
+  pub inputs : are_inputs room.inputs ≡ true
+  pub simulators : (1 ≤ room.simulators) × (room.simulators ≤ 8)
+  pub rounds : (1 ≤ room.rounds) × (room.rounds ≤ 15)
+  pub turns : (1 ≤ room.turns) × (room.turns ≤ 65535)
+  pub fuses : AreFuses room.fuses room.simulators
+  pub values : list_all (λ fuse. is_value fuse.1) room.fuses ≡ true
+
+-- how many bits the step numbers of all simulators take, with so many rounds
+abbrev pub width_of : RoomSpec → ℕ → ℕ
+width_of room rounds = room.simulators * processes room * bits_of rounds
+
+-- The lines begin the head of a room. Its step numbers fit into 64 bits, unless these are at most four lines, the line of
+-- the rounds being the fifth: 16 inputs and 8 simulators are right lines that no rounds can follow.
+pub record Begin (lines : List (List ℕ)) : Type 0 where
+  pub room : RoomSpec
+  pub head : IsHead room
+  pub fits : 5 ≤ length lines → width_of room room.rounds ≤ 64
+  pub more : List (List ℕ)
+  pub parts : head_lines room ≡ lines ++ more
+
+-- the line is this word and a numeral of this number
+abbrev pub IsNumberLine : List ℕ → List ℕ → ℕ → Type 0
+IsNumberLine word line number = (numeral : List ℕ) × (line ≡ word ++ numeral) × (number_of numeral ≡ Some number)
+
+-- between the line's spaces stand the word `inputs` and numerals of these numbers
+abbrev pub IsInputsLine : List ℕ → List ℕ → Type 0
+IsInputsLine line numbers = (numerals : List (List ℕ)) × (fields_of line ≡ codes "inputs" ∷ numerals) × (numbers_of numerals ≡ Some numbers)
+
+abbrev pub BeginsWith : List ℕ → List ℕ → Type 0
+BeginsWith word line = (rest : List ℕ) × (line ≡ word ++ rest)
+
+-- the line has the form of the line behind these in a block, whatever name or numbers it has
+abbrev pub HasForm : List (List ℕ) → List ℕ → Type 0
+HasForm [] line = line ≡ codes "bgsim 1"
+HasForm (version ∷ []) line = BeginsWith (codes "room ") line
+HasForm (version ∷ name ∷ []) line = (numbers : List ℕ) × IsInputsLine line numbers
+HasForm (version ∷ name ∷ inputs ∷ []) line = (number : ℕ) × IsNumberLine (codes "simulators ") line number
+HasForm (version ∷ name ∷ inputs ∷ simulators ∷ []) line = (number : ℕ) × IsNumberLine (codes "rounds ") line number
+HasForm (version ∷ name ∷ inputs ∷ simulators ∷ rounds ∷ []) line = (number : ℕ) × IsNumberLine (codes "turns ") line number
+HasForm (version ∷ name ∷ inputs ∷ simulators ∷ rounds ∷ turns ∷ crashes) line = BeginsWith (codes "crash ") line ⊎ (line ≡ codes "protocol")
+
+-- the line is this word and a numeral whose number isn't from 1 to `most`
+abbrev pub IsOutOfRange : List ℕ → ℕ → List ℕ → Type 0
+IsOutOfRange word most line = (number : ℕ) × IsNumberLine word line number × ((number < 1) ⊎ (most < number))
+
+-- the line tells so many rounds that the step numbers of the room need more than 64 bits
+abbrev pub IsTooWide : RoomSpec → List ℕ → Type 0
+IsTooWide room line = (rounds : ℕ) × (line ≡ codes "rounds " ++ decimal rounds) × (1 ≤ rounds) × (rounds ≤ 15) × (64 < width_of room rounds)
+
+-- the line is that of a fuse of one of the room's simulators
+abbrev pub IsFuseLine : RoomSpec → List ℕ → ℕ × ℕ → Type 0
+IsFuseLine room line fuse = (line ≡ crash_line fuse) × (fuse.0 < room.simulators) × (is_value fuse.1 ≡ true)
+
+-- one of the lines is a crash of this simulator
+abbrev pub HasCrashOf : List (List ℕ) → ℕ → Type 0
+HasCrashOf lines simulator = (front : List (List ℕ)) × (steps : ℕ) × (rest : List (List ℕ)) × (lines ≡ front ++ crash_line (simulator, steps) ∷ rest)
+
+-- what the fault says of the line behind these, which begin the head of this room
+abbrev pub IsReason : SpecFault → RoomSpec → List (List ℕ) → List ℕ → Type 0
+IsReason Truncated room before line = ⊥
+IsReason (BadLine number) room before line = HasForm before line → ⊥
+IsReason BadName room before line = (name : List ℕ) × (line ≡ codes "room " ++ name) × (is_name name ≡ false)
+IsReason (BadProtocol fault) room before line = ⊥
+IsReason Inputs room before line = (numbers : List ℕ) × IsInputsLine line numbers × (are_inputs numbers ≡ false)
+IsReason Simulators room before line = IsOutOfRange (codes "simulators ") 8 line
+IsReason Rounds room before line = IsOutOfRange (codes "rounds ") 15 line
+IsReason Turns room before line = IsOutOfRange (codes "turns ") 65535 line
+IsReason TooWide room before line = IsTooWide room line
+IsReason (CrashLine number) room before line = BeginsWith (codes "crash ") line × ((fuse : ℕ × ℕ) → IsFuseLine room line fuse → ⊥)
+IsReason (Repeated number) room before line = (fuse : ℕ × ℕ) × IsFuseLine room line fuse × HasCrashOf before fuse.0
+
+-- Of the block's lines, up to and with `end`, those before this one begin the head of a room and aren't all of it. This one
+-- is the next line of no such head, for the fault's reason; the fault has its number.
+pub record IsOutOfPlace (text : List ℕ) (fault : SpecFault) : Type 0 where
+  pub len : ℕ
+  pub ends : EndsAt text len
+  pub before : List (List ℕ)
+  pub line : List ℕ
+  pub more : List (List ℕ)
+  pub lines : ends.lines ++ codes "end" ∷ [] ≡ before ++ line ∷ more
+  pub number : line_of fault ≡ Some (suc (length before))
+  pub begins : Begin before
+  pub within : begins.more ≢ []
+  pub never : Begin (before ++ line ∷ []) → ⊥
+  pub reason : IsReason fault begins.room before line
+
+-- The block's lines are all of a room's head and the lines of a text that has this first fault of a protocol.
+pub record IsBadProtocol (text : List ℕ) (fault : ParseFault) : Type 0 where
+  pub len : ℕ
+  pub ends : EndsAt text len
+  pub room : RoomSpec
+  pub head : IsHead room
+  pub fits : width_of room room.rounds ≤ 64
+  pub more : List (List ℕ)
+  pub lines : ends.lines ≡ head_lines room ++ more
+  pub first : texts.IsFirstFault (text_of more) fault
+
+-- Why the block is refused: no line is `end`, or the first line that can't follow those before it, or the protocol's text.
+abbrev pub IsFirstFault : List ℕ → SpecFault → Type 0
+IsFirstFault text Truncated = All (λ line. line ≢ codes "end") (lines_of text)
+IsFirstFault text (BadProtocol fault) = IsBadProtocol text fault
+IsFirstFault text fault = IsOutOfPlace text fault

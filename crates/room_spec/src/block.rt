@@ -5,12 +5,12 @@ ghost use Rattle.protocol_lang.specs.Numbers.{number_of};
 ghost use Rattle.room_spec.specs.Rooms.{RoomSpec, AreFuses};
 ghost use Rattle.room_spec.specs.Texts.{lines_of, first_line, later_lines, fields_of};
 ghost use Rattle.room_spec.specs.declared.fault.SpecFault.TheVariants.{BadLine};
-ghost use Rattle.room_spec.specs.Grammar.{EndsAt, IsBlock, IsLocal, IsOfText};
+ghost use Rattle.room_spec.specs.Grammar.{EndsAt, IsBlock, IsLocal, IsOfText, IsFirstFault};
 ghost use Rattle.room_spec.specs.Blocks.{body_len, block_len, value_after, version_line, named, name_line, numbers_of, inputs_of, in_range, inputs_line, up_to, number_line, fuse_in, of_simulator, said_next, is_protocol, has_fuse, fuse_lines, room_in, block_in, Gives, OrMemory, UnlessMemory};
 
 use crate::fault::SpecFault;
 use crate::name::Name;
-use crate::spec::{Spec, bits};
+use crate::spec::{MAX_BITS, MAX_PROCESSES, MAX_ROUNDS, MAX_SIMULATORS, MAX_TURNS, Spec, bits};
 use crate::text::cut;
 use arrayvec::ArrayVec;
 use protocol_lang::{parse_bytes, read_number};
@@ -57,6 +57,8 @@ pub fn read_block(alloc: Global, text: &[u8]) -> Result<(Spec, usize), SpecFault
     ensures local { IfErr result (λ fault. UnlessMemory fault (IsLocal text.now fault)) }
     // or on the protocol's text, or there is no line `end`.
     ensures of_text { IfErr result (λ fault. UnlessMemory fault (IsOfText text.now fault)) }
+    // The lines before a fault's own begin some block; it can't follow them, or the protocol's text has its fault.
+    ensures first { IfErr result (λ fault. UnlessMemory fault (IsFirstFault text.now fault)) }
     // Which fault it is.
     ensures exact { OrMemory result (block_in text.now) }
 {
@@ -80,12 +82,18 @@ fn read_room(alloc: Global, body: &[u8]) -> Result<Spec, SpecFault>
     let rest = read_version(body)?;
     let (name, rest) = read_name(rest)?;
     let (inputs, rest) = read_inputs(rest)?;
-    let (simulators, rest) = read_number_line(rest, 4, b"simulators ", 8, SpecFault::Simulators)?;
-    let (rounds, rest) = read_number_line(rest, 5, b"rounds ", 15, SpecFault::Rounds)?;
-    if usize::from(simulators) * inputs.len() * bits(usize::from(rounds)) > 64 {
+    let (simulators, rest) = read_number_line(
+        rest,
+        4,
+        b"simulators ",
+        MAX_SIMULATORS as u16,
+        SpecFault::Simulators,
+    )?;
+    let (rounds, rest) = read_number_line(rest, 5, b"rounds ", MAX_ROUNDS, SpecFault::Rounds)?;
+    if usize::from(simulators) * inputs.len() * bits(usize::from(rounds)) > MAX_BITS {
         return Err(SpecFault::TooWide);
     }
-    let (turns, rest) = read_number_line(rest, 6, b"turns ", 65535, SpecFault::Turns)?;
+    let (turns, rest) = read_number_line(rest, 6, b"turns ", MAX_TURNS, SpecFault::Turns)?;
     let (fuses, text) = read_fuses(rest, simulators)?;
     let protocol = parse_bytes(alloc, text).map_err(SpecFault::BadProtocol)?;
     Ok(Spec {
@@ -132,7 +140,7 @@ fn read_name(text: &[u8]) -> Result<(Name, &[u8]), SpecFault>
     Ok((name, rest))
 }
 
-fn read_inputs(text: &[u8]) -> Result<(ArrayVec<u32, 16>, &[u8]), SpecFault>
+fn read_inputs(text: &[u8]) -> Result<(ArrayVec<u32, MAX_PROCESSES>, &[u8]), SpecFault>
     ensures { Gives (λ read. (read.0.items, read.1.now)) result (inputs_line text.now) }
 {
     let (line, rest) = split_line(text);
@@ -140,7 +148,7 @@ fn read_inputs(text: &[u8]) -> Result<(ArrayVec<u32, 16>, &[u8]), SpecFault>
     Ok((inputs, rest))
 }
 
-fn inputs_from(line: &[u8]) -> Result<ArrayVec<u32, 16>, SpecFault>
+fn inputs_from(line: &[u8]) -> Result<ArrayVec<u32, MAX_PROCESSES>, SpecFault>
     ensures { Gives (λ values. values.items) result (in_range (inputs_of (fields_of line.now))) }
 {
     let (word, mut rest) = cut(line, b' ');
@@ -186,7 +194,10 @@ fn read_number_line<'a>(
 }
 
 /// Reads the crash lines and the line `protocol`.
-fn read_fuses(text: &[u8], simulators: u16) -> Result<(ArrayVec<(u8, u32), 8>, &[u8]), SpecFault>
+fn read_fuses(
+    text: &[u8],
+    simulators: u16,
+) -> Result<(ArrayVec<(u8, u32), MAX_SIMULATORS>, &[u8]), SpecFault>
     requires { simulators ≤ 8 }
     ensures value { Gives (λ read. (read.0.items, read.1.now)) result (fuse_lines simulators text.now) }
     ensures fuses { IfOk result (λ read. AreFuses read.0.items simulators) }

@@ -11,7 +11,7 @@ mod text;
 pub use block::{block_len, read_block};
 pub use fault::SpecFault;
 pub use name::Name;
-pub use spec::{Shape, Spec};
+pub use spec::{MAX_PROCESSES, MAX_SIMULATORS, Shape, Spec};
 pub use text::cut;
 
 #[cfg(test)]

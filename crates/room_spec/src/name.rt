@@ -74,10 +74,10 @@ fn text_of(bytes: &[u8]) -> ArrayString<MAX_NAME>
     ensures { result.bytes ≡ bytes.now }
 {
     let Ok(text) = str::from_utf8(bytes) else {
-        unreachable!()
+        unreachable!() // each byte of a name is ASCII
     };
     let Ok(text) = ArrayString::from(text) else {
-        unreachable!()
+        unreachable!() // a name isn't longer than `MAX_NAME`
     };
     text
 }

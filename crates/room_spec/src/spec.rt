@@ -7,6 +7,21 @@ use arrayvec::ArrayVec;
 use protocol_lang::Protocol;
 use std::marker::Model;
 
+/// The most processes of a room.
+pub const MAX_PROCESSES: usize = 16;
+
+/// The most simulators of a room.
+pub const MAX_SIMULATORS: usize = 8;
+
+/// The most rounds of a room.
+pub(crate) const MAX_ROUNDS: u16 = 15;
+
+/// The most turns of a simulator.
+pub(crate) const MAX_TURNS: u16 = 65535;
+
+/// The most bits of the step numbers of all simulators.
+pub(crate) const MAX_BITS: usize = 64;
+
 /// The numbers that a room's memory depends on: `m` simulators run `n` processes, which write at
 /// most `rounds` times each, and a step number has `bits` binary digits. `n` is 1 to 16, `m` 1 to
 /// 8, `rounds` 1 to 15, and `m * n * bits` at most 64.
@@ -23,11 +38,11 @@ pub struct Shape {
 #[derive(Drop)]
 pub struct Spec {
     pub(crate) name: Name,
-    pub(crate) inputs: ArrayVec<u32, 16>,
+    pub(crate) inputs: ArrayVec<u32, MAX_PROCESSES>,
     pub(crate) simulators: u8,
     pub(crate) rounds: u8,
     pub(crate) turns: u16,
-    pub(crate) fuses: ArrayVec<(u8, u32), 8>,
+    pub(crate) fuses: ArrayVec<(u8, u32), MAX_SIMULATORS>,
     pub(crate) protocol: Protocol,
 }
 

@@ -10,7 +10,7 @@ invariant_of-result c =
     let are = (inputs_found c.in_ok-name.rest.now (c.in_ok-inputs.inputs.items, c.in_ok-inputs.rest.now) c.in_ok-inputs.ensures).2 in
     record {
       name = grind (arith, common_steps);
-      shape = record { n_range = inputs_range c.in_ok-inputs.inputs.items are; m_range = c.in_ok-simulators.ensures.range; rounds_range = c.in_ok-rounds.ensures.range; width = refl; memory = rw (c.from.ensures, c.len.ensures.value, c.bits.ensures, c.from-2.ensures) at c.if-from-len-gt64.false };
+      shape = record { n_range = inputs_range c.in_ok-inputs.inputs.items are; m_range = c.in_ok-simulators.ensures.range; rounds_range = c.in_ok-rounds.ensures.range; width = refl; memory = rw (c.from.ensures, c.len.ensures.value, c.bits.ensures, c.from-2.ensures) at c.if-from-len-gt-MAX_BITS.false };
       turns = c.in_ok-turns.ensures.range;
       fuses = c.in_ok-fuses.ensures.fuses;
       values = inputs_are_values c.in_ok-inputs.inputs.items are;
