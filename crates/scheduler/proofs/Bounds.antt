@@ -1,5 +1,5 @@
 -- A drive: turns one after the other, and how many turns and steps they come to.
-use Rattle.std.proofs.Common.{◌≡◌, ℕ, suc, ◌+◌, ◌-◌, ◌*◌, ◌<◌, ◌≤◌, List, [], ◌∷◌, Option, Some, None, refl, sym, ap, ◌∙◌, subst, arith}
+use Rattle.std.proofs.Common.{◌≡◌, ℕ, suc, ◌+◌, ◌*◌, ◌<◌, ◌≤◌, List, [], ◌∷◌, Option, Some, None, refl, sym, ap, ◌∙◌, subst, arith}
 use Rattle.room_spec.specs.Rooms.{RoomSpec, processes}
 use Rattle.simulator.specs.Bounds.{answered_all, IsReadyThroughout}
 use Rattle.simulator.specs.Minds.{MindState}
@@ -8,7 +8,7 @@ use Rattle.simulator.proofs.Bounding.{turns_bounded}
 use Rattle.room_core.specs.Calls.{most_steps}
 use Rattle.ruled_room.specs.Parts.{IsSweepOf, RoomName, SimulatorData, stepped_with}
 use Rattle.ruled_room.specs.declared.stop.Stop.{Stop}
-use Rattle.scheduler.specs.Drives.{Drives, GoesOn, HasStopped, IsWithinFuse, TakesTurn, after_steps, stopped}
+use Rattle.scheduler.specs.Drives.{Drives, GoesOn, IsWithinFuse, TakesTurn, after_steps}
 use Rattle.scheduler.proofs.Stepwise.{drive_more, drive_stops, goes, left, same_stopped}
 
 -- ---- its steps are those of a sweep that is ready for each

@@ -1,12 +1,9 @@
 -- What one step more makes of a turn and of a drive.
-use Rattle.std.proofs.Common.{◌≡◌, ℕ, zero, suc, ◌+◌, ◌-◌, ◌*◌, ◌<◌, ◌≤◌, Bool, true, false, cond, leb, ltb, eqb, List, [], ◌∷◌, length, take, Option, Some, None, refl, sym, ap, ◌∙◌, subst, arith}
+use Rattle.std.proofs.Common.{◌≡◌, ℕ, zero, suc, ◌+◌, ◌-◌, ◌<◌, ◌≤◌, Bool, true, false, cond, leb, ltb, List, [], ◌∷◌, length, Option, Some, None, refl, sym, ap, ◌∙◌, subst, arith}
 use Rattle.std.proofs.lemmas.Bool.{ltb-false}
 use Rattle.std.proofs.lemmas.Bool.Decides.{nat_tests}
-use Rattle.room_spec.specs.Rooms.{RoomSpec, processes}
-use Rattle.simulator.specs.Bounds.{answered_all, IsReadyThroughout}
-use Rattle.simulator.specs.Ranges.{IsMind}
-use Rattle.simulator.specs.Sweeps.{SweepState, is_resting, ready_between, ready_of}
-use Rattle.simulator.specs.declared.line.Line.{Line}
+use Rattle.room_spec.specs.Rooms.{RoomSpec}
+use Rattle.simulator.specs.Sweeps.{SweepState, is_resting, ready_of}
 use Rattle.simulator.specs.declared.sweep.Ready.{Ready}
 use Rattle.simulator.specs.declared.sweep.Ready.TheVariants as ready
 use Rattle.simulator.specs.Minds.{MindState, unfinished_in}

@@ -1,1 +1,3 @@
 pub mod Drives
+pub mod Results
+pub mod Tasks

@@ -45,3 +45,9 @@ impl Fuse {
         }
     }
 }
+
+impl Default for Fuse {
+    fn default() -> Fuse {
+        Fuse::none()
+    }
+}

@@ -1,4 +1,4 @@
-use Rattle.std.proofs.Common.{◌≡◌, ◌+◌, ◌*◌, ◌≤◌, ◌∙◌, subst}
+use Rattle.std.proofs.Common.{◌+◌, ◌*◌, ◌≤◌, ◌∙◌, subst}
 use Rattle.room_spec.specs.Rooms.{processes}
 use Rattle.ruled_room.specs.Parts.{RoomName}
 use Rattle.scheduler.proofs.Bounds.{drive_turns, drives_on, ends_drive, left_less, most_turns}

@@ -1,4 +1,4 @@
-use Rattle.std.proofs.Common.{◌≡◌, ◌≤◌, sym, ◌∙◌, subst}
+use Rattle.std.proofs.Common.{◌≤◌, sym, ◌∙◌, subst}
 use Rattle.room_core.specs.Calls.{most_steps}
 use Rattle.ruled_room.specs.Parts.{RoomName}
 use Rattle.scheduler.specs.Drives.{HasStopped}

@@ -1,0 +1,92 @@
+-- A room whose simulators have all stopped and are at home.
+use Rattle.std.proofs.Common.{◌≡◌, ℕ, zero, suc, ◌<◌, Bool, false, List, [], ◌∷◌, ◌++◌, length, get_or, map, reverse, Option, Some, None, refl, sym, ap, ◌∙◌, subst, arith}
+use Rattle.std.specs.Option.{IsSome}
+use Rattle.std.specs.List.{slice_get}
+use Rattle.std.proofs.lemmas.List.{get_or-map, length-append, length-map, reverse-append}
+use Rattle.room_spec.specs.Rooms.{RoomSpec, fuse_of}
+use Rattle.simulator.specs.Sweeps.{SweepState, opening_sweep}
+use Rattle.room_core.specs.Calls.{RoomState, has_crashed, sweep_at}
+use Rattle.ruled_room.specs.Parts.{GoneFor, KeeperData, RoomName}
+use Rattle.ruled_room.specs.declared.room.Gone.{Gone}
+use Rattle.ruled_room.specs.declared.room.Gone.TheVariants.{StillOut}
+use Rattle.scheduler.specs.declared.rooms.RoomResult.{RoomResult}
+use Rattle.scheduler.specs.Results.{AreRoomRuns, HasEnded, IsRoomRun}
+use Rattle.scheduler.specs.Tasks.{AreKept, IsKept, away, away_from}
+use Rattle.scheduler.proofs.Dealing.{away_at_own, away_more, get_or-append_end, get_or-append_left, newest}
+use Rattle.scheduler.proofs.Returning.{is_home, some_is}
+
+no_some : (o : Option SweepState) → IsSome o → o ≡ None → ⊥
+no_some None some none = absurd cc
+no_some (Some sweep) some none = absurd cc
+
+-- nobody is still out
+pub nobody_out : (keeper : KeeperData) (gone : Gone) (i : ℕ) → ((i : ℕ) → away_from keeper.sweeps i ≡ 0) → gone ≡ StillOut i → GoneFor keeper.sweeps gone → ⊥
+nobody_out keeper gone i home is out =
+    let first = subst (GoneFor keeper.sweeps) is out in
+    no_some (get_or keeper.sweeps i None) (is_home keeper.sweeps i first.0 (home i)) first.1
+
+-- each simulator has ended as its keeper knew
+pub each_ended : (room : RoomName) (keeper : KeeperData) (core : RoomState) → keeper.room ≡ room → IsKept keeper → core.spec ≡ room.spec → map Some core.sweeps ≡ keeper.sweeps → core.crashed ≡ keeper.crashed
+    → (i : ℕ) → i < room.spec.simulators → HasEnded (fuse_of room.spec.fuses i) room.spec (sweep_at core i) (has_crashed core i)
+each_ended room keeper core own kept spec sweeps crashed i below =
+    let count : length core.sweeps ≡ room.spec.simulators = sym (length-map core.sweeps (λ (s : SweepState). Some s)) ∙ ap length sweeps ∙ kept.sweeps ∙ ap (λ (r : RoomName). r.spec.simulators) own in
+    let at : get_or keeper.sweeps i None ≡ Some (sweep_at core i) = ap (λ (l : List (Option SweepState)). get_or l i None) (sym sweeps) ∙ get_or-map (λ (s : SweepState). Some s) core.sweeps i (opening_sweep core.spec i) None (omega (arith, below, count)) in
+    let ended = kept.ended i (sweep_at core i) at in
+    let marks : get_or keeper.crashed i false ≡ has_crashed core i = ap (λ (l : List Bool). get_or l i false) (sym crashed) in
+    subst (λ (b : Bool). HasEnded (fuse_of room.spec.fuses i) room.spec (sweep_at core i) b) marks
+    (subst (λ (r : RoomName). HasEnded (fuse_of r.spec.fuses i) r.spec (sweep_at core i) (get_or keeper.crashed i false)) own ended)
+
+-- ---- the last of all rooms
+
+shorter : {X : Type 0} (list : List X) (x : X) (k : ℕ) (y : X) → k < length list → slice_get (list ++ x ∷ []) k ≡ Some y → slice_get list k ≡ Some y
+shorter [] x k y below is = absurd (omega (arith, below))
+shorter (z ∷ list) x zero y below is = is
+shorter (z ∷ list) x (suc k) y below is = shorter list x k y (omega (arith, below)) is
+
+-- it can be ended, and the others are as before
+pub record LastRoom (rest : List RoomName) (room : RoomName) (rest_keepers : List KeeperData) (keeper : KeeperData) : Type 0 where
+  pub own : keeper.room ≡ room
+  pub kept : IsKept keeper
+  pub home : (i : ℕ) → away_from keeper.sweeps i ≡ 0
+  pub others : AreKept rest rest_keepers
+  pub others_home : (k i : ℕ) → away rest_keepers k i ≡ 0
+
+pub last_room : (rooms rest : List RoomName) (room : RoomName) (keepers rest_keepers : List KeeperData) (keeper : KeeperData) → rooms ≡ rest ++ room ∷ [] → keepers ≡ rest_keepers ++ keeper ∷ [] → AreKept rooms keepers → ((k i : ℕ) → away keepers k i ≡ 0)
+    → LastRoom rest room rest_keepers keeper
+last_room rooms rest room keepers rest_keepers keeper is is_keepers kept home =
+    let all = subst (λ (l : List RoomName). AreKept l (rest_keepers ++ keeper ∷ [])) is (subst (λ (l : List KeeperData). AreKept rooms l) is_keepers kept) in
+    let none : (k i : ℕ) → away (rest_keepers ++ keeper ∷ []) k i ≡ 0 = λ k i. ap (λ (l : List KeeperData). away l k i) (sym is_keepers) ∙ home k i in
+    let count : length rest_keepers ≡ length rest = omega (arith, all.count, length-append rest_keepers (keeper ∷ []), length-append rest (room ∷ [])) in
+    let at = all.each (length rest_keepers) keeper (omega (arith, length-append rest_keepers (keeper ∷ []))) in
+    let end = get_or-append_end rest_keepers keeper keeper in
+    let found : slice_get (rest ++ room ∷ []) (length rest_keepers) ≡ Some room = ap (λ (n : ℕ). slice_get (rest ++ room ∷ []) n) count ∙ newest rest room in
+    record {
+      own = some_is keeper.room room (sym (ap (λ (a : KeeperData). Some a.room) end) ∙ sym at.0 ∙ found);
+      kept = subst IsKept end at.1;
+      home = λ i. omega (arith, none (length rest_keepers) i, away_more rest_keepers keeper (length rest_keepers) i, away_at_own (length rest_keepers) i keeper.sweeps);
+      others = record {
+        count = count;
+        each = λ k d below.
+            let more = all.each k d (omega (arith, below, length-append rest_keepers (keeper ∷ []))) in
+            let before = get_or-append_left rest_keepers (keeper ∷ []) k d below in
+            let kept_before = subst (λ (a : KeeperData). (slice_get (rest ++ room ∷ []) k ≡ Some a.room) × IsKept a) before more in
+            (shorter rest room k (get_or rest_keepers k d).room (omega (arith, below, count)) kept_before.0, kept_before.1);
+      };
+      others_home = λ k i. omega (arith, none k i, away_more rest_keepers keeper k i);
+    }
+
+-- ---- results so far, the last first
+
+one_before : {X : Type 0} (f : X → RoomSpec) (rest : List X) (x : X) (more : List RoomSpec) → map f (rest ++ x ∷ []) ++ more ≡ map f rest ++ f x ∷ more
+one_before f [] x more = refl
+one_before f (y ∷ rest) x more = ap (λ (l : List RoomSpec). f y ∷ l) (one_before f rest x more)
+
+abbrev pub EndsAll : List RoomSpec → List RoomSpec → List RoomResult → Type 0
+EndsAll all left results = (specs : List RoomSpec) × (all ≡ left ++ specs) × AreRoomRuns specs (reverse results)
+
+pub ends_one : {X : Type 0} (all : List RoomSpec) (f : X → RoomSpec) (rooms rest : List X) (room : X) (results after : List RoomResult) (result : RoomResult) → rooms ≡ rest ++ room ∷ [] → after ≡ results ++ result ∷ [] → IsRoomRun (f room) result
+    → EndsAll all (map f rooms) results → EndsAll all (map f rest) after
+ends_one all f rooms rest room results after result is last run ends =
+    let specs : all ≡ map f rest ++ f room ∷ ends.0 = ends.1 ∙ ap (λ l. map f l ++ ends.0) is ∙ one_before f rest room ends.0 in
+    let turned : reverse after ≡ result ∷ reverse results = ap reverse last ∙ reverse-append results (result ∷ []) in
+    (f room ∷ ends.0, specs, subst (λ (l : List RoomResult). AreRoomRuns (f room ∷ ends.0) l) (sym turned) (run, ends.2))

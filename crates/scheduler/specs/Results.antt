@@ -1,0 +1,58 @@
+-- What comes of a room whose simulators run until each of them stops.
+use Rattle.std.specs.Prelude.{◌≡◌, ℕ, ◌<◌, ◌≤◌, ◌⊎◌, Bool, true, false, List, [], ◌∷◌, length, Option, Some, None, ⊤}
+use Rattle.std.specs.List.{count_by}
+use Rattle.room_spec.specs.Rooms.{RoomSpec, fuse_of}
+use Rattle.simulator.specs.Minds.{goal_at}
+use Rattle.simulator.specs.Quiet.{HasNoWrite}
+use Rattle.simulator.specs.Sweeps.{SweepState, is_resting}
+use Rattle.room_core.specs.Calls.{RoomState, configuration_of, has_crashed, room_after_settle, sweep_at}
+use Rattle.room_core.specs.Fields.{Fields}
+use Rattle.room_core.specs.Reading.{AreFieldsOf}
+use Rattle.room_core.specs.Rooms.{IsOneInterleaving}
+use Rattle.transcript.specs.Runs.{IsRun}
+use Rattle.ws_history.specs.Reports.{is_held, report_of}
+use Rattle.ws_history.specs.declared.states.Report.{Report}
+use Rattle.scheduler.specs.declared.rooms.RoomResult.{RoomResult}
+use Rattle.scheduler.specs.declared.rooms.RunFault.{RunFault}
+use Rattle.scheduler.specs.declared.rooms.RunFault.TheVariants.{Workers, Spawn, OutOfMemory}
+
+-- it has taken fewer steps than its fuse says
+abbrev pub IsBelowFuse : Option ℕ → ℕ → Type 0
+IsBelowFuse None steps = ⊤
+IsBelowFuse (Some after) steps = steps < after
+
+-- How a simulator has ended that has crashed, or hasn't: with as many steps as its fuse says; or with fewer, between two turns,
+-- where it has used up all its turns or has no write left to make.
+abbrev pub HasEnded : Option ℕ → RoomSpec → SweepState → Bool → Type 0
+HasEnded fuse spec sweep true = fuse ≡ Some sweep.mind.steps
+HasEnded fuse spec sweep false =
+    IsBelowFuse fuse sweep.mind.steps × (is_resting sweep.mind.line ≡ true) × ((sweep.mind.turns ≡ spec.turns) ⊎ ((process : ℕ) → HasNoWrite (goal_at sweep.mind.goals process)))
+
+-- The report of a room: of any fields that the room stands for. Its history is a run of the processes, and at most as many
+-- processes are held as simulators have crashed.
+pub record IsReportOf (core : RoomState) (report : Report) : Type 0 where
+  pub fields : (fields : Fields) → AreFieldsOf core fields → report ≡ report_of core.spec fields
+  pub run : IsRun core.spec report.history
+  pub held : count_by is_held report.states.items ≤ length report.crashed.items
+
+-- What a room of this spec may come to, whatever the schedule of its simulators: some interleaving of their steps leads to a
+-- room in which each of them has ended; this room is then settled and reported.
+pub record IsRoomRun (spec : RoomSpec) (result : RoomResult) : Type 0 where
+  pub ended : RoomState
+  pub same : ended.spec ≡ spec
+  pub run : IsOneInterleaving (configuration_of ended)
+  pub each : (i : ℕ) → i < spec.simulators → HasEnded (fuse_of spec.fuses i) spec (sweep_at ended i) (has_crashed ended i)
+  pub settled : result.core ≡ room_after_settle ended
+  pub reported : IsReportOf result.core result.report
+
+-- a result for each spec, in order, each by its own spec alone
+abbrev pub AreRoomRuns : List RoomSpec → List RoomResult → Type 0
+AreRoomRuns [] [] = ⊤
+AreRoomRuns (spec ∷ specs) (result ∷ results) = IsRoomRun spec result × AreRoomRuns specs results
+AreRoomRuns [] (result ∷ results) = ⊥
+AreRoomRuns (spec ∷ specs) [] = ⊥
+
+abbrev pub fault_code : RunFault → ℕ
+fault_code Workers = 50
+fault_code Spawn = 51
+fault_code OutOfMemory = 8

@@ -1,0 +1,145 @@
+//! All rooms of a list, run by workers.
+ghost use Rattle.std.specs.Prelude.{◌≡◌, ◌≢◌, ◌↔◌, ◌⊎◌, ◌<◌, ℕ, Err, IfOk, map};
+ghost use Rattle.room_core.specs.Calls.{room_after_settle};
+ghost use Rattle.scheduler.specs.Results.{AreRoomRuns, IsRoomRun, fault_code};
+ghost use Rattle.scheduler.specs.Tasks.{AreKept, IsKept, away, away_from};
+ghost use Rattle.scheduler.specs.declared.rooms.RunFault.TheVariants.{Workers};
+
+use crate::gate::Gate;
+use crate::opening::{Opened, open_all};
+use crate::workers::run_all;
+use room_core::RoomCore;
+use room_spec::Spec;
+use ruled_room::{Gone, Keeper, RuledRoom};
+use std::alloc::{AllocError, Global};
+use std::sync::Wait;
+use std::thread::Threads;
+use thiserror::Error;
+use ws_history::{Report, report};
+
+/// Why rooms were not run to their end. They are given up.
+#[derive(Clone, Copy, Debug, PartialEq, Eq, Error)]
+pub enum RunFault {
+    /// The number of workers is not 1 to 16.
+    #[error("bad number of workers")]
+    Workers,
+    /// A worker's thread could not be started.
+    #[error("cannot start a worker")]
+    Spawn,
+    /// Memory was refused.
+    #[error("out of memory")]
+    OutOfMemory,
+}
+
+impl RunFault {
+    /// The number by which the fault is named: 50, 51 or 8, in the order of the variants.
+    pub fn code(self) -> u16
+        ensures { result ≡ fault_code self }
+    {
+        match self {
+            RunFault::Workers => 50,
+            RunFault::Spawn => 51,
+            RunFault::OutOfMemory => 8,
+        }
+    }
+}
+
+/// A room that was run to its end and settled, and its report.
+#[derive(Drop)]
+pub struct RoomResult {
+    pub core: RoomCore,
+    pub report: Report,
+}
+
+impl From<AllocError> for RunFault {
+    ghost use Rattle.std.specs.Prelude.{◌≡◌};
+    ghost use Rattle.scheduler.specs.declared.rooms.RunFault.TheVariants.{OutOfMemory};
+
+    ghost from_gives = { λ _ fault. fault ≡ OutOfMemory };
+
+    fn from(_refused: AllocError) -> RunFault {
+        RunFault::OutOfMemory
+    }
+}
+
+/// Runs a room of each spec, all at the same time, until each simulator has stopped, and settles and
+/// reports each.
+///
+/// The tasks are the simulators of all rooms, in the order of the rooms and then of their numbers; the
+/// t-th, counted from 0, goes to worker t modulo their number. Each worker goes round its tasks on a
+/// thread of its own: a visit passes the gate, with the number of the worker and of its visit, both
+/// counted from 0, and then takes a [`turn`](crate::turn) with the fuse that the spec gives the
+/// simulator. A task that has stopped is not visited again. Which steps interleave is the threads'
+/// affair; whichever do, each result is one that its own spec alone allows.
+///
+/// # Errors
+///
+/// Where there are not 1 to 16 workers, which is decided first; where a thread could not be started;
+/// where memory was refused. All rooms are then given up.
+pub fn run_rooms<R: Threads + Wait + Sync, G: Gate + Sync>(
+    rt: &R,
+    alloc: Global,
+    specs: Vec<Spec>,
+    workers: u8,
+    gate: &G,
+) -> Result<Vec<RoomResult>, RunFault>
+    ensures workers { (result ≡ Err Workers) ↔ ((workers ≡ 0) ⊎ (16 < workers)) }
+    // A result for each spec, in order, each by its own spec alone.
+    ensures rooms { IfOk result (λ results. AreRoomRuns specs.items results.items) }
+{
+    if workers == 0 || workers > 16 {
+        return Err(RunFault::Workers);
+    }
+    let Opened {
+        rooms,
+        keepers,
+        queues,
+    } = open_all(alloc, specs, workers)?;
+    let keepers = run_all(rt, alloc, rooms.as_slice(), keepers, queues, gate)?;
+    Ok(finish_all(alloc, rooms, keepers)?)
+}
+
+/// Ends each room, one after the other.
+fn finish_all(
+    alloc: Global,
+    mut rooms: Vec<RuledRoom>,
+    mut keepers: Vec<Keeper>,
+) -> Result<Vec<RoomResult>, AllocError>
+    requires kept { AreKept rooms.items keepers.items }
+    requires home { (k i : ℕ) → away keepers.items k i ≡ 0 }
+    ensures { IfOk result (λ results. AreRoomRuns (map (λ room. room.spec) rooms.items) results.items) }
+{
+    let mut results = Vec::with_capacity(alloc, rooms.len())?;
+    while let Some(room) = rooms.pop() {
+        let Some(keeper) = keepers.pop() else {
+            unreachable!()
+        };
+        results.push(finish(alloc, room, keeper)?)?;
+    }
+    results.as_mut_slice().reverse();
+    Ok(results)
+}
+
+/// Closes a room whose simulators have all stopped, settles it and reports it.
+fn finish(alloc: Global, room: RuledRoom, keeper: Keeper) -> Result<RoomResult, AllocError>
+    requires room { keeper.room ≡ room }
+    requires kept { IsKept keeper }
+    requires home { (i : ℕ) → away_from keeper.sweeps i ≡ 0 }
+    ensures { IfOk result (λ result. IsRoomRun room.spec result) }
+{
+    let core = match room.close(alloc, keeper) {
+        Ok(core) => core,
+        Err((_, _, Gone::OutOfMemory)) => return Err(AllocError),
+        Err((_, _, Gone::StillOut(_))) => unreachable!(),
+    };
+    let core = settled(core);
+    let report = report(alloc, &core)?;
+    Ok(RoomResult { core, report })
+}
+
+fn settled(mut core: RoomCore) -> RoomCore
+    ensures { result ≡ room_after_settle core }
+{
+    core.settle();
+    core
+}

@@ -1,0 +1,211 @@
+//! Workers, each of whom goes round its simulators on a thread of its own.
+ghost use Rattle.std.specs.Prelude.{◌≡◌, ◌≢◌, ◌+◌, ◌≤◌, ℕ, IfErr, IfOk, OnOk, length, map};
+ghost use Rattle.std.specs.List.{All};
+ghost use Rattle.scheduler.specs.declared.rooms.RunFault.TheVariants.{Workers};
+ghost use Rattle.scheduler.specs.Tasks.{AreKept, AreTasksOf, BringsBack, IsStoppedOf, IsTaskOf, away, brought, is_here, queued, waiting};
+
+use crate::driving::turn;
+use crate::fuse::Fuse;
+use crate::gate::Gate;
+use crate::rooms::RunFault;
+use ruled_room::{Keeper, RuledRoom, Simulator, Stop};
+use std::alloc::{AllocError, Global};
+use std::collections::VecDeque;
+use std::snapshot::Snapshot;
+use std::sync::Wait;
+use std::thread;
+use std::thread::{Promise, Scope, Threads};
+
+/// A simulator that is to run, its room's place among all rooms, and when it crashes.
+#[derive(Drop)]
+pub(crate) struct Task {
+    pub(crate) place: usize,
+    pub(crate) simulator: Simulator,
+    pub(crate) fuse: Fuse,
+}
+
+/// A simulator that has stopped.
+#[derive(Drop)]
+pub(crate) struct Stopped {
+    pub(crate) place: usize,
+    pub(crate) simulator: Simulator,
+    pub(crate) stop: Stop,
+}
+
+impl Task {
+    fn ended(self, stop: Stop) -> Stopped
+        ensures { (result.place ≡ self.place) × (result.simulator ≡ self.simulator) × (result.stop ≡ stop) }
+    {
+        let Task {
+            place,
+            simulator,
+            fuse: _,
+        } = self;
+        Stopped {
+            place,
+            simulator,
+            stop,
+        }
+    }
+}
+
+/// Goes round the tasks in order, one visit each, until all have stopped. A visit passes the gate and
+/// then takes a turn; a task that has stopped is not visited again.
+pub(crate) fn work<G: Gate>(
+    alloc: Global,
+    rooms: &[RuledRoom],
+    mut tasks: VecDeque<Task>,
+    gate: &G,
+    worker: u8,
+) -> Result<Vec<Stopped>, AllocError>
+    requires { All (λ task. IsTaskOf rooms.now task) tasks.items }
+    ensures { IfOk result (λ done. BringsBack rooms.now tasks.items done.items) }
+{
+    let mut done = Vec::with_capacity(alloc, tasks.len())?;
+    let mut visit: u64 = 0;
+    while let Some(mut task) = tasks.pop_front() {
+        gate.pass(worker, visit);
+        visit = visit.saturating_add(1);
+        match turn(&mut task.simulator, &rooms[task.place], &task.fuse) {
+            None => tasks.push_back(task)?,
+            Some(stop) => done.push(task.ended(stop))?,
+        }
+    }
+    Ok(done)
+}
+
+/// What a worker's thread was given to do.
+#[derive(Drop)]
+struct Given<'a> {
+    rooms: &'a [RuledRoom],
+    tasks: Snapshot<VecDeque<Task>>,
+}
+
+impl<'a> Promise<Result<Vec<Stopped>, AllocError>> for Given<'a> {
+    ghost use Rattle.std.specs.Prelude.{IfOk};
+    ghost use Rattle.scheduler.specs.Tasks.{BringsBack};
+
+    ghost kept_by = { λ given result. IfOk result (λ done. BringsBack given.rooms.now given.tasks.value.items done.items) };
+}
+
+/// Runs all tasks, each queue by a worker of its own on a thread of its own, all at the same time, and
+/// brings them back.
+pub(crate) fn run_all<R: Threads + Wait + Sync, G: Gate + Sync>(
+    rt: &R,
+    alloc: Global,
+    rooms: &[RuledRoom],
+    keepers: Vec<Keeper>,
+    queues: Vec<VecDeque<Task>>,
+    gate: &G,
+) -> Result<Vec<Keeper>, RunFault>
+    requires kept { AreKept rooms.now keepers.items }
+    requires tasks { AreTasksOf rooms.now (map (λ queue. queue.items) queues.items) }
+    requires away { (k i : ℕ) → waiting k i (map (λ queue. queue.items) queues.items) ≡ away keepers.items k i }
+    requires few { length queues.items ≤ 16 }
+    ensures kept { IfOk result (λ keepers. AreKept rooms.now keepers.items) }
+    ensures home { IfOk result (λ keepers. (k i : ℕ) → away keepers.items k i ≡ 0) }
+    ensures fault { IfErr result (λ fault. fault ≢ Workers) }
+{
+    thread::scope(
+        thread::scope_env(),
+        rt,
+        move |scope| -> Result<Vec<Keeper>, RunFault>
+            requires { AreKept rooms.now keepers.items × AreTasksOf rooms.now (map (λ queue. queue.items) queues.items) × ((k i : ℕ) → waiting k i (map (λ queue. queue.items) queues.items) ≡ away keepers.items k i) × (length queues.items ≤ 16) }
+            ensures { IfOk result (λ keepers. AreKept rooms.entry.now keepers.items × ((k i : ℕ) → away keepers.items k i ≡ 0)) × IfErr result (λ fault. fault ≢ Workers) }
+        { run_within(rt, alloc, scope, rooms, keepers, queues, gate) },
+    )
+}
+
+fn run_within<'s, E, R: Threads + Sync, G: Gate + Sync>(
+    rt: &R,
+    alloc: Global,
+    scope: &Scope<'s, E>,
+    rooms: &'s [RuledRoom],
+    mut keepers: Vec<Keeper>,
+    queues: Vec<VecDeque<Task>>,
+    gate: &'s G,
+) -> Result<Vec<Keeper>, RunFault>
+    requires kept { AreKept rooms.now keepers.items }
+    requires tasks { AreTasksOf rooms.now (map (λ queue. queue.items) queues.items) }
+    requires away { (k i : ℕ) → waiting k i (map (λ queue. queue.items) queues.items) ≡ away keepers.items k i }
+    requires few { length queues.items ≤ 16 }
+    ensures { IfOk result (λ keepers. AreKept rooms.entry.now keepers.items × ((k i : ℕ) → away keepers.items k i ≡ 0)) × IfErr result (λ fault. fault ≢ Workers) }
+{
+    start_each(
+        rt,
+        alloc,
+        scope,
+        rooms,
+        keepers.as_mut_slice(),
+        queues,
+        gate,
+    )?;
+    Ok(keepers)
+}
+
+/// Starts a worker for each queue, the last first; then joins them, and takes back what they bring.
+fn start_each<'s, E, R: Threads + Sync, G: Gate + Sync>(
+    rt: &R,
+    alloc: Global,
+    scope: &Scope<'s, E>,
+    rooms: &'s [RuledRoom],
+    keepers: &mut [Keeper],
+    mut queues: Vec<VecDeque<Task>>,
+    gate: &'s G,
+) -> Result<(), RunFault>
+    requires kept { AreKept rooms.now keepers.old }
+    requires tasks { AreTasksOf rooms.now (map (λ queue. queue.items) queues.items) }
+    requires away { (k i : ℕ) → waiting k i (map (λ queue. queue.items) queues.items) ≤ away keepers.old k i }
+    requires few { length queues.items ≤ 16 }
+    ensures kept { OnOk result (AreKept rooms.entry.now keepers.new) }
+    ensures away { OnOk result ((k i : ℕ) → away keepers.new k i + waiting k i (map (λ queue. queue.items) queues.items) ≡ away keepers.old k i) }
+    ensures fault { IfErr result (λ fault. fault ≢ Workers) }
+{
+    let Some(tasks) = queues.pop() else {
+        return Ok(());
+    };
+    let worker = queues.len() as u8;
+    let given = Given {
+        rooms,
+        tasks: Snapshot::of(&tasks),
+    };
+    let run = move || -> Result<Vec<Stopped>, AllocError>
+        requires { All (λ task. IsTaskOf rooms.now task) tasks.items }
+        ensures { IfOk result (λ done. BringsBack rooms.entry.now tasks.items done.items) }
+    { work(alloc, rooms, tasks, gate, worker) };
+    let Ok(handle) = scope.spawn_with(given, run) else {
+        return Err(RunFault::Spawn);
+    };
+    start_each(rt, alloc, scope, rooms, keepers, queues, gate)?;
+    let done = handle.join(rt)?;
+    bring_back(rooms, keepers, done);
+    Ok(())
+}
+
+/// Takes all back to the keepers of their rooms.
+pub(crate) fn bring_back(rooms: &[RuledRoom], keepers: &mut [Keeper], mut all: Vec<Stopped>)
+    requires kept { AreKept rooms.now keepers.old }
+    requires stopped { All (λ one. IsStoppedOf rooms.now one) all.items }
+    requires away { (k i : ℕ) → brought k i all.items ≤ away keepers.old k i }
+    ensures kept { AreKept rooms.now keepers.new }
+    ensures away { (k i : ℕ) → away keepers.new k i + brought k i all.items ≡ away keepers.old k i }
+{
+    while let Some(one) = all.pop() {
+        bring_one(rooms, keepers, one);
+    }
+}
+
+fn bring_one(rooms: &[RuledRoom], keepers: &mut [Keeper], one: Stopped)
+    requires kept { AreKept rooms.now keepers.old }
+    requires stopped { IsStoppedOf rooms.now one }
+    requires away { 1 ≤ away keepers.old one.place one.simulator.number }
+    ensures kept { AreKept rooms.now keepers.new }
+    ensures away { (k i : ℕ) → away keepers.new k i + is_here k i one.place one.simulator.number ≡ away keepers.old k i }
+{
+    let Stopped {
+        place,
+        simulator,
+        stop,
+    } = one;
+    keepers[place].take_back(&rooms[place], simulator, stop);
+}
