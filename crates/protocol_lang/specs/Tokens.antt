@@ -1,5 +1,5 @@
 -- The tokens of the language, and how each is spelled.
-use Rattle.std.specs.Prelude.{ℕ, Bool, true, false, ◌&&◌, ◌||◌, List, [], ◌∷◌, length, take, Option, Some, None, nat_le, ◌==◌, codes}
+use Rattle.std.specs.Prelude.{ℕ, Bool, true, false, ◌&&◌, ◌||◌, List, [], ◌∷◌, ◌++◌, length, take, Option, Some, None, nat_le, ◌==◌, codes}
 use Rattle.std.specs.List.{find}
 use Rattle.std.specs.Str.{bytes_eq}
 use Rattle.protocol_lang.specs.declared.token.Word.{Word}
@@ -44,12 +44,28 @@ word_spelling Cell = codes "cell"
 word_spelling Seen = codes "seen"
 word_spelling Equal = codes "equal"
 
-abbrev pub words : List Word
-words = First ∷ When ∷ And ∷ Write ∷ Decide ∷ Else ∷ Input ∷ Id ∷ N ∷ Round ∷ Mine ∷ Count ∷ Min ∷ Max ∷ Cell ∷ Seen ∷ Equal ∷ []
+-- the words of rules, and those of expressions
+abbrev pub keywords : List Word
+keywords = First ∷ When ∷ And ∷ Write ∷ Decide ∷ Else ∷ []
 
--- the word that is spelled so
+abbrev pub operands : List Word
+operands = Input ∷ Id ∷ N ∷ Round ∷ Mine ∷ Count ∷ Min ∷ Max ∷ Cell ∷ Seen ∷ Equal ∷ []
+
+abbrev pub words : List Word
+words = keywords ++ operands
+
+-- the word among some that is spelled so
+abbrev pub spelled_among : List Word → List ℕ → Option Word
+spelled_among some letters = find (λ word. bytes_eq letters (word_spelling word)) some
+
 abbrev pub word_of : List ℕ → Option Word
-word_of letters = find (λ word. bytes_eq letters (word_spelling word)) words
+word_of letters = spelled_among words letters
+
+abbrev pub keyword_of : List ℕ → Option Word
+keyword_of letters = spelled_among keywords letters
+
+abbrev pub operand_of : List ℕ → Option Word
+operand_of letters = spelled_among operands letters
 
 abbrev pub symbol_spelling : Symbol → List ℕ
 symbol_spelling symbols.Semicolon = codes ";"

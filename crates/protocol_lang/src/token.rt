@@ -1,6 +1,6 @@
 //! The tokens of the language.
 ghost use Rattle.std.specs.Prelude.{◌≡◌, ◌≤◌, length, IfSome};
-ghost use Rattle.protocol_lang.specs.Tokens.{is_end, word_of, symbol_of, symbol_spelling, name_of, call_of, operator_of, comparator_of, kind_of};
+ghost use Rattle.protocol_lang.specs.Tokens.{is_end, word_of, keyword_of, operand_of, symbol_of, symbol_spelling, name_of, call_of, operator_of, comparator_of, kind_of};
 
 use crate::tree::{Call, Comparator, Kind, Name, Operator};
 
@@ -57,8 +57,19 @@ pub enum Token {
 
 impl Word {
     /// The word that these letters spell.
+    #[tactic(auto, using(crate::proofs::Words::word_of_either))]
     pub(crate) fn spelled(letters: &[u8]) -> Option<Word>
         ensures { result ≡ word_of letters.now }
+    {
+        match Word::keyword(letters) {
+            Some(word) => Some(word),
+            None => Word::operand(letters),
+        }
+    }
+
+    /// The word of a protocol's rules that these letters spell.
+    fn keyword(letters: &[u8]) -> Option<Word>
+        ensures { result ≡ keyword_of letters.now }
     {
         match letters {
             b"first" => Some(Word::First),
@@ -67,6 +78,15 @@ impl Word {
             b"write" => Some(Word::Write),
             b"decide" => Some(Word::Decide),
             b"else" => Some(Word::Else),
+            _ => None,
+        }
+    }
+
+    /// The word of an expression that these letters spell.
+    fn operand(letters: &[u8]) -> Option<Word>
+        ensures { result ≡ operand_of letters.now }
+    {
+        match letters {
             b"input" => Some(Word::Input),
             b"id" => Some(Word::Id),
             b"n" => Some(Word::N),
