@@ -5,11 +5,8 @@ ghost use Rattle.transcript.specs.Runs.{IsRun, IsFirstBreak};
 ghost use Rattle.history_checker.specs.Processes.{Tracks};
 
 use crate::process::{Process, follow};
-use room_spec::Spec;
+use room_spec::{MAX_PROCESSES, Spec};
 use transcript::Event;
-
-/// The most processes that a room has.
-const MAX_PROCESSES: usize = 16;
 
 /// Whether the events are a run of the room's protocol on write-snapshot memory (update and scan
 /// of Afek, Attiya, Dolev, Gafni, Merritt and Shavit 1993), and else the index, from 0, of the

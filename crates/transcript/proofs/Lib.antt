@@ -5,5 +5,6 @@ pub mod Rows
 pub mod Histories
 pub mod Runs
 pub mod Worked
+pub mod WorkedRuns
 pub mod Writing
 pub mod FirstFault

@@ -11,7 +11,7 @@ ghost use Rattle.transcript.specs.Runs.{process_of};
 use crate::event::Event;
 use crate::fault::LineFault;
 use protocol_lang::{View, read_number};
-use room_spec::{Name, cut};
+use room_spec::{MAX_PROCESSES, Name, cut};
 use std::alloc::{AllocError, Global};
 use std::fmt::Write;
 
@@ -20,9 +20,6 @@ const MAX_LINE: usize = 256;
 
 /// The greatest number of a process.
 const MAX_PROCESS: u32 = 15;
-
-/// The most processes that a room has.
-const MAX_ENTRIES: usize = 16;
 
 /// Reads an event line, without its line end: the room's name and the event.
 pub fn read_line(line: &[u8]) -> Result<(Name, Event), LineFault>
@@ -117,7 +114,7 @@ fn read_value(fields: &[u8]) -> Result<u32, LineFault>
 fn read_row(fields: &[u8]) -> Result<View, LineFault>
     ensures { Gives (λ row. row.items) result (row_in (fields_of fields.now)) }
 {
-    if spaces(fields) >= MAX_ENTRIES {
+    if spaces(fields) >= MAX_PROCESSES {
         return Err(LineFault::BadLength);
     }
     read_entries(fields)
