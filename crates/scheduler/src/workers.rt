@@ -176,9 +176,10 @@ fn start_each<'s, E, R: Threads + Sync, G: Gate + Sync>(
     let Ok(handle) = scope.spawn_with(given, run) else {
         return Err(RunFault::Spawn);
     };
-    start_each(rt, alloc, scope, rooms, keepers, queues, gate)?;
-    let done = handle.join(rt)?;
-    bring_back(rooms, keepers, done);
+    let others = start_each(rt, alloc, scope, rooms, keepers, queues, gate);
+    let done = handle.join(rt);
+    others?;
+    bring_back(rooms, keepers, done?);
     Ok(())
 }
 

@@ -10,20 +10,20 @@ use std::test::*;
 use view_table::words;
 use ws_history::{ProcessState, Report, report};
 
-const ONE: &str =
+pub(super) const ONE: &str =
     "bgsim 1\nroom one\ninputs 5\nsimulators 1\nrounds 1\nturns 10\nprotocol\nfirst input;\nelse decide mine;\nend\n";
 
 const TWO: &str =
     "bgsim 1\nroom two\ninputs 5\nsimulators 2\nrounds 2\nturns 10\nprotocol\nfirst input;\nwhen round < 2 write mine + 1;\nelse decide max;\nend\n";
 
-const THREE: &str =
+pub(super) const THREE: &str =
     "bgsim 1\nroom one\ninputs 5\nsimulators 3\nrounds 1\nturns 10\nprotocol\nfirst input;\nelse decide mine;\nend\n";
 
 const WRITER: &str =
     "bgsim 1\nroom one\ninputs 5\nsimulators 1\nrounds 1\nturns 10\nprotocol\nfirst input;\nelse write mine;\nend\n";
 
 /// Its memory takes a whole word: 4 simulators, 8 processes, step numbers of 2 bits.
-const FULL: &str =
+pub(super) const FULL: &str =
     "bgsim 1\nroom full\ninputs 1 2 3 4 5 6 7 8\nsimulators 4\nrounds 3\nturns 100\nprotocol\nfirst input;else write mine;\nend\n";
 
 /// A simulator, how many steps it takes at most, and why it then stops.
@@ -81,7 +81,7 @@ fn have_same_words(one: &RoomCore, other: &RoomCore) -> bool {
     true
 }
 
-fn are_same(one: &Report, other: &Report) -> bool {
+pub(super) fn are_same(one: &Report, other: &Report) -> bool {
     one.states.as_slice() == other.states.as_slice()
         && one.crashed.as_slice() == other.crashed.as_slice()
         && one.history.events() == other.history.events()

@@ -15,7 +15,7 @@ spawn_with-requires-clause-runs g t c κs within =
     all_last (λ (tasks : List Task). All (λ task. IsTaskOf c.args.rooms.now task) tasks) own c.pop.new.self.items c.in-Some.tasks
     (subst (λ (l : List (VecDeque Task Global)). AreTasksOf c.args.rooms.now (map own l)) c.in-Some.ensures.items c.requires.tasks)
 
-pub start_each-requires-clause-tasks : goal.start_each-requires-clause-tasks
-start_each-requires-clause-tasks g t c κs within =
+pub start_each-others-requires-clause-tasks : goal.start_each-others-requires-clause-tasks
+start_each-others-requires-clause-tasks g t c κs within =
     all_init (λ (tasks : List Task). All (λ task. IsTaskOf c.args.rooms.now task) tasks) own c.pop.new.self.items c.in-Some.tasks
     (subst (λ (l : List (VecDeque Task Global)). AreTasksOf c.args.rooms.now (map own l)) c.in-Some.ensures.items c.requires.tasks)

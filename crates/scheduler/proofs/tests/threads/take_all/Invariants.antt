@@ -3,4 +3,4 @@ use Rattle.std.specs.List.{All}
 use Rattle.scheduler.proofs.tests.threads.take_all.Given as goal
 
 abbrev pub invariant-loop : goal.invariant-loop
-invariant-loop l = (l.keeper.room ≡ l.room) × (l.keeper.room ≡ l.initial.keeper.room) × All (λ job. job.simulator.room ≡ l.room) l.jobs.items
+invariant-loop l = (l.keeper.room ≡ l.room) × (l.keeper.room ≡ l.initial.keeper.room) × All (λ done. done.simulator.room ≡ l.room) l.all.items
