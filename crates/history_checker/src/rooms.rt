@@ -235,6 +235,18 @@ impl Rooms {
         }
     }
 
+    /// The specs of the rooms, in order of adding. What was fed is given up.
+    pub fn into_specs(self, alloc: Global) -> Result<Vec<Spec>, AllocError>
+        ensures { IfOk result (λ specs. specs.items ≡ specs_of self) }
+    {
+        let mut specs = Vec::with_capacity(alloc, self.rooms.len())?;
+        for room in self.rooms.into_values() {
+            let Room { spec, .. } = room;
+            specs.push(spec)?;
+        }
+        Ok(specs)
+    }
+
     /// The verdict on the room of this index, from 0 in order of adding, or `None` where there is
     /// none.
     pub fn verdict(&self, index: usize) -> Option<Verdict>
