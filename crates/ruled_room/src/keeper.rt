@@ -67,7 +67,7 @@ impl Keeper {
     {
         let place = &mut self.sweeps[i];
         let Some(sweep) = place.take() else {
-            unreachable!()
+            unreachable!() // it holds the simulator
         };
         let seat = cut::<Brand>(room, &mut self.seat, i);
         Simulator {

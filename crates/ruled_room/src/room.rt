@@ -141,7 +141,9 @@ fn all(sweeps: ArrayVec<Option<Sweep>, 8>) -> ArrayVec<Sweep, 8>
 {
     let mut whole = ArrayVec::new();
     for sweep in sweeps {
-        let Some(sweep) = sweep else { unreachable!() };
+        let Some(sweep) = sweep else {
+            unreachable!() // none of them is out
+        };
         whole.push(sweep);
     }
     whole

@@ -71,6 +71,7 @@ fn advance(simulator: &mut Simulator, room: &RuledRoom, fuse: &Fuse) -> Option<S
         StepReply::Stepped => None,
         StepReply::Idle => Some(Stop::Idle),
         StepReply::OutOfTurns => Some(Stop::OutOfTurns),
+        // a simulator on shared words has its number, and the keeper alone marks crashes
         StepReply::Crashed | StepReply::NoSimulator => unreachable!(),
     }
 }

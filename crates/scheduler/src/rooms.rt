@@ -112,7 +112,7 @@ fn finish_all(
     let mut results = Vec::with_capacity(alloc, rooms.len())?;
     while let Some(room) = rooms.pop() {
         let Some(keeper) = keepers.pop() else {
-            unreachable!()
+            unreachable!() // each room has its keeper
         };
         results.push(finish(alloc, room, keeper)?)?;
     }
@@ -130,7 +130,7 @@ fn finish(alloc: Global, room: RuledRoom, keeper: Keeper) -> Result<RoomResult, 
     let core = match room.close(alloc, keeper) {
         Ok(core) => core,
         Err((_, _, Gone::OutOfMemory)) => return Err(AllocError),
-        Err((_, _, Gone::StillOut(_))) => unreachable!(),
+        Err((_, _, Gone::StillOut(_))) => unreachable!(), // all have come back
     };
     let core = settled(core);
     let report = report(alloc, &core)?;
