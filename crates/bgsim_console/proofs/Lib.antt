@@ -2,6 +2,7 @@ pub mod Blocks
 pub mod Commands
 pub mod LineLists
 pub mod Naming
+pub mod Numbering
 pub mod Taken
 pub mod ReplyTexts
 pub mod Scripts
@@ -11,3 +12,4 @@ pub mod Endings
 pub mod Feeding
 pub mod Verdicts
 pub mod Worked
+pub mod WorkedInputs

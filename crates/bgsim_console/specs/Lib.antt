@@ -1,6 +1,7 @@
 pub mod Check
 pub mod CommandLine
 pub mod Ends
+pub mod LineNumbers
 pub mod Lines
 pub mod Modes
 pub mod Play

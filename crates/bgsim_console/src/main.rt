@@ -13,6 +13,7 @@ mod events;
 mod fault;
 mod input;
 mod judge;
+mod laws;
 mod lines;
 mod output;
 mod play;
