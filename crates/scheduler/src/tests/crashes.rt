@@ -1,8 +1,8 @@
 //! What becomes of a room in which simulators crash after each number of steps.
+use super::PAIR;
 use super::driving::{driven, ended};
 use super::orders::THREE;
 use super::threads::{judged, run};
-use super::{PAIR, fresh};
 use crate::{Fuse, Stop};
 use room_core::RoomCore;
 use std::alloc::{AllocError, Global};
