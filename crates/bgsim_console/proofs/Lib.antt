@@ -9,5 +9,6 @@ pub mod Playing
 pub mod Streams
 pub mod Endings
 pub mod Feeding
+pub mod RunTexts
 pub mod Verdicts
 pub mod Worked
