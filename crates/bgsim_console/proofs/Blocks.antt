@@ -1,5 +1,5 @@
 -- Blocks taken one by one.
-use Rattle.std.proofs.Common.{◌≡◌, ◌∙◌, ℕ, zero, suc, ◌+◌, ◌-◌, ◌<◌, ◌≤◌, true, false, List, [], ◌∷◌, ◌++◌, min, length, take, drop, Option, Some, None, Result, refl, sym, ap, subst, arith, inl, inr}
+use Rattle.std.proofs.Common.{◌≡◌, ◌∙◌, ◌==◌, ℕ, zero, suc, ◌+◌, ◌-◌, ◌<◌, ◌≤◌, Bool, true, false, List, [], ◌∷◌, ◌++◌, min, length, take, drop, Option, Some, None, Result, refl, sym, ap, subst, arith, inl, inr}
 use Rattle.std.specs.Prelude.{◌⊎◌, IsOk, codes}
 use Rattle.std.specs.Option.{option_map}
 use Rattle.std.specs.Str.{bytes_eq}
@@ -11,8 +11,10 @@ use Rattle.room_spec.specs.Blocks.{body_len, block_len}
 use Rattle.room_spec.specs.Grammar.{EndsAt, text_of}
 use Rattle.history_checker.specs.Verdicts.{RoomState, HasProcessed, has_room, names_of, specs_of}
 use Rattle.bgsim_console.specs.Check.{Setup, refuse, open_room, after_block, blocks_from, events_behind, BeginsWithBlock, IsFaultOr}
+use Rattle.bgsim_console.specs.Run.{all_blocks_from}
+use Rattle.bgsim_console.specs.Script.{block_extent, or_all}
 use Rattle.bgsim_console.specs.declared.fault.IoFault.{IoFault}
-use Rattle.bgsim_console.specs.declared.fault.IoFault.TheVariants.{Read, Write, TooLong, BadInput, Memory}
+use Rattle.bgsim_console.specs.declared.fault.IoFault.TheVariants.{Read, Write, TooLong, BadInput, Run as RunFailed, Memory}
 
 pub some_bytes : (text : List ℕ) (len : ℕ) → EndsAt text len → 0 < len
 some_bytes text len ends = by ends.bytes (length-append (text_of ends.lines) (codes "end"))
@@ -76,3 +78,31 @@ blocks_fault input read Memory bad = inl bad
 blocks_fault input read Read bad = absurd bad
 blocks_fault input read Write bad = absurd bad
 blocks_fault input read TooLong bad = absurd bad
+blocks_fault input read (RunFailed ran) bad = absurd bad
+
+-- ---- all blocks of an input that has nothing else
+
+positive : (text : List ℕ) (found : Option ℕ) → 0 < length text → 0 < or_all text (option_map (λ body. min (body + 4) (length text)) found)
+positive text None some = some
+positive text (Some body) some = omega (arith, some)
+
+pub some_extent : (text : List ℕ) → 0 < length text → 0 < block_extent text
+some_extent text some = positive text (body_len text) some
+
+pub bytes_left : (n : ℕ) (empty : Bool) → empty ≡ (n == 0) → empty ≡ false → 0 < n
+bytes_left zero empty is other = absurd cc
+bytes_left (suc n) empty is other = omega arith
+
+pub step_all : (most : ℕ) (setup now : Setup) (rest later : List ℕ) (extent : ℕ) → length rest ≤ most → 0 < length rest → extent ≡ block_extent rest → 0 < extent → extent ≤ length rest
+    → now ≡ after_block setup (take extent rest) → later ≡ drop extent rest → (fewer : ℕ) × (length later ≤ fewer) × (all_blocks_from most setup rest ≡ all_blocks_from fewer now later)
+unfolding all_blocks_from
+step_all most setup now [] later extent most_is some is positive within now_is later_is = absurd (omega arith)
+step_all zero setup now (byte ∷ bytes) later extent most_is some is positive within now_is later_is = absurd (omega arith)
+step_all (suc fewer) setup now (byte ∷ bytes) later extent most_is some is positive within now_is later_is =
+    (fewer, rw (later_is, length-drop extent (byte ∷ bytes)) (omega arith), rw (now_is, later_is, is) refl)
+
+pub all_taken : (most : ℕ) (setup : Setup) (rest : List ℕ) → length rest ≡ 0 → all_blocks_from most setup rest ≡ setup
+unfolding all_blocks_from
+all_taken zero setup rest none = refl
+all_taken (suc most) setup [] none = refl
+all_taken (suc most) setup (byte ∷ bytes) none = absurd (omega arith)

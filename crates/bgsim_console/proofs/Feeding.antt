@@ -6,7 +6,7 @@ use Rattle.transcript.specs.declared.event.Event.{Event}
 use Rattle.transcript.specs.declared.fault.LineFault.{LineFault}
 use Rattle.history_checker.specs.Verdicts.{FedEvent, has_room}
 use Rattle.bgsim_console.specs.declared.fault.IoFault.{IoFault}
-use Rattle.bgsim_console.specs.declared.fault.IoFault.TheVariants.{Read, Write, TooLong, BadInput, Memory}
+use Rattle.bgsim_console.specs.declared.fault.IoFault.TheVariants.{Read, Write, TooLong, BadInput, Run as RunFailed, Memory}
 use Rattle.bgsim_console.specs.Check.{of_known_room, then_fed, fed_from, IsFaultOf}
 
 pub known_fed : (rooms : List RoomSpec) (line : ℕ) (said : Result (List ℕ × Event) LineFault) (read : List ℕ × Event) → Ok read ≡ said → has_room read.0 rooms ≡ true
@@ -32,5 +32,6 @@ pub fault_fed : (rooms : List RoomSpec) (fed : List FedEvent) (line : ℕ) (text
 fault_fed rooms fed line text texts whole Read is bad = absurd bad
 fault_fed rooms fed line text texts whole Write is bad = absurd bad
 fault_fed rooms fed line text texts whole TooLong is bad = absurd bad
+fault_fed rooms fed line text texts whole (RunFailed ran) is bad = absurd bad
 fault_fed rooms fed line text texts whole Memory is bad = absurd bad
 fault_fed rooms fed line text texts whole (BadInput at code) is bad = is ∙ fed_fault rooms fed line text texts (at, code) bad

@@ -10,6 +10,7 @@ pub mod Playing
 pub mod Streams
 pub mod Endings
 pub mod Feeding
+pub mod RunTexts
 pub mod Verdicts
 pub mod Worked
 pub mod WorkedInputs

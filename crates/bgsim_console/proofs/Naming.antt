@@ -15,9 +15,9 @@ use Rattle.clap.specs.Faults.{bundle_fault, bundle_step_fault, entered_fault, fa
 use Rattle.clap.specs.declared.error.kind.ErrorKind.{ErrorKind}
 use Rattle.clap.specs.declared.error.kind.ErrorKind.TheVariants.{InvalidSubcommand, UnknownArgument}
 use Rattle.clap.proofs.WalkLemmas.{first_value-rows}
-use Rattle.bgsim_console.specs.CommandLine.{IsAsked, bgsim_app, file_among, file_app, file_named, mode_among, mode_of, word_of}
+use Rattle.bgsim_console.specs.CommandLine.{AreBare, IsAsked, IsFileAsked, begins_with_dash, bgsim_app, file_among, file_app, file_named, mode_among, mode_of, run_app, word_of, workers_among}
 use Rattle.bgsim_console.specs.declared.command_line.words.Mode.{Mode}
-use Rattle.bgsim_console.specs.declared.command_line.words.Mode.TheVariants.{Check, Play}
+use Rattle.bgsim_console.specs.declared.command_line.words.Mode.TheVariants.{Check, Play, Run}
 
 -- ---- no fault
 
@@ -91,6 +91,12 @@ file_found None f file is there = absurd cc
 file_found (Some sub) f file is there =
     let rows : rows_of f ≡ sub.1 = cc in
     is ∙ first_value-rows f (codes "FILE") ∙ ap (first_of (codes "FILE")) rows
+
+pub workers_found : (found : Option (Text × List Row)) (f : Found) → Some (rows_of f) ≡ option_map (λ sub. sub.1) found → first_value f (codes "workers") ≡ workers_among found
+workers_found None f there = absurd cc
+workers_found (Some sub) f there =
+    let rows : rows_of f ≡ sub.1 = cc in
+    first_value-rows f (codes "workers") ∙ ap (first_of (codes "workers")) rows
 
 -- ---- steps over the words
 
@@ -234,6 +240,28 @@ file_is : (name : Text) (words : List Text) → walk_fault (leaf name) [] (at no
 file_is name [] none = refl
 file_is name (word ∷ words) none = file_behind name (bytes_eq word (codes "--")) word words refl none
 
+-- ---- the words behind `run`
+
+abbrev run_leaf : Shape
+run_leaf = built_leaf (inherited (on_top marked_built bgsim_app).top run_app.top)
+
+abbrev run_rules : List Rule
+run_rules = run_leaf.rules
+
+bare_word : (word : Text) → begins_with_dash word ≡ false → first_of (codes "FILE") (rows_after run_rules [] (word ∷ [])) ≡ file_named (word ∷ [])
+unfolding walked
+bare_word [] bare = refl
+bare_word (byte ∷ bytes) bare =
+    let dashes : bytes_eq (byte ∷ bytes) (codes "--") ≡ false = rw bare refl in
+    let is : long_or_other run_rules idle (byte ∷ bytes) (long_of (byte ∷ bytes)) nothing_held ≡ (nothing_held, value) = rw bare (rw bare refl) in
+    let step = step_value run_rules [] nothing_held 1 (byte ∷ bytes) refl dashes is in
+    ap (λ w. first_of (codes "FILE") (finished run_rules w.held)) step ∙ (rw dashes refl)
+
+bare_file : (words : List Text) → AreBare words → first_of (codes "FILE") (rows_after run_rules [] words) ≡ file_named words
+bare_file [] bare = refl
+bare_file (word ∷ []) bare = bare_word word bare
+bare_file (word ∷ other ∷ others) bare = absurd bare
+
 -- ---- the first word
 
 abbrev top : Shape
@@ -243,7 +271,7 @@ abbrev top_rules : List Rule
 top_rules = help ∷ version ∷ []
 
 abbrev top_names : Names
-top_names = (word_of Check, []) ∷ (word_of Play, []) ∷ []
+top_names = (word_of Check, []) ∷ (word_of Play, []) ∷ (word_of Run, []) ∷ []
 
 top_asks : OnlyAsk top_rules
 top_asks = (λ name. long (bytes_eq (codes "help") name) (bytes_eq (codes "version") name), λ x. short (104 == x) (86 == x))
@@ -273,6 +301,7 @@ enters : (mode : Mode) → walked top_rules top_names (at nothing_held 1 false) 
 unfolding walked
 enters Check = refl
 enters Play = refl
+enters Run = refl
 
 enters_mode : (mode : Mode) (words : List Text) → walk top_rules top_names nothing_held (word_of mode ∷ words) ≡ entered_at (word_of mode) words
 enters_mode mode words = ap (λ w. fold (walked top_rules top_names) w words) (enters mode) ∙ words_kept top_rules top_names (word_of mode) [] words
@@ -282,7 +311,7 @@ abbrev IsOther : Text → Type 0
 IsOther word = (mode : Mode) → bytes_eq (word_of mode) word ≡ false
 
 no_other : (word : Text) → IsOther word → subcommand_met top_names idle word ≡ None
-no_other word other = rw (other Check, other Play) refl
+no_other word other = rw (other Check, other Play, other Run) refl
 
 -- without a subcommand there is a fault
 abbrev IsFault : List Text → Type 0
@@ -315,28 +344,43 @@ other_word false word words other dashes none =
     absurd (stray_value top top_names nothing_held 1 word refl (no_other word other) dashes is turn)
 
 -- what was entered has the mode's word, and the rows that its shape makes of the words behind it
-entered_is : (mode : Mode) (words : List Text) → entered (built bgsim_app) (Some (word_of mode, words)) ≡ Some (word_of mode, rows_after leaf_rules [] words)
+abbrev shape_for : Mode → Shape
+shape_for Check = leaf (word_of Check)
+shape_for Play = leaf (word_of Play)
+shape_for Run = run_leaf
+
+entered_is : (mode : Mode) (words : List Text) → entered (built bgsim_app) (Some (word_of mode, words)) ≡ Some (word_of mode, rows_after (shape_for mode).rules [] words)
 entered_is Check words = refl
 entered_is Play words = refl
+entered_is Run words = refl
 
-below_is : (mode : Mode) (words : List Text) → entered_fault (built bgsim_app) (Some (word_of mode, words)) ≡ level_fault (leaf (word_of mode)) [] nothing_held words false []
+below_is : (mode : Mode) (words : List Text) → entered_fault (built bgsim_app) (Some (word_of mode, words)) ≡ level_fault (shape_for mode) [] nothing_held words false []
 below_is Check words = refl
 below_is Play words = refl
+below_is Run words = refl
+
+file_asked : (mode : Mode) (words : List Text) → walk_fault (shape_for mode) [] (at nothing_held 1 false) words ≡ [] → IsFileAsked mode words (first_of (codes "FILE") (rows_after (shape_for mode).rules [] words))
+file_asked Check words none = file_is (word_of Check) words none
+file_asked Play words none = file_is (word_of Play) words none
+file_asked Run words none = bare_file words
 
 mode_is : (mode : Mode) → mode_of (word_of mode) ≡ mode
 mode_is Check = refl
 mode_is Play = refl
+mode_is Run = refl
 
 -- where the words are no fault, the subcommand is the mode's, and the file is the one that they name
 mode_asked : (mode : Mode) (words : List Text) (found : Option (Text × List Row)) → fault_of bgsim_app (word_of mode ∷ words) ≡ [] → found ≡ subcommand_of bgsim_app (word_of mode ∷ words)
     → IsAsked (word_of mode ∷ words) (mode_among found) (file_among found)
 mode_asked mode words found none is =
     let walk_is = enters_mode mode words in
-    let there : found ≡ Some (word_of mode, rows_after leaf_rules [] words) = is ∙ ap (λ w. entered (built bgsim_app) w.stopped) walk_is ∙ entered_is mode words in
+    let there : found ≡ Some (word_of mode, rows_after (shape_for mode).rules [] words) = is ∙ ap (λ w. entered (built bgsim_app) w.stopped) walk_is ∙ entered_is mode words in
     let ended = subst (λ w. level_fault top top_names nothing_held (word_of mode ∷ words) (is_some (entered (built bgsim_app) w.stopped)) (entered_fault (built bgsim_app) w.stopped) ≡ []) walk_is none in
     let below : entered_fault (built bgsim_app) (Some (word_of mode, words)) ≡ [] = first_none _ _ (then_none (walk_fault top top_names (at nothing_held 1 false) (word_of mode ∷ words)) _ ended) in
-    let fine : level_fault (leaf (word_of mode)) [] nothing_held words false [] ≡ [] = sym (below_is mode words) ∙ below in
-    (ap word_of (sym (ap mode_among there ∙ mode_is mode)), ap file_among there ∙ file_is (word_of mode) words (first_none _ _ fine))
+    let fine : level_fault (shape_for mode) [] nothing_held words false [] ≡ [] = sym (below_is mode words) ∙ below in
+    let named : mode_among found ≡ mode = ap mode_among there ∙ mode_is mode in
+    let file = subst (λ (f : Option Text). IsFileAsked mode words f) (sym (ap file_among there)) (file_asked mode words (first_none _ _ fine)) in
+    subst (λ (m : Mode). IsAsked (word_of mode ∷ words) m (file_among found)) (sym named) (refl, file)
 
 asked_as : (mode : Mode) (word : Text) (words : List Text) (found : Option (Text × List Row)) → word_of mode ≡ word → fault_of bgsim_app (word ∷ words) ≡ [] → found ≡ subcommand_of bgsim_app (word ∷ words)
     → IsAsked (word ∷ words) (mode_among found) (file_among found)
@@ -344,22 +388,24 @@ asked_as mode word words found named none is =
     subst (λ (w : Text). IsAsked (w ∷ words) (mode_among found) (file_among found)) named
     (mode_asked mode words found (subst (λ w. fault_of bgsim_app (w ∷ words) ≡ []) (sym named) none) (is ∙ ap (λ w. subcommand_of bgsim_app (w ∷ words)) (sym named)))
 
-words_asked : (is_check is_play : Bool) (word : Text) (words : List Text) (found : Option (Text × List Row)) → bytes_eq (word_of Check) word ≡ is_check → bytes_eq (word_of Play) word ≡ is_play
+words_asked : (is_check is_play is_run : Bool) (word : Text) (words : List Text) (found : Option (Text × List Row)) → bytes_eq (word_of Check) word ≡ is_check → bytes_eq (word_of Play) word ≡ is_play → bytes_eq (word_of Run) word ≡ is_run
     → fault_of bgsim_app (word ∷ words) ≡ [] → found ≡ subcommand_of bgsim_app (word ∷ words) → IsAsked (word ∷ words) (mode_among found) (file_among found)
-words_asked true is_play word words found check play none is = asked_as Check word words found ((bytes_eq-Decides (word_of Check) word).0 check) none is
-words_asked false true word words found check play none is = asked_as Play word words found ((bytes_eq-Decides (word_of Play) word).0 play) none is
-words_asked false false word words found check play none is = absurd (other_word (bytes_eq word (codes "--")) word words other refl none)
+words_asked true is_play is_run word words found check play run none is = asked_as Check word words found ((bytes_eq-Decides (word_of Check) word).0 check) none is
+words_asked false true is_run word words found check play run none is = asked_as Play word words found ((bytes_eq-Decides (word_of Play) word).0 play) none is
+words_asked false false true word words found check play run none is = asked_as Run word words found ((bytes_eq-Decides (word_of Run) word).0 run) none is
+words_asked false false false word words found check play run none is = absurd (other_word (bytes_eq word (codes "--")) word words other refl none)
   where
     other : IsOther word
     other Check = check
     other Play = play
+    other Run = run
 
 pub is_asked : (words : List Text) (found : Option (Text × List Row)) (mode : Mode) (file : Option Text) → (words ≡ [] → ⊥) → fault_of bgsim_app words ≡ [] → found ≡ subcommand_of bgsim_app words
     → mode ≡ mode_among found → file ≡ file_among found → IsAsked words mode file
 is_asked [] found mode file some none is mode_is file_is = absurd (some refl)
 is_asked (word ∷ words) found mode file some none is mode_is file_is =
     subst (λ (m : Mode). IsAsked (word ∷ words) m file) (sym mode_is) (subst (λ f. IsAsked (word ∷ words) (mode_among found) f) (sym file_is)
-    (words_asked (bytes_eq (word_of Check) word) (bytes_eq (word_of Play) word) word words found refl refl none is))
+    (words_asked (bytes_eq (word_of Check) word) (bytes_eq (word_of Play) word) (bytes_eq (word_of Run) word) word words found refl refl refl none is))
 
 pub no_words : {X : Type 0} (f : X → Text) (words : List X) → map f words ≡ [] → length words ≡ 0
 no_words f [] none = refl

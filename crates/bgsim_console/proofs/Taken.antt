@@ -9,19 +9,22 @@ use Rattle.clap.specs.declared.error.kind.ErrorKind.TheVariants.{OutOfMemory}
 use Rattle.clap.proofs.OnLiterals.{clap_on_literals}
 use Rattle.bgsim_console.specs.CommandLine.{IsPlainly, begins_with_dash, bgsim_app, word_of, words_fault}
 use Rattle.bgsim_console.specs.declared.command_line.words.Mode.{Mode}
-use Rattle.bgsim_console.specs.declared.command_line.words.Mode.TheVariants.{Check, Play}
+use Rattle.bgsim_console.specs.declared.command_line.words.Mode.TheVariants.{Check, Play, Run}
 
 word_taken : (mode : Mode) → fault_of bgsim_app (word_of mode ∷ []) ≡ []
 unfolding clap_on_literals
 word_taken Check = refl
 word_taken Play = refl
+word_taken Run = refl
 
 file_taken : (mode : Mode) (file : List ℕ) → begins_with_dash file ≡ false → fault_of bgsim_app (word_of mode ∷ file ∷ []) ≡ []
 unfolding clap_on_literals
 file_taken Check [] plain = refl
 file_taken Play [] plain = refl
+file_taken Run [] plain = refl
 file_taken Check (byte ∷ bytes) plain = rw plain (rw plain refl)
 file_taken Play (byte ∷ bytes) plain = rw plain (rw plain refl)
+file_taken Run (byte ∷ bytes) plain = rw plain (rw plain refl)
 
 plainly_taken : (words : List (List ℕ)) (mode : Mode) → IsPlainly words mode → words_fault words ≡ []
 plainly_taken [] mode plain = absurd plain

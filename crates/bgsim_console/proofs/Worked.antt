@@ -1,6 +1,6 @@
 -- The definitions at worked values.
 use Rattle.std.proofs.Common.{◌≡◌, [], ◌∷◌, Some, None, refl, codes}
-use Rattle.clap.specs.declared.error.kind.ErrorKind.TheVariants.{InvalidSubcommand, MissingSubcommand, UnknownArgument}
+use Rattle.clap.specs.declared.error.kind.ErrorKind.TheVariants.{InvalidSubcommand, MissingSubcommand, UnknownArgument, ValueValidation}
 use Rattle.clap.proofs.OnLiterals.{clap_on_literals}
 use Rattle.bgsim_console.specs.CommandLine.{file_named, words_fault}
 
@@ -48,3 +48,23 @@ other_word_refused = refl
 pub dashes_alone_refused : words_fault (codes "--" ∷ []) ≡ MissingSubcommand ∷ []
 unfolding clap_on_literals
 dashes_alone_refused = refl
+
+pub run_taken : words_fault (codes "run" ∷ []) ≡ []
+unfolding clap_on_literals
+run_taken = refl
+
+pub workers_taken : words_fault (codes "run" ∷ codes "--workers" ∷ codes "3" ∷ codes "rooms.txt" ∷ []) ≡ []
+unfolding clap_on_literals
+workers_taken = refl
+
+pub no_workers_refused : words_fault (codes "run" ∷ codes "--workers" ∷ codes "0" ∷ []) ≡ ValueValidation ∷ []
+unfolding clap_on_literals
+no_workers_refused = refl
+
+pub seventeen_workers_refused : words_fault (codes "run" ∷ codes "--workers" ∷ codes "17" ∷ []) ≡ ValueValidation ∷ []
+unfolding clap_on_literals
+seventeen_workers_refused = refl
+
+pub workers_of_check_refused : words_fault (codes "check" ∷ codes "--workers" ∷ codes "2" ∷ []) ≡ UnknownArgument ∷ []
+unfolding clap_on_literals
+workers_of_check_refused = refl

@@ -22,7 +22,7 @@ use Rattle.bgsim_console.specs.Reading.{most_bytes}
 use Rattle.bgsim_console.specs.declared.fault.Outcome.{Outcome}
 use Rattle.bgsim_console.specs.declared.fault.Outcome.TheVariants.{AllWell, SomeRefused}
 use Rattle.bgsim_console.specs.declared.fault.IoFault.{IoFault}
-use Rattle.bgsim_console.specs.declared.fault.IoFault.TheVariants.{Read, Write, TooLong, BadInput, Memory}
+use Rattle.bgsim_console.specs.declared.fault.IoFault.TheVariants.{Read, Write, TooLong, BadInput, Run as RunFailed, Memory}
 
 -- ---- a refused block's line
 
@@ -167,6 +167,7 @@ IsFaultOr memory read Memory = memory
 IsFaultOr memory read Read = ⊥
 IsFaultOr memory read Write = ⊥
 IsFaultOr memory read TooLong = ⊥
+IsFaultOr memory read (RunFailed fault) = ⊥
 
 -- nothing takes memory there
 abbrev pub IsFaultOf : {A : Type 0} → Result A (ℕ × ℕ) → IoFault → Type 0
@@ -195,4 +196,5 @@ IsAnswer input (Err TooLong) output = (most_bytes < length input) × (output ≡
 IsAnswer input (Err (BadInput line code)) output = (length input ≤ most_bytes) × (input_says input ≡ Err (line, code)) × (output ≡ [])
 IsAnswer input (Err Memory) output = output ≡ []
 IsAnswer input (Err Read) output = output ≡ []
+IsAnswer input (Err (RunFailed fault)) output = ⊥
 IsAnswer input (Err Write) output = (length input ≤ most_bytes) × IsPartFor input output

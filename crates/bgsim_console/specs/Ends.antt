@@ -2,20 +2,29 @@
 use Rattle.std.specs.Prelude.{ℕ, Bool, true, false, Result, Ok, Err, if◌then◌else◌}
 use Rattle.clap.specs.declared.error.kind.ErrorKind.{ErrorKind}
 use Rattle.clap.specs.declared.error.kind.ErrorKind.TheVariants.{DisplayHelp, DisplayVersion, OutOfMemory}
+use Rattle.scheduler.specs.declared.rooms.RunFault.{RunFault}
+use Rattle.scheduler.specs.declared.rooms.RunFault.TheVariants as run
 use Rattle.bgsim_console.specs.declared.fault.Outcome.{Outcome}
 use Rattle.bgsim_console.specs.declared.fault.Outcome.TheVariants.{AllWell, SomeRefused}
 use Rattle.bgsim_console.specs.declared.fault.IoFault.{IoFault}
-use Rattle.bgsim_console.specs.declared.fault.IoFault.TheVariants.{Read, Write, TooLong, BadInput, Memory}
+use Rattle.bgsim_console.specs.declared.fault.IoFault.TheVariants.{Read, Write, TooLong, BadInput, Run, Memory}
 
 abbrev pub outcome_status : Outcome → ℕ
 outcome_status AllWell = 0
 outcome_status SomeRefused = 1
+
+-- want of memory ends the run of rooms as it ends an engine
+abbrev pub run_status : RunFault → ℕ
+run_status run.Workers = 2
+run_status run.Spawn = 2
+run_status run.OutOfMemory = 3
 
 abbrev pub fault_status : IoFault → ℕ
 fault_status Read = 2
 fault_status Write = 2
 fault_status TooLong = 2
 fault_status (BadInput line code) = 2
+fault_status (Run fault) = run_status fault
 fault_status Memory = 3
 
 abbrev pub ending_status : Result Outcome IoFault → ℕ
@@ -36,6 +45,7 @@ is_read_failed (Err Read) = true
 is_read_failed (Err Write) = false
 is_read_failed (Err TooLong) = false
 is_read_failed (Err (BadInput line code)) = false
+is_read_failed (Err (Run fault)) = false
 is_read_failed (Err Memory) = false
 
 -- writing ended the run
@@ -45,6 +55,7 @@ is_write_failed (Err Read) = false
 is_write_failed (Err Write) = true
 is_write_failed (Err TooLong) = false
 is_write_failed (Err (BadInput line code)) = false
+is_write_failed (Err (Run fault)) = false
 is_write_failed (Err Memory) = false
 
 -- how many writes failed

@@ -7,5 +7,6 @@ pub mod Modes
 pub mod Play
 pub mod Reading
 pub mod ReplyTexts
+pub mod Run
 pub mod Script
 pub mod Writing

@@ -2,12 +2,14 @@
 use Rattle.std.specs.Prelude.{ℕ, List, Result}
 use Rattle.bgsim_console.specs.Check.{IsAnswer}
 use Rattle.bgsim_console.specs.Play.{IsPlayed}
+use Rattle.bgsim_console.specs.Run.{IsRan}
 use Rattle.bgsim_console.specs.declared.command_line.words.Mode.{Mode}
-use Rattle.bgsim_console.specs.declared.command_line.words.Mode.TheVariants.{Check, Play}
+use Rattle.bgsim_console.specs.declared.command_line.words.Mode.TheVariants.{Check, Play, Run}
 use Rattle.bgsim_console.specs.declared.fault.Outcome.{Outcome}
 use Rattle.bgsim_console.specs.declared.fault.IoFault.{IoFault}
 
--- the mode's answer to an input, and what it writes
-abbrev pub IsAnswerIn : Mode → List ℕ → Result Outcome IoFault → List ℕ → Type 0
-IsAnswerIn Check input answer output = IsAnswer input answer output
-IsAnswerIn Play input answer output = IsPlayed input answer output
+-- the mode's answer to an input, and what it writes; `run` has so many workers
+abbrev pub IsAnswerIn : Mode → ℕ → List ℕ → Result Outcome IoFault → List ℕ → Type 0
+IsAnswerIn Check workers input answer output = IsAnswer input answer output
+IsAnswerIn Play workers input answer output = IsPlayed input answer output
+IsAnswerIn Run workers input answer output = IsRan workers input answer output

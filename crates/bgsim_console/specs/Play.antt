@@ -17,7 +17,7 @@ use Rattle.bgsim_console.specs.Script.{Entry, Ask, Open, script_says}
 use Rattle.bgsim_console.specs.ReplyTexts.{reply_to_command}
 use Rattle.bgsim_console.specs.declared.fault.Outcome.{Outcome}
 use Rattle.bgsim_console.specs.declared.fault.IoFault.{IoFault}
-use Rattle.bgsim_console.specs.declared.fault.IoFault.TheVariants.{Read, Write, TooLong, BadInput, Memory}
+use Rattle.bgsim_console.specs.declared.fault.IoFault.TheVariants.{Read, Write, TooLong, BadInput, Run, Memory}
 
 -- ---- replies to commands
 
@@ -124,6 +124,7 @@ IsPlayed input (Err TooLong) output = (most_bytes < length input) × (output ≡
 IsPlayed input (Err (BadInput line code)) output = (length input ≤ most_bytes) × (script_says input ≡ Err (line, code)) × (output ≡ [])
 IsPlayed input (Err Memory) output = (output ≡ []) ⊎ ((length input ≤ most_bytes) × IsPlayFor input (Err Memory) output)
 IsPlayed input (Err Read) output = output ≡ []
+IsPlayed input (Err (Run fault)) output = ⊥
 IsPlayed input (Err Write) output = (length input ≤ most_bytes) × IsPlayPart input output
 
 -- ---- while it runs

@@ -3,7 +3,7 @@ use Rattle.std.specs.Prelude.{◌≡◌, ℕ, ◌+◌, ◌<◌, List, ◌++◌, 
 use Rattle.std.specs.Global.{Vec}
 use Rattle.std.specs.Io.KnownBytes.{Consumes, IsAtEnd}
 use Rattle.bgsim_console.specs.declared.fault.IoFault.{IoFault}
-use Rattle.bgsim_console.specs.declared.fault.IoFault.TheVariants.{Read, Write, TooLong, BadInput, Memory}
+use Rattle.bgsim_console.specs.declared.fault.IoFault.TheVariants.{Read, Write, TooLong, BadInput, Run, Memory}
 
 abbrev pub most_bytes : ℕ
 most_bytes = 16777216
@@ -29,6 +29,7 @@ MayEnd old before TooLong = IsTooMuch old before
 MayEnd old before Read = Unit {0}
 MayEnd old before Memory = Unit {0}
 MayEnd old before Write = ⊥
+MayEnd old before (Run fault) = ⊥
 MayEnd old before (BadInput line code) = ⊥
 
 -- what was read of a whole input, where the reader didn't fail and memory wasn't refused
@@ -38,6 +39,7 @@ IsWholeInput input (Err TooLong) = most_bytes < length input
 IsWholeInput input (Err Read) = Unit {0}
 IsWholeInput input (Err Memory) = Unit {0}
 IsWholeInput input (Err Write) = ⊥
+IsWholeInput input (Err (Run fault)) = ⊥
 IsWholeInput input (Err (BadInput line code)) = ⊥
 
 -- the faults with which reading may end
@@ -46,4 +48,5 @@ IsReadFault Read = Unit {0}
 IsReadFault TooLong = Unit {0}
 IsReadFault Memory = Unit {0}
 IsReadFault Write = ⊥
+IsReadFault (Run fault) = ⊥
 IsReadFault (BadInput line code) = ⊥

@@ -1,19 +1,20 @@
 //! The words of the command line.
-ghost use Rattle.std.specs.Prelude.{◌≡◌, ◌≤◌, [], IfErr, IfOk, IsOkAnd, None, false, map, option_map};
+ghost use Rattle.std.specs.Prelude.{◌≡◌, ◌≢◌, ◌≤◌, [], IfErr, IfOk, IsOkAnd, None, codes, false, map, option_map};
 ghost use Rattle.clap.specs.Kinds.{FailsBy};
 ghost use Rattle.clap.specs.Values.{kind_of};
 ghost use Rattle.clap.specs.declared.error.kind.ErrorKind.TheVariants.{OutOfMemory};
 ghost use Rattle.clap.specs.declared.builder.command.Command.TheViews.{out-Command};
-ghost use Rattle.clap.specs.Words.{app_of, fault_of, subcommand_of, subcommand_rows_of};
-ghost use Rattle.bgsim_console.specs.CommandLine.{bgsim_app, file_among, file_app, mode_among, words_fault, IsAsked, IsPlainly};
+ghost use Rattle.clap.specs.Words.{app_of, fault_of, first_value, found_of, subcommand_of, subcommand_rows_of};
+ghost use Rattle.bgsim_console.specs.CommandLine.{bgsim_app, file_among, file_app, mode_among, run_app, words_fault, workers_among, IsAsked, IsPlainly, IsWorkers};
 ghost use Rattle.bgsim_console.specs.declared.command_line.words.Mode.{Mode as ModeData};
 ghost use Rattle.bgsim_console.specs.declared.command_line.words.Mode.TheVariants as ModeVariants;
 
 mod words;
 
-use clap::{Arg, ArgMatches, Command, Error};
+use clap::{Arg, ArgMatches, Command, Error, value_parser};
 use std::alloc::Global;
 use std::convert::AsStr;
+use words::{DEFAULT_WORKERS, workers_in};
 pub use words::{Line, Mode};
 
 /// The subcommand of this word, which takes a file.
@@ -36,6 +37,27 @@ fn file_command<'a>(
     Ok(command)
 }
 
+/// The subcommand `run`, which takes a file and a number of workers.
+fn run_command<'a>(alloc: Global) -> Result<Command<'a>, Error>
+    ensures app { IfOk result (λ command. app_of command ≡ run_app) }
+    ensures local { IfOk result (λ command. (out-Command command).has_globals ≡ false) }
+    ensures err { IfErr result (λ error. kind_of error ≡ OutOfMemory) }
+{
+    let workers = Arg::new(alloc, "workers")
+        .long("workers")
+        .value_name("W")
+        .value_parser(value_parser!(u8).range(1..=16))
+        .help("How many threads run the rooms, 1 to 16; without it, 2");
+    let run = file_command(
+        alloc,
+        "run",
+        "Runs the rooms of a file, all at once, and reports each",
+        "bgsim run [--workers W] [FILE]",
+        "The rooms; without it, standard input is read",
+    )?;
+    Ok(run.arg(workers)?)
+}
+
 fn command<'a>(alloc: Global) -> Result<Command<'a>, Error>
     ensures app { IfOk result (λ command. app_of command ≡ bgsim_app) }
     ensures err { IfErr result (λ error. kind_of error ≡ OutOfMemory) }
@@ -54,6 +76,7 @@ fn command<'a>(alloc: Global) -> Result<Command<'a>, Error>
         "bgsim play [FILE]",
         "The script; without it, standard input is read",
     )?;
+    let run = run_command(alloc)?;
     let command = Command::new(alloc, "bgsim")
         .version("0.1.0")
         .about(
@@ -65,7 +88,8 @@ fn command<'a>(alloc: Global) -> Result<Command<'a>, Error>
         .disable_help_subcommand(true)
         .subcommand_required(true)
         .subcommand(check)?
-        .subcommand(play)?;
+        .subcommand(play)?
+        .subcommand(run)?;
     Ok(command)
 }
 
@@ -77,15 +101,35 @@ fn read_words<'a, S: AsStr>(alloc: Global, words: &'a [S]) -> Result<ArgMatches<
     command(alloc)?.try_get_matches_from(words)
 }
 
-/// What the subcommand and the file behind it ask for.
+/// What the subcommand and the words behind it ask for.
 fn line_in<'a>(matches: &ArgMatches<'a>) -> Line<'a>
     ensures command { result.command ≡ mode_among (subcommand_rows_of matches.now) }
     ensures file { option_map (λ file. file.now) result.file ≡ file_among (subcommand_rows_of matches.now) }
-    ensures workers { result.workers ≡ 2 }
+    ensures workers { result.command ≡ ModeVariants.Run → IsWorkers (workers_among (subcommand_rows_of matches.now)) result.workers }
+    ensures default { result.command ≢ ModeVariants.Run → result.workers ≡ 2 }
+    ensures range { (1 ≤ result.workers) × (result.workers ≤ 16) }
 {
     match matches.subcommand() {
-        Some((word, inner)) => Line::of(Mode::of(word), inner.get_str("FILE")),
+        Some((word, inner)) => {
+            let mode = Mode::of(word);
+            Line::of(mode, inner.get_str("FILE")).with_workers(workers_for(mode, inner))
+        }
         None => Line::of(Mode::Check, None),
+    }
+}
+
+/// How many workers the words behind a mode's ask for.
+fn workers_for(mode: Mode, matches: &ArgMatches<'_>) -> u8
+    ensures run { mode ≡ ModeVariants.Run → IsWorkers (first_value (found_of matches.now) (codes "workers")) result }
+    ensures default { mode ≢ ModeVariants.Run → result ≡ 2 }
+    ensures range { (1 ≤ result) × (result ≤ 16) }
+{
+    if mode != Mode::Run {
+        return DEFAULT_WORKERS;
+    }
+    match matches.get_str("workers") {
+        Some(text) => workers_in(text),
+        None => DEFAULT_WORKERS,
     }
 }
 
@@ -97,7 +141,9 @@ fn line_in<'a>(matches: &ArgMatches<'a>) -> Line<'a>
 pub fn line<'a, S: AsStr>(alloc: Global, words: &'a [S]) -> Result<Line<'a>, Error>
     ensures workers { IfOk result (λ line. (1 ≤ line.workers) × (line.workers ≤ 16)) }
     ensures nothing { map S.text words.entry.now ≡ [] → IsOkAnd result (λ line. (line.command ≡ ModeVariants.Check) × (line.file ≡ None)) }
-    ensures default { IfOk result (λ line. line.workers ≡ 2) }
+    // `run` alone takes a number of workers, of those that `clap` lets through.
+    ensures default { IfOk result (λ line. line.command ≢ ModeVariants.Run → line.workers ≡ 2) }
+    ensures number { IfOk result (λ line. line.command ≡ ModeVariants.Run → IsWorkers (workers_among (subcommand_of bgsim_app (map S.text words.entry.now))) line.workers) }
     // The first word is the mode's, and those behind it name the file; or there are no words.
     ensures asked { IfOk result (λ line. IsAsked (map S.text words.entry.now) line.command (option_map (λ file. file.now) line.file)) }
     // Words that are plainly a mode and a file are refused for want of memory alone.

@@ -3,6 +3,7 @@ ghost use Rattle.std.specs.Prelude.{◌≡◌, ◌+◌, ◌≤◌, List, ℕ, tr
 ghost use Rattle.std.specs.Io.KnownBytes.{Appends};
 ghost use Rattle.bgsim_console.specs.Check.{IsAnswer};
 ghost use Rattle.bgsim_console.specs.Play.{IsPlayed};
+ghost use Rattle.bgsim_console.specs.Run.{IsRan};
 ghost use Rattle.bgsim_console.specs.Ends.{is_read_failed, is_write_failed, failed_writes};
 
 use crate::device::Device;
@@ -11,8 +12,12 @@ use crate::input::read_input;
 use crate::judge::{judge, outcome_if};
 use crate::output::write_output;
 use crate::play::{judge_script, play_script};
+use crate::run::run_blocks;
+use scheduler::Gate;
 use std::alloc::Global;
 use std::io::{Read, Write};
+use std::sync::Wait;
+use std::thread::Threads;
 
 /// Judges the transcript that the reader gives, and writes the verdicts.
 ///
@@ -79,4 +84,40 @@ pub fn play_io<R: Read, W: Write>(
         return Err(IoFault::Memory);
     }
     Ok(outcome_if(!played.refused))
+}
+
+/// Runs the rooms of the blocks that the reader gives, by workers on threads of their own, and writes
+/// the lines of the refused blocks and each room's report. Which steps interleave is the threads'
+/// affair; whichever do, each report is one that its own room allows.
+///
+/// # Errors
+///
+/// A device that failed; an input that is too long; what ended the rooms, found before anything is
+/// written; or want of memory.
+pub fn run_io<H: Threads + Wait + Sync, R: Read, W: Write, G: Gate + Sync>(
+    rt: &H,
+    alloc: Global,
+    reader: &mut Device<R>,
+    writer: &mut Device<W>,
+    workers: u8,
+    gate: &G,
+) -> Result<Outcome, IoFault>
+    requires reader { reader.old.failed ≡ false }
+    requires writer { writer.old.failed ≡ false }
+    // What is written is a text for what was read, and the answer goes with it. No write is of nothing.
+    ensures text { IfSome (R.remaining reader.old.inner) (λ input. (output : List ℕ) × IsRan workers input result output
+        × Appends (W.contents writer.old.inner) (W.contents writer.new.inner) output
+        × (writer.new.calls ≤ writer.old.calls + length output + failed_writes result)) }
+    // What is written has left the writer's hands.
+    ensures flushed { OnOk result (writer.new.flushed ≡ true) }
+    ensures read_failed { reader.new.failed ≡ is_read_failed result }
+    ensures write_failed { writer.new.failed ≡ is_write_failed result }
+    ensures reads { reader.new.calls ≤ reader.old.calls + 16777217 }
+    // Once the reader is at its end it is not asked again.
+    ensures once { IfSome (R.remaining reader.old.inner) (λ input. reader.new.calls ≤ reader.old.calls + length input + 1) }
+{
+    let input = read_input(alloc, reader)?;
+    let ran = run_blocks(rt, alloc, &input, workers, gate)?;
+    write_output(writer, &ran.output)?;
+    Ok(ran.outcome)
 }

@@ -1,8 +1,9 @@
 //! How an engine ends.
 ghost use Rattle.std.specs.Prelude.{◌≡◌};
-ghost use Rattle.bgsim_console.specs.declared.fault.IoFault.TheVariants.{Memory};
+ghost use Rattle.bgsim_console.specs.declared.fault.IoFault.TheVariants.{Memory, Run};
 ghost use Rattle.bgsim_console.specs.Ends.{outcome_status, fault_status};
 
+use scheduler::RunFault;
 use std::alloc::AllocError;
 use thiserror::Error;
 
@@ -42,6 +43,9 @@ pub enum IoFault {
     /// The input has a fault of this code on this line, counted from 1.
     #[error("line {line}: fault {code}")]
     BadInput { line: u64, code: u16 },
+    /// The rooms could not be run to their end.
+    #[error("{0}")]
+    Run(RunFault),
     /// Memory was refused.
     #[error("out of memory")]
     Memory,
@@ -53,7 +57,7 @@ impl IoFault {
         ensures { result ≡ fault_status self }
     {
         match self {
-            IoFault::Memory => 3,
+            IoFault::Memory | IoFault::Run(RunFault::OutOfMemory) => 3,
             _ => 2,
         }
     }
@@ -64,5 +68,13 @@ impl From<AllocError> for IoFault {
 
     fn from(_: AllocError) -> IoFault {
         IoFault::Memory
+    }
+}
+
+impl From<RunFault> for IoFault {
+    ghost from_gives = { λ run fault. fault ≡ Run run };
+
+    fn from(fault: RunFault) -> IoFault {
+        IoFault::Run(fault)
     }
 }

@@ -23,6 +23,7 @@ mod reply;
 mod report;
 #[cfg(test)]
 mod room_tests;
+mod run;
 mod script;
 #[cfg(test)]
 mod script_tests;
@@ -34,23 +35,27 @@ use clap::error::ErrorKind;
 use command_line::{Line, Mode, line};
 use device::Device;
 use fault::{IoFault, Outcome};
+use scheduler::FreeGate;
 use std::fs::File;
 use std::io;
 use std::io::Read;
 use std::process::ExitCode;
+use std::sync::Wait;
+use std::thread::Threads;
 
 fn main(rt: HostRuntime) -> ExitCode {
-    ExitCode::from(status(&rt))
+    ExitCode::from(status(&rt, &rt))
 }
 
-fn status(rt: &HostRuntime) -> u8
+/// `threads` is the runtime too, as it starts threads.
+fn status<H: Threads + Wait + Sync>(rt: &HostRuntime, threads: &H) -> u8
     ensures { result ≤ 3 }
 {
     let Ok(words) = words(rt) else {
         return fault_status(rt, IoFault::Memory);
     };
     match line(rt.alloc(), words.as_slice()) {
-        Ok(line) => ending_status(rt, ending(rt, &line)),
+        Ok(line) => ending_status(rt, ending(rt, threads, &line)),
         Err(error) => words_status(rt, &error),
     }
 }
@@ -61,25 +66,43 @@ fn words(rt: &HostRuntime) -> io::Result<Vec<String>> {
 }
 
 /// How the engine ends that the words ask for, on the file or on standard input.
-fn ending(rt: &HostRuntime, line: &Line<'_>) -> Result<Outcome, IoFault> {
+fn ending<H: Threads + Wait + Sync>(
+    rt: &HostRuntime,
+    threads: &H,
+    line: &Line<'_>,
+) -> Result<Outcome, IoFault> {
     match line.file {
-        None => answer(rt, line.command, rt.stdin()),
+        None => answer(rt, threads, line.command, line.workers, rt.stdin()),
         Some(path) => match File::open(rt, path) {
-            Ok(input) => answer(rt, line.command, input),
+            Ok(input) => answer(rt, threads, line.command, line.workers, input),
             Err(_) => Err(IoFault::Read),
         },
     }
 }
 
 /// The mode's answer to an input, whose text goes to standard output.
-fn answer<R: Read + Drop>(rt: &HostRuntime, mode: Mode, input: R) -> Result<Outcome, IoFault>
-    ensures { IfSome (R.remaining input) (λ bytes. (output : List ℕ) × IsAnswerIn mode bytes result output) }
+fn answer<H: Threads + Wait + Sync, R: Read + Drop>(
+    rt: &HostRuntime,
+    threads: &H,
+    mode: Mode,
+    workers: u8,
+    input: R,
+) -> Result<Outcome, IoFault>
+    ensures { IfSome (R.remaining input) (λ bytes. (output : List ℕ) × IsAnswerIn mode workers bytes result output) }
 {
     let mut reader = Device::new(input);
     let mut writer = Device::new(rt.stdout());
     match mode {
         Mode::Check => engine::check_io(rt.alloc(), &mut reader, &mut writer),
         Mode::Play => engine::play_io(rt.alloc(), &mut reader, &mut writer),
+        Mode::Run => engine::run_io(
+            threads,
+            rt.alloc(),
+            &mut reader,
+            &mut writer,
+            workers,
+            &FreeGate,
+        ),
     }
 }
 

@@ -70,7 +70,8 @@ fn crash_word(reply: CrashReply) -> &'static str
     }
 }
 
-fn write_report(
+/// Writes the lines of a room's report.
+pub fn write_report(
     alloc: Global,
     output: &mut Vec<u8>,
     name: &Name,

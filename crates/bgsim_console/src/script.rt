@@ -121,8 +121,8 @@ pub fn next_entry(script: &[u8]) -> Option<(&[u8], &[u8], &[u8])>
     Some((line, &later[..extent], &later[extent..]))
 }
 
-/// How many bytes behind the line `open` are its block: those up to its line `end`, or else all.
-fn block_extent(text: &[u8]) -> usize
+/// How many bytes of the text are its first block: those up to its line `end`, or else all.
+pub fn block_extent(text: &[u8]) -> usize
     ensures value { result ≡ block_extent text.now }
     ensures within { result ≤ length text.now }
 {

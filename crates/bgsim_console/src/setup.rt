@@ -2,11 +2,13 @@
 ghost use Rattle.std.specs.Prelude.{◌≡◌, ◌+◌, ◌<◌, ◌^◌, ◌≤◌, [], Ok, IfOk, IfErr, length, string_bytes, codes};
 ghost use Rattle.bgsim_console.specs.declared.fault.IoFault.TheVariants.{Memory};
 ghost use Rattle.room_spec.specs.Blocks.{block_in};
+ghost use Rattle.bgsim_console.specs.Run.{all_blocks};
 ghost use Rattle.bgsim_console.specs.Check.{no_blocks, refuse, open_room, after_block, pass_lines, blocks_in, fault_text, BeginsWithBlock, IsFaultOr};
 
 use crate::fault::IoFault;
 use crate::lines::count_lines;
 use crate::report::{fault_text, refused_line};
+use crate::script::block_extent;
 use history_checker::{AddFault, Rooms};
 use protocol_lang::ParseFault;
 use room_spec::{Name, Spec, SpecFault, block_len, cut, read_block};
@@ -145,4 +147,22 @@ pub fn read_blocks(alloc: Global, input: &[u8]) -> Result<(Setup, &[u8]), IoFaul
         setup = setup.take_block(alloc, &rest[..len])?;
         rest = &rest[len..];
     }
+}
+
+/// Takes all blocks of an input that has nothing else: what they say. Where the last has no line `end`
+/// it is cut off, and refused.
+#[tactic(auto, unfolding(crate::specs::Run::all_blocks_from))]
+pub fn read_all_blocks(alloc: Global, input: &[u8]) -> Result<Setup, IoFault>
+    requires { length input.now ≤ 16777216 }
+    ensures read { IfOk result (λ setup. setup ≡ all_blocks input.now) }
+    ensures err { IfErr result (λ fault. fault ≡ Memory) }
+{
+    let mut setup = Setup::new(alloc);
+    let mut rest = input;
+    while !rest.is_empty() {
+        let extent = block_extent(rest);
+        setup = setup.take_block(alloc, &rest[..extent])?;
+        rest = &rest[extent..];
+    }
+    Ok(setup)
 }

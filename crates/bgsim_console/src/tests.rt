@@ -1,5 +1,6 @@
 use super::*;
 use crate::device::DeviceFailed;
+use scheduler::RunFault;
 use std::alloc::{AllocError, Global};
 use std::io::Write;
 use std::test::*;
@@ -55,6 +56,42 @@ fn good_words(rt: HostRuntime) -> Result<(), Fail> {
 }
 
 #[test]
+fn words_of_run(rt: HostRuntime) -> Result<(), Fail> {
+    for (words, file, workers) in [
+        (["run"].as_slice(), None, 2),
+        (["run", "F"].as_slice(), Some("F"), 2),
+        (["run", "--workers", "3", "F"].as_slice(), Some("F"), 3),
+        (["run", "F", "--workers=16"].as_slice(), Some("F"), 16),
+        (["run", "--workers", "01"].as_slice(), None, 1),
+    ] {
+        let found: Line<'_> = line(rt.alloc(), words)?;
+        assert_eq!(rt; found.command, Mode::Run, "in {words:?}");
+        assert_eq!(rt; found.file, file, "in {words:?}");
+        assert_eq!(rt; found.workers, workers, "in {words:?}");
+    }
+    Ok(())
+}
+
+#[test]
+fn wrong_words_of_run(rt: HostRuntime) {
+    for (words, kind) in [
+        (
+            ["run", "--workers", "0"].as_slice(),
+            ErrorKind::ValueValidation,
+        ),
+        (
+            ["run", "--workers", "17"].as_slice(),
+            ErrorKind::ValueValidation,
+        ),
+        (["run", "a", "b"].as_slice(), ErrorKind::UnknownArgument),
+        (["run", "--help"].as_slice(), ErrorKind::DisplayHelp),
+    ] {
+        let found = line(rt.alloc(), words).err().map(|error| error.kind());
+        assert_eq!(rt; found, Some(kind), "in {words:?}");
+    }
+}
+
+#[test]
 fn other_words(rt: HostRuntime) {
     let alloc = rt.alloc();
     for (words, kind) in [
@@ -67,7 +104,7 @@ fn other_words(rt: HostRuntime) {
         (["help"].as_slice(), ErrorKind::InvalidSubcommand),
         (["Play"].as_slice(), ErrorKind::InvalidSubcommand),
         (["step"].as_slice(), ErrorKind::InvalidSubcommand),
-        (["run"].as_slice(), ErrorKind::InvalidSubcommand),
+        (["Run"].as_slice(), ErrorKind::InvalidSubcommand),
         (["rooms.txt"].as_slice(), ErrorKind::InvalidSubcommand),
         (["Check"].as_slice(), ErrorKind::InvalidSubcommand),
         ([""].as_slice(), ErrorKind::InvalidSubcommand),
@@ -170,6 +207,9 @@ fn statuses(rt: HostRuntime) {
         (IoFault::Write, 2),
         (IoFault::TooLong, 2),
         (IoFault::BadInput { line: 7, code: 61 }, 2),
+        (IoFault::Run(RunFault::Workers), 2),
+        (IoFault::Run(RunFault::Spawn), 2),
+        (IoFault::Run(RunFault::OutOfMemory), 3),
         (IoFault::Memory, 3),
     ] {
         assert_eq!(rt; fault.status(), status, "of {fault}");
@@ -533,6 +573,9 @@ fn messages(rt: HostRuntime) -> Result<(), Fail> {
         (IoFault::Write, "write failed"),
         (IoFault::TooLong, "input too long"),
         (IoFault::BadInput { line: 7, code: 61 }, "line 7: fault 61"),
+        (IoFault::Run(RunFault::Workers), "bad number of workers"),
+        (IoFault::Run(RunFault::Spawn), "cannot start a worker"),
+        (IoFault::Run(RunFault::OutOfMemory), "out of memory"),
         (IoFault::Memory, "out of memory"),
     ] {
         let found = format!(in rt.alloc(); "{fault}")?;

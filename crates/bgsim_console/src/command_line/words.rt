@@ -1,8 +1,9 @@
 //! What the words of the command line ask for.
-ghost use Rattle.std.specs.Prelude.{◌≡◌};
-ghost use Rattle.bgsim_console.specs.CommandLine.{mode_of};
+ghost use Rattle.std.specs.Prelude.{◌≡◌, ◌≤◌, Some};
+ghost use Rattle.bgsim_console.specs.CommandLine.{IsWorkers, mode_of};
 
-const DEFAULT_WORKERS: u8 = 2;
+/// How many workers there are where the words give no number.
+pub const DEFAULT_WORKERS: u8 = 2;
 
 /// Which engine the words ask for.
 #[derive(Clone, Copy, Debug, PartialEq, Eq)]
@@ -11,6 +12,8 @@ pub enum Mode {
     Check,
     /// Plays a script.
     Play,
+    /// Runs the rooms of a file.
+    Run,
 }
 
 impl Mode {
@@ -20,6 +23,8 @@ impl Mode {
     {
         if word == "play" {
             Mode::Play
+        } else if word == "run" {
+            Mode::Run
         } else {
             Mode::Check
         }
@@ -32,6 +37,7 @@ pub struct Line<'a> {
     pub command: Mode,
     /// The file to read. Without one standard input is read.
     pub file: Option<&'a str>,
+    /// How many workers run the rooms, 1 to 16.
     pub workers: u8,
 }
 
@@ -45,5 +51,23 @@ impl<'a> Line<'a> {
             file,
             workers: DEFAULT_WORKERS,
         }
+    }
+
+    /// The same, with so many workers.
+    pub fn with_workers(self, workers: u8) -> Line<'a>
+        ensures { result ≡ record self.entry { workers = workers } }
+    {
+        Line { workers, ..self }
+    }
+}
+
+/// The number of workers that this text gives. `clap` takes no other than 1 to 16.
+pub fn workers_in(text: &str) -> u8
+    ensures number { IsWorkers (Some text.now) result }
+    ensures range { (1 ≤ result) × (result ≤ 16) }
+{
+    match text.parse::<u8>() {
+        Ok(workers) if 1 <= workers && workers <= 16 => workers,
+        _ => DEFAULT_WORKERS,
     }
 }
