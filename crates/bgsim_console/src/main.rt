@@ -24,6 +24,8 @@ mod report;
 #[cfg(test)]
 mod room_tests;
 mod run;
+#[cfg(test)]
+mod run_tests;
 mod script;
 #[cfg(test)]
 mod script_tests;

@@ -1,0 +1,106 @@
+//! Files of rooms that workers run.
+use crate::device::Device;
+use crate::engine::run_io;
+use crate::fault::{IoFault, Outcome};
+use crate::tests::Trickle;
+use scheduler::{FreeGate, RunFault};
+use std::alloc::Global;
+use std::sync::Wait;
+use std::test::*;
+use std::thread::Threads;
+
+const ONE: &str =
+    "bgsim 1\nroom one\ninputs 5\nsimulators 1\nrounds 1\nturns 10\nprotocol\nfirst input;\nelse decide mine;\nend\n";
+
+const REPORT: &str =
+    "one report\none process 0 decided 5\none crashed\none history 3\none 0 write 5\none 0 snap 5\none 0 decide 5\none end\n";
+
+const PAIR: &str = "bgsim 1\nroom pair\ninputs 7 3\nsimulators 2\nrounds 1\nturns 100\n";
+
+const MINIMUM: &str = "protocol\nfirst input;\nelse decide min;\nend\n";
+
+const HELD: &str =
+    "pair report\npair process 0 held 0\npair process 1 decided 3\npair crashed 0\npair history 4\npair 0 write 7\npair 1 write 3\npair 1 snap 7 3\npair 1 decide 3\npair end\n";
+
+/// What a run by so many workers answers, and what it writes.
+fn ran<H: Threads + Wait + Sync>(
+    threads: &H,
+    alloc: Global,
+    input: &str,
+    workers: u8,
+) -> (Result<Outcome, IoFault>, Vec<u8>) {
+    let mut reader = Device::new(input.as_bytes());
+    let mut written = Vec::new(alloc);
+    let mut writer = Device::new(&mut written);
+    let found = run_io(threads, alloc, &mut reader, &mut writer, workers, &FreeGate);
+    (found, written)
+}
+
+#[test]
+fn one_room(rt: HostRuntime) {
+    let (found, written) = ran(&rt, rt.alloc(), ONE, 16);
+    assert_eq!(rt; found, Ok(Outcome::AllWell));
+    assert_eq!(rt; written.as_slice(), REPORT.as_bytes());
+}
+
+#[test]
+fn name_taken(rt: HostRuntime) -> Result<(), Fail> {
+    let alloc = rt.alloc();
+    let twice = format!(in alloc; "{ONE}{ONE}")?;
+    let (found, written) = ran(&rt, alloc, twice.as_str(), 1);
+    let output = format!(in alloc; "line 11 refused 41\n{REPORT}")?;
+    assert_eq!(rt; found, Ok(Outcome::SomeRefused));
+    assert_eq!(rt; written.as_slice(), output.as_bytes());
+    Ok(())
+}
+
+#[test]
+fn fuse(rt: HostRuntime) -> Result<(), Fail> {
+    let alloc = rt.alloc();
+    let input = format!(in alloc; "{PAIR}crash 0 after 5\n{MINIMUM}")?;
+    let (found, written) = ran(&rt, alloc, input.as_str(), 1);
+    assert_eq!(rt; found, Ok(Outcome::AllWell));
+    assert_eq!(rt; written.as_slice(), HELD.as_bytes());
+    Ok(())
+}
+
+#[test]
+fn wrong_numbers_of_workers(rt: HostRuntime) {
+    for workers in [0, 17, 255] {
+        let (found, written) = ran(&rt, rt.alloc(), ONE, workers);
+        assert_eq!(rt; found, Err(IoFault::Run(RunFault::Workers)));
+        assert!(rt; written.is_empty());
+    }
+}
+
+#[test]
+fn cut_block(rt: HostRuntime) {
+    let (found, written) = ran(&rt, rt.alloc(), PAIR, 1);
+    assert_eq!(rt; found, Ok(Outcome::SomeRefused));
+    assert_eq!(rt; written.as_slice(), b"line 1 refused 10\n".as_slice());
+}
+
+#[test]
+fn nothing_to_run(rt: HostRuntime) {
+    let (found, written) = ran(&rt, rt.alloc(), "", 1);
+    assert_eq!(rt; found, Ok(Outcome::AllWell));
+    assert!(rt; written.is_empty());
+}
+
+#[test]
+fn failing_reader(rt: HostRuntime) {
+    let mut reader = Device::new(Trickle::new(ONE.as_bytes(), 40));
+    let mut writer = Device::new(Trickle::new(&[], usize::MAX));
+    let found = run_io(&rt, rt.alloc(), &mut reader, &mut writer, 0, &FreeGate);
+    assert_eq!(rt; found, Err(IoFault::Read));
+    assert_eq!(rt; writer.calls(), 0);
+}
+
+#[test]
+fn failing_writer(rt: HostRuntime) {
+    let mut reader = Device::new(ONE.as_bytes());
+    let mut writer = Device::new(Trickle::new(&[], 3));
+    let found = run_io(&rt, rt.alloc(), &mut reader, &mut writer, 1, &FreeGate);
+    assert_eq!(rt; found, Err(IoFault::Write));
+    assert_eq!(rt; writer.calls(), 4);
+}
