@@ -1,4 +1,5 @@
 pub mod Making
+pub mod Drafts
 pub mod Carrying
 pub mod Onward
 pub mod Views

@@ -4,7 +4,7 @@ use Rattle.protocol_lang.specs.Trees.{Expression, Operating, is_sum}
 use Rattle.protocol_lang.specs.Formulas.{trees, made_by}
 use Rattle.protocol_lang.specs.Grammar.{Written, is_term, is_factor, operator_symbol, expression_tokens}
 use Rattle.protocol_lang.specs.Printing.{grouped_unless, stands_left, stands_right, on_right, shortest, enclosed_unless, Piece, joined, pieces}
-use Rattle.protocol_lang.specs.declared.formula.Instruction.{Instruction}
+use Rattle.protocol_lang.specs.declared.opcode.Opcode.{Opcode}
 use Rattle.protocol_lang.specs.declared.token.Token.TheVariants as tokens
 use Rattle.protocol_lang.specs.declared.tree.Operator.{Operator}
 use Rattle.protocol_lang.proofs.Making.{Carries, made_map}
@@ -26,5 +26,5 @@ operating operator left right =
 carries_piece : Carries trees pieces piece_of
 carries_piece = record { number = λ value. refl; named = λ name. refl; calling = λ function x. refl; operating = operating; group = λ x. refl }
 
-pub tokens_made : (code : List Instruction) → (made_by pieces code).tokens ≡ expression_tokens (shortest (made_by trees code))
+pub tokens_made : (code : List Opcode) → (made_by pieces code).tokens ≡ expression_tokens (shortest (made_by trees code))
 tokens_made code = ap (λ (p : Piece). p.tokens) (sym (made_map trees pieces piece_of carries_piece code))

@@ -8,6 +8,7 @@ pub mod laws;
 mod lexer;
 mod meaning;
 mod number;
+mod opcode;
 mod parser;
 mod printer;
 mod protocol;

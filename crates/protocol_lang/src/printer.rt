@@ -1,14 +1,15 @@
 //! A protocol's shortest text.
 ghost use Rattle.std.specs.Prelude.{◌≡◌, ◌≤◌, ◌∷◌, ◌++◌, [], ℕ, List, true, false, IfOk, OnOk, Ok, length, map, string_bytes};
 ghost use Rattle.std.specs.List.{flat_map};
-ghost use Rattle.protocol_lang.specs.Stacks.{pushed, top_of, below_top};
+ghost use Rattle.protocol_lang.specs.Stacks.{pushed, below_top};
 ghost use Rattle.protocol_lang.specs.Tokens.{word_spelling, symbol_spelling};
-ghost use Rattle.protocol_lang.specs.Formulas.{most_waiting, after, made_by};
+ghost use Rattle.protocol_lang.specs.Formulas.{most_waiting, last_of, hold, stepped, made_by};
 ghost use Rattle.protocol_lang.specs.Grammar.{word_for, call_word, operator_symbol, comparator_symbol, kind_word, enclosed_tokens, expression_tokens, comparison_tokens, conditions_tokens, action_rule_tokens, rule_tokens, tree_tokens, IsText};
 ghost use Rattle.protocol_lang.specs.Reading.{reading};
 ghost use Rattle.protocol_lang.specs.Printing.{stands_left, stands_right, shortest, shortest_comparison, shortest_action_rule, shortest_rule, shortest_tree, is_word, spelling, gap, spelled_behind, printed, enclosed_unless, factor, joined, pieces};
 
-use crate::formula::{Formula, Instruction, MOST_WAITING};
+use crate::formula::{Formula, MOST_WAITING, Step};
+use crate::opcode::Opcode;
 use crate::protocol::Protocol;
 use crate::rules::{ActionRule, Comparison, Rule, Tree};
 use crate::token::{Symbol, Token, Word};
@@ -226,29 +227,75 @@ impl Pieces {
         Ok(())
     }
 
-    fn pop(&mut self) -> Option<Piece>
-        ensures result { result ≡ top_of self.old }
-        ensures rest { self.new ≡ below_top self.old }
+    /// Takes the top piece away. Where nothing waits it is a 0.
+    fn pop(&mut self, alloc: Global) -> Result<Piece, AllocError>
+        ensures result { IfOk result (λ piece. piece ≡ last_of pieces self.old) }
+        ensures rest { OnOk result (self.new ≡ below_top self.old) }
     {
-        self.pieces.pop()
+        match self.pieces.pop() {
+            Some(piece) => Ok(piece),
+            None => Piece::number(alloc, 0),
+        }
+    }
+}
+
+/// The last piece by itself, and those below it.
+#[derive(Drop)]
+struct Held {
+    top: Piece,
+    below: Pieces,
+}
+
+impl Model for Held {
+    ghost use Rattle.protocol_lang.specs.Printing.{Piece as OnePiece};
+    ghost use Rattle.protocol_lang.specs.Formulas.{Held as HeldOf, hold};
+
+    ghost Value = { HeldOf OnePiece };
+
+    ghost view = { λ held. hold held.top held.below };
+}
+
+impl Held {
+    fn new(alloc: Global) -> Result<Held, AllocError>
+        ensures { IfOk result (λ held. held ≡ hold (pieces.number 0) []) }
+    {
+        let top = Piece::number(alloc, 0)?;
+        Ok(Held {
+            top,
+            below: Pieces::new(alloc),
+        })
     }
 
     /// Goes one step on.
-    fn take(&mut self, alloc: Global, instruction: Instruction) -> Result<(), AllocError>
-        ensures { OnOk result (self.new ≡ after pieces self.old instruction) }
+    fn take(self, alloc: Global, step: Step) -> Result<Held, AllocError>
+        ensures { IfOk result (λ held. held ≡ stepped pieces self step) }
     {
-        match instruction {
-            Instruction::Number(number) => self.push(Piece::number(alloc, number)?),
-            Instruction::Name(name) => self.push(Piece::name(alloc, name)?),
-            Instruction::Call(call) => match self.pop() {
-                Some(argument) => self.push(Piece::call(alloc, call, argument)?),
-                None => Ok(()),
-            },
-            Instruction::Operate(operator) => match (self.pop(), self.pop()) {
-                (Some(right), Some(left)) => self.push(Piece::operate(operator, left, right)?),
-                _ => Ok(()),
-            },
-        }
+        let top = self.top;
+        let mut below = self.below;
+        let top = match step {
+            Step::Number(number) => {
+                below.push(top)?;
+                Piece::number(alloc, number)?
+            }
+            Step::Name(name) => {
+                below.push(top)?;
+                Piece::name(alloc, name)?
+            }
+            Step::Call(call) => Piece::call(alloc, call, top)?,
+            Step::Operate(operator) => {
+                let left = below.pop(alloc)?;
+                Piece::operate(operator, left, top)?
+            }
+            Step::OperateNumber(operator, number) => {
+                let right = Piece::number(alloc, number)?;
+                Piece::operate(operator, top, right)?
+            }
+            Step::OperateName(operator, name) => {
+                let right = Piece::name(alloc, name)?;
+                Piece::operate(operator, top, right)?
+            }
+        };
+        Ok(Held { top, below })
     }
 }
 
@@ -260,18 +307,15 @@ fn expression(alloc: Global, formula: &Formula) -> Result<Tokens, AllocError>
     Ok(piece.tokens)
 }
 
-/// What the instructions make.
-fn piece_by(alloc: Global, code: &[Instruction]) -> Result<Piece, AllocError>
+/// What the steps make.
+fn piece_by(alloc: Global, code: &[Opcode]) -> Result<Piece, AllocError>
     ensures { IfOk result (λ piece. piece ≡ made_by pieces code.now) }
 {
-    let mut waiting = Pieces::new(alloc);
-    for instruction in code {
-        waiting.take(alloc, *instruction)?;
+    let mut held = Held::new(alloc)?;
+    for opcode in code {
+        held = held.take(alloc, opcode.step())?;
     }
-    match waiting.pop() {
-        Some(piece) => Ok(piece),
-        None => Piece::number(alloc, 0),
-    }
+    Ok(held.top)
 }
 
 fn write_comparison(
