@@ -13,3 +13,4 @@ pub mod FirstFaults
 pub mod Memory
 pub mod Values
 pub mod Worked
+pub mod Places

@@ -4,6 +4,8 @@ ghost use Rattle.std.specs.Option.{option_copied};
 ghost use Rattle.std.specs.List.{before_first, after_first, position, slice_split};
 ghost use Rattle.room_spec.specs.Texts.{pieces_of};
 
+use memchr::memchr;
+
 /// What stands before the first `byte` of `text`, and what stands behind it. Where there is none,
 /// all of `text` and `None`.
 pub fn cut(text: &[u8], byte: u8) -> (&[u8], Option<&[u8]>)
@@ -18,8 +20,9 @@ pub fn cut(text: &[u8], byte: u8) -> (&[u8], Option<&[u8]>)
     }
 }
 
+#[tactic(auto, using(crate::proofs::Places::is_position))]
 fn place_of(text: &[u8], byte: u8) -> Option<usize>
     ensures { result ≡ position (λ b. b == byte) text.now }
 {
-    text.iter().position(|b| *b == byte)
+    memchr(byte, text)
 }
