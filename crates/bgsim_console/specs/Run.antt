@@ -35,6 +35,12 @@ report_texts [] results = []
 report_texts (spec ∷ specs) [] = []
 report_texts (spec ∷ specs) (result ∷ results) = report_text spec.name result.report ++ report_texts specs results
 
+-- Behind a text stand the reports of rooms of these specs, in order: each of some room that its own spec allows.
+pub record AddsReports (specs : List RoomSpec) (before after : List ℕ) : Type 0 where
+  pub results : List RoomResult
+  pub each_room : AreRoomRuns specs results
+  pub behind : after ≡ before ++ report_texts specs results
+
 -- The lines of the refused blocks, and then a report of each room: of some room that its own spec allows, whatever the schedule
 -- of its simulators. All is well where no block was refused.
 pub record IsRunText (setup : Setup) (outcome : Outcome) (output : List ℕ) : Type 0 where

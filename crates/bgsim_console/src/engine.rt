@@ -117,7 +117,7 @@ pub fn run_io<H: Threads + Wait + Sync, R: Read, W: Write, G: Gate + Sync>(
     ensures once { IfSome (R.remaining reader.old.inner) (λ input. reader.new.calls ≤ reader.old.calls + length input + 1) }
 {
     let input = read_input(alloc, reader)?;
-    let ran = run_blocks(rt, alloc, &input, workers, gate)?;
+    let ran = run_blocks(rt, alloc, input, workers, gate)?;
     write_output(writer, &ran.output)?;
     Ok(ran.outcome)
 }

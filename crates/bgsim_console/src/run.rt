@@ -1,18 +1,23 @@
 //! Rooms that workers run, and their reports.
-ghost use Rattle.std.specs.Prelude.{◌≡◌, ◌≤◌, ◌==◌, ◌++◌, IfErr, IfOk, length, string_bytes};
+ghost use Rattle.std.specs.Prelude.{◌≡◌, ◌<◌, ◌≤◌, ◌++◌, IfErr, IfOk, OnOk, length};
 ghost use Rattle.std.specs.List.{flat_map};
-ghost use Rattle.bgsim_console.specs.Check.{outcome_if};
 ghost use Rattle.bgsim_console.specs.ReplyTexts.{report_text};
-ghost use Rattle.bgsim_console.specs.Run.{IsRunFor, MayEndRun};
+ghost use Rattle.bgsim_console.specs.Run.{AddsReports, AreWorkers, IsRunFor, MayEndRun};
 
 use crate::fault::{IoFault, Outcome};
 use crate::judge::outcome_if;
 use crate::reply::write_report;
 use crate::setup::{Setup, read_all_blocks};
+use history_checker::Specs;
+use room_spec::Spec;
 use scheduler::{Gate, RoomResult, run_rooms};
 use std::alloc::{AllocError, Global};
 use std::sync::Wait;
 use std::thread::Threads;
+
+/// The most rooms that run at the same time. While it runs a room takes some 6.5 KB, however short its
+/// block is.
+const ROOMS_AT_ONCE: usize = 512;
 
 /// A text of reports, and the outcome that goes with it.
 #[derive(Drop)]
@@ -25,32 +30,89 @@ pub struct Ran {
 pub fn run_blocks<H: Threads + Wait + Sync, G: Gate + Sync>(
     rt: &H,
     alloc: Global,
-    input: &[u8],
+    input: Vec<u8>,
     workers: u8,
     gate: &G,
 ) -> Result<Ran, IoFault>
-    requires { length input.now ≤ 16777216 }
-    ensures output { IfOk result (λ ran. IsRunFor workers input.now ran.outcome ran.output.items) }
+    requires { length input.items ≤ 16777216 }
+    ensures output { IfOk result (λ ran. IsRunFor workers input.items ran.outcome ran.output.items) }
     ensures err { IfErr result (MayEndRun workers) }
 {
-    let Setup { rooms, refused, .. } = read_all_blocks(alloc, input)?;
-    let specs = rooms.into_specs(alloc)?;
-    let results = run_rooms(rt, alloc, specs, workers, gate)?;
-    Ok(reported(alloc, &refused, &results)?)
+    let Setup { rooms, refused, .. } = read_all_blocks(alloc, &input)?;
+    drop(input);
+    let specs = rooms.into_specs();
+    let outcome = outcome_if(refused.is_empty());
+    let mut output = refused.into_bytes();
+    run_in_parts(rt, alloc, specs, workers, gate, &mut output)?;
+    Ok(Ran { output, outcome })
 }
 
-/// Puts the rooms' reports behind the lines of the refused blocks.
-fn reported(alloc: Global, refused: &String, results: &[RoomResult]) -> Result<Ran, AllocError>
-    ensures output { IfOk result (λ ran. ran.output.items ≡ string_bytes refused.now ++ flat_map (λ one. report_text one.core.spec.name one.report) results.now) }
-    ensures outcome { IfOk result (λ ran. ran.outcome ≡ outcome_if (length (string_bytes refused.now) == 0)) }
+/// Runs the rooms of these specs, so many at the same time, and puts their reports behind the output.
+/// What a part of them took is let go before the next.
+fn run_in_parts<H: Threads + Wait + Sync, G: Gate + Sync>(
+    rt: &H,
+    alloc: Global,
+    mut left: Specs,
+    workers: u8,
+    gate: &G,
+    output: &mut Vec<u8>,
+) -> Result<(), IoFault>
+    ensures reports { OnOk result (AddsReports left output.old.items output.new.items) }
+    ensures workers { OnOk result (AreWorkers workers) }
+    ensures err { IfErr result (MayEndRun workers) }
 {
-    let mut output = Vec::new(alloc);
-    output.extend_from_slice(refused.as_bytes())?;
-    for one in results {
-        write_report(alloc, &mut output, one.core.spec().name(), &one.report)?;
+    loop {
+        let part = next_part(alloc, &mut left)?;
+        run_part(rt, alloc, part, workers, gate, output)?;
+        if left.is_empty() {
+            return Ok(());
+        }
     }
-    Ok(Ran {
-        output,
-        outcome: outcome_if(refused.is_empty()),
-    })
+}
+
+/// Takes the specs of the rooms that run next off the front: all that are left where they are few.
+fn next_part(alloc: Global, left: &mut Specs) -> Result<Vec<Spec>, AllocError>
+    ensures part { IfOk result (λ part. left.old ≡ part.items ++ left.new) }
+    // Where some are left, some were taken.
+    ensures fewer { OnOk result (0 < length left.new → length left.new < length left.old) }
+{
+    let mut part = Vec::new(alloc);
+    while let Some(spec) = left.take_first() {
+        part.push(spec)?;
+        if part.len() == ROOMS_AT_ONCE {
+            return Ok(part);
+        }
+    }
+    Ok(part)
+}
+
+/// Runs the rooms of these specs all at the same time, and puts their reports behind the output.
+fn run_part<H: Threads + Wait + Sync, G: Gate + Sync>(
+    rt: &H,
+    alloc: Global,
+    specs: Vec<Spec>,
+    workers: u8,
+    gate: &G,
+    output: &mut Vec<u8>,
+) -> Result<(), IoFault>
+    ensures reports { OnOk result (AddsReports specs.items output.old.items output.new.items) }
+    ensures workers { OnOk result (AreWorkers workers) }
+    ensures err { IfErr result (MayEndRun workers) }
+{
+    let results = run_rooms(rt, alloc, specs, workers, gate)?;
+    write_reports(alloc, output, &results)?;
+    Ok(())
+}
+
+fn write_reports(
+    alloc: Global,
+    output: &mut Vec<u8>,
+    results: &[RoomResult],
+) -> Result<(), AllocError>
+    ensures { OnOk result (output.new.items ≡ output.old.items ++ flat_map (λ one. report_text one.core.spec.name one.report) results.now) }
+{
+    for one in results {
+        write_report(alloc, output, one.core.spec().name(), &one.report)?;
+    }
+    Ok(())
 }

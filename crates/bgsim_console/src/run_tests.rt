@@ -4,7 +4,7 @@ use crate::engine::run_io;
 use crate::fault::{IoFault, Outcome};
 use crate::tests::Trickle;
 use scheduler::{FreeGate, RunFault};
-use std::alloc::Global;
+use std::alloc::{AllocError, Global};
 use std::sync::Wait;
 use std::test::*;
 use std::thread::Threads;
@@ -26,10 +26,10 @@ const HELD: &str =
 fn ran<H: Threads + Wait + Sync>(
     threads: &H,
     alloc: Global,
-    input: &str,
+    input: &[u8],
     workers: u8,
 ) -> (Result<Outcome, IoFault>, Vec<u8>) {
-    let mut reader = Device::new(input.as_bytes());
+    let mut reader = Device::new(input);
     let mut written = Vec::new(alloc);
     let mut writer = Device::new(&mut written);
     let found = run_io(threads, alloc, &mut reader, &mut writer, workers, &FreeGate);
@@ -38,7 +38,7 @@ fn ran<H: Threads + Wait + Sync>(
 
 #[test]
 fn one_room(rt: HostRuntime) {
-    let (found, written) = ran(&rt, rt.alloc(), ONE, 16);
+    let (found, written) = ran(&rt, rt.alloc(), ONE.as_bytes(), 16);
     assert_eq!(rt; found, Ok(Outcome::AllWell));
     assert_eq!(rt; written.as_slice(), REPORT.as_bytes());
 }
@@ -47,7 +47,7 @@ fn one_room(rt: HostRuntime) {
 fn name_taken(rt: HostRuntime) -> Result<(), Fail> {
     let alloc = rt.alloc();
     let twice = format!(in alloc; "{ONE}{ONE}")?;
-    let (found, written) = ran(&rt, alloc, twice.as_str(), 1);
+    let (found, written) = ran(&rt, alloc, twice.as_bytes(), 1);
     let output = format!(in alloc; "line 11 refused 41\n{REPORT}")?;
     assert_eq!(rt; found, Ok(Outcome::SomeRefused));
     assert_eq!(rt; written.as_slice(), output.as_bytes());
@@ -58,7 +58,7 @@ fn name_taken(rt: HostRuntime) -> Result<(), Fail> {
 fn fuse(rt: HostRuntime) -> Result<(), Fail> {
     let alloc = rt.alloc();
     let input = format!(in alloc; "{PAIR}crash 0 after 5\n{MINIMUM}")?;
-    let (found, written) = ran(&rt, alloc, input.as_str(), 1);
+    let (found, written) = ran(&rt, alloc, input.as_bytes(), 1);
     assert_eq!(rt; found, Ok(Outcome::AllWell));
     assert_eq!(rt; written.as_slice(), HELD.as_bytes());
     Ok(())
@@ -67,22 +67,67 @@ fn fuse(rt: HostRuntime) -> Result<(), Fail> {
 #[test]
 fn wrong_numbers_of_workers(rt: HostRuntime) {
     for workers in [0, 17, 255] {
-        let (found, written) = ran(&rt, rt.alloc(), ONE, workers);
-        assert_eq!(rt; found, Err(IoFault::Run(RunFault::Workers)));
-        assert!(rt; written.is_empty());
+        for input in [ONE, PAIR, ""] {
+            let (found, written) = ran(&rt, rt.alloc(), input.as_bytes(), workers);
+            assert_eq!(rt; found, Err(IoFault::Run(RunFault::Workers)), "of {input:?}");
+            assert!(rt; written.is_empty());
+        }
     }
 }
 
 #[test]
 fn cut_block(rt: HostRuntime) {
-    let (found, written) = ran(&rt, rt.alloc(), PAIR, 1);
+    let (found, written) = ran(&rt, rt.alloc(), PAIR.as_bytes(), 1);
     assert_eq!(rt; found, Ok(Outcome::SomeRefused));
     assert_eq!(rt; written.as_slice(), b"line 1 refused 10\n".as_slice());
 }
 
 #[test]
+fn first_bytes_of_a_block(rt: HostRuntime) {
+    let block = ONE.as_bytes();
+    for k in 0..block.len() + 1 {
+        let (found, written) = ran(&rt, rt.alloc(), &block[..k], 1);
+        let (answer, output) = match k {
+            0 => (Outcome::AllWell, ""),
+            1..100 => (Outcome::SomeRefused, "line 1 refused 10\n"),
+            _ => (Outcome::AllWell, REPORT),
+        };
+        assert_eq!(rt; found, Ok(answer), "of {k} bytes");
+        assert_eq!(rt; written.as_slice(), output.as_bytes(), "of {k} bytes");
+    }
+}
+
+/// The block of a room of this number, and its report.
+fn numbered(alloc: Global, k: u32) -> Result<(String, String), AllocError> {
+    let block = format!(in alloc;
+        "bgsim 1\nroom r{k}\ninputs 5\nsimulators 1\nrounds 1\nturns 10\nprotocol\nfirst input;\nelse decide mine;\nend\n"
+    )?;
+    let report = format!(in alloc;
+        "r{k} report\nr{k} process 0 decided 5\nr{k} crashed\nr{k} history 3\nr{k} 0 write 5\nr{k} 0 snap 5\nr{k} 0 decide 5\nr{k} end\n"
+    )?;
+    Ok((block, report))
+}
+
+/// More rooms than run at the same time: the last part has one.
+#[test]
+fn rooms_in_parts(rt: HostRuntime) -> Result<(), Fail> {
+    let alloc = rt.alloc();
+    let mut input = String::new(alloc);
+    let mut output = String::new(alloc);
+    for k in 0..2049 {
+        let (block, report) = numbered(alloc, k)?;
+        input.push_str(block.as_str())?;
+        output.push_str(report.as_str())?;
+    }
+    let (found, written) = ran(&rt, alloc, input.as_bytes(), 3);
+    assert_eq!(rt; found, Ok(Outcome::AllWell));
+    assert!(rt; written.as_slice() == output.as_bytes());
+    Ok(())
+}
+
+#[test]
 fn nothing_to_run(rt: HostRuntime) {
-    let (found, written) = ran(&rt, rt.alloc(), "", 1);
+    let (found, written) = ran(&rt, rt.alloc(), &[], 1);
     assert_eq!(rt; found, Ok(Outcome::AllWell));
     assert!(rt; written.is_empty());
 }

@@ -3,3 +3,4 @@ pub mod Runs
 pub mod Feeding
 pub mod RoomLists
 pub mod SnapLines
+pub mod Rows

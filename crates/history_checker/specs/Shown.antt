@@ -1,7 +1,7 @@
 -- Lines that say a snapshot, as their bytes.
-use Rattle.std.specs.Prelude.{◌≡◌, ◌≤◌, ℕ, true, List, [], ◌∷◌, ◌++◌, Option, Ok, codes}
+use Rattle.std.specs.Prelude.{◌≡◌, ◌≤◌, ℕ, true, List, [], ◌∷◌, ◌++◌, Option, Ok, codes, length, map, suc, take}
 use Rattle.std.specs.Fmt.{decimal}
-use Rattle.std.specs.List.{AllByRecursion, flat_map}
+use Rattle.std.specs.List.{AllByRecursion, flat_map, sum_by}
 use Rattle.protocol_lang.specs.Limits.{IsEntry}
 use Rattle.room_spec.specs.Names.{is_name}
 use Rattle.transcript.specs.Grammar.{entry_text}
@@ -16,6 +16,20 @@ spaced entries = flat_map (λ entry. 32 ∷ entry_text entry) entries
 pub record SaysRow (text : List ℕ) (entries : List (Option ℕ)) : Type 0 where
   pub text_is : text ≡ spaced entries
   pub values : AllByRecursion IsEntry entries
+
+-- how many bytes an entry has behind a space
+abbrev pub width : Option ℕ → ℕ
+width entry = suc (length (entry_text entry))
+
+-- how many bytes stand before the entry at a place, by the widths of all
+abbrev pub before : List ℕ → ℕ → ℕ
+before widths p = sum_by (λ w. w) (take p widths)
+
+-- at most 16 entries, their text, and how many bytes of it each has
+pub record IsShown (entries : List (Option ℕ)) (text widths : List ℕ) : Type 0 where
+  pub says : SaysRow text entries
+  pub widths_are : widths ≡ map width entries
+  pub few : length entries ≤ 16
 
 -- a line of a room and a process, and what stands behind the word `snap`
 pub record SaysSnap (line name : List ℕ) (p : ℕ) (entries : List ℕ) : Type 0 where

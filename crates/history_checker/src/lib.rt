@@ -4,10 +4,11 @@
 mod history;
 mod process;
 mod rooms;
+mod row;
 mod shown;
 
 pub use history::check;
-pub use rooms::{AddFault, NoRoom, Rooms, Verdict};
+pub use rooms::{AddFault, NoRoom, Rooms, Specs, Verdict};
 
 #[cfg(test)]
 mod tests;

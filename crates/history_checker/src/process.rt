@@ -1,5 +1,5 @@
 //! What a checker keeps of a process.
-ghost use Rattle.std.specs.Prelude.{◌≡◌, ◌↔◌, ◌<◌, ◌≤◌, IsTrue, length, map, []};
+ghost use Rattle.std.specs.Prelude.{◌≡◌, ◌↔◌, ◌<◌, IsTrue, length, map, []};
 ghost use Rattle.room_spec.specs.Rooms.{processes};
 ghost use Rattle.transcript.specs.declared.event.Event.TheVariants.{Write, Snap, Decide};
 ghost use Rattle.history_checker.specs.Processes.{turn_for, IsAt, Follows};
@@ -166,19 +166,6 @@ fn follow_decide(processes: &mut [Process], spec: &Spec, p: usize, v: u32) -> bo
         writes: process.writes,
     };
     true
-}
-
-/// The last write of each process, of which there are at most 16.
-pub fn last_writes(processes: &[Process]) -> View
-    ensures { length result.items ≤ 16 }
-{
-    let mut row = View::new();
-    for process in processes {
-        if row.try_push(process.last).is_err() {
-            break;
-        }
-    }
-    row
 }
 
 /// Whether the row has the last write of each process.

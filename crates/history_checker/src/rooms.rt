@@ -1,13 +1,15 @@
 //! Verdicts on many rooms, whose events come mixed.
-ghost use Rattle.std.specs.Prelude.{◌≡◌, ◌↔◌, ◌≤◌, ℕ, List, length, [], ◌∷◌, ◌++◌, IsTrue, IsFalse, IsOk, IfOk, IsErrOf, OnOk, OnErr, None, MatchOption, IsSomeAnd, slice_get};
+ghost use Rattle.std.specs.Prelude.{◌≡◌, ◌↔◌, ◌≤◌, ℕ, List, length, [], ◌∷◌, ◌++◌, IsTrue, IsFalse, IsOk, IfOk, IsErrOf, OnOk, OnErr, None, MatchOption, IfSome, IsSomeAnd, slice_get};
 ghost use Rattle.room_spec.specs.Rooms.{RoomSpec};
 ghost use Rattle.history_checker.specs.Verdicts.{FedEvent, HasProcessed, HasProcessedOwn, StandsAfter, IsVerdict, specs_of, has_room, fed_to, add_code};
-ghost use Rattle.history_checker.specs.Shown.{HasFed};
+ghost use Rattle.history_checker.specs.Shown.{HasFed, SaysRow};
 
 use crate::history::open;
-use crate::process::{Process, follow, last_writes};
-use crate::shown::{says_row, snap_parts};
+use crate::process::{Process, follow};
+use crate::row::Row;
+use crate::shown::snap_parts;
 use indexmap::IndexMap;
+use indexmap::map::IntoValues;
 use protocol_lang::View;
 use room_spec::{Name, Spec};
 use std::alloc::{AllocError, Global};
@@ -68,6 +70,8 @@ struct Room {
     spec: Spec,
     processes: Vec<Process>,
     broken: Option<u64>,
+    /// In a room of few processes there is none: its snapshots are read quickly.
+    row: Option<Box<Row>>,
 }
 
 impl Model for Room {
@@ -89,10 +93,12 @@ impl Room {
     {
         let mut processes = vec![in alloc; Process::BLANK; spec.n()]?;
         open(&spec, &mut processes);
+        let row = Row::of_many(alloc, spec.n())?;
         Ok(Room {
             spec,
             processes,
             broken: None,
+            row,
         })
     }
 
@@ -108,6 +114,20 @@ impl Room {
         let follows = follow(&mut self.processes, &self.spec, event);
         if !follows {
             self.broken = Some(line);
+            return;
+        }
+        self.show(event);
+    }
+
+    /// Has the row show what the event writes.
+    fn show(&mut self, event: &Event)
+        ensures { self.new ≡ self.old }
+    {
+        let Event::Write { p, v } = event else {
+            return;
+        };
+        if let Some(row) = &mut self.row {
+            row.write(usize::from(*p), *v);
         }
     }
 
@@ -218,33 +238,31 @@ impl Rooms {
         let Some((name, p, entries)) = snap_parts(line) else {
             return false;
         };
-        let row = self.shown_row(&name);
-        if row.is_empty() || !says_row(entries, row.as_slice()) {
+        let Some(row) = self.row_said(&name, entries) else {
             return false;
-        }
+        };
         self.feed(&name, &Event::Snap { p, row }, number).is_ok()
     }
 
-    /// What a snapshot of this room shows now, or nothing where no room has the name.
-    fn shown_row(&self, name: &Name) -> View
-        ensures { length result.items ≤ 16 }
+    /// The row of the room of this name, if it has one that the text says.
+    fn row_said(&self, name: &Name, text: &[u8]) -> Option<View>
+        ensures { IfSome result (λ row. SaysRow text.now row.items × (1 ≤ length row.items) × (length row.items ≤ 16)) }
     {
-        match self.rooms.get(name) {
-            Some(room) => last_writes(room.processes.as_slice()),
-            None => View::new(),
+        let row = self.rooms.get(name)?.row.as_ref()?;
+        if row.is_said_by(text) {
+            row.entries().ok()
+        } else {
+            None
         }
     }
 
     /// The specs of the rooms, in order of adding. What was fed is given up.
-    pub fn into_specs(self, alloc: Global) -> Result<Vec<Spec>, AllocError>
-        ensures { IfOk result (λ specs. specs.items ≡ specs_of self) }
+    pub fn into_specs(self) -> Specs
+        ensures { result ≡ specs_of self }
     {
-        let mut specs = Vec::with_capacity(alloc, self.rooms.len())?;
-        for room in self.rooms.into_values() {
-            let Room { spec, .. } = room;
-            specs.push(spec)?;
+        Specs {
+            rooms: self.rooms.into_values(),
         }
-        Ok(specs)
     }
 
     /// The verdict on the room of this index, from 0 in order of adding, or `None` where there is
@@ -257,5 +275,46 @@ impl Rooms {
             Some((_, room)) => Some(room.verdict()),
             None => None,
         }
+    }
+}
+
+/// Specs of rooms, which are taken out one by one, in order of adding. This takes no memory.
+#[derive(Drop)]
+pub struct Specs {
+    rooms: IntoValues<Name, Room>,
+}
+
+impl Model for Specs {
+    ghost use Rattle.std.specs.Coded.{codes};
+    ghost use Rattle.protocol_lang.specs.Codes.{expression_code};
+    ghost use Rattle.std.specs.Prelude.{List};
+    ghost use Rattle.room_spec.specs.Rooms.{RoomSpec};
+    ghost use Rattle.history_checker.specs.Verdicts.{specs_of};
+
+    ghost Value = { List RoomSpec };
+
+    ghost coded = { Prim.hlevel (codes, expression_code) };
+
+    ghost view = { λ left. specs_of left.rooms };
+}
+
+impl Specs {
+    ghost use Rattle.std.specs.Prelude.{◌<◌, ◌==◌, IsSome};
+    ghost use Rattle.std.specs.Option.{option_to_list};
+
+    /// Takes the first one out, or gives `None` where none is left.
+    pub fn take_first(&mut self) -> Option<Spec>
+        ensures first { self.old ≡ option_to_list result ++ self.new }
+        ensures some { IsSome result ↔ (0 < length self.old) }
+    {
+        let Room { spec, .. } = self.rooms.next()?;
+        Some(spec)
+    }
+
+    /// Whether none is left.
+    pub fn is_empty(&self) -> bool
+        ensures { result ≡ (length self.now == 0) }
+    {
+        self.rooms.len() == 0
     }
 }

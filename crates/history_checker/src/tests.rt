@@ -208,16 +208,33 @@ fn more_than_4096_rooms(rt: HostRuntime) -> Result<(), Fail> {
     Ok(())
 }
 
+const FOUR: &str =
+    "bgsim 1\nroom four\ninputs 7 3 50 4294967295\nsimulators 1\nrounds 2\nturns 100\nprotocol\nfirst input;\nwhen round < 2 write mine % 7;\nelse decide mine;\nend\n";
+
+const FOUR_RUN: [&str; 11] = [
+    "four 0 write 7",
+    "four 1 write 3",
+    "four 0 snap 7 3 . .",
+    "four 3 write 4294967295",
+    "four 1 snap 7 3 . 4294967295",
+    "four 3 snap 7 3 . 4294967295",
+    "four 3 write 3",
+    "four 3 snap 7 3 . 3",
+    "four 2 write 50",
+    "four 2 snap 7 3 50 3",
+    "four 3 decide 3",
+];
+
 #[test]
 fn right_snapshots_are_told_by_their_bytes(rt: HostRuntime) -> Result<(), Fail> {
     let mut rooms = Rooms::new(rt.alloc());
     rooms
-        .add(rt.alloc(), room_of(rt.alloc(), PAIR)?)
+        .add(rt.alloc(), room_of(rt.alloc(), FOUR)?)
         .ok()
         .ok_or("a new room")?;
-    for (number, line) in PAIR_RUN.iter().enumerate() {
+    for (number, line) in FOUR_RUN.iter().enumerate() {
         let shown = rooms.feed_shown(line.as_bytes(), number as u64);
-        assert_eq!(rt; shown, number == 2 || number == 3, "{line}");
+        assert_eq!(rt; shown, line.contains("snap"), "{line}");
         if !shown {
             let (name, event) = event_of(line)?;
             rooms
@@ -234,28 +251,28 @@ fn right_snapshots_are_told_by_their_bytes(rt: HostRuntime) -> Result<(), Fail> 
 fn no_other_snapshot_is_told_by_its_bytes(rt: HostRuntime) -> Result<(), Fail> {
     let mut rooms = Rooms::new(rt.alloc());
     rooms
-        .add(rt.alloc(), room_of(rt.alloc(), PAIR)?)
+        .add(rt.alloc(), room_of(rt.alloc(), FOUR)?)
         .ok()
         .ok_or("a new room")?;
     for line in [
-        "pair 0 snap . 3",
-        "pair 0 snap 7 .",
-        "pair 0 snap .",
-        "pair 0 snap . . .",
-        "pair 0 snap . . ",
-        "pair 0 snap  . .",
-        "pair 0 snap",
-        "pair 0 snaps . .",
-        "pair 16 snap . .",
-        "pair 00 snap . .",
-        "pairs 0 snap . .",
-        "Pair 0 snap . .",
+        "four 0 snap . . . 3",
+        "four 0 snap 7 . . .",
+        "four 0 snap . . .",
+        "four 0 snap . . . . .",
+        "four 0 snap . . . . ",
+        "four 0 snap  . . . .",
+        "four 0 snap",
+        "four 0 snaps . . . .",
+        "four 16 snap . . . .",
+        "four 00 snap . . . .",
+        "fours 0 snap . . . .",
+        "Four 0 snap . . . .",
     ] {
         assert_eq!(rt; rooms.feed_shown(line.as_bytes(), 1), false, "{line}");
     }
     assert_eq!(rt; rooms.verdict(0), Some(Verdict::Run));
     // It shows the last writes of all, but its process has not written.
-    assert_eq!(rt; rooms.feed_shown(b"pair 0 snap . .", 2), true);
+    assert_eq!(rt; rooms.feed_shown(b"four 0 snap . . . .", 2), true);
     assert_eq!(rt; rooms.verdict(0), Some(Verdict::Broken(2)));
     Ok(())
 }

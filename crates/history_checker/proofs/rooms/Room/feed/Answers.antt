@@ -16,12 +16,13 @@ returns-then-not-follows-clause-processed c =
     breaks_now c.self.inside.spec c.self.inside.processes.items c.follow-follows.new.processes fed one c.args.event.now c.args.line event line (rw c.deref_mut.ensures.value at c.if-not-follows.ensures)
     (unbroken _ fed (sym c.if-is_some.ensures) (subst P (sym c.self.view_is) stands))
 
-pub returns-else-not-follows-clause-processed : goal.returns-else-not-follows-clause-processed
-returns-else-not-follows-clause-processed c =
+pub returns-clause-processed : goal.returns-clause-processed
+returns-clause-processed c =
     λ fed one event line stands.
     let P : RoomState → Type 0 = λ room. StandsAfter room fed room.broken in
     let before = unbroken _ fed (sym c.if-is_some.ensures) (subst P (sym c.self.view_is) stands) in
     let len : length c.follow-follows.new.processes ≡ c.self.inside.processes.len = c.follow-follows.auto.processes ∙ c.deref_mut.ensures.len in
-    still_unbroken _ (fed ++ one ∷ []) (sym c.if-is_some.ensures)
+    let Q : RoomState → Type 0 = λ room. StandsAfter room (fed ++ one ∷ []) room.broken in
+    subst Q (sym c.show.ensures) (still_unbroken _ (fed ++ one ∷ []) (sym c.if-is_some.ensures)
     (rw (with_items_is c.self.inside.processes c.follow-follows.new.processes len)
-    (runs_on c.self.inside.spec c.self.inside.processes.items c.follow-follows.new.processes fed one c.args.event.now event (rw c.deref_mut.ensures.value at c.if-not-follows.ensures) before))
+    (runs_on c.self.inside.spec c.self.inside.processes.items c.follow-follows.new.processes fed one c.args.event.now event (rw c.deref_mut.ensures.value at c.if-not-follows.ensures) before)))

@@ -1,0 +1,142 @@
+//! What a snapshot of a room shows now, as values and as the text that says them.
+ghost use Rattle.std.specs.Prelude.{◌≡◌, ◌∷◌, ◌++◌, ◌+◌, ◌≤◌, ◌<◌, IsTrue, IfOk, OnOk, length, map, sum, take, drop, decimal, [], Some, slice_set};
+ghost use Rattle.history_checker.specs.Shown.{IsShown, SaysRow, before};
+
+use arrayvec::ArrayVec;
+use itoa::Buffer;
+use protocol_lang::View;
+use std::alloc::{AllocError, Global};
+use std::marker::Model;
+use std::mem::swap;
+
+/// The most bytes of an entry: a space, and the digits of the greatest value.
+const MAX_WIDTH: usize = 11;
+
+/// The last writes of a room's processes, and their text, in which each entry stands behind a space.
+/// Where memory was refused it shows nothing at all.
+#[derive(Drop)]
+pub(crate) struct Row {
+    last: View,
+    text: Vec<u8>,
+    /// How many bytes of the text each entry has.
+    widths: ArrayVec<u8, 16>,
+    /// Where the next text is put together.
+    next: Vec<u8>,
+}
+
+impl Model for Row {
+    ghost use Rattle.std.specs.Prelude.{ℕ, List, Option};
+    ghost use Rattle.history_checker.specs.Shown.{IsShown};
+
+    ghost Value = { List (Option ℕ) };
+
+    ghost view = { λ row. row.last.items };
+
+    ghost invariant = { λ row. IsShown row.last.items row.text.items row.widths.items };
+}
+
+/// The fewest processes of a room that has a row.
+const MANY: usize = 4;
+
+impl Row {
+    /// The row of a room of many processes that have not written.
+    pub(crate) fn of_many(alloc: Global, n: usize) -> Result<Option<Box<Row>>, AllocError> {
+        if n < MANY {
+            return Ok(None);
+        }
+        Ok(Some(Box::new(alloc, Row::open(alloc, n)?)?))
+    }
+
+    /// The row of `n` processes that have not written.
+    pub(crate) fn open(alloc: Global, n: usize) -> Result<Row, AllocError> {
+        let mut row = Row {
+            last: View::new(),
+            text: Vec::with_capacity(alloc, MAX_WIDTH * n.min(16))?,
+            widths: ArrayVec::new(),
+            next: Vec::with_capacity(alloc, MAX_WIDTH * n.min(16))?,
+        };
+        for _ in 0..n.min(16) {
+            row.add_silent()?;
+        }
+        Ok(row)
+    }
+
+    /// Whether the text says these entries, of which there is one at least.
+    pub(crate) fn is_said_by(&self, text: &[u8]) -> bool
+        ensures said { IsTrue result → SaysRow text.now self.now }
+        ensures some { IsTrue result → 1 ≤ length self.now }
+    {
+        !self.last.is_empty() && self.text.as_slice() == text
+    }
+
+    pub(crate) fn entries(&self) -> Result<View, AllocError>
+        ensures entries { IfOk result (λ view. view.items ≡ self.now) }
+        ensures few { IfOk result (λ view. length view.items ≤ 16) }
+    {
+        self.last.clone()
+    }
+
+    fn add_silent(&mut self) -> Result<(), AllocError> {
+        if self.last.len() == 16 {
+            return Ok(());
+        }
+        self.text.extend_from_slice(b" .")?;
+        self.widths.push(2);
+        self.last.push(None);
+        Ok(())
+    }
+
+    /// Process `p` has written the value.
+    pub(crate) fn write(&mut self, p: usize, value: u32) {
+        if p < self.last.len() && self.put(p, value).is_err() {
+            self.last.clear();
+            self.text.clear();
+            self.widths.clear();
+        }
+    }
+
+    fn put(&mut self, p: usize, value: u32) -> Result<(), AllocError>
+        requires { p < length self.old }
+    {
+        let start = before(self.widths.as_slice(), p);
+        let end = start + usize::from(self.widths[p]);
+        let mut buffer = Buffer::new();
+        let digits = buffer.format(value).as_bytes();
+        splice(&mut self.next, self.text.as_slice(), start, end, digits)?;
+        swap(&mut self.text, &mut self.next);
+        self.widths[p] = digits.len() as u8 + 1;
+        self.last[p] = Some(value);
+        Ok(())
+    }
+}
+
+/// Puts a text together that has a space and other digits in place of some bytes.
+fn splice(
+    next: &mut Vec<u8>,
+    text: &[u8],
+    start: usize,
+    end: usize,
+    digits: &[u8],
+) -> Result<(), AllocError>
+    requires { (start ≤ end) × (end ≤ length text.now) }
+    ensures { OnOk result (next.new.items ≡ take start text.now ++ 32 ∷ (digits.now ++ drop end text.now)) }
+{
+    next.clear();
+    next.extend_from_slice(&text[..start])?;
+    next.push(b' ')?;
+    next.extend_from_slice(digits)?;
+    next.extend_from_slice(&text[end..])
+}
+
+/// How many bytes stand before an entry, by the widths of all.
+fn before(widths: &[u8], p: usize) -> usize
+    requires { (p ≤ length widths.now) × (length widths.now ≤ 16) }
+    ensures value { result ≡ before widths.now p }
+    ensures small { result ≤ 4080 }
+{
+    let mut start = 0;
+    for i in 0..p {
+        start += usize::from(widths[i]);
+    }
+    start
+}
