@@ -51,7 +51,7 @@ fn run_command<'a>(alloc: Global) -> Result<Command<'a>, Error>
     let run = file_command(
         alloc,
         "run",
-        "Runs the rooms of a file, all at once, and reports each",
+        "Runs the rooms of a file on threads, and reports each",
         "bgsim run [--workers W] [FILE]",
         "The rooms; without it, standard input is read",
     )?;
