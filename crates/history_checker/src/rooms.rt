@@ -1,7 +1,9 @@
 //! Verdicts on many rooms, whose events come mixed.
-ghost use Rattle.std.specs.Prelude.{◌≡◌, ◌↔◌, ◌≤◌, ℕ, List, length, [], ◌∷◌, ◌++◌, IsTrue, IsFalse, IsOk, IfOk, IsErrOf, OnOk, OnErr, None, MatchOption, IfSome, IsSomeAnd, slice_get};
+ghost use Rattle.std.specs.Prelude.{◌≡◌, ◌↔◌, ◌≤◌, ℕ, List, length, [], ◌∷◌, ◌++◌, IsTrue, IsFalse, IsOk, IfOk, IsErrOf, OnOk, OnErr, None, Some, MatchOption, IfSome, IsSomeAnd, is_some, slice_get};
+ghost use Rattle.std.specs.List.{position};
+ghost use Rattle.std.specs.Str.{bytes_eq};
 ghost use Rattle.room_spec.specs.Rooms.{RoomSpec};
-ghost use Rattle.history_checker.specs.Verdicts.{FedEvent, HasProcessed, HasProcessedOwn, StandsAfter, IsVerdict, specs_of, has_room, fed_to, add_code};
+ghost use Rattle.history_checker.specs.Verdicts.{FedEvent, HasProcessed, HasProcessedOwn, StandsAfter, IsVerdict, specs_of, names_of, has_room, fed_to, add_code};
 ghost use Rattle.history_checker.specs.Shown.{HasFed, SaysRow};
 
 use crate::history::open;
@@ -214,13 +216,10 @@ impl Rooms {
             → HasProcessed self.new (fed ++ record { name = name.now; event = event.now; line = line } ∷ [])) }
         ensures err { OnErr result (self.new ≡ self.old) }
     {
-        let Some(index) = self.rooms.get_index_of(name) else {
+        let Some(index) = self.index_of(name) else {
             return Err(NoRoom);
         };
-        let Some(room) = self.rooms.get_index_mut(index) else {
-            unreachable!() // the name was found at this index
-        };
-        room.feed(event, line);
+        self.feed_at(index, name, event, line);
         Ok(())
     }
 
@@ -238,17 +237,43 @@ impl Rooms {
         let Some((name, p, entries)) = snap_parts(line) else {
             return false;
         };
-        let Some(row) = self.row_said(&name, entries) else {
+        let Some(index) = self.index_of(&name) else {
             return false;
         };
-        self.feed(&name, &Event::Snap { p, row }, number).is_ok()
+        let Some(row) = self.row_said(index, entries) else {
+            return false;
+        };
+        self.feed_at(index, &name, &Event::Snap { p, row }, number);
+        true
     }
 
-    /// The row of the room of this name, if it has one that the text says.
-    fn row_said(&self, name: &Name, text: &[u8]) -> Option<View>
+    /// The index of the room of this name.
+    fn index_of(&self, name: &Name) -> Option<usize>
+        ensures index { result ≡ position (bytes_eq name.now) (names_of (specs_of self.now)) }
+        ensures found { is_some result ≡ has_room name.now (specs_of self.now) }
+    {
+        self.rooms.get_index_of(name)
+    }
+
+    /// Feeds the room of this index, which has this name, an event.
+    fn feed_at(&mut self, index: usize, name: &Name, event: &Event, line: u64)
+        requires { position (bytes_eq name.now) (names_of (specs_of self.old)) ≡ Some index }
+        ensures rooms { specs_of self.new ≡ specs_of self.old }
+        ensures processed { (fed : List FedEvent) → HasProcessed self.old fed
+            → HasProcessed self.new (fed ++ record { name = name.now; event = event.now; line = line } ∷ []) }
+    {
+        let Some(room) = self.rooms.get_index_mut(index) else {
+            unreachable!() // the name was found at this index
+        };
+        room.feed(event, line);
+    }
+
+    /// The row of the room of this index, if it has one that the text says.
+    fn row_said(&self, index: usize, text: &[u8]) -> Option<View>
         ensures { IfSome result (λ row. SaysRow text.now row.items × (1 ≤ length row.items) × (length row.items ≤ 16)) }
     {
-        let row = self.rooms.get(name)?.row.as_ref()?;
+        let (_, room) = self.rooms.get_index(index)?;
+        let row = room.row.as_ref()?;
         if row.is_said_by(text) {
             row.entries().ok()
         } else {
