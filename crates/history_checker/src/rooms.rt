@@ -1,5 +1,5 @@
 //! Verdicts on many rooms, whose events come mixed.
-ghost use Rattle.std.specs.Prelude.{◌≡◌, ◌↔◌, ◌≤◌, ℕ, List, length, [], ◌∷◌, ◌++◌, IsTrue, IsFalse, IsOk, IfOk, IsErrOf, OnOk, OnErr, None, Some, MatchOption, IfSome, IsSomeAnd, is_some, slice_get};
+ghost use Rattle.std.specs.Prelude.{◌≡◌, ◌↔◌, ◌≤◌, ℕ, List, length, [], ◌∷◌, ◌++◌, IsTrue, IsFalse, IsOk, IfOk, IsErrOf, OnOk, OnErr, None, Some, MatchOption, IfSome, IsSomeAnd, is_some, option_map, slice_get};
 ghost use Rattle.std.specs.List.{position};
 ghost use Rattle.std.specs.Str.{bytes_eq};
 ghost use Rattle.room_spec.specs.Rooms.{RoomSpec};
@@ -288,6 +288,21 @@ impl Rooms {
         Specs {
             rooms: self.rooms.into_values(),
         }
+    }
+
+    /// How many rooms there are.
+    pub fn len(&self) -> usize
+        ensures { result ≡ length (specs_of self.now) }
+    {
+        self.rooms.len()
+    }
+
+    /// The name of the room of this index, from 0 in order of adding, or `None` where there is none.
+    pub fn name(&self, index: usize) -> Option<&Name>
+        ensures { option_map (λ name. name.now) result ≡ slice_get (names_of (specs_of self.now)) index }
+    {
+        let (name, _) = self.rooms.get_index(index)?;
+        Some(name)
     }
 
     /// The verdict on the room of this index, from 0 in order of adding, or `None` where there is
