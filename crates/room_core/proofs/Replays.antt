@@ -44,6 +44,15 @@ under_crash room i one may = record {
   leads = replay-snoc (opening room.spec) one.schedule (crashes i) ∙ ap (λ (q : Configuration). crashed_by q i) one.leads;
 }
 
+-- with that event at the end of the list
+pub under_line_at_end : (room : Configuration) (i : ℕ) (one : IsOneInterleaving room) → HasLine room i → (after : IsOneInterleaving (stepped room i)) × (after.schedule ≡ one.schedule ++ steps i ∷ [])
+unfolding under_line
+under_line_at_end room i one may = (under_line room i one may, refl)
+
+pub under_crash_at_end : (room : Configuration) (i : ℕ) (one : IsOneInterleaving room) → IsAlive room i → (after : IsOneInterleaving (crashed_by room i)) × (after.schedule ≡ one.schedule ++ crashes i ∷ [])
+unfolding under_crash
+under_crash_at_end room i one may = (under_crash room i one may, refl)
+
 -- ---- shapes
 
 opening_at : (spec : RoomSpec) (i : ℕ) → i < spec.simulators → mind_at (opening spec) i ≡ opening_mind spec i

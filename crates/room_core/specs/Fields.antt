@@ -1,6 +1,6 @@
 -- The fields of a room, as maps named by numbers, with no word, bit or index in them; the line that a simulator takes on
 -- them; and their replay over a list of calls, with its replies.
-use Rattle.std.specs.Prelude.{ℕ, ◌+◌, ◌-◌, Bool, true, false, not, List, [], ◌∷◌, length, map, Option, Some, None, nat_le, ◌==◌, if◌then◌else◌}
+use Rattle.std.specs.Prelude.{◌≡◌, ◌⊎◌, ℕ, ◌+◌, ◌-◌, ◌<◌, Bool, true, false, not, List, [], ◌∷◌, length, map, Option, Some, None, nat_le, ◌==◌, if◌then◌else◌}
 use Rattle.std.specs.List.{range_with_len}
 use Rattle.room_spec.specs.Rooms.{RoomSpec}
 use Rattle.safe_agreement.specs.Levels.{has_level, resolved_of}
@@ -11,7 +11,7 @@ use Rattle.simulator.specs.declared.line.Line.{Line}
 use Rattle.simulator.specs.declared.line.Line.TheVariants.{Rest, Raise, Snap, Show, Enter, Look, Leave, Ask, GetView, Values, Out}
 use Rattle.simulator.specs.declared.sweep.Ready.{Ready}
 use Rattle.simulator.specs.declared.sweep.Ready.TheVariants as ready
-use Rattle.simulator.specs.Minds.{MindOf, opening_mind_of, goal_at, current_round, next_process}
+use Rattle.simulator.specs.Minds.{MindOf, opening_mind_of, goal_at, current_round, next_process, unfinished_in}
 use Rattle.simulator.specs.Turns.{TakenOf, counted, goes_on, snapped, asked, got_view, got_value, decided, opened}
 use Rattle.simulator.specs.Sweeps.{is_resting, ready_of, quiet_after}
 use Rattle.room_core.specs.declared.reply.StepReply.{StepReply}
@@ -129,6 +129,12 @@ line_on (Out decision) spec fields i j k mind = with_taken (record fields { out 
 -- the fields after the line at which simulator i stands
 abbrev pub line : RoomSpec → Fields → ℕ → Fields
 line spec fields i = line_on (fields.mind i).line spec fields i (fields.mind i).sweep (current_round (fields.mind i)) (counted (fields.mind i))
+
+-- Simulator i hasn't crashed and has a line to take: its turn is open, or a process is unfinished and a turn is left.
+pub record HasLineIn (spec : RoomSpec) (fields : Fields) (i : ℕ) : Type 0 where
+  pub below : i < spec.simulators
+  pub alive : fields.crashed i ≡ false
+  pub moving : (is_resting (fields.mind i).line ≡ false) ⊎ ((0 < unfinished_in (fields.mind i).goals) × ((fields.mind i).turns < spec.turns))
 
 -- ---- schedules
 

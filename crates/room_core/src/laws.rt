@@ -1,5 +1,5 @@
 //! Laws of rooms, for a crate that runs one over shared words. Each is what its function ensures.
-ghost use Rattle.std.specs.Prelude.{false, ℕ, ◌≡◌, ◌≢◌, ◌⊎◌, ◌+◌, ◌*◌, ◌<◌, ◌≤◌, true, List, Some};
+ghost use Rattle.std.specs.Prelude.{false, ℕ, ◌≡◌, ◌≢◌, ◌↔◌, ◌⊎◌, ◌+◌, ◌*◌, ◌<◌, ◌≤◌, [], ◌∷◌, ◌++◌, true, List, Some};
 ghost use Rattle.room_spec.specs.Rooms.{RoomSpec, IsWithinLimits, processes};
 ghost use Rattle.safe_agreement.specs.Levels.{IsClean, least_two};
 ghost use Rattle.sim_memory.specs.Steps.{IsRowAtMost, row_of};
@@ -13,26 +13,26 @@ ghost use Rattle.room_core.specs.Moments.{IsMoment};
 ghost use Rattle.room_core.specs.Settled.{IsSettledFor};
 ghost use Rattle.room_core.specs.Settling.{steps_while};
 ghost use Rattle.simulator.specs.Sweeps.{is_resting};
-ghost use Rattle.room_core.specs.Calls.{Call, RoomState, configuration_of, has_crashed, most_steps, replies_to, room_after_calls, room_after_step, room_kind, sweep_at};
-ghost use Rattle.room_core.specs.Fields.{Fields, levels_at, entry_of_steps, fields_after_call, fields_after_calls, fields_after_settle, opening_fields, replay_fields, replies_in};
+ghost use Rattle.room_core.specs.Calls.{Call, RoomState, configuration_of, has_crashed, marked, most_steps, moved, opening_state, replies_to, room_after_calls, room_after_step, room_kind, sweep_at, with_sweep, woken};
+ghost use Rattle.room_core.specs.Fields.{Fields, HasLineIn, levels_at, entry_of_steps, fields_after_call, fields_after_calls, fields_after_settle, opening_fields, replay_fields, replies_in};
 ghost use Rattle.room_spec.specs.Sizes.{sizes_in};
 ghost use Rattle.room_core.specs.Reading.{AgreeIn, AreFieldsOf, Reads, fields_in};
-ghost use Rattle.room_core.specs.Rooms.{HasLine, IsAlive, IsOneInterleaving, IsShaped, Configuration, crashed_by, mind_at, opening, stepped, times};
+ghost use Rattle.room_core.specs.Rooms.{HasLine, IsAlive, IsOneInterleaving, IsShaped, Configuration, crashed_by, crashes, mind_at, opening, stepped, steps, times};
 
 /// The opening room is one interleaving, of no steps.
 pub fn opens()
     ensures { (spec : RoomSpec) → IsOneInterleaving (opening spec) }
 {}
 
-/// One interleaving stays one where a simulator takes its line. That reads and changes the
-/// simulator's mind and the words alone.
+/// One interleaving stays one where a simulator takes its line, and its list ends with that step.
+/// That reads and changes the simulator's mind and the words alone.
 pub fn stays_under_line()
-    ensures { (room : Configuration) (i : ℕ) → IsOneInterleaving room → HasLine room i → IsOneInterleaving (stepped room i) }
+    ensures { (room : Configuration) (i : ℕ) → (one : IsOneInterleaving room) → HasLine room i → (after : IsOneInterleaving (stepped room i)) × (after.schedule ≡ one.schedule ++ steps i ∷ []) }
 {}
 
-/// And where a simulator is marked as crashed.
+/// And where a simulator is marked as crashed: its list ends with that crash.
 pub fn stays_under_crash()
-    ensures { (room : Configuration) (i : ℕ) → IsOneInterleaving room → IsAlive room i → IsOneInterleaving (crashed_by room i) }
+    ensures { (room : Configuration) (i : ℕ) → (one : IsOneInterleaving room) → IsAlive room i → (after : IsOneInterleaving (crashed_by room i)) × (after.schedule ≡ one.schedule ++ crashes i ∷ []) }
 {}
 
 /// One interleaving has a word for each place, a mind for each simulator, and each mind's numbers
@@ -49,6 +49,20 @@ pub fn counts_steps()
 /// The words and minds of one interleaving stand for the fields to which its list leads.
 pub fn reads_as_fields()
     ensures { (room : Configuration) → IsWithinLimits room.spec → (one : IsOneInterleaving room) → Reads room (replay_fields room.spec (opening_fields room.spec) one.schedule) }
+{}
+
+/// A simulator has a line to take in a room just where the room's fields say so by themselves.
+pub fn lines_in_fields()
+    ensures { (room : Configuration) (fields : Fields) (i : ℕ) → IsShaped room → Reads room fields → HasLine room i ↔ HasLineIn room.spec fields i }
+{}
+
+/// A step and a crash of a room with its quiet counts are those of the room without them; and
+/// counting quiet turns anew is none.
+pub fn quiet_counts_aside()
+    ensures opens { (spec : RoomSpec) → configuration_of (opening_state spec) ≡ opening spec }
+    ensures step { (room : RoomState) (i : ℕ) → configuration_of (moved room i) ≡ stepped (configuration_of room) i }
+    ensures crash { (room : RoomState) (i : ℕ) → configuration_of (marked room i) ≡ crashed_by (configuration_of room) i }
+    ensures wakes { (room : RoomState) (i : ℕ) → configuration_of (with_sweep room i (woken (sweep_at room i))) ≡ configuration_of room }
 {}
 
 /// A list of calls has the same replies in the room and in its fields, and leads to the fields of

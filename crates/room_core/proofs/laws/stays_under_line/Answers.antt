@@ -1,5 +1,5 @@
-use Rattle.room_core.proofs.Replays.{under_line}
+use Rattle.room_core.proofs.Replays.{under_line_at_end}
 use Rattle.room_core.proofs.laws.stays_under_line.Goals as goal
 
 pub returns : goal.returns
-returns c = λ room i one may. under_line room i one may
+returns c = λ room i one may. under_line_at_end room i one may
