@@ -12,10 +12,11 @@ use Rattle.room_core.specs.Fields.{Fields, opening_fields, replay_fields, line, 
 use Rattle.room_core.specs.Reading.{AreFieldsOf, with_quiet}
 use Rattle.room_core.specs.Agreements.{IsFixedAt, asks, view_at}
 use Rattle.room_core.specs.Contents.{HasSmallValues}
+use Rattle.room_core.specs.Tracks.{StandsFor}
 use Rattle.room_core.proofs.SmallValues.{small_values}
 use Rattle.room_core.proofs.Replays.{shapes}
 use Rattle.room_core.proofs.States.{has_line}
-use Rattle.room_core.proofs.FieldReplays.{StandsFor, stands_for, event_stands}
+use Rattle.room_core.proofs.FieldReplays.{stands_for, event_stands}
 use Rattle.room_core.proofs.FieldCalls.{fields_stand, same_ready, settle_by}
 use Rattle.room_core.proofs.Effects.{Own, own_of, line_effect}
 use Rattle.room_core.proofs.Deciding.{own_kept}
@@ -79,7 +80,7 @@ module _ (room : RoomState) (fields : Fields) (limits : IsWithinLimits room.spec
       (λ present.
       let below : i < room.spec.simulators = leb-false room.spec.simulators i present in
       by_test P (fields.crashed i) fields (fields_when (ready_in room.spec fields i) room.spec fields i) same
-      (λ alive. when_ready i (ready_in room.spec fields i) below ((fields_stand room fields limits are).crashed i below ∙ alive) (sym (same_ready room fields i limits below are))))
+      (λ alive. when_ready i (ready_in room.spec fields i) below ((fields_stand room fields limits are).reads.crashed i below ∙ alive) (sym (same_ready room fields i limits below are))))
 
   pub crash_keeps : (i : ℕ) → P (fields_after_crash room.spec fields i)
   crash_keeps i =

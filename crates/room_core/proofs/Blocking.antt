@@ -16,10 +16,10 @@ use Rattle.simulator.specs.Sweeps.{quiet_after}
 use Rattle.simulator.specs.Turns.{TakenOf, counted, begun, goes_on, acted, decided, padded, gathered_all, gathered, opened_at}
 use Rattle.simulator.proofs.Processes.{next_is_left}
 use Rattle.room_core.specs.Fields.{StepMap, Fields, changed_triple, chosen_at, entry_of_steps, shown_value, left_to}
+use Rattle.room_core.specs.Tracks.{Counts, Counted, Inside}
 use Rattle.room_core.proofs.Lines.{stored_first_at, stored_first, stored_on, taken_first_at, taken_first, taken_on, StandsAt}
 use Rattle.room_core.proofs.Maps.{triple_else}
 use Rattle.room_core.proofs.Marks.{same_marks, IsBlockedCount, blocked_anew, blocked_begun, blocked_asked}
-use Rattle.room_core.proofs.Tracks.{Counts, Counted, Inside}
 use Rattle.simulator.specs.Quiet.{AreAsksAtTheEnd, unfinished_from}
 
 abbrev pub is_nothing : Option ℕ → Bool

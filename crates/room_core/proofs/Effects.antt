@@ -19,10 +19,11 @@ use Rattle.simulator.specs.Moves.{IsOperation, first_move_at, first_move}
 use Rattle.room_core.specs.Fields.{StepMap, Fields, changed, changed_pair, levels_at, chosen_at, entry_of_steps, shown_value, with_taken, left_to, line}
 use Rattle.room_core.specs.Reading.{worded}
 use Rattle.room_core.specs.Rooms.{Configuration, IsShaped, HasLine}
-use Rattle.room_core.proofs.FieldReplays.{StandsFor, stands_at, line_is}
+use Rattle.room_core.specs.Tracks.{StandsFor, AtRest, Tells}
+use Rattle.room_core.proofs.FieldReplays.{stands_at, line_is}
 use Rattle.room_core.proofs.Maps.{changed_here, changed_else}
 use Rattle.room_core.proofs.Snapshots.{same_row}
-use Rattle.room_core.proofs.Tracks.{AtRest, Tells, stored_round, counted_round, inside_round, past_round, outside, inside}
+use Rattle.room_core.proofs.Tracks.{stored_round, counted_round, inside_round, past_round, outside, inside}
 use Rattle.room_core.proofs.Lines.{stored_first_at, stored_first, stored_on, taken_first_at, taken_first, taken_on, operation_of, first_place, open_round, StandsAt}
 use Rattle.room_core.proofs.LineTracks.{each_at_rest}
 use Rattle.room_core.proofs.FieldLines.{IsStoreOf, is_store}

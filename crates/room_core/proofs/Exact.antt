@@ -12,7 +12,8 @@ use Rattle.room_core.specs.Calls.{RoomState, configuration_of}
 use Rattle.room_core.specs.Reading.{with_quiet, AreFieldsOf}
 use Rattle.room_core.specs.Moments.{IsMoment}
 use Rattle.room_core.specs.Fields.{StepMap, Fields, opening_fields, line, with_crash, fields_after, replay_fields, entry_of_steps}
-use Rattle.room_core.proofs.FieldReplays.{Tracks, StandsFor, event_stands, stands_for}
+use Rattle.room_core.specs.Tracks.{KeepsTrack, StandsFor}
+use Rattle.room_core.proofs.FieldReplays.{event_stands, stands_for}
 use Rattle.room_core.proofs.Stages.{Progress, Uncounted, Fresh, Scanned, Shown, Inside, Seen, Past, later, phase_of, phases_in, level_is}
 use Rattle.room_core.proofs.Effects.{Own, own_of, IsLineOf, line_effect}
 use Rattle.room_core.proofs.PhaseSteps.{advances}
@@ -32,7 +33,7 @@ pub record IsExact (spec : RoomSpec) (fields : Fields) : Type 0 where
   pub scanned : (i p r : ℕ) → i < spec.simulators → 1 ≤ r → progress_own (own_of fields i) p r ≡ Scanned → ShowsAtMost spec (fields.mind i).snapshot p r ⊎ IsFixed spec.simulators (phases_in fields p r)
 
 -- who hasn't proposed isn't at level 2
-pub scanned_level : (spec : RoomSpec) (fields : Fields) (i p r : ℕ) → Tracks spec fields → progress_own (own_of fields i) p r ≡ Scanned → fields.level i p r ≢ 2
+pub scanned_level : (spec : RoomSpec) (fields : Fields) (i p r : ℕ) → KeepsTrack spec fields → progress_own (own_of fields i) p r ≡ Scanned → fields.level i p r ≢ 2
 scanned_level spec fields i p r tracks is two =
     let zero : fields.level i p r ≡ 0 = level_is spec.rounds (fields.mind i) (fields.step i) (fields.level i) (tracks.told i) p r ∙ ap (λ (q : Progress). phase_level (phase_of q (fields.level i p r))) is in
     omega (arith, zero, two)
@@ -46,11 +47,11 @@ two_shown Inside level two = tt
 two_shown (Seen saw) level two = tt
 two_shown Past level two = tt
 
-pub at_two : (spec : RoomSpec) (fields : Fields) (i p r : ℕ) → Tracks spec fields → fields.level i p r ≡ 2 → HasShown (progress_own (own_of fields i) p r)
+pub at_two : (spec : RoomSpec) (fields : Fields) (i p r : ℕ) → KeepsTrack spec fields → fields.level i p r ≡ 2 → HasShown (progress_own (own_of fields i) p r)
 at_two spec fields i p r tracks two =
     two_shown (progress_own (own_of fields i) p r) (fields.level i p r) (sym (level_is spec.rounds (fields.mind i) (fields.step i) (fields.level i) (tracks.told i) p r) ∙ two)
 
-module _ (spec : RoomSpec) (fields after : Fields) (i : ℕ) (tracks : Tracks spec fields) (tracks' : Tracks spec after) (effect : IsLineOf spec fields after i) (sound : IsSound spec fields) (exact : IsExact spec fields) where
+module _ (spec : RoomSpec) (fields after : Fields) (i : ℕ) (tracks : KeepsTrack spec fields) (tracks' : KeepsTrack spec after) (effect : IsLineOf spec fields after i) (sound : IsSound spec fields) (exact : IsExact spec fields) where
   still_fixed : (p r : ℕ) → IsFixed spec.simulators (phases_in fields p r) → IsFixed spec.simulators (phases_in after p r)
   still_fixed p r fixed = fixed_on spec.simulators (phases_in fields p r) (phases_in after p r) (advances spec fields after i tracks effect p r) fixed
 
@@ -141,7 +142,7 @@ exact_run room limits one = (over_run ExactAfter exact_kept room limits one (ope
 -- ---- what that gives
 
 -- A proposal that stands shows of its own process as many writes as the agreement's round.
-pub own_entry : (spec : RoomSpec) (schedule : List ScheduleEvent) (fields : Fields) → Tracks spec fields → IsHistory spec schedule fields → IsExact spec fields → (i j k : ℕ) → i < spec.simulators → 1 ≤ k → fields.level i j k ≡ 2 → entry_of_steps spec (fields.view i j k) j ≡ k
+pub own_entry : (spec : RoomSpec) (schedule : List ScheduleEvent) (fields : Fields) → KeepsTrack spec fields → IsHistory spec schedule fields → IsExact spec fields → (i j k : ℕ) → i < spec.simulators → 1 ≤ k → fields.level i j k ≡ 2 → entry_of_steps spec (fields.view i j k) j ≡ k
 own_entry spec schedule fields tracks history exact i j k below first two = by_exact (exact.shown i j k below first shown)
   where
     shown : HasShown (progress_own (own_of fields i) j k)
@@ -156,7 +157,7 @@ own_entry spec schedule fields tracks history exact i j k below first two = by_e
     by_exact (inr late) = absurd (late.1 two)
 
 -- Any two proposals that stand show rows of which one is at most the other.
-pub rows_compare : (spec : RoomSpec) (schedule : List ScheduleEvent) (fields : Fields) → Tracks spec fields → IsHistory spec schedule fields → (i j k i' j' k' : ℕ) → i < spec.simulators → i' < spec.simulators → 1 ≤ k → 1 ≤ k' → fields.level i j k ≡ 2 → fields.level i' j' k' ≡ 2
+pub rows_compare : (spec : RoomSpec) (schedule : List ScheduleEvent) (fields : Fields) → KeepsTrack spec fields → IsHistory spec schedule fields → (i j k i' j' k' : ℕ) → i < spec.simulators → i' < spec.simulators → 1 ≤ k → 1 ≤ k' → fields.level i j k ≡ 2 → fields.level i' j' k' ≡ 2
     → IsRowAtMost (row_of spec.simulators (processes spec) (fields.view i j k)) (row_of spec.simulators (processes spec) (fields.view i' j' k')) ⊎ IsRowAtMost (row_of spec.simulators (processes spec) (fields.view i' j' k')) (row_of spec.simulators (processes spec) (fields.view i j k))
 rows_compare spec schedule fields tracks history i j k i' j' k' below below' first first' two two' =
     elim (moments_compare spec schedule i j k i' j' k' (fields.view i j k) (fields.view i' j' k') history.grows (history.shown i j k below first (at_two spec fields i j k tracks two)) (history.shown i' j' k' below' first' (at_two spec fields i' j' k' tracks two'))) [

@@ -27,13 +27,14 @@ use Rattle.room_core.specs.Rooms.{Configuration, ScheduleEvent, steps, crashes, 
 use Rattle.room_core.specs.Calls.{RoomState, configuration_of, opening_state, sweep_at, has_crashed, with_sweep, sweep_after, taken_by, moved, woken, reply_when, room_when, ready_at, step_reply, room_after_step, crash_reply, marked, room_after_crash, is_step, most_steps, room_kind, room_after_settle, Call, Step, Crash, Settle, Stepping, Crashing, reply_to, room_after_call, replies_to, room_after_calls}
 use Rattle.room_core.specs.Fields.{StepMap, Fields, changed, opening_fields, first_line_at, first_line, line_on, line, with_crash, fields_after, replay_fields, ready_in, fields_when, step_reply_in, fields_after_step, crash_reply_in, fields_after_crash, fields_kind, fields_after_settle, reply_in, fields_after_call, replies_in, fields_after_calls}
 use Rattle.room_core.specs.Reading.{worded, with_quiet, AreFieldsOf, Reads}
+use Rattle.room_core.specs.Tracks.{StandsFor}
 use Rattle.room_core.proofs.Settling.{AreAlike, settled_alike, settled_keeps}
 use Rattle.room_core.proofs.Replays.{replay-snoc, legal-snoc, shapes}
 use Rattle.room_core.proofs.States.{mind_here, moved_data, woken_data, opening_data, sweep_count, has_line}
 use Rattle.room_core.proofs.Maps.{changed_here, changed_else}
 use Rattle.room_core.proofs.Lines.{stored_on, taken_on}
 use Rattle.room_core.proofs.FieldLines.{is_store}
-use Rattle.room_core.proofs.FieldReplays.{StandsFor, stands_for, line_is, taken_is, reads}
+use Rattle.room_core.proofs.FieldReplays.{stand_by, held_of, mind_is, stands_for, line_is, taken_is, reads}
 
 -- ---- quiet counts
 
@@ -73,12 +74,9 @@ line_leads spec fields base i leads = subst (λ (f : Fields). line spec f i ≡ 
 
 -- the fields stand for the room, whatever the quiet counts are
 with_counts : (room : Configuration) (fields : Fields) (quiet : ℕ → ℕ) → StandsFor room fields → StandsFor room (with_quiet fields quiet)
-with_counts room fields quiet for = record {
-  held = for.held;
-  minds = for.minds;
-  crashed = for.crashed;
-  tracks = record { told = for.tracks.told; range = record { step = for.tracks.range.step; level = for.tracks.range.level; view = for.tracks.range.view }; snapshot = for.tracks.snapshot };
-}
+with_counts room fields quiet for =
+    stand_by room (with_quiet fields quiet) (held_of room fields for) (λ i below. mind_is room fields i for below) for.reads.crashed
+    (record { told = for.tracks.told; range = record { step = for.tracks.range.step; level = for.tracks.range.level; view = for.tracks.range.view }; snapshot = for.tracks.snapshot })
 
 pub fields_stand : (room : RoomState) (fields : Fields) → IsWithinLimits room.spec → AreFieldsOf room fields → StandsFor (configuration_of room) fields
 fields_stand room fields limits are =
@@ -157,7 +155,7 @@ woken_fields room fields i limits below are =
 
 pub same_ready : (room : RoomState) (fields : Fields) (i : ℕ) → IsWithinLimits room.spec → i < room.spec.simulators → AreFieldsOf room fields → ready_in room.spec fields i ≡ ready_at room i
 same_ready room fields i limits below are =
-    let mind : (sweep_at room i).mind ≡ worded (sizes_in room.spec) (fields.mind i) = sym (mind_here room i) ∙ (fields_stand room fields limits are).minds i below in
+    let mind : (sweep_at room i).mind ≡ worded (sizes_in room.spec) (fields.mind i) = sym (mind_here room i) ∙ mind_is (configuration_of room) fields i (fields_stand room fields limits are) below in
     sym (ap (λ (one : MindState). ready_of room.spec one (sweep_at room i).quiet) mind ∙ ap (λ (q : ℕ). ready_of room.spec (worded (sizes_in room.spec) (fields.mind i)) q) (sym (are.counts i below)))
 
 module _ (room : RoomState) (fields : Fields) (i : ℕ) (limits : IsWithinLimits room.spec) (are : AreFieldsOf room fields) where
@@ -179,7 +177,7 @@ module _ (room : RoomState) (fields : Fields) (i : ℕ) (limits : IsWithinLimits
       (ap reply_when same, subst (λ (answer : Ready). AreFieldsOf (room_when (ready_at room i) room i) (fields_when answer room.spec fields i)) (sym same) (when_ready (ready_at room i) below is refl))
 
   same_crashed : i < room.spec.simulators → has_crashed room i ≡ fields.crashed i
-  same_crashed below = (fields_stand room fields limits are).crashed i below
+  same_crashed below = (fields_stand room fields limits are).reads.crashed i below
 
   any_step : (absent : Bool) → leb room.spec.simulators i ≡ absent → IsSameStep absent (fields.crashed i) (has_crashed room i)
   any_step true is = (refl, are)
@@ -221,7 +219,7 @@ module _ (room : RoomState) (fields : Fields) (i : ℕ) (limits : IsWithinLimits
   any_crash true is = (refl, are)
   any_crash false is =
       let below : i < room.spec.simulators = leb-false room.spec.simulators i is in
-      subst (λ (crashed : Bool). IsSameCrash false crashed (has_crashed room i)) ((fields_stand room fields limits are).crashed i below) (alive_crash (has_crashed room i) below refl)
+      subst (λ (crashed : Bool). IsSameCrash false crashed (has_crashed room i)) ((fields_stand room fields limits are).reads.crashed i below) (alive_crash (has_crashed room i) below refl)
 
 pub crash_in_fields : (room : RoomState) (fields : Fields) (i : ℕ) → IsWithinLimits room.spec → AreFieldsOf room fields → (crash_reply_in room.spec fields i ≡ crash_reply room i) × AreFieldsOf (room_after_crash room i) (fields_after_crash room.spec fields i)
 crash_in_fields room fields i limits are = any_crash room fields i limits are (leb room.spec.simulators i) refl
@@ -358,7 +356,7 @@ module _ (P : Fields → Type 0) (spec : RoomSpec) (limits : IsWithinLimits spec
   step_are is = subst (λ (s : RoomSpec). AreFieldsOf (room_after_step room i) (fields_after_step s fields i)) is.same (step_in_fields room fields i (subst IsWithinLimits (sym is.same) limits) is.are).1
 
   pub in_turn_alike : i < spec.simulators → IsSettling P spec room fields → not (is_resting (sweep_at room i).mind.line) ≡ not (is_resting (fields.mind i).line)
-  in_turn_alike below is = ap (λ (mind : MindState). not (is_resting mind.line)) (sym (mind_here room i) ∙ (fields_stand room fields (subst IsWithinLimits (sym is.same) limits) is.are).minds i (subst (λ (s : RoomSpec). i < s.simulators) (sym is.same) below))
+  in_turn_alike below is = ap (λ (mind : MindState). not (is_resting mind.line)) (sym (mind_here room i) ∙ mind_is (configuration_of room) fields i (fields_stand room fields (subst IsWithinLimits (sym is.same) limits) is.are) (subst (λ (s : RoomSpec). i < s.simulators) (sym is.same) below))
 
   pub has_step_alike : i < spec.simulators → IsSettling P spec room fields → is_step (ready_at room i) ≡ is_step (ready_in spec fields i)
   has_step_alike below is = ap is_step (sym (same_ready room fields i (subst IsWithinLimits (sym is.same) limits) (subst (λ (s : RoomSpec). i < s.simulators) (sym is.same) below) is.are) ∙ ap (λ (s : RoomSpec). ready_in s fields i) is.same)
@@ -371,7 +369,7 @@ module _ (P : Fields → Type 0) (spec : RoomSpec) (limits : IsWithinLimits spec
     count = λ room fields is. ap (λ (s : RoomSpec). s.simulators) is.same;
     other_count = λ room fields is. refl;
     most = λ room fields is. ap most_steps is.same;
-    crashed = λ room fields i below is. (fields_stand room fields (subst IsWithinLimits (sym is.same) limits) is.are).crashed i (subst (λ (s : RoomSpec). i < s.simulators) (sym is.same) below);
+    crashed = λ room fields i below is. (fields_stand room fields (subst IsWithinLimits (sym is.same) limits) is.are).reads.crashed i (subst (λ (s : RoomSpec). i < s.simulators) (sym is.same) below);
     in_turn = λ room fields i below is. in_turn_alike P spec limits room fields i below is;
     has_step = λ room fields i below is. has_step_alike P spec limits room fields i below is;
     step = λ room fields i below is. record {

@@ -14,9 +14,10 @@ use Rattle.simulator.specs.declared.line.Line.TheVariants.{Rest, Raise, Snap, Sh
 use Rattle.simulator.specs.Minds.{MindOf, goal_at, current_goal, current_round, next_process}
 use Rattle.simulator.specs.Turns.{counted, begun, goes_on, asked, acted, padded, gathered, opened_at}
 use Rattle.room_core.specs.Fields.{StepMap, Fields, changed, changed_pair, changed_triple, left_to, chosen_at, entry_of_steps, shown_value}
+use Rattle.room_core.specs.Tracks.{AreInRange}
 use Rattle.room_core.proofs.Maps.{changed_else, each_pair, each_triple}
 use Rattle.room_core.proofs.Tracks.{raised_below, outside, inside}
-use Rattle.room_core.proofs.Lines.{stored_first_at, stored_first, stored_on, taken_first_at, taken_first, taken_on, AreInRange, StandsAt}
+use Rattle.room_core.proofs.Lines.{stored_first_at, stored_first, stored_on, taken_first_at, taken_first, taken_on, StandsAt}
 
 -- ---- what a line of i leaves as it is
 

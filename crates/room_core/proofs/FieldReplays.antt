@@ -20,29 +20,47 @@ use Rattle.simulator.specs.Ranges.{IsMind}
 use Rattle.room_core.specs.Rooms.{Configuration, ScheduleEvent, steps, crashes, opening, mind_at, crashed_at, answer_to, stepped, crashed_by, HasLine, MayHappen, after_event, replay, IsLegal, IsOneInterleaving, IsShaped}
 use Rattle.room_core.specs.Fields.{StepMap, Fields, changed, no_steps, opening_fields, with_taken, line, with_crash, fields_after, replay_fields}
 use Rattle.room_core.specs.Reading.{worded, Reads}
+use Rattle.room_core.specs.Tracks.{AtRest, Tells, ToldBy, KeepsTrack, StandsFor}
 use Rattle.room_core.proofs.Replays.{shape_after, opening_shape}
 use Rattle.room_core.proofs.Maps.{changed_here, changed_else}
-use Rattle.room_core.proofs.Tracks.{AtRest, Tells, ToldBy, beside, at_sweep, told_at_rest}
+use Rattle.room_core.proofs.Tracks.{beside, at_sweep, told_at_rest}
 use Rattle.room_core.proofs.Wording.{worded_taken}
 use Rattle.room_core.proofs.Holding.{word_for, Hold}
-use Rattle.room_core.proofs.Lines.{stored_on, taken_on, line_parts, AreInRange, StandsAt}
+use Rattle.room_core.proofs.Lines.{stored_on, taken_on, line_parts, StandsAt}
 use Rattle.room_core.proofs.LineMinds.{same_taken}
 use Rattle.room_core.proofs.LineWords.{held_line}
 use Rattle.room_core.proofs.LineTracks.{told_line}
 use Rattle.room_core.proofs.FieldLines.{IsStoreOf, is_store, in_range_line, snapshot_line}
 
--- each mind tells of its fields, and all numbers are in range
-pub record Tracks (spec : RoomSpec) (fields : Fields) : Type 0 where
-  pub told : (i : ℕ) → ToldBy spec.rounds (fields.mind i) (fields.step i) (fields.level i)
-  pub range : AreInRange spec fields
-  pub snapshot : (i : ℕ) → AreWithin (sizes_in spec) (fields.mind i).snapshot
+-- ---- a room that stands for its fields
 
--- the room stands for these fields
-pub record StandsFor (room : Configuration) (fields : Fields) : Type 0 where
-  pub held : Hold (sizes_in room.spec) room.words fields
-  pub minds : (i : ℕ) → i < room.spec.simulators → mind_at room i ≡ worded (sizes_in room.spec) (fields.mind i)
-  pub crashed : (i : ℕ) → i < room.spec.simulators → crashed_at room i ≡ fields.crashed i
-  pub tracks : Tracks room.spec fields
+pub stand_by : (room : Configuration) (fields : Fields) → Hold (sizes_in room.spec) room.words fields → ((i : ℕ) → i < room.spec.simulators → mind_at room i ≡ worded (sizes_in room.spec) (fields.mind i))
+    → ((i : ℕ) → i < room.spec.simulators → crashed_at room i ≡ fields.crashed i) → KeepsTrack room.spec fields → StandsFor room fields
+stand_by room fields held minds crashed tracks = record {
+  reads = record {
+    words = record {
+      step = record { within = λ i p _ _. tracks.range.step i p; same = held places.Steps tt };
+      level = λ j k process round. held (places.Levels j k) (process, round);
+      levels = λ i j k _ _ _. tracks.range.level i j k;
+      view = λ i j k simulator process round. record { within = tracks.range.view i j k; same = held (places.View i j k) (simulator, process, round) };
+      value = λ i j k simulator process round. held (places.Value i j k) (simulator, process, round);
+      out = λ i j simulator process. held (places.Out i j) (simulator, process);
+    };
+    minds = λ i below. record { within = tracks.snapshot i; same = minds i below };
+    crashed = crashed;
+  };
+  tracks = tracks;
+}
+
+pub held_of : (room : Configuration) (fields : Fields) → StandsFor room fields → Hold (sizes_in room.spec) room.words fields
+held_of room fields for places.Steps range = for.reads.words.step.same
+held_of room fields for (places.Levels j k) range = for.reads.words.level j k range.0 range.1
+held_of room fields for (places.View i j k) range = let view = for.reads.words.view i j k range.0 range.1 range.2 in view.same
+held_of room fields for (places.Value i j k) range = for.reads.words.value i j k range.0 range.1 range.2
+held_of room fields for (places.Out i j) range = for.reads.words.out i j range.0 range.1
+
+pub mind_is : (room : Configuration) (fields : Fields) (i : ℕ) → StandsFor room fields → i < room.spec.simulators → mind_at room i ≡ worded (sizes_in room.spec) (fields.mind i)
+mind_is room fields i for below = let mind = for.reads.minds i below in mind.same
 
 -- ---- one line
 
@@ -50,7 +68,7 @@ pub stands_at : (room : Configuration) (fields : Fields) (i : ℕ) → IsShaped 
 stands_at room fields i shape for may =
     let below = may.alive.below in
     let mind = fields.mind i in
-    let same = for.minds i below in
+    let same = mind_is room fields i for below in
     let is_mind : IsMind room.spec (worded (sizes_in room.spec) mind) = subst (IsMind room.spec) same (shape.each i below) in
     record {
       below = below;
@@ -84,7 +102,7 @@ each_mind P i fields after mind store own all a = dite (ℕ_discrete a i)
 abbrev pub fields_by : RoomSpec → Fields → ℕ → Fields
 fields_by spec fields i = with_taken (stored_on (fields.mind i).line fields i (fields.mind i).sweep (current_round (fields.mind i)) (counted (fields.mind i))) i (taken_on (fields.mind i).line spec fields (fields.mind i).sweep (current_round (fields.mind i)) (counted (fields.mind i)))
 
-tracks_line : (spec : RoomSpec) (fields : Fields) (i : ℕ) → StandsAt (fields.mind i).line spec fields i (fields.mind i) → Tracks spec fields → Tracks spec (fields_by spec fields i)
+tracks_line : (spec : RoomSpec) (fields : Fields) (i : ℕ) → StandsAt (fields.mind i).line spec fields i (fields.mind i) → KeepsTrack spec fields → KeepsTrack spec (fields_by spec fields i)
 tracks_line spec fields i at tracks =
     let mind = fields.mind i in
     let after = stored_on mind.line fields i mind.sweep (current_round mind) (counted mind) in
@@ -101,8 +119,8 @@ tracks_line spec fields i at tracks =
 pub taken_is : (room : Configuration) (fields : Fields) (i : ℕ) → IsShaped room → StandsFor room fields → HasLine room i
     → taken room.spec (mind_at room i) (answer_to room i) ≡ worded_taken (sizes_in room.spec) (taken_on (fields.mind i).line room.spec fields (fields.mind i).sweep (current_round (fields.mind i)) (counted (fields.mind i)))
 taken_is room fields i shape for may =
-    ap (λ (one : MindState). taken room.spec one (answer_of (move_of room.spec one) room.words)) (for.minds i may.alive.below)
-    ∙ same_taken (fields.mind i).line room.spec fields i room.words (fields.mind i) (stands_at room fields i shape for may) for.held
+    ap (λ (one : MindState). taken room.spec one (answer_of (move_of room.spec one) room.words)) (mind_is room fields i for may.alive.below)
+    ∙ same_taken (fields.mind i).line room.spec fields i room.words (fields.mind i) (stands_at room fields i shape for may) (held_of room fields for)
 
 parts_stand : (room : Configuration) (fields : Fields) (i : ℕ) → IsShaped room → HasLine room i → StandsFor room fields → StandsFor (stepped room i) (fields_by room.spec fields i)
 parts_stand room fields i shape may for =
@@ -114,18 +132,17 @@ parts_stand room fields i shape may for =
     let new = (taken_on mind.line room.spec fields mind.sweep (current_round mind) (counted mind)).mind in
     let own = (taken room.spec (mind_at room i) (answer_to room i)).mind in
     let place : i < length room.minds = let count = shape.minds in omega arith in
-    record {
-      held = subst (λ (one : MindState). Hold (sizes_in room.spec) (words_after (move_of room.spec one) room.words) (fields_by room.spec fields i)) (sym (for.minds i below)) (held_line mind.line room.spec fields i room.words mind shape.words at for.held);
-      minds = λ a less. dite (ℕ_discrete a i)
-          (λ (e : a ≡ i).
-          ap (λ (k : ℕ). get_or (set room.minds i own) k (opening_mind room.spec k)) e ∙ get_or-set_same room.minds i own (opening_mind room.spec i) place
-          ∙ ap (λ (one : TakenOf ℕ). one.mind) (taken_is room fields i shape for may) ∙ ap (worded (sizes_in room.spec)) (sym (changed_here after.mind i new a e)))
-          (λ (n : a ≢ i).
-          get_or-set_other room.minds i a own (opening_mind room.spec a) n ∙ for.minds a less
-          ∙ ap (worded (sizes_in room.spec)) (sym (changed_else after.mind i new a n ∙ ap (λ (minds : ℕ → MindOf StepMap). minds a) store.mind)));
-      crashed = λ a less. for.crashed a less ∙ sym (ap (λ (marks : ℕ → Bool). marks a) store.crashed);
-      tracks = tracks_line room.spec fields i at for.tracks;
-    }
+    stand_by (stepped room i) (fields_by room.spec fields i)
+    (subst (λ (one : MindState). Hold (sizes_in room.spec) (words_after (move_of room.spec one) room.words) (fields_by room.spec fields i)) (sym (mind_is room fields i for below)) (held_line mind.line room.spec fields i room.words mind shape.words at (held_of room fields for)))
+    (λ a less. dite (ℕ_discrete a i)
+    (λ (e : a ≡ i).
+    ap (λ (k : ℕ). get_or (set room.minds i own) k (opening_mind room.spec k)) e ∙ get_or-set_same room.minds i own (opening_mind room.spec i) place
+    ∙ ap (λ (one : TakenOf ℕ). one.mind) (taken_is room fields i shape for may) ∙ ap (worded (sizes_in room.spec)) (sym (changed_here after.mind i new a e)))
+    (λ (n : a ≢ i).
+    get_or-set_other room.minds i a own (opening_mind room.spec a) n ∙ mind_is room fields a for less
+    ∙ ap (worded (sizes_in room.spec)) (sym (changed_else after.mind i new a n ∙ ap (λ (minds : ℕ → MindOf StepMap). minds a) store.mind))))
+    (λ a less. for.reads.crashed a less ∙ sym (ap (λ (marks : ℕ → Bool). marks a) store.crashed))
+    (tracks_line room.spec fields i at for.tracks)
 
 -- a line is its two parts, where the simulator has one to take
 pub line_is : (room : Configuration) (fields : Fields) (i : ℕ) → IsShaped room → StandsFor room fields → HasLine room i → line room.spec fields i ≡ fields_by room.spec fields i
@@ -139,14 +156,11 @@ pub event_stands : (room : Configuration) (fields : Fields) (event : ScheduleEve
 event_stands room fields (steps i) shape may for = subst (λ (after : Fields). StandsFor (stepped room i) after) (sym (line_is room fields i shape for may)) (parts_stand room fields i shape may for)
 event_stands room fields (crashes i) shape may for =
     let place : i < length room.crashed = let count = shape.crashed in let below = may.below in omega arith in
-    record {
-      held = for.held;
-      minds = for.minds;
-      crashed = λ a less. dite (ℕ_discrete a i)
-          (λ (e : a ≡ i). ap (λ (k : ℕ). get_or (set room.crashed i true) k false) e ∙ get_or-set_same room.crashed i true false place ∙ sym (changed_here fields.crashed i true a e))
-          (λ (n : a ≢ i). get_or-set_other room.crashed i a true false n ∙ for.crashed a less ∙ sym (changed_else fields.crashed i true a n));
-      tracks = record { told = for.tracks.told; range = record { step = for.tracks.range.step; level = for.tracks.range.level; view = for.tracks.range.view }; snapshot = for.tracks.snapshot };
-    }
+    stand_by (crashed_by room i) (with_crash fields i) (held_of room fields for) (λ a less. mind_is room fields a for less)
+    (λ a less. dite (ℕ_discrete a i)
+    (λ (e : a ≡ i). ap (λ (k : ℕ). get_or (set room.crashed i true) k false) e ∙ get_or-set_same room.crashed i true false place ∙ sym (changed_here fields.crashed i true a e))
+    (λ (n : a ≢ i). get_or-set_other room.crashed i a true false n ∙ for.reads.crashed a less ∙ sym (changed_else fields.crashed i true a n)))
+    (record { told = for.tracks.told; range = record { step = for.tracks.range.step; level = for.tracks.range.level; view = for.tracks.range.view }; snapshot = for.tracks.snapshot })
 
 replay_stands : (room : Configuration) (fields : Fields) (schedule : List ScheduleEvent) → IsShaped room → IsLegal room schedule → StandsFor room fields → StandsFor (replay room schedule) (replay_fields room.spec fields schedule)
 replay_stands room fields [] shape legal for = for
@@ -170,18 +184,17 @@ opening_tells spec (q ∷ numbers) zero = record { counts = refl; levels = (λ k
 opening_tells spec (q ∷ numbers) (suc p) = opening_tells spec numbers p
 
 pub opening_stands : (spec : RoomSpec) → StandsFor (opening spec) (opening_fields spec)
-opening_stands spec = record {
-  held = λ place range. zeros (sizes_in spec) place range ∙ sym (opening_words spec place);
-  minds = λ i below.
-      get_or-map-range_with_len (opening_mind spec) 0 spec.simulators i i (opening_mind spec i) below (omega arith)
-      ∙ ap (λ (word : ℕ). opening_mind_of word spec i) (sym (word_zero (sizes_in spec)));
-  crashed = λ i below. get_or-replicate spec.simulators i false false below;
-  tracks = record {
-    told = λ i. told_at_rest spec.rounds (opening_mind_of no_steps spec i) (λ p. 0) (λ p k. 0) refl (λ p. opening_tells spec (range_with_len 0 (processes spec)) p);
-    range = record { step = λ i p. omega arith; level = λ i j k. omega arith; view = λ i j k a p _ _. omega arith };
-    snapshot = λ i a p _ _. omega arith;
-  };
-}
+opening_stands spec =
+    stand_by (opening spec) (opening_fields spec) (λ place range. zeros (sizes_in spec) place range ∙ sym (opening_words spec place))
+    (λ i below.
+    get_or-map-range_with_len (opening_mind spec) 0 spec.simulators i i (opening_mind spec i) below (omega arith)
+    ∙ ap (λ (word : ℕ). opening_mind_of word spec i) (sym (word_zero (sizes_in spec))))
+    (λ i below. get_or-replicate spec.simulators i false false below)
+    (record {
+      told = λ i. told_at_rest spec.rounds (opening_mind_of no_steps spec i) (λ p. 0) (λ p k. 0) refl (λ p. opening_tells spec (range_with_len 0 (processes spec)) p);
+      range = record { step = λ i p. omega arith; level = λ i j k. omega arith; view = λ i j k a p _ _. omega arith };
+      snapshot = λ i a p _ _. omega arith;
+    })
 
 -- ---- every room that is one interleaving
 
@@ -190,20 +203,6 @@ stands_for room limits one =
     subst (λ (q : Configuration). StandsFor q (replay_fields room.spec (opening_fields room.spec) one.schedule)) one.leads
     (replay_stands (opening room.spec) (opening_fields room.spec) one.schedule (opening_shape room.spec limits) one.legal (opening_stands room.spec))
 
-reads_of : (room : Configuration) (fields : Fields) → StandsFor room fields → Reads room fields
-reads_of room fields for = record {
-  words = record {
-    step = record { within = λ i p _ _. for.tracks.range.step i p; same = for.held places.Steps tt };
-    level = λ j k process round. for.held (places.Levels j k) (process, round);
-    levels = λ i j k _ _ _. for.tracks.range.level i j k;
-    view = λ i j k simulator process round. record { within = for.tracks.range.view i j k; same = for.held (places.View i j k) (simulator, process, round) };
-    value = λ i j k simulator process round. for.held (places.Value i j k) (simulator, process, round);
-    out = λ i j simulator process. for.held (places.Out i j) (simulator, process);
-  };
-  minds = λ i below. record { within = for.tracks.snapshot i; same = for.minds i below };
-  crashed = for.crashed;
-}
-
 -- Every such room stands for the fields to which its schedule leads.
 pub reads : (room : Configuration) → IsWithinLimits room.spec → (one : IsOneInterleaving room) → Reads room (replay_fields room.spec (opening_fields room.spec) one.schedule)
-reads room limits one = reads_of room (replay_fields room.spec (opening_fields room.spec) one.schedule) (stands_for room limits one)
+reads room limits one = let for = stands_for room limits one in for.reads

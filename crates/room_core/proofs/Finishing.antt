@@ -13,8 +13,8 @@ use Rattle.room_core.specs.Rooms.{Configuration, ScheduleEvent, steps, crashes, 
 use Rattle.room_core.specs.Calls.{RoomState, configuration_of}
 use Rattle.room_core.specs.Fields.{Fields, changed, line, opening_fields, fields_after, replay_fields}
 use Rattle.room_core.specs.Reading.{AreFieldsOf}
+use Rattle.room_core.specs.Tracks.{StandsFor}
 use Rattle.room_core.proofs.Maps.{changed_here, changed_else}
-use Rattle.room_core.proofs.FieldReplays.{StandsFor}
 use Rattle.room_core.proofs.Prefixes.{over_run}
 use Rattle.room_core.proofs.Effects.{Own, own_of, Effect, line_effect, stores, raises, scans, shows, enters, looks, leaves, asks_in_vain, finds, gathers, goes_to, will_decide, decides}
 

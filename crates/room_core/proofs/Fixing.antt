@@ -14,9 +14,9 @@ use Rattle.simulator.specs.declared.line.Line.TheVariants.{Rest, Raise, Snap, Sh
 use Rattle.simulator.specs.Minds.{MindOf, goal_at, current_goal, current_round}
 use Rattle.room_core.specs.Fields.{StepMap, Fields, levels_at}
 use Rattle.room_core.specs.Agreements.{HasLookedBlind, IsFixedAt}
-use Rattle.room_core.proofs.Tracks as stages
-use Rattle.room_core.proofs.Tracks.{Stage, Tells, Counts, stage_of, stage_for, at_sweep, inside_round, ToldBy}
-use Rattle.room_core.proofs.FieldReplays.{Tracks}
+use Rattle.room_core.specs.Tracks.{Stage, Tells, Counts, stage_of, stage_for, ToldBy, KeepsTrack}
+use Rattle.room_core.specs.Tracks as stages
+use Rattle.room_core.proofs.Tracks.{at_sweep, inside_round}
 use Rattle.room_core.proofs.Stages.{Progress, Past, line_progress, phase_of, phase_by, phases_in, later, earlier, now, level_is, levels_are_phases}
 use Rattle.room_core.proofs.Effects.{is_reading}
 use Rattle.room_core.proofs.Resolving.{resolved_by}
@@ -65,7 +65,7 @@ left_round rounds mind step level saw told is =
 
 -- ---- fixed, by phases and by fields
 
-module _ (spec : RoomSpec) (fields : Fields) (tracks : Tracks spec fields) (j k : ℕ) where
+module _ (spec : RoomSpec) (fields : Fields) (tracks : KeepsTrack spec fields) (j k : ℕ) where
   blind_phase : (i : ℕ) → HasLookedBlind fields i j k → phases_in fields j k i ≡ Looked false
   blind_phase i blind =
       let mind = fields.mind i in
@@ -128,7 +128,7 @@ counted_resolved rounds goals.Done stage reading step k counts less = omega arit
 counted_resolved rounds goals.Spent stage reading step k counts less = omega arith
 
 -- where some simulator has counted a later round, the agreement on this one is fixed
-pub counted_is_fixed : (spec : RoomSpec) (fields : Fields) (i j k : ℕ) → Tracks spec fields → IsSound spec fields → i < spec.simulators → 1 ≤ k → k < fields.step i j → IsFixed spec.simulators (phases_in fields j k)
+pub counted_is_fixed : (spec : RoomSpec) (fields : Fields) (i j k : ℕ) → KeepsTrack spec fields → IsSound spec fields → i < spec.simulators → 1 ≤ k → k < fields.step i j → IsFixed spec.simulators (phases_in fields j k)
 counted_is_fixed spec fields i j k tracks sound below first less =
     let mind = fields.mind i in
     sound.resolved i j k below first
@@ -141,7 +141,7 @@ pub data IsPassed (spec : RoomSpec) (fields : Fields) (j k : ℕ) : Type 0 where
   written : (i : ℕ) → i < spec.simulators → k < fields.step i j → IsPassed spec fields j k
   decided : (i : ℕ) → i < spec.simulators → fields.out i j ≢ 0 → k ≤ fields.step i j → IsPassed spec fields j k
 
-pub passed_is_fixed : (spec : RoomSpec) (fields : Fields) (j k : ℕ) → Tracks spec fields → IsSound spec fields → 1 ≤ k → IsPassed spec fields j k → IsFixed spec.simulators (phases_in fields j k)
+pub passed_is_fixed : (spec : RoomSpec) (fields : Fields) (j k : ℕ) → KeepsTrack spec fields → IsSound spec fields → 1 ≤ k → IsPassed spec fields j k → IsFixed spec.simulators (phases_in fields j k)
 passed_is_fixed spec fields j k tracks sound first (clean is) = clean_is_fixed spec.simulators (phases_in fields j k) (subst IsClean (levels_are_phases spec fields tracks j k) is)
 passed_is_fixed spec fields j k tracks sound first (written i below less) = counted_is_fixed spec fields i j k tracks sound below first less
 passed_is_fixed spec fields j k tracks sound first (decided i below out most) =
@@ -166,7 +166,7 @@ fixed_has_least spec fields j k at =
 left_phase : (spec : RoomSpec) (fields : Fields) (i j k : ℕ) → k < fields.step i j → phases_in fields j k i ≡ Left (fields.level i j k)
 left_phase spec fields i j k less = ap (λ (p : Progress). phase_of p (fields.level i j k)) (earlier (fields.step i j) k (eqb j (fields.mind i).sweep) (line_progress (fields.mind i).line) less)
 
-pub left_is_clean : (spec : RoomSpec) (fields : Fields) (i j k : ℕ) → Tracks spec fields → IsSound spec fields → i < spec.simulators → 1 ≤ k → k < fields.step i j → ((a : ℕ) → a < spec.simulators → fields.level a j k ≢ 1) → IsClean (levels_at spec fields j k)
+pub left_is_clean : (spec : RoomSpec) (fields : Fields) (i j k : ℕ) → KeepsTrack spec fields → IsSound spec fields → i < spec.simulators → 1 ≤ k → k < fields.step i j → ((a : ℕ) → a < spec.simulators → fields.level a j k ≢ 1) → IsClean (levels_at spec fields j k)
 left_is_clean spec fields i j k tracks sound below first less none =
     subst IsClean (sym (levels_are_phases spec fields tracks j k))
     (settles spec.simulators (phases_in fields j k) i (fields.level i j k) (sound.beside j k first) below (left_phase spec fields i j k less)

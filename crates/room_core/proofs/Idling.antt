@@ -23,9 +23,11 @@ use Rattle.room_core.specs.Fields.{StepMap, Fields, levels_at, chosen_at, ready_
 use Rattle.room_core.specs.Reading.{AreFieldsOf, worded}
 use Rattle.room_core.specs.Agreements.{IsFixedAt, IsInside, asks}
 use Rattle.room_core.specs.Contents.{IsDue, first_write, next_write}
+use Rattle.room_core.specs.Tracks.{AtRest, Tells, stage_of}
 use Rattle.room_core.proofs.Replays.{shapes}
+use Rattle.room_core.proofs.FieldReplays.{mind_is}
 use Rattle.room_core.proofs.FieldCalls.{fields_stand}
-use Rattle.room_core.proofs.Tracks.{AtRest, Tells, stage_of, beside, at_sweep}
+use Rattle.room_core.proofs.Tracks.{beside, at_sweep}
 use Rattle.room_core.proofs.LineTracks.{each_at_rest}
 use Rattle.room_core.proofs.Stages.{Progress, Past, line_progress, phase_of, now, phases_in, level_is, levels_are_phases, one_inside}
 use Rattle.room_core.proofs.Sound.{fields_sound}
@@ -92,7 +94,7 @@ module _ (room : RoomState) (fields : Fields) (limits : IsWithinLimits room.spec
 
   module _ (i : ℕ) (below : i < room.spec.simulators) (rest : is_resting (fields.mind i).line ≡ true) where
     is_mind : IsMind room.spec (worded (sizes_in room.spec) (fields.mind i))
-    is_mind = subst (IsMind room.spec) ((fields_stand room fields limits are).minds i below) ((shapes (configuration_of room) limits are.run).each i below)
+    is_mind = subst (IsMind room.spec) (mind_is (configuration_of room) fields i (fields_stand room fields limits are) below) ((shapes (configuration_of room) limits are.run).each i below)
 
     tells : (p : ℕ) → Tells room.spec.rounds (goal_at (fields.mind i).goals p) AtRest (fields.step i p) (fields.level i p)
     tells p =

@@ -47,7 +47,7 @@ module _ (spec : RoomSpec) (limits : IsWithinLimits spec) where
   up_at room fields i same are below alive =
       let limits' = limits_of room same in
       let within = below_of room i same below in
-      record { shape = shapes (configuration_of room) limits' are.run; below = within; alive = (fields_stand room fields limits' are).crashed i within ∙ alive }
+      record { shape = shapes (configuration_of room) limits' are.run; below = within; alive = (fields_stand room fields limits' are).reads.crashed i within ∙ alive }
 
   -- ---- the turns end
 

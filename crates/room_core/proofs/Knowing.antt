@@ -26,9 +26,10 @@ use Rattle.room_core.specs.Rooms.{Configuration, ScheduleEvent, steps, crashes, 
 use Rattle.room_core.specs.Fields.{Fields, levels_at, opening_fields, line, fields_after, replay_fields}
 use Rattle.room_core.specs.Agreements.{IsFixedAt}
 use Rattle.room_core.specs.Contents.{IsDue, first_write, next_write, HasSmallValues}
-use Rattle.room_core.proofs.Tracks as stages
-use Rattle.room_core.proofs.Tracks.{Stage, Counts, Tells, stage_of, at_sweep}
-use Rattle.room_core.proofs.FieldReplays.{Tracks, StandsFor, event_stands, stands_for}
+use Rattle.room_core.specs.Tracks.{Stage, Counts, Tells, stage_of, KeepsTrack, StandsFor}
+use Rattle.room_core.specs.Tracks as stages
+use Rattle.room_core.proofs.Tracks.{at_sweep, stored_round}
+use Rattle.room_core.proofs.FieldReplays.{event_stands, stands_for}
 use Rattle.room_core.proofs.Effects.{Own, own_of, IsLineOf, line_effect, Effect, stores, raises, scans, shows, enters, looks, leaves, asks_in_vain, finds, gathers, goes_to, will_decide, decides}
 use Rattle.room_core.proofs.Sound.{IsSound, chosen_is_fixed, sound_kept, opening_sound}
 use Rattle.room_core.proofs.Fixing.{fixed_at}
@@ -48,7 +49,7 @@ write_of rounds goals.Spent step counts = absurd counts
 
 -- ---- what a line makes of an open turn that reads
 
-module _ (spec : RoomSpec) (fields : Fields) (tracks : Tracks spec fields) (small : HasSmallValues spec) (within : ViewsWithin spec fields) (known : IsKnown spec fields) (i : ℕ) (below : i < spec.simulators) where
+module _ (spec : RoomSpec) (fields : Fields) (tracks : KeepsTrack spec fields) (small : HasSmallValues spec) (within : ViewsWithin spec fields) (known : IsKnown spec fields) (i : ℕ) (below : i < spec.simulators) where
   chosen_new : (after : Own) (chosen : ℕ) → Effect spec fields (own_of fields i) after → after.mind.line ≡ GetView chosen → IsChosen spec fields after.mind.sweep (current_round after.mind) chosen
   chosen_new after chosen (stores j k value rest goal count process first last) is = absurd cc
   chosen_new after chosen (raises turn count) is = absurd cc
@@ -114,7 +115,7 @@ module _ (spec : RoomSpec) (fields : Fields) (tracks : Tracks spec fields) (smal
 
 -- ---- a line
 
-module _ (spec : RoomSpec) (fields after : Fields) (i : ℕ) (tracks : Tracks spec fields) (tracks' : Tracks spec after) (small : HasSmallValues spec) (within : ViewsWithin spec fields) (known : IsKnown spec fields)
+module _ (spec : RoomSpec) (fields after : Fields) (i : ℕ) (tracks : KeepsTrack spec fields) (tracks' : KeepsTrack spec after) (small : HasSmallValues spec) (within : ViewsWithin spec fields) (known : IsKnown spec fields)
     (effect : IsLineOf spec fields after i) (stay : LevelsStay spec fields after) (sound : IsSound spec fields) where
   pub some_simulator : 0 < spec.simulators
   some_simulator = let b = effect.below in omega arith
@@ -142,7 +143,7 @@ module _ (spec : RoomSpec) (fields after : Fields) (i : ℕ) (tracks : Tracks sp
       let mind = fields.mind i in
       let tells = subst (λ (l : Line). Tells spec.rounds (current_goal mind) (stage_of l) (fields.step i mind.sweep) (fields.level i mind.sweep)) is (at_sweep spec.rounds mind (fields.step i) (fields.level i) (tracks.told i)) in
       let write = write_of spec.rounds (current_goal mind) (fields.step i mind.sweep) tells.counts in
-      let round : r ≡ current_round mind = new ∙ ap (λ (q : ℕ). fields.step i q + 1) e ∙ stages.stored_round spec.rounds (current_goal mind) (fields.step i mind.sweep) tells.counts in (
+      let round : r ≡ current_round mind = new ∙ ap (λ (q : ℕ). fields.step i q + 1) e ∙ stored_round spec.rounds (current_goal mind) (fields.step i mind.sweep) tells.counts in (
         write.0,
         ap (λ (q : ℕ). fields.value i q r) e ∙ ap (λ (k : ℕ). fields.value i mind.sweep k) round ∙ known.stored i (current_round mind) write.0 effect.below is write.1,
         ap (λ (q : ℕ). goal_at mind.goals q) e ∙ write.1 ∙ ap (λ (k : ℕ). goals.Write k write.0) (sym round),
@@ -274,7 +275,7 @@ module _ (spec : RoomSpec) (fields after : Fields) (i : ℕ) (tracks : Tracks sp
 
 -- ---- where only crashes and quiet counts change
 
-known_other : (spec : RoomSpec) (fields : Fields) (quiet : ℕ → ℕ) (crashed : ℕ → Bool) → 0 < spec.simulators → Tracks spec fields → ViewsWithin spec fields → IsKnown spec fields → IsKnown spec (record fields { quiet = quiet; crashed = crashed })
+known_other : (spec : RoomSpec) (fields : Fields) (quiet : ℕ → ℕ) (crashed : ℕ → Bool) → 0 < spec.simulators → KeepsTrack spec fields → ViewsWithin spec fields → IsKnown spec fields → IsKnown spec (record fields { quiet = quiet; crashed = crashed })
 known_other spec fields quiet crashed some tracks within known =
     let after : Fields = record fields { quiet = quiet; crashed = crashed } in
     let stay = with_others spec fields quiet crashed (stay_same spec fields tracks) in
@@ -331,7 +332,7 @@ opening_known spec small = record {
 
 -- ---- each event
 
-pub views_within : (spec : RoomSpec) (schedule : List ScheduleEvent) (fields : Fields) → Tracks spec fields → IsHistory spec schedule fields → ViewsWithin spec fields
+pub views_within : (spec : RoomSpec) (schedule : List ScheduleEvent) (fields : Fields) → KeepsTrack spec fields → IsHistory spec schedule fields → ViewsWithin spec fields
 views_within spec schedule fields tracks history h p k below first two a q within within' =
     let moment = history.shown h p k below first (at_two spec fields h p k tracks two) in
     let at = moment.same a q within within' in

@@ -24,10 +24,11 @@ use Rattle.simulator.specs.Moves.{IsOperation, index_in, entry_in, holder_in, fi
 use Rattle.simulator.specs.Ranges.{IsMind}
 use Rattle.room_core.specs.Fields.{StepMap, Fields, chosen_at, entry_of_steps, holder_of_steps, shown_value}
 use Rattle.room_core.specs.Reading.{worded}
+use Rattle.room_core.specs.Tracks.{AreInRange}
 use Rattle.room_core.proofs.Snapshots.{same_row, same_holder, same_levels, same_chosen}
 use Rattle.room_core.proofs.Wording.{worded_taken, asked_worded, opened_worded, gathered_worded}
 use Rattle.room_core.proofs.Holding.{Hold}
-use Rattle.room_core.proofs.Lines.{taken_first_at, taken_first, taken_on, AreInRange, StandsAt, open_round, first_place}
+use Rattle.room_core.proofs.Lines.{taken_first_at, taken_first, taken_on, StandsAt, open_round, first_place}
 
 -- ---- the first line of a turn
 

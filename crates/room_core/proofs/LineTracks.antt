@@ -21,8 +21,9 @@ use Rattle.simulator.specs.Ranges.{IsGoal, IsMind}
 use Rattle.simulator.specs.Moves.{IsOperation, first_move_at, first_move}
 use Rattle.room_core.specs.Fields.{StepMap, Fields, changed, changed_pair, changed_triple, left_to, levels_at, chosen_at, entry_of_steps, shown_value}
 use Rattle.room_core.specs.Reading.{worded}
+use Rattle.room_core.specs.Tracks.{AtRest, Stored, Past, stage_of, Tells, ToldBy}
 use Rattle.room_core.proofs.Maps.{changed_here, changed_else}
-use Rattle.room_core.proofs.Tracks.{AtRest, Stored, Past, stage_of, Tells, ToldBy, ToldBeside, told_by, told_at_rest, told_with_goal, tells_raised, inside, tells_entered, tells_left, tells_asked, tells_written, tells_decided}
+use Rattle.room_core.proofs.Tracks.{ToldBeside, told_by, told_at_rest, told_with_goal, tells_raised, inside, tells_entered, tells_left, tells_asked, tells_written, tells_decided}
 use Rattle.room_core.proofs.Lines.{stored_first_at, stored_first, stored_on, taken_first_at, taken_first, taken_on, operation_of, process_in, StandsAt}
 
 -- ---- what a mind tells after a part of a turn

@@ -1,5 +1,5 @@
 -- A line as what it stores and what it makes of the mind.
-use Rattle.std.proofs.Common.{◌≡◌, ℕ, ◌+◌, ◌<◌, ◌≤◌, zero, suc, Bool, true, false, cond, ltb, List, [], ◌∷◌, length, Option, Some, None, refl, ap, ◌∙◌, subst, arith}
+use Rattle.std.proofs.Common.{◌≡◌, ℕ, ◌+◌, ◌<◌, zero, suc, Bool, true, false, cond, ltb, List, [], ◌∷◌, length, Option, Some, None, refl, ap, ◌∙◌, subst, arith}
 use Rattle.room_spec.specs.Rooms.{RoomSpec, processes}
 use Rattle.room_spec.specs.Sizes.{Sizes, sizes_in}
 use Rattle.safe_agreement.specs.Levels.{has_level}
@@ -17,7 +17,8 @@ use Rattle.simulator.specs.Moves.{IsOperation, first_move_at, first_move, move_a
 use Rattle.simulator.specs.Ranges.{IsGoal, IsOpenAt, IsMind}
 use Rattle.room_core.specs.Fields.{StepMap, Fields, changed_pair, changed_triple, levels_at, chosen_at, entry_of_steps, shown_value, with_taken, left_to, first_line_at, first_line, line_on}
 use Rattle.room_core.specs.Reading.{worded}
-use Rattle.room_core.proofs.Tracks.{Tells, ToldBeside, stage_of}
+use Rattle.room_core.specs.Tracks.{AreInRange, Tells, stage_of}
+use Rattle.room_core.proofs.Tracks.{ToldBeside}
 
 -- ---- the two parts
 
@@ -97,12 +98,6 @@ line_parts Values spec fields i j k mind moves = refl
 line_parts (Out decision) spec fields i j k mind moves = refl
 
 -- ---- a simulator that stands at a line
-
--- the numbers of the fields are in range
-pub record AreInRange (spec : RoomSpec) (fields : Fields) : Type 0 where
-  pub step : (i p : ℕ) → fields.step i p ≤ spec.rounds
-  pub level : (i j k : ℕ) → fields.level i j k ≤ 2
-  pub view : (i j k : ℕ) → AreWithin (sizes_in spec) (fields.view i j k)
 
 -- with what its mind tells of its fields
 pub record StandsAt (line : Line) (spec : RoomSpec) (fields : Fields) (i : ℕ) (mind : MindOf StepMap) : Type 0 where

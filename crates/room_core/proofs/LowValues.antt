@@ -16,7 +16,7 @@ use Rattle.room_core.specs.Fields.{Fields, changed_pair, line, fields_after}
 use Rattle.room_core.specs.Reading.{AreFieldsOf}
 use Rattle.room_core.specs.Agreements.{row_at, shown, shown_by, asks, written}
 use Rattle.room_core.specs.Contents.{IsSmallEntry, AreSmall, HasSmallValues}
-use Rattle.room_core.proofs.FieldReplays.{StandsFor}
+use Rattle.room_core.specs.Tracks.{StandsFor}
 use Rattle.room_core.proofs.FieldCalls.{fields_stand}
 use Rattle.room_core.proofs.Effects.{Own, own_of, Effect, stores, raises, scans, shows, enters, looks, leaves, asks_in_vain, finds, gathers, goes_to, will_decide, decides, line_effect}
 use Rattle.room_core.proofs.Prefixes.{over_run}

@@ -9,7 +9,7 @@ use Rattle.sim_memory.specs.Steps.{AreAtMost, AreSameSteps}
 use Rattle.room_core.specs.Rooms.{Configuration, ScheduleEvent, steps, crashes, MayHappen, IsShaped, IsOneInterleaving}
 use Rattle.room_core.specs.Fields.{StepMap, Fields, opening_fields, line, with_crash, fields_after, replay_fields}
 use Rattle.room_core.specs.Moments.{fields_at, IsMoment}
-use Rattle.room_core.proofs.FieldReplays.{StandsFor}
+use Rattle.room_core.specs.Tracks.{StandsFor}
 use Rattle.room_core.proofs.Stages.{Progress, Uncounted, Scanned, Past, later}
 use Rattle.room_core.proofs.Effects.{Own, own_of, IsLineOf, line_effect}
 use Rattle.room_core.proofs.Prefixes.{over_run, replay_fields-snoc}

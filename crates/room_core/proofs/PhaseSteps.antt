@@ -10,8 +10,8 @@ use Rattle.simulator.specs.declared.line.Line.{Line}
 use Rattle.simulator.specs.declared.line.Line.TheVariants.{Raise}
 use Rattle.simulator.specs.Minds.{MindOf}
 use Rattle.room_core.specs.Fields.{StepMap, Fields, levels_at, changed, changed_pair, left_to}
+use Rattle.room_core.specs.Tracks.{KeepsTrack}
 use Rattle.room_core.proofs.Maps.{changed_here, changed_else, pair_here, pair_else}
-use Rattle.room_core.proofs.FieldReplays.{Tracks}
 use Rattle.room_core.proofs.Stages.{Progress, Fresh, Scanned, Shown, Inside, Seen, Past, line_progress, progress_in, phase_of, phase_by, phase_at, phases_in, later, earlier, now, resting, same_line, levels_are_phases}
 use Rattle.room_core.proofs.Effects.{Own, own_of, process_on, round_on, Effect, IsLineOf, stores, raises, scans, shows, enters, looks, leaves, asks_in_vain, finds, gathers, goes_to, will_decide, decides}
 
@@ -183,7 +183,7 @@ advance_of : (m i : ℕ) (levels : List ℕ) (before after : ℕ → Phase) → 
 advance_of m i levels before after below same others (inl is) = stay_of m i before after others is
 advance_of m i levels before after below same others (inr move) = step_of m i levels before after below same others move
 
-pub advances : (spec : RoomSpec) (fields after : Fields) (i : ℕ) → Tracks spec fields → IsLineOf spec fields after i → (p r : ℕ) → Advance spec.simulators (phases_in fields p r) (phases_in after p r)
+pub advances : (spec : RoomSpec) (fields after : Fields) (i : ℕ) → KeepsTrack spec fields → IsLineOf spec fields after i → (p r : ℕ) → Advance spec.simulators (phases_in fields p r) (phases_in after p r)
 advances spec fields after i tracks line p r =
     advance_of spec.simulators i (levels_at spec fields p r) (phases_in fields p r) (phases_in after p r) line.below (levels_are_phases spec fields tracks p r)
     (λ a other. ap (λ (own : Own). phase_own own p r) (line.others a other))

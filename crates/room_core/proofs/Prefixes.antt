@@ -5,8 +5,9 @@ use Rattle.std.proofs.lemmas.List.{append-nil, append_assoc}
 use Rattle.room_spec.specs.Rooms.{RoomSpec, IsWithinLimits}
 use Rattle.room_core.specs.Rooms.{Configuration, ScheduleEvent, steps, crashes, opening, stepped, crashed_by, MayHappen, IsLegal, IsOneInterleaving, IsShaped}
 use Rattle.room_core.specs.Fields.{Fields, opening_fields, line, with_crash, fields_after, replay_fields}
+use Rattle.room_core.specs.Tracks.{StandsFor}
 use Rattle.room_core.proofs.Replays.{shape_after, opening_shape}
-use Rattle.room_core.proofs.FieldReplays.{StandsFor, event_stands, opening_stands}
+use Rattle.room_core.proofs.FieldReplays.{event_stands, opening_stands}
 
 pub replay_fields-snoc : (spec : RoomSpec) (fields : Fields) (schedule : List ScheduleEvent) (event : ScheduleEvent) → replay_fields spec fields (schedule ++ event ∷ []) ≡ fields_after spec (replay_fields spec fields schedule) event
 replay_fields-snoc spec fields [] event = refl

@@ -17,7 +17,7 @@ use Rattle.room_core.specs.Reading.{AreFieldsOf}
 use Rattle.room_core.specs.Agreements.{HasAgreed, IsFixedAt, asks, greatest_step, has_out, is_clean, is_out, is_passed, outs_at}
 use Rattle.room_core.specs.Agreements as passed
 use Rattle.room_core.specs.Contents.{IsDue, first_write, next_write}
-use Rattle.room_core.proofs.FieldReplays.{Tracks}
+use Rattle.room_core.specs.Tracks.{KeepsTrack}
 use Rattle.room_core.proofs.FieldCalls.{fields_stand}
 use Rattle.room_core.proofs.Sound.{fields_sound}
 use Rattle.room_core.proofs.Fixing.{IsPassed, clean, written, decided, fixed_at, passed_is_fixed, fixed_has_least}
@@ -66,7 +66,7 @@ module _ (room : RoomState) (fields : Fields) (limits : IsWithinLimits room.spec
   known : IsKnown room.spec fields
   known = fields_known room fields limits are
 
-  tracks : Tracks room.spec fields
+  tracks : KeepsTrack room.spec fields
   tracks = (fields_stand room fields limits are).tracks
 
   -- the decision that a simulator has stored

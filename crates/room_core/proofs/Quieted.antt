@@ -48,7 +48,7 @@ module _ (room : RoomState) (fields : Fields) (i : ℕ) (limits : IsWithinLimits
       (λ present.
       let below : i < room.spec.simulators = leb-false room.spec.simulators i present in
       by_test (IsStepOf room fields i) (fields.crashed i) fields (fields_when (ready_in room.spec fields i) room.spec fields i) stands
-      (λ alive. when_ready (ready_in room.spec fields i) below ((fields_stand room fields limits are).crashed i below ∙ alive) (sym (same_ready room fields i limits below are))))
+      (λ alive. when_ready (ready_in room.spec fields i) below ((fields_stand room fields limits are).reads.crashed i below ∙ alive) (sym (same_ready room fields i limits below are))))
 
 -- ---- what is stuck stays so
 
@@ -82,7 +82,7 @@ module _ (room : RoomState) (fields : Fields) (i : ℕ) (limits : IsWithinLimits
       ap (λ (own : Own). own.level j k) (effect.others a other)
 
   alive_is : HasLine (configuration_of room) i → fields.crashed i ≡ false
-  alive_is may = sym ((fields_stand room fields limits are).crashed i may.alive.below) ∙ may.alive.alive
+  alive_is may = sym ((fields_stand room fields limits are).reads.crashed i may.alive.below) ∙ may.alive.alive
 
   stuck_line : HasLine (configuration_of room) i → AgreedStays room.spec fields (line room.spec fields i) → (j : ℕ) → IsStuck room.spec fields j → IsStuck room.spec (line room.spec fields i) j
   stuck_line may stays j (stored a below out) = stored a below (λ none. out (sym (stays.out a j out) ∙ none))

@@ -16,7 +16,7 @@ use Rattle.room_core.specs.Calls.{RoomState, configuration_of}
 use Rattle.room_core.specs.Reading.{with_quiet, AreFieldsOf}
 use Rattle.room_core.proofs.Prefixes.{over_run}
 use Rattle.room_core.specs.Fields.{Fields, levels_at, chosen_at, line, with_crash, fields_after, opening_fields, replay_fields}
-use Rattle.room_core.proofs.FieldReplays.{Tracks, StandsFor}
+use Rattle.room_core.specs.Tracks.{KeepsTrack, StandsFor}
 use Rattle.room_core.proofs.Stages.{Progress, Past, phase_of, later, phases_in, levels_are_phases}
 use Rattle.room_core.proofs.Effects.{Own, own_of, IsLineOf, line_effect}
 use Rattle.room_core.proofs.PhaseSteps.{Advance, stays, steps_on, advances}
@@ -38,7 +38,7 @@ beside_on m before after (stays same) beside = same_beside m before after same b
 beside_on m before after (steps_on change step) beside = stays_beside m before change after step beside
 
 -- an agreement with a choice is fixed
-pub chosen_is_fixed : (spec : RoomSpec) (fields : Fields) (p r chosen : ℕ) → Tracks spec fields → chosen_at spec fields p r ≡ Some chosen → IsFixed spec.simulators (phases_in fields p r)
+pub chosen_is_fixed : (spec : RoomSpec) (fields : Fields) (p r chosen : ℕ) → KeepsTrack spec fields → chosen_at spec fields p r ≡ Some chosen → IsFixed spec.simulators (phases_in fields p r)
 chosen_is_fixed spec fields p r chosen tracks is =
     clean_is_fixed spec.simulators (phases_in fields p r)
     (subst IsClean (levels_are_phases spec fields tracks p r) (clean_from (levels_at spec fields p r) chosen (resolved_to (levels_at spec fields p r) chosen is)))
@@ -51,7 +51,7 @@ pub record IsSound (spec : RoomSpec) (fields : Fields) : Type 0 where
   pub outs : (i p : ℕ) → HasDecided (own_of fields i) p
 
 -- one line of simulator i
-module _ (spec : RoomSpec) (fields after : Fields) (i : ℕ) (tracks : Tracks spec fields) (effect : IsLineOf spec fields after i) (sound : IsSound spec fields) where
+module _ (spec : RoomSpec) (fields after : Fields) (i : ℕ) (tracks : KeepsTrack spec fields) (effect : IsLineOf spec fields after i) (sound : IsSound spec fields) where
   still_fixed : (p r : ℕ) → IsFixed spec.simulators (phases_in fields p r) → IsFixed spec.simulators (phases_in after p r)
   still_fixed p r fixed = fixed_on spec.simulators (phases_in fields p r) (phases_in after p r) (advances spec fields after i tracks effect p r) fixed
 

@@ -13,9 +13,9 @@ use Rattle.simulator.specs.declared.line.Line.TheVariants.{Rest, Raise, Snap, Sh
 use Rattle.simulator.specs.Minds.{MindOf, current_goal, round_of}
 use Rattle.room_core.specs.Fields.{StepMap, Fields, levels_at}
 use Rattle.room_core.specs.Agreements.{IsInside, IsInsideTurn}
-use Rattle.room_core.proofs.Tracks.{AtRest, Counted, stage_of, stage_for, IsZeroFrom, NoOneBelow, Levels, Tells, ToldBy, inside_round, at_sweep, beside}
-use Rattle.room_core.proofs.Tracks as stages
-use Rattle.room_core.proofs.FieldReplays.{Tracks}
+use Rattle.room_core.specs.Tracks.{AtRest, Counted, stage_of, stage_for, IsZeroFrom, NoOneBelow, Levels, Tells, ToldBy, KeepsTrack}
+use Rattle.room_core.proofs.Tracks.{inside_round, at_sweep, beside}
+use Rattle.room_core.specs.Tracks as stages
 
 -- A round of a process that the simulator hasn't counted; then, in the open turn on it: counted, a snapshot loaded, proposed, entered,
 -- looked; and left.
@@ -148,7 +148,7 @@ abbrev pub phases_in : Fields → ℕ → ℕ → ℕ → Phase
 phases_in fields p k a = phase_at (fields.mind a) (fields.step a) (fields.level a) p k
 
 -- The levels of each agreement are the levels of its phases.
-pub levels_are_phases : (spec : RoomSpec) (fields : Fields) → Tracks spec fields → (p k : ℕ) → levels_at spec fields p k ≡ phase_levels spec.simulators (phases_in fields p k)
+pub levels_are_phases : (spec : RoomSpec) (fields : Fields) → KeepsTrack spec fields → (p k : ℕ) → levels_at spec fields p k ≡ phase_levels spec.simulators (phases_in fields p k)
 levels_are_phases spec fields tracks p k =
     let each : (a : ℕ) → fields.level a p k ≡ phase_level (phases_in fields p k a) = λ a. level_is spec.rounds (fields.mind a) (fields.step a) (fields.level a) (tracks.told a) p k in
     λ t. map (λ a. each a t) (range_with_len 0 spec.simulators)
@@ -191,7 +191,7 @@ inside_line Values rounds goal step k level told one = absurd (rest_no_one step 
 inside_line (Out decision) rounds goal step k level told one = absurd (rest_no_one step k level told.levels one)
 
 -- A simulator at level 1 is inside that agreement in its open turn.
-pub one_inside : (spec : RoomSpec) (fields : Fields) → Tracks spec fields → (i j k : ℕ) → fields.level i j k ≡ 1 → IsInsideTurn fields i j k
+pub one_inside : (spec : RoomSpec) (fields : Fields) → KeepsTrack spec fields → (i j k : ℕ) → fields.level i j k ≡ 1 → IsInsideTurn fields i j k
 one_inside spec fields tracks i j k one = dite (ℕ_discrete j (fields.mind i).sweep)
     (λ (e : j ≡ (fields.mind i).sweep).
     let mind = fields.mind i in

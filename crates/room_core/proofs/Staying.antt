@@ -7,7 +7,8 @@ use Rattle.safe_agreement.proofs.Replays.{same_least_two, same_of_same}
 use Rattle.room_core.specs.Rooms.{Configuration, steps, IsShaped, HasLine}
 use Rattle.room_core.specs.Fields.{Fields, levels_at, line}
 use Rattle.room_core.specs.Agreements.{IsFixedAt}
-use Rattle.room_core.proofs.FieldReplays.{Tracks, StandsFor, event_stands}
+use Rattle.room_core.specs.Tracks.{KeepsTrack, StandsFor}
+use Rattle.room_core.proofs.FieldReplays.{event_stands}
 use Rattle.room_core.proofs.Stages.{phases_in, level_is, levels_are_phases}
 use Rattle.room_core.proofs.Effects.{line_effect}
 use Rattle.room_core.proofs.PhaseSteps.{advances}
@@ -21,7 +22,7 @@ pub record LevelsStay (spec : RoomSpec) (before after : Fields) : Type 0 where
   pub least : (j k : ℕ) → IsFixedAt spec before j k → least_two (levels_at spec before j k) ≡ least_two (levels_at spec after j k)
 
 -- of agreements whose phases stay fixed with the same twos
-stay_by : (spec : RoomSpec) (fields after : Fields) → Tracks spec fields → Tracks spec after
+stay_by : (spec : RoomSpec) (fields after : Fields) → KeepsTrack spec fields → KeepsTrack spec after
     → ((p r : ℕ) → IsFixed spec.simulators (phases_in fields p r) → IsFixed spec.simulators (phases_in after p r)) → ((p r : ℕ) → IsFixed spec.simulators (phases_in fields p r) → HaveSameTwos spec.simulators (phases_in fields p r) (phases_in after p r))
     → LevelsStay spec fields after
 stay_by spec fields after tracks tracks' fixed twos = record {
@@ -38,7 +39,7 @@ stay_by spec fields after tracks tracks' fixed twos = record {
 }
 
 -- where neither a mind nor a level changes
-pub stay_same : (spec : RoomSpec) (fields : Fields) → Tracks spec fields → LevelsStay spec fields fields
+pub stay_same : (spec : RoomSpec) (fields : Fields) → KeepsTrack spec fields → LevelsStay spec fields fields
 stay_same spec fields tracks = stay_by spec fields fields tracks tracks (λ p r fixed. fixed) (λ p r fixed. same_of_same spec.simulators (phases_in fields p r) (phases_in fields p r) (λ a below. refl))
 
 pub stay_line : (room : Configuration) (fields : Fields) (i : ℕ) → IsShaped room → StandsFor room fields → HasLine room i → LevelsStay room.spec fields (line room.spec fields i)

@@ -1,6 +1,5 @@
 -- What a simulator's mind tells of its fields: how far it has counted each process, and where it stands in each agreement.
 use Rattle.std.proofs.Common.{◌≡◌, ◌≢◌, ℕ, ◌+◌, ◌<◌, ◌≤◌, Bool, true, false, cond, eqb, ltb, List, length, get_or, set, refl, sym, ap, ◌∙◌, subst, arith}
-use Rattle.std.specs.Prelude.{⊤}
 use Rattle.std.proofs.lemmas.Bool.{eq-eqb, ne_eqb, ltb-false}
 use Rattle.std.proofs.lemmas.List.{get_or-set_same, get_or-set_other}
 use mathlib.Core.Logic.{dite}
@@ -8,71 +7,13 @@ use native.Mathlib.Decide.{ℕ_discrete}
 use Rattle.simulator.specs.declared.goal.Goal.{Goal}
 use Rattle.simulator.specs.declared.goal.Goal.TheVariants as goals
 use Rattle.simulator.specs.declared.line.Line.{Line}
-use Rattle.simulator.specs.declared.line.Line.TheVariants.{Rest, Raise, Snap, Show, Enter, Look, Leave, Ask, GetView, Values, Out}
+use Rattle.simulator.specs.declared.line.Line.TheVariants.{Rest}
 use Rattle.simulator.specs.Minds.{MindOf, goal_at, current_goal, round_of}
 use Rattle.simulator.specs.Turns.{after_write}
 use Rattle.simulator.specs.Ranges.{IsGoal}
 use Rattle.room_core.specs.Fields.{StepMap, changed}
+use Rattle.room_core.specs.Tracks.{Stage, AtRest, Stored, Counted, Inside, Past, stage_of, IsZeroFrom, NoOneBelow, Counts, Levels, Tells, stage_for, ToldBy}
 use Rattle.room_core.proofs.Maps.{changed_here, changed_else}
-
--- How far an open turn has come: it has stored a write, counted it, entered the agreement, or left it.
-pub data Stage : Type 0 where
-  AtRest : Stage
-  Stored : Stage
-  Counted : Stage
-  Inside : Stage
-  Past : Stage
-
-abbrev pub stage_of : Line → Stage
-stage_of Rest = AtRest
-stage_of Raise = Stored
-stage_of Snap = Counted
-stage_of Show = Counted
-stage_of Enter = Counted
-stage_of Look = Inside
-stage_of (Leave saw_two) = Inside
-stage_of Ask = Past
-stage_of (GetView chosen) = Past
-stage_of Values = Past
-stage_of (Out decision) = Past
-
--- the levels of the rounds from this one on are 0
-abbrev pub IsZeroFrom : ℕ → (ℕ → ℕ) → Type 0
-IsZeroFrom round level = (k : ℕ) → round ≤ k → level k ≡ 0
-
--- no level of an earlier round is 1
-abbrev pub NoOneBelow : ℕ → (ℕ → ℕ) → Type 0
-NoOneBelow round level = (k : ℕ) → k < round → level k ≢ 1
-
--- what a goal for a process tells of its step number
-abbrev pub Counts : ℕ → Goal → Stage → ℕ → Type 0
-Counts rounds (goals.Write k value) AtRest step = step + 1 ≡ k
-Counts rounds (goals.Write k value) Stored step = step + 1 ≡ k
-Counts rounds (goals.Write k value) Counted step = step ≡ k
-Counts rounds (goals.Write k value) Inside step = step ≡ k
-Counts rounds (goals.Write k value) Past step = step ≡ k
-Counts rounds (goals.Ask k) AtRest step = step ≡ k
-Counts rounds (goals.Ask k) Stored step = ⊥
-Counts rounds (goals.Ask k) Counted step = ⊥
-Counts rounds (goals.Ask k) Inside step = ⊥
-Counts rounds (goals.Ask k) Past step = step ≡ k
-Counts rounds goals.Done AtRest step = ⊤
-Counts rounds goals.Done stage step = ⊥
-Counts rounds goals.Spent AtRest step = step ≡ rounds
-Counts rounds goals.Spent stage step = ⊥
-
--- What a step number tells of the levels, whatever the goal: nobody has entered a later round, and the earlier rounds are left.
-abbrev pub Levels : Stage → ℕ → (ℕ → ℕ) → Type 0
-Levels AtRest step level = IsZeroFrom (step + 1) level × NoOneBelow (step + 1) level
-Levels Stored step level = IsZeroFrom (step + 1) level × NoOneBelow (step + 1) level
-Levels Counted step level = IsZeroFrom step level × NoOneBelow step level
-Levels Inside step level = IsZeroFrom (step + 1) level × NoOneBelow step level × (level step ≡ 1)
-Levels Past step level = IsZeroFrom (step + 1) level × NoOneBelow (step + 1) level
-
--- what a goal for a process tells of its step number and levels
-pub record Tells (rounds : ℕ) (goal : Goal) (stage : Stage) (step : ℕ) (level : ℕ → ℕ) : Type 0 where
-  pub counts : Counts rounds goal stage step
-  pub levels : Levels stage step level
 
 -- ---- levels, from line to line
 
@@ -196,13 +137,6 @@ pub tells_decided : (rounds : ℕ) (goal : Goal) (step : ℕ) (level : ℕ → �
 tells_decided rounds goal step level told = record { counts = tt; levels = told.levels }
 
 -- ---- all processes of a mind
-
--- where a mind stands with a process: at rest, but for that of its open turn
-abbrev pub stage_for : {S : Type 0} → MindOf S → ℕ → Stage
-stage_for mind p = cond (eqb p mind.sweep) (stage_of mind.line) AtRest
-
-abbrev pub ToldBy : ℕ → MindOf StepMap → (ℕ → ℕ) → (ℕ → ℕ → ℕ) → Type 0
-ToldBy rounds mind step level = (p : ℕ) → Tells rounds (goal_at mind.goals p) (stage_for mind p) (step p) (level p)
 
 -- the goals of all processes but j tell it, at rest
 abbrev pub ToldBeside : ℕ → ℕ → List Goal → (ℕ → ℕ) → (ℕ → ℕ → ℕ) → Type 0

@@ -3,6 +3,7 @@ pub mod Settling
 pub mod Calls
 pub mod Fields
 pub mod Reading
+pub mod Tracks
 pub mod Agreements
 pub mod Moments
 pub mod Settled

@@ -14,10 +14,11 @@ ghost use Rattle.room_core.specs.Settled.{IsSettledFor};
 ghost use Rattle.room_core.specs.Settling.{steps_while};
 ghost use Rattle.simulator.specs.Sweeps.{is_resting};
 ghost use Rattle.room_core.specs.Calls.{Call, RoomState, configuration_of, has_crashed, marked, most_steps, moved, opening_state, replies_to, room_after_calls, room_after_step, room_kind, sweep_at, with_sweep, woken};
-ghost use Rattle.room_core.specs.Fields.{Fields, HasLineIn, levels_at, entry_of_steps, fields_after_call, fields_after_calls, fields_after_settle, opening_fields, replay_fields, replies_in};
+ghost use Rattle.room_core.specs.Fields.{Fields, HasLineIn, levels_at, line, entry_of_steps, fields_after_call, fields_after_calls, fields_after_settle, opening_fields, replay_fields, replies_in, with_crash};
 ghost use Rattle.room_spec.specs.Sizes.{sizes_in};
 ghost use Rattle.room_core.specs.Reading.{AgreeIn, AreFieldsOf, Reads, fields_in};
 ghost use Rattle.room_core.specs.Rooms.{HasLine, IsAlive, IsOneInterleaving, IsShaped, Configuration, crashed_by, crashes, mind_at, opening, stepped, steps, times};
+ghost use Rattle.room_core.specs.Tracks.{StandsFor};
 
 /// The opening room is one interleaving, of no steps.
 pub fn opens()
@@ -54,6 +55,17 @@ pub fn reads_as_fields()
 /// A simulator has a line to take in a room just where the room's fields say so by themselves.
 pub fn lines_in_fields()
     ensures { (room : Configuration) (fields : Fields) (i : ℕ) → IsShaped room → Reads room fields → HasLine room i ↔ HasLineIn room.spec fields i }
+{}
+
+/// The words of a room and its fields take the same steps: the opening room stands for the opening
+/// fields, and a room that stands for its fields does so after one atomic step of a simulator, which
+/// is its line of the fields, and after a crash.
+pub fn steps_as_fields()
+    ensures opens { (spec : RoomSpec) → StandsFor (opening spec) (opening_fields spec) }
+    ensures line { (room : Configuration) (fields : Fields) (i : ℕ) → IsShaped room → StandsFor room fields → HasLine room i → IsShaped (stepped room i) × StandsFor (stepped room i) (line room.spec fields i) }
+    ensures crash { (room : Configuration) (fields : Fields) (i : ℕ) → IsShaped room → StandsFor room fields → IsAlive room i → IsShaped (crashed_by room i) × StandsFor (crashed_by room i) (with_crash fields i) }
+    // So every room stands for its fields.
+    ensures always { (room : RoomState) (fields : Fields) → IsWithinLimits room.spec → AreFieldsOf room fields → StandsFor (configuration_of room) fields }
 {}
 
 /// A step and a crash of a room with its quiet counts are those of the room without them; and
