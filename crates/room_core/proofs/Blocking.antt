@@ -6,7 +6,7 @@ use Rattle.protocol_lang.specs.declared.meaning.Action.TheVariants as actions
 use Rattle.protocol_lang.specs.Meaning.{next_action}
 use Rattle.protocol_lang.specs.Numbers.{greatest}
 use Rattle.room_spec.specs.Rooms.{RoomSpec, processes}
-use Rattle.safe_agreement.specs.Levels.{resolved_of}
+use Rattle.safe_agreement.specs.Levels.{left_level, resolved_of}
 use Rattle.simulator.specs.declared.goal.Goal.{Goal}
 use Rattle.simulator.specs.declared.goal.Goal.TheVariants as goals
 use Rattle.simulator.specs.declared.line.Line.{Line}
@@ -15,7 +15,7 @@ use Rattle.simulator.specs.Minds.{MindOf, goal_at, current_goal, current_round, 
 use Rattle.simulator.specs.Sweeps.{quiet_after}
 use Rattle.simulator.specs.Turns.{TakenOf, counted, begun, goes_on, acted, decided, padded, gathered_all, gathered, opened_at}
 use Rattle.simulator.proofs.Processes.{next_is_left}
-use Rattle.room_core.specs.Fields.{StepMap, Fields, changed_triple, chosen_at, entry_of_steps, shown_value, left_to}
+use Rattle.room_core.specs.Fields.{StepMap, Fields, changed_triple, chosen_at, entry_of_steps, shown_value}
 use Rattle.room_core.specs.Tracks.{Counts, Counted, Inside}
 use Rattle.room_core.proofs.Lines.{stored_first_at, stored_first, stored_on, taken_first_at, taken_first, taken_on, StandsAt}
 use Rattle.room_core.proofs.Maps.{triple_else}
@@ -129,7 +129,7 @@ module _ (spec : RoomSpec) (fields : Fields) (i : ℕ) where
       with_level spec fields i (current_round (fields.mind i)) (fields.level i (fields.mind i).sweep (current_round (fields.mind i)) + 1) (fields.quiet i) (fields.mind i) (λ round. no_ask spec.rounds (current_goal (fields.mind i)) (fields.step i (fields.mind i).sweep) round at.own.counts) counts
   on_line Look at counts = counts
   on_line (Leave saw_two) at counts =
-      with_level spec fields i (current_round (fields.mind i)) (left_to saw_two (fields.level i (fields.mind i).sweep (current_round (fields.mind i)))) (fields.quiet i) (fields.mind i) (λ round. no_ask_inside spec.rounds (current_goal (fields.mind i)) (fields.step i (fields.mind i).sweep) round at.own.counts) counts
+      with_level spec fields i (current_round (fields.mind i)) (left_level saw_two) (fields.quiet i) (fields.mind i) (λ round. no_ask_inside spec.rounds (current_goal (fields.mind i)) (fields.step i (fields.mind i).sweep) round at.own.counts) counts
   on_line Ask at counts = on_asked spec fields (fields.quiet i) (counted (fields.mind i)) (let s = at.is_mind.sweep in let n = at.is_mind.goals in omega arith) at.open_at counts
   on_line (GetView chosen) at counts =
       let mind = fields.mind i in

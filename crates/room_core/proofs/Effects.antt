@@ -7,7 +7,7 @@ use Rattle.protocol_lang.specs.declared.meaning.Action.{Action}
 use Rattle.protocol_lang.specs.declared.meaning.Action.TheVariants as actions
 use Rattle.room_spec.specs.Rooms.{RoomSpec, processes}
 use Rattle.room_spec.specs.Sizes.{sizes_in}
-use Rattle.safe_agreement.specs.Levels.{has_level}
+use Rattle.safe_agreement.specs.Levels.{has_level, left_level}
 use Rattle.simulator.specs.declared.goal.Goal.{Goal}
 use Rattle.simulator.specs.declared.goal.Goal.TheVariants as goals
 use Rattle.simulator.specs.declared.line.Line.{Line}
@@ -16,7 +16,7 @@ use Rattle.simulator.specs.declared.turn.Turn.TheVariants.{Useful, Quiet}
 use Rattle.simulator.specs.Minds.{MindOf, goal_at, current_goal, current_round, is_unfinished, round_of, next_process}
 use Rattle.simulator.specs.Turns.{TakenOf, counted, begun, goes_on, ended, snapped, asked, acted, decided, padded, after_write, opened_at}
 use Rattle.simulator.specs.Moves.{IsOperation, first_move_at, first_move}
-use Rattle.room_core.specs.Fields.{StepMap, Fields, changed, changed_pair, levels_at, chosen_at, entry_of_steps, shown_value, with_taken, left_to, line}
+use Rattle.room_core.specs.Fields.{StepMap, Fields, changed, changed_pair, levels_at, chosen_at, entry_of_steps, shown_value, with_taken, line}
 use Rattle.room_core.specs.Reading.{worded}
 use Rattle.room_core.specs.Rooms.{Configuration, IsShaped, HasLine}
 use Rattle.room_core.specs.Tracks.{StandsFor, AtRest, Tells}
@@ -113,7 +113,7 @@ pub data Effect (spec : RoomSpec) (fields : Fields) (own : Own) : Own → Type 0
   looks : IsTurn spec own Look → own.step (process_on own) ≡ round_on own → own.level (process_on own) (round_on own) ≡ 1
       → Effect spec fields own (record own { mind = (goes_on (Leave (has_level 2 (levels_at spec fields (process_on own) (round_on own)))) (counted own.mind)).mind })
   leaves : (saw_two : Bool) → IsTurn spec own (Leave saw_two) → own.step (process_on own) ≡ round_on own → own.level (process_on own) (round_on own) ≡ 1
-      → Effect spec fields own (record own { mind = (goes_on Ask (counted own.mind)).mind; level = changed_pair own.level (process_on own) (round_on own) (left_to saw_two (own.level (process_on own) (round_on own))) })
+      → Effect spec fields own (record own { mind = (goes_on Ask (counted own.mind)).mind; level = changed_pair own.level (process_on own) (round_on own) (left_level saw_two) })
   asks_in_vain : (asking : MindOf StepMap) → IsAsking spec own asking → chosen_at spec fields asking.sweep (current_round asking) ≡ None
       → Effect spec fields own (record own { mind = (ended Quiet (goals.Ask (current_round asking)) asking).mind })
   finds : (asking : MindOf StepMap) (chosen : ℕ) → IsAsking spec own asking → chosen_at spec fields asking.sweep (current_round asking) ≡ Some chosen
@@ -237,7 +237,7 @@ module _ (spec : RoomSpec) (fields : Fields) (i : ℕ) where
   effect_on (Leave saw_two) is at =
       let mind = fields.mind i in
       let j = mind.sweep in
-      subst (λ (row : ℕ → ℕ → ℕ). Effect spec fields (own_of fields i) (record (own_of fields i) { mind = (goes_on Ask (counted mind)).mind; level = row })) (sym (changed_here fields.level i (changed_pair (fields.level i) j (current_round mind) (left_to saw_two (fields.level i j (current_round mind)))) i refl))
+      subst (λ (row : ℕ → ℕ → ℕ). Effect spec fields (own_of fields i) (record (own_of fields i) { mind = (goes_on Ask (counted mind)).mind; level = row })) (sym (changed_here fields.level i (changed_pair (fields.level i) j (current_round mind) (left_level saw_two)) i refl))
       (leaves saw_two (is_turn (Leave saw_two) is at.open_at at) (inside_round spec.rounds (current_goal mind) (fields.step i j) at.own.counts) (inside spec.rounds (current_goal mind) (fields.step i j) (fields.level i j) at.own))
   effect_on Ask is at =
       let mind = fields.mind i in

@@ -6,6 +6,7 @@ use Rattle.protocol_lang.specs.declared.meaning.Action.{Action}
 use Rattle.protocol_lang.specs.declared.meaning.Action.TheVariants as actions
 use Rattle.room_spec.specs.Rooms.{RoomSpec, processes}
 use Rattle.room_spec.specs.Sizes.{sizes_in}
+use Rattle.safe_agreement.specs.Levels.{left_level}
 use Rattle.sim_memory.specs.Steps.{AreWithin}
 use Rattle.simulator.specs.declared.goal.Goal.{Goal}
 use Rattle.simulator.specs.declared.goal.Goal.TheVariants as goals
@@ -13,10 +14,10 @@ use Rattle.simulator.specs.declared.line.Line.{Line}
 use Rattle.simulator.specs.declared.line.Line.TheVariants.{Rest, Raise, Snap, Show, Enter, Look, Leave, Ask, GetView, Values, Out}
 use Rattle.simulator.specs.Minds.{MindOf, goal_at, current_goal, current_round, next_process}
 use Rattle.simulator.specs.Turns.{counted, begun, goes_on, asked, acted, padded, gathered, opened_at}
-use Rattle.room_core.specs.Fields.{StepMap, Fields, changed, changed_pair, changed_triple, left_to, chosen_at, entry_of_steps, shown_value}
+use Rattle.room_core.specs.Fields.{StepMap, Fields, changed, changed_pair, changed_triple, chosen_at, entry_of_steps, shown_value}
 use Rattle.room_core.specs.Tracks.{AreInRange}
 use Rattle.room_core.proofs.Maps.{changed_else, each_pair, each_triple}
-use Rattle.room_core.proofs.Tracks.{raised_below, outside, inside}
+use Rattle.room_core.proofs.Tracks.{raised_below, outside}
 use Rattle.room_core.proofs.Lines.{stored_first_at, stored_first, stored_on, taken_first_at, taken_first, taken_on, StandsAt}
 
 -- ---- what a line of i leaves as it is
@@ -54,7 +55,7 @@ is_store Snap fields i j k mind = no_store fields i
 is_store Show fields i j k mind = record { mind = refl; quiet = refl; crashed = refl; step = λ a other. refl; level = λ a other. refl; view = λ a other. changed_else fields.view i (changed_pair (fields.view i) j k mind.snapshot) a other; value = λ a other. refl; out = λ a other. refl }
 is_store Enter fields i j k mind = level_store fields i j k (fields.level i j k + 1)
 is_store Look fields i j k mind = no_store fields i
-is_store (Leave saw_two) fields i j k mind = level_store fields i j k (left_to saw_two (fields.level i j k))
+is_store (Leave saw_two) fields i j k mind = level_store fields i j k (left_level saw_two)
 is_store Ask fields i j k mind = no_store fields i
 is_store (GetView chosen) fields i j k mind = no_store fields i
 is_store Values fields i j k mind = no_store fields i
@@ -76,9 +77,9 @@ module _ (spec : RoomSpec) (fields : Fields) (range : AreInRange spec fields) wh
   level_in_range : (i j k level : ℕ) → level ≤ 2 → AreInRange spec (record fields { level = changed_triple fields.level i j k level })
   level_in_range i j k level low = record { step = range.step; level = each_triple (λ (x : ℕ). x ≤ 2) fields.level i j k level low range.level; view = range.view }
 
-left_low : (saw_two : Bool) (level : ℕ) → level ≡ 1 → left_to saw_two level ≤ 2
-left_low true level one = omega arith
-left_low false level one = omega arith
+left_low : (saw_two : Bool) → left_level saw_two ≤ 2
+left_low true = omega arith
+left_low false = omega arith
 
 pub in_range_line : (line : Line) (spec : RoomSpec) (fields : Fields) (i : ℕ) (mind : MindOf StepMap) → StandsAt line spec fields i mind → AreInRange spec (stored_on line fields i mind.sweep (current_round mind) (counted mind))
 in_range_line Rest spec fields i mind at = next_in_range spec fields at.range (next_process mind.goals mind.sweep) i (counted mind)
@@ -93,8 +94,7 @@ in_range_line Enter spec fields i mind at =
     level_in_range spec fields at.range i mind.sweep (current_round mind) (fields.level i mind.sweep (current_round mind) + 1) (omega arith)
 in_range_line Look spec fields i mind at = at.range
 in_range_line (Leave saw_two) spec fields i mind at =
-    let one = inside spec.rounds (current_goal mind) (fields.step i mind.sweep) (fields.level i mind.sweep) at.own in
-    level_in_range spec fields at.range i mind.sweep (current_round mind) (left_to saw_two (fields.level i mind.sweep (current_round mind))) (left_low saw_two (fields.level i mind.sweep (current_round mind)) one)
+    level_in_range spec fields at.range i mind.sweep (current_round mind) (left_level saw_two) (left_low saw_two)
 in_range_line Ask spec fields i mind at = at.range
 in_range_line (GetView chosen) spec fields i mind at = at.range
 in_range_line Values spec fields i mind at = at.range

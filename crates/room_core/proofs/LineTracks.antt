@@ -8,7 +8,7 @@ use Rattle.protocol_lang.specs.declared.meaning.Action.{Action}
 use Rattle.protocol_lang.specs.declared.meaning.Action.TheVariants as actions
 use Rattle.room_spec.specs.Rooms.{RoomSpec, processes}
 use Rattle.room_spec.specs.Sizes.{sizes_in}
-use Rattle.safe_agreement.specs.Levels.{has_level}
+use Rattle.safe_agreement.specs.Levels.{has_level, left_level}
 use Rattle.simulator.specs.declared.goal.Goal.{Goal}
 use Rattle.simulator.specs.declared.goal.Goal.TheVariants as goals
 use Rattle.simulator.specs.declared.line.Line.{Line}
@@ -19,11 +19,11 @@ use Rattle.simulator.specs.Minds.{MindOf, goal_at, current_goal, current_round, 
 use Rattle.simulator.specs.Turns.{TakenOf, counted, begun, goes_on, ended, asked, acted, after_write, padded, gathered, opened_at}
 use Rattle.simulator.specs.Ranges.{IsGoal, IsMind}
 use Rattle.simulator.specs.Moves.{IsOperation, first_move_at, first_move}
-use Rattle.room_core.specs.Fields.{StepMap, Fields, changed, changed_pair, changed_triple, left_to, levels_at, chosen_at, entry_of_steps, shown_value}
+use Rattle.room_core.specs.Fields.{StepMap, Fields, changed, changed_pair, changed_triple, levels_at, chosen_at, entry_of_steps, shown_value}
 use Rattle.room_core.specs.Reading.{worded}
 use Rattle.room_core.specs.Tracks.{AtRest, Stored, Past, stage_of, Tells, ToldBy}
 use Rattle.room_core.proofs.Maps.{changed_here, changed_else}
-use Rattle.room_core.proofs.Tracks.{ToldBeside, told_by, told_at_rest, told_with_goal, tells_raised, inside, tells_entered, tells_left, tells_asked, tells_written, tells_decided}
+use Rattle.room_core.proofs.Tracks.{ToldBeside, told_by, told_at_rest, told_with_goal, tells_raised, tells_entered, tells_left, tells_asked, tells_written, tells_decided}
 use Rattle.room_core.proofs.Lines.{stored_first_at, stored_first, stored_on, taken_first_at, taken_first, taken_on, operation_of, process_in, StandsAt}
 
 -- ---- what a mind tells after a part of a turn
@@ -113,9 +113,9 @@ pub goal_range : (spec : RoomSpec) (mind : MindOf StepMap) → IsMind spec (word
 goal_range spec mind is = is.rounds mind.sweep is.sweep
 
 -- a simulator leaves level 1
-left_other : (saw_two : Bool) (level : ℕ) → level ≡ 1 → left_to saw_two level ≢ 1
-left_other true level one left = omega arith
-left_other false level one left = omega arith
+left_other : (saw_two : Bool) → left_level saw_two ≢ 1
+left_other true left = omega arith
+left_other false left = omega arith
 
 pub told_line : (line : Line) (spec : RoomSpec) (fields : Fields) (i : ℕ) (mind : MindOf StepMap) → StandsAt line spec fields i mind
     → ToldBy spec.rounds (taken_on line spec fields mind.sweep (current_round mind) (counted mind)).mind ((stored_on line fields i mind.sweep (current_round mind) (counted mind)).step i) ((stored_on line fields i mind.sweep (current_round mind) (counted mind)).level i)
@@ -128,8 +128,7 @@ told_line Enter spec fields i mind at =
     level_told spec.rounds Look (counted mind) (fields.step i) fields.level i (current_round mind) (fields.level i mind.sweep (current_round mind) + 1) at.others (tells_entered spec.rounds (current_goal mind) (fields.step i mind.sweep) (fields.level i mind.sweep) at.own)
 told_line Look spec fields i mind at = goes_told spec (fields.step i) (fields.level i) (Leave (has_level 2 (levels_at spec fields mind.sweep (current_round mind)))) (counted mind) at.others at.own
 told_line (Leave saw_two) spec fields i mind at =
-    let entry = left_to saw_two (fields.level i mind.sweep (current_round mind)) in
-    level_told spec.rounds Ask (counted mind) (fields.step i) fields.level i (current_round mind) entry at.others (tells_left spec.rounds (current_goal mind) (fields.step i mind.sweep) (fields.level i mind.sweep) entry (left_other saw_two (fields.level i mind.sweep (current_round mind)) (inside spec.rounds (current_goal mind) (fields.step i mind.sweep) (fields.level i mind.sweep) at.own)) at.own)
+    level_told spec.rounds Ask (counted mind) (fields.step i) fields.level i (current_round mind) (left_level saw_two) at.others (tells_left spec.rounds (current_goal mind) (fields.step i mind.sweep) (fields.level i mind.sweep) (left_level saw_two) (left_other saw_two) at.own)
 told_line Ask spec fields i mind at =
     asked_told spec (fields.step i) (fields.level i) (chosen_at spec fields mind.sweep (current_round mind)) (counted mind) (sweep_below spec mind at.is_mind) at.others at.own
 told_line (GetView chosen) spec fields i mind at =

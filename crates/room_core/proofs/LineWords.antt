@@ -113,24 +113,22 @@ module _ (spec : RoomSpec) (fields : Fields) (i : ℕ) (words : List ℕ) (mind 
   other_levels : (j k level a : ℕ) → a ≢ i → changed_triple fields.level i j k level a j k ≡ fields.level a j k
   other_levels j k level a other = triple_else fields.level i j k level a j k (λ e _ _. other e)
 
-  raised_level : (j k : ℕ) → IsWithinLimits spec → ((a b c : ℕ) → fields.level a b c ≤ 2) → fields.level i j k ≤ 1 → IsProcess (sizes_in spec) j → IsRound (sizes_in spec) k
-      → Hold (sizes_in spec) (with_word (sizes_in spec) words (places.Levels j k) ((slice_index words (index_in spec (places.Levels j k)) + 2 ^ (2 * mind.number)) % 2 ^ 64)) (record fields { level = changed_triple fields.level i j k (fields.level i j k + 1) })
-  raised_level j k limits low room process round =
+  raised_level : (j k level : ℕ) → IsWithinLimits spec → ((a b c : ℕ) → fields.level a b c ≤ 2) → level ≡ fields.level i j k + 1 → level ≤ 2 → IsProcess (sizes_in spec) j → IsRound (sizes_in spec) k
+      → Hold (sizes_in spec) (with_word (sizes_in spec) words (places.Levels j k) ((slice_index words (index_in spec (places.Levels j k)) + 2 ^ (2 * mind.number)) % 2 ^ 64)) (record fields { level = changed_triple fields.level i j k level })
+  raised_level j k level limits low more most process round =
       let old = slice_index words (index_in spec (places.Levels j k)) in
-      let level = fields.level i j k + 1 in
       stored_level j k level ((old + 2 ^ (2 * mind.number)) % 2 ^ 64) process round
       (ap (λ (n : ℕ). (old + 2 ^ (2 * n)) % 2 ^ 64) number
-      ∙ level_added spec.simulators i old (λ a. fields.level a j k) (λ a. changed_triple fields.level i j k level a j k) limits.shape.m_range.1 below (λ a. low a j k) room (triple_here fields.level i j k level) (other_levels j k level) (held (places.Levels j k) (process, round)))
+      ∙ level_added spec.simulators i old (λ a. fields.level a j k) (λ a. changed_triple fields.level i j k level a j k) limits.shape.m_range.1 below (λ a. low a j k) (omega arith) (triple_here fields.level i j k level ∙ more) (other_levels j k level) (held (places.Levels j k) (process, round)))
 
   lowered_level : (j k : ℕ) → IsWithinLimits spec → ((a b c : ℕ) → fields.level a b c ≤ 2) → fields.level i j k ≡ 1 → IsProcess (sizes_in spec) j → IsRound (sizes_in spec) k
-      → Hold (sizes_in spec) (with_word (sizes_in spec) words (places.Levels j k) ((slice_index words (index_in spec (places.Levels j k)) + (2 ^ 64 - 2 ^ (2 * mind.number))) % 2 ^ 64)) (record fields { level = changed_triple fields.level i j k (fields.level i j k - 1) })
+      → Hold (sizes_in spec) (with_word (sizes_in spec) words (places.Levels j k) ((slice_index words (index_in spec (places.Levels j k)) + (2 ^ 64 - 2 ^ (2 * mind.number))) % 2 ^ 64)) (record fields { level = changed_triple fields.level i j k 0 })
   lowered_level j k limits low one process round =
       let old = slice_index words (index_in spec (places.Levels j k)) in
-      let level = fields.level i j k - 1 in
-      let own : changed_triple fields.level i j k level i j k ≡ level = triple_here fields.level i j k level in
-      stored_level j k level ((old + (2 ^ 64 - 2 ^ (2 * mind.number))) % 2 ^ 64) process round
+      let own : changed_triple fields.level i j k 0 i j k ≡ 0 = triple_here fields.level i j k 0 in
+      stored_level j k 0 ((old + (2 ^ 64 - 2 ^ (2 * mind.number))) % 2 ^ 64) process round
       (ap (λ (n : ℕ). (old + (2 ^ 64 - 2 ^ (2 * n))) % 2 ^ 64) number
-      ∙ level_taken spec.simulators i old (λ a. fields.level a j k) (λ a. changed_triple fields.level i j k level a j k) limits.shape.m_range.1 below (λ a. low a j k) (omega arith) (other_levels j k level) (held (places.Levels j k) (process, round)))
+      ∙ level_taken spec.simulators i old (λ a. fields.level a j k) (λ a. changed_triple fields.level i j k 0 a j k) limits.shape.m_range.1 below (λ a. low a j k) (omega arith) (other_levels j k 0) (held (places.Levels j k) (process, round)))
 
   first_stored : (goal : Goal) (j : ℕ) (b : Bool) → IsMind spec (worded (sizes_in spec) mind) → goal_at mind.goals j ≡ goal → IsOperation (cond b (first_move_at goal spec mind.number j) OutOfTurns)
       → Hold (sizes_in spec) (words_after (cond b (first_move_at goal spec mind.number j) OutOfTurns) words) (stored_first_at goal fields i j)
@@ -159,7 +157,7 @@ held_line Show spec fields i words mind whole at held =
 held_line Enter spec fields i words mind whole at held =
     let round = open_round spec mind at.is_mind at.open_at in
     let none = outside spec.rounds (current_goal mind) (fields.step i mind.sweep) (fields.level i mind.sweep) at.own in
-    raised_level spec fields i words mind whole held at.below at.number mind.sweep (current_round mind) at.is_mind.limits at.range.level (omega arith) at.is_mind.sweep round
+    raised_level spec fields i words mind whole held at.below at.number mind.sweep (current_round mind) (fields.level i mind.sweep (current_round mind) + 1) at.is_mind.limits at.range.level refl (omega arith) at.is_mind.sweep round
 held_line Look spec fields i words mind whole at held = held
 held_line (Leave true) spec fields i words mind whole at held =
     let round = open_round spec mind at.is_mind at.open_at in
@@ -168,7 +166,7 @@ held_line (Leave true) spec fields i words mind whole at held =
 held_line (Leave false) spec fields i words mind whole at held =
     let round = open_round spec mind at.is_mind at.open_at in
     let one = inside spec.rounds (current_goal mind) (fields.step i mind.sweep) (fields.level i mind.sweep) at.own in
-    raised_level spec fields i words mind whole held at.below at.number mind.sweep (current_round mind) at.is_mind.limits at.range.level (omega arith) at.is_mind.sweep round
+    raised_level spec fields i words mind whole held at.below at.number mind.sweep (current_round mind) 2 at.is_mind.limits at.range.level (omega arith) (omega arith) at.is_mind.sweep round
 held_line Ask spec fields i words mind whole at held = held
 held_line (GetView chosen) spec fields i words mind whole at held = held
 held_line Values spec fields i words mind whole at held = held

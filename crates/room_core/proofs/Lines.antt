@@ -2,7 +2,7 @@
 use Rattle.std.proofs.Common.{◌≡◌, ℕ, ◌+◌, ◌<◌, zero, suc, Bool, true, false, cond, ltb, List, [], ◌∷◌, length, Option, Some, None, refl, ap, ◌∙◌, subst, arith}
 use Rattle.room_spec.specs.Rooms.{RoomSpec, processes}
 use Rattle.room_spec.specs.Sizes.{Sizes, sizes_in}
-use Rattle.safe_agreement.specs.Levels.{has_level}
+use Rattle.safe_agreement.specs.Levels.{has_level, left_level}
 use Rattle.sim_memory.specs.Steps.{AreWithin}
 use Rattle.view_table.specs.Places.{IsProcess, IsRound}
 use Rattle.simulator.specs.declared.goal.Goal.{Goal}
@@ -15,7 +15,7 @@ use Rattle.simulator.specs.Minds.{MindOf, goal_at, current_goal, current_round, 
 use Rattle.simulator.specs.Turns.{TakenOf, counted, goes_on, snapped, asked, got_view, got_value, decided, opened}
 use Rattle.simulator.specs.Moves.{IsOperation, first_move_at, first_move, move_at}
 use Rattle.simulator.specs.Ranges.{IsGoal, IsOpenAt, IsMind}
-use Rattle.room_core.specs.Fields.{StepMap, Fields, changed_pair, changed_triple, levels_at, chosen_at, entry_of_steps, shown_value, with_taken, left_to, first_line_at, first_line, line_on}
+use Rattle.room_core.specs.Fields.{StepMap, Fields, changed_pair, changed_triple, levels_at, chosen_at, entry_of_steps, shown_value, with_taken, first_line_at, first_line, line_on}
 use Rattle.room_core.specs.Reading.{worded}
 use Rattle.room_core.specs.Tracks.{AreInRange, Tells, stage_of}
 use Rattle.room_core.proofs.Tracks.{ToldBeside}
@@ -39,7 +39,7 @@ stored_on Snap fields i j k mind = fields
 stored_on Show fields i j k mind = record fields { view = changed_triple fields.view i j k mind.snapshot }
 stored_on Enter fields i j k mind = record fields { level = changed_triple fields.level i j k (fields.level i j k + 1) }
 stored_on Look fields i j k mind = fields
-stored_on (Leave saw_two) fields i j k mind = record fields { level = changed_triple fields.level i j k (left_to saw_two (fields.level i j k)) }
+stored_on (Leave saw_two) fields i j k mind = record fields { level = changed_triple fields.level i j k (left_level saw_two) }
 stored_on Ask fields i j k mind = fields
 stored_on (GetView chosen) fields i j k mind = fields
 stored_on Values fields i j k mind = fields

@@ -1,5 +1,5 @@
 -- What a line does to the agreements: in one of them its simulator takes a step, or in none.
-use Rattle.std.proofs.Common.{◌≡◌, ◌≢◌, ◌⊎◌, ℕ, ◌+◌, ◌<◌, ◌≤◌, Bool, true, false, eqb, List, inl, inr, refl, sym, ap, ◌∙◌, subst, arith}
+use Rattle.std.proofs.Common.{◌≡◌, ◌≢◌, ◌⊎◌, ℕ, ◌+◌, ◌<◌, ◌≤◌, Bool, true, eqb, List, inl, inr, refl, sym, ap, ◌∙◌, subst, arith}
 use Rattle.std.proofs.lemmas.Bool.{eq-eqb, ne_eqb, cases_order, cases_lt}
 use mathlib.Core.Logic.{dite}
 use native.Mathlib.Decide.{ℕ_discrete}
@@ -9,7 +9,7 @@ use Rattle.safe_agreement.specs.Phases.{Phase, Before, Looked, Left, Change, Ent
 use Rattle.simulator.specs.declared.line.Line.{Line}
 use Rattle.simulator.specs.declared.line.Line.TheVariants.{Raise}
 use Rattle.simulator.specs.Minds.{MindOf}
-use Rattle.room_core.specs.Fields.{StepMap, Fields, levels_at, changed, changed_pair, left_to}
+use Rattle.room_core.specs.Fields.{StepMap, Fields, levels_at, changed, changed_pair}
 use Rattle.room_core.specs.Tracks.{KeepsTrack}
 use Rattle.room_core.proofs.Maps.{changed_here, changed_else, pair_here, pair_else}
 use Rattle.room_core.proofs.Stages.{Progress, Fresh, Scanned, Shown, Inside, Seen, Past, line_progress, progress_in, phase_of, phase_by, phase_at, phases_in, later, earlier, now, resting, same_line, levels_are_phases}
@@ -65,10 +65,6 @@ progress_else step j k p r line line' count other = dite (ℕ_discrete p j)
 turn_else : (step : ℕ → ℕ) (j k p r : ℕ) (line line' : Progress) (level level' : ℕ) → step j ≡ k → (p ≡ j → r ≡ k → ⊥) → level' ≡ level → phase_by (step p) r (eqb p j) line' level' ≡ phase_by (step p) r (eqb p j) line level
 turn_else step j k p r line line' level level' count other same =
     ap (λ (l : ℕ). phase_by (step p) r (eqb p j) line' l) same ∙ ap (λ (q : Progress). phase_of q level) (progress_else step j k p r line line' count other)
-
-left_as_seen : (saw : Bool) (level : ℕ) → level ≡ 1 → left_to saw level ≡ left_level saw
-left_as_seen true level one = omega arith
-left_as_seen false level one = omega arith
 
 -- ---- each effect
 
@@ -147,11 +143,11 @@ module _ (spec : RoomSpec) (fields : Fields) (own : Own) (i p r : ℕ) where
       (ap (λ (b : Bool). Looked b) (ap (λ (q : ℕ). has_level 2 (levels_at spec fields q (round_on own))) (sym e) ∙ ap (λ (k : ℕ). has_level 2 (levels_at spec fields p k)) (sym e')))))
       (λ other. inl (line_on_else Inside (Seen (has_level 2 (levels_at spec fields (process_on own) (round_on own)))) own.level count other (ap line_progress turn.stands) refl))
   own_step after (leaves saw_two turn count one) =
-      let entry = left_to saw_two (own.level (process_on own) (round_on own)) in
+      let entry = left_level saw_two in
       let level' = changed_pair own.level (process_on own) (round_on own) entry in
       by_place
       (λ e e'. inr (move_here (Leaves i) (Seen saw_two) Past level' refl count (ap line_progress turn.stands) e e' tt
-      (ap (λ (l : ℕ). Left l) (ap (λ (q : ℕ). level' q r) e ∙ ap (λ (k : ℕ). level' (process_on own) k) e' ∙ pair_here own.level (process_on own) (round_on own) entry ∙ left_as_seen saw_two (own.level (process_on own) (round_on own)) one))))
+      (ap (λ (l : ℕ). Left l) (ap (λ (q : ℕ). level' q r) e ∙ ap (λ (k : ℕ). level' (process_on own) k) e' ∙ pair_here own.level (process_on own) (round_on own) entry))))
       (λ other. inl (line_on_else (Seen saw_two) Past level' count other (ap line_progress turn.stands) (pair_else own.level (process_on own) (round_on own) entry p r other)))
   own_step after (asks_in_vain asking asks is) = inl (quiet_effect after.mind asks.past refl)
   own_step after (finds asking chosen asks is) = inl (quiet_effect after.mind asks.past refl)

@@ -1,9 +1,9 @@
 -- The fields of a room, as maps named by numbers, with no word, bit or index in them; the line that a simulator takes on
 -- them; and their replay over a list of calls, with its replies.
-use Rattle.std.specs.Prelude.{◌≡◌, ◌⊎◌, ℕ, ◌+◌, ◌-◌, ◌<◌, Bool, true, false, not, List, [], ◌∷◌, length, map, Option, Some, None, nat_le, ◌==◌, if◌then◌else◌}
+use Rattle.std.specs.Prelude.{◌≡◌, ◌⊎◌, ℕ, ◌+◌, ◌<◌, Bool, true, false, not, List, [], ◌∷◌, length, map, Option, Some, None, nat_le, ◌==◌, if◌then◌else◌}
 use Rattle.std.specs.List.{range_with_len}
 use Rattle.room_spec.specs.Rooms.{RoomSpec}
-use Rattle.safe_agreement.specs.Levels.{has_level, resolved_of}
+use Rattle.safe_agreement.specs.Levels.{has_level, left_level, resolved_of}
 use Rattle.sim_memory.specs.Steps.{merged_of, holder_of}
 use Rattle.simulator.specs.declared.goal.Goal.{Goal}
 use Rattle.simulator.specs.declared.goal.Goal.TheVariants as goals
@@ -95,11 +95,6 @@ abbrev pub with_taken : Fields → ℕ → TakenOf StepMap → Fields
 with_taken fields i taken =
     record fields { mind = changed fields.mind i taken.mind; quiet = changed fields.quiet i (quiet_after taken.turn (fields.quiet i)) }
 
--- to the level 0 where it saw a level 2, and else to 2
-abbrev pub left_to : Bool → ℕ → ℕ
-left_to true level = level - 1
-left_to false level = level + 1
-
 -- the first line of a turn on process j
 abbrev pub first_line_at : Goal → RoomSpec → Fields → ℕ → ℕ → MindOf StepMap → Fields
 first_line_at (goals.Write k value) spec fields i j mind =
@@ -120,7 +115,7 @@ line_on Snap spec fields i j k mind = with_taken fields i (snapped fields.step m
 line_on Show spec fields i j k mind = with_taken (record fields { view = changed_triple fields.view i j k mind.snapshot }) i (goes_on Enter mind)
 line_on Enter spec fields i j k mind = with_taken (record fields { level = changed_triple fields.level i j k (fields.level i j k + 1) }) i (goes_on Look mind)
 line_on Look spec fields i j k mind = with_taken fields i (goes_on (Leave (has_level 2 (levels_at spec fields j k))) mind)
-line_on (Leave saw_two) spec fields i j k mind = with_taken (record fields { level = changed_triple fields.level i j k (left_to saw_two (fields.level i j k)) }) i (goes_on Ask mind)
+line_on (Leave saw_two) spec fields i j k mind = with_taken (record fields { level = changed_triple fields.level i j k (left_level saw_two) }) i (goes_on Ask mind)
 line_on Ask spec fields i j k mind = with_taken fields i (asked (chosen_at spec fields j k) mind)
 line_on (GetView chosen) spec fields i j k mind = with_taken fields i (got_view (entry_of_steps spec (fields.view chosen j k)) spec (fields.view chosen j k) mind)
 line_on Values spec fields i j k mind = with_taken fields i (got_value (entry_of_steps spec mind.snapshot) spec (shown_value spec fields mind.snapshot (length mind.entries)) mind)
