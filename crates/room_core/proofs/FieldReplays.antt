@@ -17,11 +17,11 @@ use Rattle.simulator.specs.Minds.{MindOf, MindState, goal_at, current_round, fir
 use Rattle.simulator.specs.Turns.{TakenOf, counted}
 use Rattle.simulator.specs.Moves.{IsOperation, move_of, taken, words_after, answer_of}
 use Rattle.simulator.specs.Ranges.{IsMind}
-use Rattle.room_core.specs.Rooms.{Configuration, ScheduleEvent, steps, crashes, opening, mind_at, crashed_at, answer_to, stepped, crashed_by, HasLine, MayHappen, after_event, replay, IsLegal, IsOneInterleaving, IsShaped}
+use Rattle.room_core.specs.Rooms.{Configuration, ScheduleEvent, steps, crashes, opening, mind_at, crashed_at, stepped, crashed_by, HasLine, MayHappen, after_event, replay, IsLegal, IsOneInterleaving, IsShaped}
 use Rattle.room_core.specs.Fields.{StepMap, Fields, changed, no_steps, opening_fields, with_taken, line, with_crash, fields_after, replay_fields}
 use Rattle.room_core.specs.Reading.{worded, Reads}
 use Rattle.room_core.specs.Tracks.{AtRest, Tells, ToldBy, KeepsTrack, StandsFor}
-use Rattle.room_core.proofs.Replays.{shape_after, opening_shape}
+use Rattle.room_core.proofs.Replays.{answer_to, shape_after, opening_shape}
 use Rattle.room_core.proofs.Maps.{changed_here, changed_else}
 use Rattle.room_core.proofs.Tracks.{beside, at_sweep, told_at_rest}
 use Rattle.room_core.proofs.Wording.{worded_taken}

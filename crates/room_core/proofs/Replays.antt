@@ -8,13 +8,17 @@ use Rattle.room_spec.specs.Rooms.{RoomSpec, IsWithinLimits}
 use Rattle.room_spec.specs.Sizes.{sizes_in}
 use Rattle.view_table.specs.Places.{words_of}
 use Rattle.simulator.specs.Minds.{MindState, opening_mind}
-use Rattle.simulator.specs.Moves.{move_of, taken, words_after}
+use Rattle.simulator.specs.Moves.{move_of, taken, words_after, answer_of}
 use Rattle.simulator.specs.Ranges.{IsMind}
 use Rattle.simulator.specs.declared.operation.Move.{Move}
 use Rattle.simulator.specs.declared.operation.Move.TheVariants.{Load, Store, Add, Sub, Finished, OutOfTurns}
 use Rattle.simulator.proofs.Keeping.{kept, opens}
 use Rattle.simulator.proofs.Stepping.{keeps_number, steps_by_one}
-use Rattle.room_core.specs.Rooms.{Configuration, ScheduleEvent, steps, crashes, opening, mind_at, answer_to, stepped, crashed_by, IsAlive, HasLine, MayHappen, after_event, replay, IsLegal, IsOneInterleaving, IsShaped, IsRoom, times}
+use Rattle.room_core.specs.Rooms.{Configuration, ScheduleEvent, steps, crashes, opening, mind_at, stepped, crashed_by, IsAlive, HasLine, MayHappen, after_event, replay, IsLegal, IsOneInterleaving, IsShaped, IsRoom, times}
+
+-- what simulator i's operation answers
+abbrev pub answer_to : Configuration → ℕ → ℕ
+answer_to room i = answer_of (move_of room.spec (mind_at room i)) room.words
 
 -- ---- a longer list
 

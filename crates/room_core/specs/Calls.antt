@@ -5,13 +5,13 @@ use Rattle.room_spec.specs.Rooms.{RoomSpec}
 use Rattle.room_spec.specs.Sizes.{sizes_in}
 use Rattle.view_table.specs.Places.{words_of}
 use Rattle.simulator.specs.Turns.{TakenOf}
-use Rattle.simulator.specs.Moves.{move_of, taken, words_after, answer_of}
+use Rattle.simulator.specs.Moves.{move_of}
 use Rattle.simulator.specs.Quiet.{IsQuietCount}
 use Rattle.simulator.specs.Sweeps.{SweepState, is_resting, opening_sweep, ready_of, quiet_after}
 use Rattle.simulator.specs.declared.operation.Move.{Move}
 use Rattle.simulator.specs.declared.sweep.Ready.{Ready}
 use Rattle.simulator.specs.declared.sweep.Ready.TheVariants as ready
-use Rattle.room_core.specs.Rooms.{Configuration, IsRoom}
+use Rattle.room_core.specs.Rooms.{Configuration, IsRoom, taken_from, words_by}
 use Rattle.room_core.specs.Settling.{KindOf, settled}
 use Rattle.room_core.specs.declared.reply.StepReply.{StepReply}
 use Rattle.room_core.specs.declared.reply.StepReply.TheVariants.{Stepped, Idle, OutOfTurns, Crashed, NoSimulator}
@@ -65,13 +65,13 @@ abbrev pub operation_at : RoomState → ℕ → Move
 operation_at room i = move_of room.spec (sweep_at room i).mind
 
 abbrev pub taken_by : RoomState → ℕ → TakenOf ℕ
-taken_by room i = taken room.spec (sweep_at room i).mind (answer_of (operation_at room i) room.words)
+taken_by room i = taken_from room.spec (sweep_at room i).mind room.words
 
--- one atomic step
+-- one atomic step, of its mind on the words
 abbrev pub moved : RoomState → ℕ → RoomState
 moved room i = record {
   spec = room.spec;
-  words = words_after (operation_at room i) room.words;
+  words = words_by room.spec (sweep_at room i).mind room.words;
   sweeps = slice_set room.sweeps i (sweep_after (taken_by room i) (sweep_at room i).quiet);
   crashed = room.crashed;
 }

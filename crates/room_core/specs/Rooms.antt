@@ -6,6 +6,7 @@ use Rattle.room_spec.specs.Rooms.{RoomSpec, IsWithinLimits}
 use Rattle.room_spec.specs.Sizes.{sizes_in}
 use Rattle.view_table.specs.Places.{words_of}
 use Rattle.simulator.specs.Minds.{MindState, opening_mind}
+use Rattle.simulator.specs.Turns.{TakenOf}
 use Rattle.simulator.specs.Moves.{move_of, taken, words_after, answer_of, IsOperation}
 use Rattle.simulator.specs.Ranges.{IsMind}
 
@@ -29,16 +30,19 @@ mind_at room i = slice_index_or room.minds i (opening_mind room.spec i)
 abbrev pub crashed_at : Configuration → ℕ → Bool
 crashed_at room i = slice_index_or room.crashed i false
 
--- what simulator i's operation answers
-abbrev pub answer_to : Configuration → ℕ → ℕ
-answer_to room i = answer_of (move_of room.spec (mind_at room i)) room.words
+-- One atomic step: a mind's operation is done on the words, and the mind takes the answer in.
+abbrev pub words_by : RoomSpec → MindState → List ℕ → List ℕ
+words_by spec mind words = words_after (move_of spec mind) words
 
--- the room after one atomic step of simulator i: its operation is done on the words, and its mind takes the answer in
+abbrev pub taken_from : RoomSpec → MindState → List ℕ → TakenOf ℕ
+taken_from spec mind words = taken spec mind (answer_of (move_of spec mind) words)
+
+-- the room after one atomic step of simulator i
 abbrev pub stepped : Configuration → ℕ → Configuration
 stepped room i = record {
   spec = room.spec;
-  words = words_after (move_of room.spec (mind_at room i)) room.words;
-  minds = slice_set room.minds i (taken room.spec (mind_at room i) (answer_to room i)).mind;
+  words = words_by room.spec (mind_at room i) room.words;
+  minds = slice_set room.minds i (taken_from room.spec (mind_at room i) room.words).mind;
   crashed = room.crashed;
 }
 
