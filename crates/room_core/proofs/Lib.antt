@@ -22,7 +22,7 @@ pub mod Idling
 pub mod InOrder
 pub mod Ending
 pub mod Decoding
-pub mod Movers
+pub mod Legality
 pub mod Prefixes
 pub mod Stages
 pub mod Effects

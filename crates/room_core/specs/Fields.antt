@@ -1,6 +1,6 @@
 -- The fields of a room, as maps named by numbers, with no word, bit or index in them; the line that a simulator takes on
 -- them; and their replay over a list of calls, with its replies.
-use Rattle.std.specs.Prelude.{◌≡◌, ◌⊎◌, ℕ, ◌+◌, ◌<◌, Bool, true, false, not, List, [], ◌∷◌, length, map, Option, Some, None, nat_le, ◌==◌, if◌then◌else◌}
+use Rattle.std.specs.Prelude.{◌≡◌, ◌⊎◌, ℕ, ◌+◌, ◌<◌, Bool, true, false, not, List, [], ◌∷◌, length, map, Option, Some, None, nat_le, ◌==◌, if◌then◌else◌, ⊤}
 use Rattle.std.specs.List.{range_with_len}
 use Rattle.room_spec.specs.Rooms.{RoomSpec}
 use Rattle.safe_agreement.specs.Levels.{has_level, left_level, resolved_of}
@@ -125,10 +125,14 @@ line_on (Out decision) spec fields i j k mind = with_taken (record fields { out 
 abbrev pub line : RoomSpec → Fields → ℕ → Fields
 line spec fields i = line_on (fields.mind i).line spec fields i (fields.mind i).sweep (current_round (fields.mind i)) (counted (fields.mind i))
 
--- Simulator i hasn't crashed and has a line to take: its turn is open, or a process is unfinished and a turn is left.
-pub record HasLineIn (spec : RoomSpec) (fields : Fields) (i : ℕ) : Type 0 where
+-- simulator i is one of the room's and hasn't crashed
+pub record IsAliveIn (spec : RoomSpec) (fields : Fields) (i : ℕ) : Type 0 where
   pub below : i < spec.simulators
   pub alive : fields.crashed i ≡ false
+
+-- and has a line to take: its turn is open, or a process is unfinished and a turn is left
+pub record HasLineIn (spec : RoomSpec) (fields : Fields) (i : ℕ) : Type 0 where
+  pub alive : IsAliveIn spec fields i
   pub moving : (is_resting (fields.mind i).line ≡ false) ⊎ ((0 < unfinished_in (fields.mind i).goals) × ((fields.mind i).turns < spec.turns))
 
 -- ---- schedules
@@ -143,6 +147,15 @@ fields_after spec fields (crashes i) = with_crash fields i
 abbrev pub replay_fields : RoomSpec → Fields → List ScheduleEvent → Fields
 replay_fields spec fields [] = fields
 replay_fields spec fields (event ∷ schedule) = replay_fields spec (fields_after spec fields event) schedule
+
+abbrev pub MayHappenIn : RoomSpec → Fields → ScheduleEvent → Type 0
+MayHappenIn spec fields (steps i) = HasLineIn spec fields i
+MayHappenIn spec fields (crashes i) = IsAliveIn spec fields i
+
+-- each event may happen at its place
+abbrev pub IsLegalIn : RoomSpec → Fields → List ScheduleEvent → Type 0
+IsLegalIn spec fields [] = ⊤
+IsLegalIn spec fields (event ∷ schedule) = MayHappenIn spec fields event × IsLegalIn spec (fields_after spec fields event) schedule
 
 -- ---- calls, which may be of a simulator that is crashed, idle or not there
 

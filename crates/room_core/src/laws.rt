@@ -14,10 +14,10 @@ ghost use Rattle.room_core.specs.Settled.{IsSettledFor};
 ghost use Rattle.room_core.specs.Settling.{steps_while};
 ghost use Rattle.simulator.specs.Sweeps.{is_resting};
 ghost use Rattle.room_core.specs.Calls.{Call, RoomState, configuration_of, has_crashed, marked, most_steps, moved, opening_state, replies_to, room_after_calls, room_after_step, room_kind, sweep_at, with_sweep, woken};
-ghost use Rattle.room_core.specs.Fields.{Fields, HasLineIn, levels_at, line, entry_of_steps, fields_after_call, fields_after_calls, fields_after_settle, opening_fields, replay_fields, replies_in, with_crash};
+ghost use Rattle.room_core.specs.Fields.{Fields, HasLineIn, IsLegalIn, levels_at, line, entry_of_steps, fields_after_call, fields_after_calls, fields_after_settle, opening_fields, replay_fields, replies_in, with_crash};
 ghost use Rattle.room_spec.specs.Sizes.{sizes_in};
 ghost use Rattle.room_core.specs.Reading.{AgreeIn, AreFieldsOf, Reads, fields_in};
-ghost use Rattle.room_core.specs.Rooms.{HasLine, IsAlive, IsOneInterleaving, IsShaped, Configuration, crashed_by, crashes, mind_at, opening, stepped, steps, times};
+ghost use Rattle.room_core.specs.Rooms.{HasLine, IsAlive, IsLegal, IsOneInterleaving, IsShaped, Configuration, ScheduleEvent, crashed_by, crashes, mind_at, opening, stepped, steps, times};
 ghost use Rattle.room_core.specs.Tracks.{StandsFor};
 
 /// The opening room is one interleaving, of no steps.
@@ -52,9 +52,12 @@ pub fn reads_as_fields()
     ensures { (room : Configuration) → IsWithinLimits room.spec → (one : IsOneInterleaving room) → Reads room (replay_fields room.spec (opening_fields room.spec) one.schedule) }
 {}
 
-/// A simulator has a line to take in a room just where the room's fields say so by themselves.
+/// The fields say by themselves what may happen: a simulator has a line to take in a room just where
+/// it has one in the room's fields.
 pub fn lines_in_fields()
-    ensures { (room : Configuration) (fields : Fields) (i : ℕ) → IsShaped room → Reads room fields → HasLine room i ↔ HasLineIn room.spec fields i }
+    ensures line { (room : Configuration) (fields : Fields) (i : ℕ) → IsShaped room → Reads room fields → HasLine room i ↔ HasLineIn room.spec fields i }
+    // So the lists of steps and crashes that lead to rooms are those that the fields allow.
+    ensures schedule { (spec : RoomSpec) (schedule : List ScheduleEvent) → IsWithinLimits spec → IsLegal (opening spec) schedule ↔ IsLegalIn spec (opening_fields spec) schedule }
 {}
 
 /// The words of a room and its fields take the same steps: the opening room stands for the opening

@@ -1,5 +1,8 @@
-use Rattle.room_core.proofs.Movers.{lines_in_fields}
+use Rattle.room_core.proofs.Legality.{lines_in_fields, schedules_in_fields}
 use Rattle.room_core.proofs.laws.lines_in_fields.Goals as goal
 
 pub returns : goal.returns
-returns c = λ room fields i shape reads. lines_in_fields room fields i shape reads
+returns c = record {
+  line = λ room fields i shape reads. lines_in_fields room fields i shape reads;
+  schedule = λ spec schedule limits. schedules_in_fields spec schedule limits;
+}
