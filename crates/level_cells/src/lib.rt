@@ -5,7 +5,7 @@ mod agreement;
 mod bits;
 pub mod laws;
 
-pub use agreement::levels;
+pub use agreement::{least_at, levels};
 pub use bits::{added, field, one_at, taken};
 
 #[cfg(test)]

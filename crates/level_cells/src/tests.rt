@@ -39,3 +39,11 @@ fn levels_of_words(rt: HostRuntime) {
         [2, 1, 0, 0, 0, 0, 0, 0].as_slice()
     );
 }
+
+#[test]
+fn least_at_a_level(rt: HostRuntime) {
+    assert_eq!(rt; (least_at(6, 2, 1), least_at(6, 2, 2)), (Some(1), Some(0)));
+    assert_eq!(rt; (least_at(10, 2, 1), least_at(10, 2, 2)), (None, Some(0)));
+    assert_eq!(rt; (least_at(6, 1, 1), least_at(0, 8, 2)), (None, None));
+    assert_eq!(rt; least_at(0x4000, 8, 1), Some(7));
+}

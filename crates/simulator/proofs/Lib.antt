@@ -2,6 +2,7 @@ pub mod Processes
 pub mod Gathering
 pub mod Ranging
 pub mod Keeping
+pub mod Levels
 pub mod Stepping
 pub mod Asking
 pub mod Counting

@@ -14,7 +14,7 @@ use Rattle.simulator.specs.Minds.{is_unfinished, goal_at, unfinished_in, or_else
 
 -- ---- the first unfinished process of a list
 
-none_first : (found : ℕ) (b : Bool) → cond b (Some found) None ≡ None → b ≡ false
+pub none_first : (found : ℕ) (b : Bool) → cond b (Some found) None ≡ None → b ≡ false
 none_first found true is = absurd cc
 none_first found false is = refl
 

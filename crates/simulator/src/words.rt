@@ -3,13 +3,12 @@ ghost use Rattle.std.specs.Prelude.{◌≡◌, ◌<◌, ◌≤◌, ◌==◌};
 ghost use Rattle.room_spec.specs.Rooms.{processes};
 ghost use Rattle.room_spec.specs.Sizes.{sizes_in};
 ghost use Rattle.level_cells.specs.Fields.{levels_of};
-ghost use Rattle.safe_agreement.specs.Levels.{has_level, leave_of};
+ghost use Rattle.safe_agreement.specs.Levels.{has_level};
 ghost use Rattle.view_table.specs.Places.{IsPlace, words_of};
 ghost use Rattle.simulator.specs.Moves.{chosen_in, holder_in, index_in, entry_in};
 
-use level_cells::levels;
+use level_cells::least_at;
 use room_spec::Spec;
-use safe_agreement::{leave_level, resolved};
 use sim_memory::{holder, step_of};
 use view_table::{Place, index};
 
@@ -50,15 +49,21 @@ pub(crate) fn last_write(spec: &Spec, word: u64, process: usize) -> (usize, usiz
 }
 
 /// Whether some level is 2, by a word of levels.
+#[tactic(auto, using(crate::proofs::Levels::some_level))]
 pub(crate) fn saw_two(spec: &Spec, word: u64) -> bool
     ensures { result ≡ has_level 2 (levels_of word spec.now.simulators) }
 {
-    leave_level(levels(word, spec.m()).as_slice()) == 0
+    least_at(word, spec.m(), 2).is_some()
 }
 
-/// The simulator whose proposal was chosen, by a word of levels.
+/// The simulator whose proposal was chosen, by a word of levels: the least at level 2, where none is
+/// at level 1.
+#[tactic(auto, using(crate::proofs::Levels::some_level))]
 pub(crate) fn chosen_in(spec: &Spec, word: u64) -> Option<usize>
     ensures { result ≡ chosen_in spec.now word }
 {
-    resolved(levels(word, spec.m()).as_slice())
+    if least_at(word, spec.m(), 1).is_some() {
+        return None;
+    }
+    least_at(word, spec.m(), 2)
 }
