@@ -64,6 +64,18 @@ pub fn holder(shape: &Shape, word: u64, p: usize) -> usize
     ensures value { result ≡ holder_of shape.now.m (step_in (sizes_of shape.now) word) p }
     ensures holds { IsHolder shape.now.m (step_in (sizes_of shape.now) word) p result }
 {
+    last_write(shape, word, p).0
+}
+
+/// The last write of process `p` that a memory word shows: the least simulator that has the greatest
+/// step number for it, and that number. Where the word shows none, they are 0.
+pub fn last_write(shape: &Shape, word: u64, p: usize) -> (usize, usize)
+    requires { p < shape.now.n }
+    ensures holder { result.0 ≡ holder_of shape.now.m (step_in (sizes_of shape.now) word) p }
+    ensures holds { IsHolder shape.now.m (step_in (sizes_of shape.now) word) p result.0 }
+    ensures merged { result.1 ≡ merged_of shape.now.m (step_in (sizes_of shape.now) word) p }
+    ensures range { result.1 ≤ shape.now.rounds }
+{
     let mut holder = 0;
     let mut greatest = step_of(shape, word, 0, p);
     for i in 1..shape.m {
@@ -73,5 +85,5 @@ pub fn holder(shape: &Shape, word: u64, p: usize) -> usize
             greatest = step;
         }
     }
-    holder
+    (holder, greatest)
 }

@@ -33,6 +33,11 @@ fn three_rounds(rt: HostRuntime) {
     );
     assert_eq!(rt; (merged(&shape, 237, 0), holder(&shape, 237, 0)), (2, 1));
     assert_eq!(rt; (merged(&shape, 237, 1), holder(&shape, 237, 1)), (3, 0));
+    assert_eq!(rt;
+        (last_write(&shape, 237, 0), last_write(&shape, 237, 1)),
+        ((1, 2), (0, 3))
+    );
+    assert_eq!(rt; last_write(&shape, 0, 1), (0, 0));
 }
 
 #[test]

@@ -122,6 +122,19 @@ impl Mind {
         if self.entries.len() < spec.n() {
             return self.go_on(Line::Values);
         }
+        self.conclude(spec)
+    }
+
+    /// Goes on to what the process does after its snapshot, which is whole.
+    #[inline(never)]
+    fn conclude(&mut self, spec: &Spec) -> Turn
+        requires sweep { self.old.sweep < length self.old.goals }
+        requires goals { length self.old.goals ≡ processes spec.now }
+        requires whole { processes spec.now ≤ length self.old.entries }
+        requires few { processes spec.now ≤ 16 }
+        ensures mind { self.new ≡ (gathered_all spec.now self.old).mind }
+        ensures turn { result ≡ (gathered_all spec.now self.old).turn }
+    {
         let action = next(
             spec.protocol(),
             spec.input(self.sweep),

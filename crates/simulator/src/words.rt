@@ -9,7 +9,7 @@ ghost use Rattle.simulator.specs.Moves.{chosen_in, holder_in, index_in, entry_in
 
 use level_cells::least_at;
 use room_spec::Spec;
-use sim_memory::{holder, step_of};
+use sim_memory::step_of;
 use view_table::{Place, index};
 
 pub(crate) fn index_in(spec: &Spec, place: Place) -> usize
@@ -43,9 +43,7 @@ pub(crate) fn last_write(spec: &Spec, word: u64, process: usize) -> (usize, usiz
     ensures row { result.1 ≡ entry_in spec.now word process }
     ensures range { result.1 ≤ spec.now.rounds }
 {
-    let shape = spec.shape();
-    let simulator = holder(&shape, word, process);
-    (simulator, step_of(&shape, word, simulator, process))
+    sim_memory::last_write(&spec.shape(), word, process)
 }
 
 /// Whether some level is 2, by a word of levels.
