@@ -6,7 +6,7 @@ ghost use Rattle.room_spec.specs.Rooms.{IsWithinLimits, processes};
 ghost use Rattle.room_spec.specs.Sizes.{sizes_in};
 ghost use Rattle.view_table.specs.Places.{words_of};
 ghost use Rattle.simulator.specs.Minds.{goal_at};
-ghost use Rattle.simulator.specs.Moves.{IsOperation, IsWithin, answer_of, move_of, taken, words_after};
+ghost use Rattle.simulator.specs.Moves.{IsOperation, answer_of, move_of, taken, words_after};
 ghost use Rattle.simulator.specs.Quiet.{HasNoWrite};
 ghost use Rattle.simulator.specs.Ranges.{IsMind};
 ghost use Rattle.simulator.specs.Sweeps.{opening_sweep};
@@ -15,14 +15,14 @@ ghost use Rattle.room_core.specs.Rooms.{HasLine, IsAlive, IsOneInterleaving, IsR
 ghost use Rattle.room_core.specs.Fields.{Fields, crash_reply_in, fields_after_crash, fields_after_settle, fields_after_step, opening_fields, step_reply_in};
 ghost use Rattle.room_core.specs.Agreements.{AgreementsStay};
 ghost use Rattle.room_core.specs.Reading.{AreFieldsOf, Reads};
-ghost use Rattle.room_core.specs.Calls.{CountsQuietTurns, crash_reply, configuration_of, has_crashed, marked, moved, opening_state, operation_at, ready_at, room_after_crash, room_after_settle, room_after_step, room_kind, step_reply, sweep_after, sweep_at, with_sweep, woken};
+ghost use Rattle.room_core.specs.Calls.{CountsQuietTurns, crash_reply, configuration_of, has_crashed, marked, moved, opening_state, ready_at, room_after_crash, room_after_settle, room_after_step, room_kind, step_reply, sweep_after, sweep_at, with_sweep, woken};
 ghost use Rattle.room_core.specs.Settled.{IsSettledFor};
 ghost use Rattle.room_core.specs.Settling.{each_in_order, ran_alone, turn_ended};
 
 use crate::reply::{CrashReply, StepReply};
 use arrayvec::ArrayVec;
 use room_spec::Spec;
-use simulator::{Mind, Move, Ready, Sweep};
+use simulator::{Mind, Ready, Sweep};
 use std::alloc::{AllocError, Global};
 use std::marker::Model;
 use view_table::words;
@@ -254,22 +254,12 @@ impl RoomCore {
         self.sweeps[i].ready(&self.spec)
     }
 
-    fn next_move(&self, i: usize) -> Move
-        requires { i < self.now.spec.simulators }
-        ensures value { result ≡ operation_at self.now i }
-        ensures within { IsWithin result (words_of (sizes_in self.now.spec)) }
-    {
-        self.mind(i).next_move(&self.spec)
-    }
-
     /// One atomic step of simulator `i`, which has one to take.
     fn advance(&mut self, i: usize)
         requires { HasLine (configuration_of self.old) i }
         ensures { self.new ≡ moved self.old i }
     {
-        let next = self.next_move(i);
-        let answer = perform(&mut self.words, next);
-        take(&mut self.sweeps[i], &self.spec, answer);
+        advance(&mut self.sweeps[i], &self.spec, &mut self.words);
     }
 
     fn mark(&mut self, i: usize)
@@ -287,40 +277,17 @@ impl RoomCore {
     }
 }
 
-/// Takes in what an operation answered, and notes what has become of the turn.
-fn take(sweep: &mut Sweep, spec: &Spec, answer: u64)
+/// Takes one atomic step on the words, and notes what has become of the turn.
+#[inline(always)]
+fn advance(sweep: &mut Sweep, spec: &Spec, words: &mut [u64])
     requires is_mind { IsMind spec.now sweep.old.mind }
     requires operation { IsOperation (move_of spec.now sweep.old.mind) }
-    ensures { sweep.new ≡ sweep_after (taken spec.now sweep.old.mind answer) sweep.old.quiet }
+    requires words { length words.old ≡ words_of (sizes_in spec.now) }
+    ensures words { words.new ≡ words_after (move_of spec.now sweep.old.mind) words.old }
+    ensures sweep { sweep.new ≡ sweep_after (taken spec.now sweep.old.mind (answer_of (move_of spec.now sweep.old.mind) words.old)) sweep.old.quiet }
 {
-    let turn = sweep.mind_mut().take(spec, answer);
+    let turn = sweep.mind_mut().step(spec, words);
     sweep.note(turn);
-}
-
-/// Does the operation on the words, and answers it.
-fn perform(words: &mut Vec<u64>, next: Move) -> u64
-    requires { IsWithin next (length words.old.items) }
-    ensures words { words.new.items ≡ words_after next words.old.items }
-    ensures answer { result ≡ answer_of next words.old.items }
-{
-    match next {
-        Move::Load(index) => words[index],
-        Move::Store(index, number) => {
-            words[index] = number;
-            number
-        }
-        Move::Add(index, number) => {
-            let old = words[index];
-            words[index] = old.wrapping_add(number);
-            old
-        }
-        Move::Sub(index, number) => {
-            let old = words[index];
-            words[index] = old.wrapping_sub(number);
-            old
-        }
-        Move::Finished | Move::OutOfTurns => 0,
-    }
 }
 
 /// So many words that are 0, which is all that a room takes memory for.

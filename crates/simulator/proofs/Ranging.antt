@@ -106,6 +106,10 @@ within_at (GetView chosen) spec mind is at = view_within spec chosen mind is at.
 within_at Values spec mind is at = value_within spec mind (length mind.entries) is at.1 at.2
 within_at (Out decision) spec mind is at = within_index spec (places.Out mind.number mind.sweep) (is.number, is.sweep)
 
+-- the same where a move is known to be that of a line, on a list that has all words
+pub within_words : (line : Line) (spec : RoomSpec) (mind : MindState) (move : Move) (count : ℕ) → move ≡ move_at line spec mind → count ≡ words_of (sizes_in spec) → IsMind spec mind → IsOpenAt line spec mind → IsWithin move count
+within_words line spec mind move count is all mind_is at = subst (λ n. IsWithin move n) (sym all) (subst (λ m. IsWithin m (words_of (sizes_in spec))) (sym is) (within_at line spec mind mind_is at))
+
 pub within : (spec : RoomSpec) (mind : MindState) → IsMind spec mind → IsWithin (move_of spec mind) (words_of (sizes_in spec))
 within spec mind is = within_at mind.line spec mind is is.at
 

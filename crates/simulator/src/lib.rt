@@ -14,6 +14,7 @@ pub mod laws;
 mod line;
 mod mind;
 mod next;
+mod operating;
 mod operation;
 mod sweep;
 mod taking;

@@ -21,6 +21,7 @@ use view_table::Place;
 
 impl Mind {
     /// The atomic step at this line.
+    #[inline(always)]
     pub(crate) fn move_at(&self, spec: &Spec, line: Line) -> Move
         requires is_mind { IsMind spec.now self.now }
         requires at { IsOpenAt line spec.now self.now }

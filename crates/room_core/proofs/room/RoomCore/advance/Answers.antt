@@ -1,17 +1,31 @@
-use Rattle.std.proofs.Common.{◌≡◌, ◌∙◌, ap, sym, subst}
-use Rattle.simulator.specs.Moves.{words_after, answer_of}
-use Rattle.simulator.specs.declared.operation.Move.{Move}
+use Rattle.std.proofs.Common.{◌≡◌, ◌∙◌, ℕ, List, length, get_or, ap, sym, subst, arith}
+use Rattle.std.specs.Vec.{with_items}
+use Rattle.std.proofs.lemmas.List.{with_items_is}
+use Rattle.simulator.specs.Moves.{answer_of, move_of, words_after}
+use Rattle.simulator.specs.Sweeps.{SweepState}
 use Rattle.room_core.specs.Rooms.{HasLine}
-use Rattle.room_core.specs.Calls.{RoomState, configuration_of, IsCore, operation_at}
-use Rattle.room_core.proofs.States.{moved_is, moved_room}
+use Rattle.room_core.specs.Calls.{RoomState, configuration_of, IsCore, operation_at, sweep_at}
+use Rattle.room_core.proofs.Replays.{length-words_after}
+use Rattle.room_core.proofs.States.{moved_is, moved_room, read_sweep}
 use Rattle.room_core.proofs.room.RoomCore.advance.Goals as goal
 
 pub invariant_of-self : goal.invariant_of-self
 invariant_of-self c =
     let room : RoomState = record { spec = c.self.inside.spec; words = c.self.inside.words.items; sweeps = c.self.inside.sweeps.items; crashed = c.self.inside.crashed.items } in
-    let may : HasLine (configuration_of room) c.args.i = subst (λ (r : RoomState). HasLine (configuration_of r) c.args.i) (sym c.self.view_is) c.requires in
-    let next : c.next_move-next.result ≡ operation_at room c.args.i = c.next_move-next.ensures.value ∙ ap (λ (r : RoomState). operation_at r c.args.i) (sym c.self.view_is) in
-    let done = c.perform-answer.ensures.words ∙ ap (λ (move : Move). words_after move room.words) next in
-    let answered = c.perform-answer.ensures.answer ∙ ap (λ (move : Move). answer_of move room.words) next in
-    let left = moved_is room c.perform-answer.new.words.items c.deref_mut.result.now c.args.i c.index-deref_mut-i.result c.take.new.sweep c.perform-answer.result c.self.invariant.is_room.shape c.deref_mut.ensures.value may.alive.below c.index-deref_mut-i.is done answered c.take.ensures in
-    subst IsCore (sym left) (moved_room room c.args.i c.self.invariant may)
+    let i = c.args.i in
+    let may : HasLine (configuration_of room) i = subst (λ (r : RoomState). HasLine (configuration_of r) i) (sym c.self.view_is) c.requires in
+    let shape = c.self.invariant.is_room.shape in
+    let below = may.alive.below in
+    let sweeps = c.deref_mut.result.now in
+    let read = c.index-deref_mut-i.result in
+    let there : get_or sweeps i read ≡ sweep_at room i = sym c.index-deref_mut-i.is ∙ read_sweep room sweeps i read shape c.deref_mut.ensures.value below c.index-deref_mut-i.is in
+    let words : c.deref_mut-2.result.now ≡ room.words = c.deref_mut-2.ensures.value in
+    let done : c.advance.new.words ≡ words_after (operation_at room i) room.words = c.advance.ensures.words
+    ∙ ap (λ (sweep : SweepState). words_after (move_of room.spec sweep.mind) c.deref_mut-2.result.now) there
+    ∙ ap (words_after (operation_at room i)) words in
+    let answered : answer_of (move_of room.spec (get_or sweeps i read).mind) c.deref_mut-2.result.now ≡ answer_of (operation_at room i) room.words =
+    ap (λ (sweep : SweepState). answer_of (move_of room.spec sweep.mind) c.deref_mut-2.result.now) there ∙ ap (answer_of (operation_at room i)) words in
+    let long : length c.advance.new.words ≡ c.self.inside.words.len = ap (λ (l : List ℕ). length l) done ∙ length-words_after (operation_at room i) room.words ∙ omega arith in
+    let left = moved_is room (with_items c.self.inside.words c.advance.new.words).items sweeps i read c.advance.new.sweep (answer_of (move_of room.spec (get_or sweeps i read).mind) c.deref_mut-2.result.now) shape c.deref_mut.ensures.value below c.index-deref_mut-i.is
+    (with_items_is c.self.inside.words c.advance.new.words long ∙ done) answered c.advance.ensures.sweep in
+    subst IsCore (sym left) (moved_room room i c.self.invariant may)
