@@ -1,6 +1,6 @@
 -- How many atomic steps a simulator takes before it is idle: at most n + 10 for each turn that it begins, and the rest of the
 -- one that is open.
-use Rattle.std.proofs.Common.{◌≡◌, ℕ, ◌+◌, ◌-◌, ◌*◌, ◌<◌, ◌≤◌, min, Bool, true, false, cond, ltb, List, [], ◌∷◌, ◌++◌, length, Option, Some, None, refl, sym, ap, ◌∙◌, arith}
+use Rattle.std.proofs.Common.{◌≡◌, ℕ, ◌+◌, ◌-◌, ◌*◌, ◌<◌, ◌≤◌, min, Bool, true, false, cond, ltb, List, [], ◌∷◌, ◌++◌, length, Option, Some, None, refl, ap, ◌∙◌, arith}
 use Rattle.std.proofs.Math.Nat.{suc-mul, add-mul}
 use Rattle.std.proofs.lemmas.Nat.{mul-le}
 use Rattle.protocol_lang.specs.declared.meaning.Action.{Action}
@@ -22,9 +22,9 @@ use Rattle.simulator.specs.Bounds.{answered, answered_all, IsReadyThroughout}
 use Rattle.simulator.specs.Minds.{MindState, goal_at, current_round, next_process, unfinished_in}
 use Rattle.simulator.specs.Moves.{entry_in, chosen_in, taken_at, taken}
 use Rattle.simulator.specs.Ranges.{IsMind}
-use Rattle.simulator.specs.Sweeps.{SweepState, is_resting, ready_of, quiet_after}
+use Rattle.simulator.specs.Sweeps.{SweepState, is_resting, ready_of}
 use Rattle.simulator.specs.Turns.{TakenOf, counted, begun, goes_on, ended, asked, after_write, acted, padded, gathered_all, gathered, opened_at, opened}
-use Rattle.simulator.proofs.Bounding.{open_turns, total, falls_all, busy_by, open_most, turns_before}
+use Rattle.simulator.proofs.Bounding.{open_turns, falls_all, busy_by, open_most, turns_before}
 use Rattle.simulator.proofs.Keeping.{kept}
 use Rattle.simulator.proofs.Processes.{none_next}
 use Rattle.simulator.proofs.Stepping.{bounded, moves, steps_by_one}
