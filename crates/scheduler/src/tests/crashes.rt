@@ -1,8 +1,8 @@
 //! What becomes of a room in which simulators crash after each number of steps.
-use super::PAIR;
 use super::driving::{driven, ended};
 use super::orders::THREE;
 use super::threads::{judged, run};
+use super::{PAIR, settle};
 use crate::{Fuse, Stop};
 use room_core::RoomCore;
 use std::alloc::{AllocError, Global};
@@ -56,7 +56,7 @@ fn pair_comes_to(
     for steps in first..=last {
         let mut room = pair_with_crash(alloc, steps, others)?;
         let _ = judged(alloc, &room)?;
-        room.settle();
+        settle(&mut room);
         let report = judged(alloc, &room)?;
         if report.states.as_slice() != states || report.crashed.as_slice() != [0].as_slice() {
             return Err(Fail::from("these states"));
@@ -226,7 +226,7 @@ fn is_right(report: &Report, holder: Option<u8>) -> bool {
 
 fn two_come_to(alloc: Global, first: u64, second: u64) -> Result<(), Fail> {
     let mut room = two_crash(alloc, first, second)?;
-    room.settle();
+    settle(&mut room);
     let report = judged(alloc, &room)?;
     let crashed = if is_inside(first) && second > 8 { 1 } else { 2 };
     if report.crashed.len() != crashed || !is_right(&report, holder(first, second)) {
@@ -252,7 +252,7 @@ fn two_of_three_threads_crash_at_each_step(rt: HostRuntime) -> Result<(), Fail> 
             let fuses = [Fuse::after(first), Fuse::after(second), Fuse::none()];
             let mut room = run(&rt, rt.alloc(), THREE, fuses.as_slice())?;
             let _ = judged(rt.alloc(), &room)?;
-            room.settle();
+            settle(&mut room);
             let _ = judged(rt.alloc(), &room)?;
         }
     }

@@ -3,7 +3,7 @@ ghost use Rattle.std.specs.Prelude.{◌≡◌};
 
 use super::orders::FULL;
 use super::threads::judged;
-use super::{PAIR, close, fresh, give};
+use super::{PAIR, close, fresh, give, settle};
 use crate::{FreeGate, Fuse, Gate, Stop, drive, turn};
 use room_core::RoomCore;
 use ruled_room::{Keeper, RuledRoom};
@@ -78,7 +78,7 @@ fn crash_after(alloc: Global, steps: u64) -> Result<(), Fail> {
         return Err(Fail::from("so many steps"));
     }
     let _ = judged(alloc, &room)?;
-    room.settle();
+    settle(&mut room);
     let _ = judged(alloc, &room)?;
     Ok(())
 }

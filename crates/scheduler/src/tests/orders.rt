@@ -1,7 +1,7 @@
 //! Rooms that are stepped in one order, over shared words and over words of their own.
 ghost use Rattle.std.specs.Prelude.{◌≡◌};
 
-use super::{PAIR, close, fresh, give, spec, steps, word_at};
+use super::{PAIR, close, fresh, give, settle, spec, steps, word_at};
 use history_checker::check;
 use room_core::{RoomCore, StepReply};
 use ruled_room::{Gone, Keeper, RuledRoom, Stop};
@@ -93,8 +93,8 @@ fn told(alloc: Global, text: &str, order: &[Stretch]) -> Result<Report, Fail> {
     let mut shared = shared(alloc, text, order)?;
     let mut alone = alone(alloc, text, order)?;
     let found = same_report(alloc, &shared, &alone)?;
-    shared.settle();
-    alone.settle();
+    settle(&mut shared);
+    settle(&mut alone);
     let _ = same_report(alloc, &shared, &alone)?;
     match check(shared.spec(), found.history.events()) {
         Ok(()) => Ok(found),
@@ -260,7 +260,7 @@ fn a_spent_process(rt: HostRuntime) -> Result<(), Fail> {
     assert_eq!(rt; before.history.events().len(), 2);
     // Settling finds nothing left to do.
     let mut room = shared(rt.alloc(), WRITER, &[(0, 100, Stop::Idle)])?;
-    room.settle();
+    settle(&mut room);
     let after = report(rt.alloc(), &room)?;
     assert!(rt; are_same(&before, &after));
     Ok(())
