@@ -1,9 +1,9 @@
 -- Verdicts put behind one another.
-use Rattle.std.proofs.Common.{◌≡◌, ◌∙◌, ℕ, suc, ◌+◌, ◌<◌, ◌≤◌, Bool, true, false, ◌&&◌, ◌==◌, inl, inr, get_or, List, [], ◌∷◌, ◌++◌, length, map, take, Option, Some, None, refl, sym, ap, subst, arith}
+use Rattle.std.proofs.Common.{◌≡◌, ◌∙◌, ℕ, suc, ◌+◌, ◌<◌, ◌≤◌, Bool, true, false, ◌&&◌, ◌==◌, inl, inr, List, [], ◌∷◌, ◌++◌, length, map, take, Option, Some, None, refl, sym, ap, subst, arith}
 use Rattle.std.specs.Prelude.{slice_get, MatchOption, IsSomeAnd}
 use Rattle.std.specs.List.{All, flat_map, list_all}
 use Rattle.std.proofs.lemmas.Grind.{flat_map-append}
-use Rattle.std.proofs.lemmas.List.{append-nil, append_assoc, map_push, length-map, take_all}
+use Rattle.std.proofs.lemmas.List.{append-nil, append_assoc, map_push, take_all}
 use Rattle.std.proofs.lemmas.List.Elements.{All-nil, All-push}
 use Rattle.std.proofs.lemmas.List.Folds.{list_all-append}
 use Rattle.std.proofs.lemmas.Option.{slice_get_within, slice_get_cases, slice_get-map, get_or_from_slice_get}
@@ -76,21 +76,27 @@ no_room : (found : Option RoomSpec) (result : Option Verdict) (fed : List FedEve
 no_room None result fed is none = refl
 no_room (Some room) result fed is some = absurd (subst (λ r. IsSomeAnd r (IsVerdict room (fed_to room.name fed))) is some)
 
-pub as_many : (rooms : List RoomSpec) (names : List (List ℕ)) → names ≡ names_of rooms → length names ≡ length rooms
-as_many rooms names names_are = ap length names_are ∙ length-map rooms (λ (room : RoomSpec). room.name)
-
--- each room has a verdict
-pub never_none : (rooms : List RoomSpec) (names : List (List ℕ)) (index : ℕ) (result : Option Verdict) (fed : List FedEvent) → names ≡ names_of rooms → index < length names → result ≡ None
-    → MatchOption (slice_get rooms index) (result ≡ None) (λ spec. IsSomeAnd result (IsVerdict spec (fed_to spec.name fed))) → ⊥
-never_none rooms names index result fed names_are within is verdict =
-    let none = no_room (slice_get rooms index) result fed is verdict in
-    let many : index < length rooms = subst (λ n. index < n) (as_many rooms names names_are) within in
+room_within : (rooms : List RoomSpec) (index : ℕ) → index < length rooms → slice_get rooms index ≡ None → ⊥
+room_within rooms index within none =
     elim (slice_get_cases rooms index).1 as (λ x. ⊥) [
       | inl there ↦ let some = there.2 in absurd cc
       | inr past ↦ let beyond = past.0 in absurd (omega arith)
     ]
 
+-- each room has a verdict
+pub never_none : (rooms : List RoomSpec) (index : ℕ) (result : Option Verdict) (fed : List FedEvent) → index < length rooms → result ≡ None
+    → MatchOption (slice_get rooms index) (result ≡ None) (λ spec. IsSomeAnd result (IsVerdict spec (fed_to spec.name fed))) → ⊥
+never_none rooms index result fed within is verdict = room_within rooms index within (no_room (slice_get rooms index) result fed is verdict)
+
+nameless : (found : Option RoomSpec) → None ≡ option_map (λ (room : RoomSpec). room.name) found → found ≡ None
+nameless None none = refl
+nameless (Some room) none = absurd cc
+
+-- each room has a name
+pub never_nameless : (rooms : List RoomSpec) (index : ℕ) → index < length rooms → None ≡ slice_get (names_of rooms) index → ⊥
+never_nameless rooms index within none = room_within rooms index within (nameless (slice_get rooms index) (none ∙ slice_get-map (λ (room : RoomSpec). room.name) rooms index))
+
 -- the name at a room's place is the room's
-pub name_there : (rooms : List RoomSpec) (names : List (List ℕ)) (index : ℕ) (room : RoomSpec) (name : List ℕ) → names ≡ names_of rooms → slice_get rooms index ≡ Some room → name ≡ get_or names index name → name ≡ room.name
-name_there rooms names index room name names_are there name_is =
-    name_is ∙ get_or_from_slice_get names index room.name name (ap (λ ns. slice_get ns index) names_are ∙ slice_get-map (λ (r : RoomSpec). r.name) rooms index ∙ ap (option_map (λ (r : RoomSpec). r.name)) there)
+pub name_there : (rooms : List RoomSpec) (index : ℕ) (room : RoomSpec) (name : List ℕ) → slice_get rooms index ≡ Some room → Some name ≡ slice_get (names_of rooms) index → name ≡ room.name
+name_there rooms index room name there name_is =
+    let same : Some name ≡ Some room.name = name_is ∙ slice_get-map (λ (r : RoomSpec). r.name) rooms index ∙ ap (option_map (λ (r : RoomSpec). r.name)) there in cc

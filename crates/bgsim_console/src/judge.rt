@@ -1,6 +1,6 @@
 //! The answer to a whole input.
 ghost use Rattle.std.specs.Prelude.{◌≡◌, ◌≤◌, List, Ok, IfOk, IfErr, length, string_bytes};
-ghost use Rattle.history_checker.specs.Verdicts.{FedEvent, HasProcessed, specs_of, names_of};
+ghost use Rattle.history_checker.specs.Verdicts.{FedEvent, HasProcessed, specs_of};
 ghost use Rattle.bgsim_console.specs.Check.{IsFaultOr, MayLackMemory, IsOutput, IsOutputFor, input_says, is_run, outcome_if};
 
 use crate::events::feed_events;
@@ -8,7 +8,6 @@ use crate::fault::{IoFault, Outcome};
 use crate::report::verdict_line;
 use crate::setup::{Setup, read_blocks};
 use history_checker::{Rooms, Verdict};
-use room_spec::Name;
 use std::alloc::{AllocError, Global};
 
 /// The output, and the outcome that goes with it.
@@ -27,30 +26,23 @@ pub fn judge(alloc: Global, input: &[u8]) -> Result<Answer, IoFault>
     let (setup, transcript) = read_blocks(alloc, input)?;
     let Setup {
         mut rooms,
-        names,
         refused,
         line,
     } = setup;
     feed_events(&mut rooms, line, transcript)?;
-    Ok(answer_of(alloc, &rooms, &names, refused)?)
+    Ok(answer_of(alloc, &rooms, refused)?)
 }
 
 /// Puts the rooms' verdicts behind the lines of the refused blocks.
-fn answer_of(
-    alloc: Global,
-    rooms: &Rooms,
-    names: &[Name],
-    refused: String,
-) -> Result<Answer, AllocError>
-    requires names { names.now ≡ names_of (specs_of rooms.now) }
-    requires processed { (fed : List FedEvent) × HasProcessed rooms.now fed }
+fn answer_of(alloc: Global, rooms: &Rooms, refused: String) -> Result<Answer, AllocError>
+    requires { (fed : List FedEvent) × HasProcessed rooms.now fed }
     ensures { IfOk result (λ answer. (fed : List FedEvent) → HasProcessed rooms.now fed → IsOutput (specs_of rooms.now) (string_bytes refused) fed answer.outcome (string_bytes answer.output)) }
 {
     let mut all_well = refused.is_empty();
     let mut output = refused;
-    for (index, name) in names.iter().enumerate() {
-        let Some(verdict) = rooms.verdict(index) else {
-            unreachable!() // each name is that of the room of its index
+    for index in 0..rooms.len() {
+        let (Some(name), Some(verdict)) = (rooms.name(index), rooms.verdict(index)) else {
+            unreachable!() // there is a room of each index below their number
         };
         all_well &= is_run(verdict);
         let line = verdict_line(alloc, name, verdict)?;

@@ -1,5 +1,5 @@
 //! What the blocks of an input say.
-ghost use Rattle.std.specs.Prelude.{◌≡◌, ◌+◌, ◌<◌, ◌^◌, ◌≤◌, [], Ok, IfOk, IfErr, length, string_bytes, codes};
+ghost use Rattle.std.specs.Prelude.{◌≡◌, ◌+◌, ◌<◌, ◌^◌, ◌≤◌, [], Ok, IfOk, IfErr, length, string_bytes, codes, decimal};
 ghost use Rattle.bgsim_console.specs.declared.fault.IoFault.TheVariants.{Memory};
 ghost use Rattle.room_spec.specs.Blocks.{block_in};
 ghost use Rattle.bgsim_console.specs.Run.{all_blocks};
@@ -11,7 +11,7 @@ use crate::report::{fault_text, refused_line};
 use crate::script::block_extent;
 use history_checker::{AddFault, Rooms};
 use protocol_lang::ParseFault;
-use room_spec::{Name, Spec, SpecFault, block_len, cut, read_block};
+use room_spec::{Spec, SpecFault, block_len, cut, read_block};
 use std::alloc::{AllocError, Global};
 use std::marker::Model;
 
@@ -23,8 +23,6 @@ const ENDED_EARLY: u16 = 61;
 pub struct Setup {
     /// The rooms that they open, which have no events yet.
     pub rooms: Rooms,
-    /// The names of the rooms, in order.
-    pub names: Vec<Name>,
     /// The lines of the blocks that were refused.
     pub refused: String,
     /// The number of the next line.
@@ -35,7 +33,7 @@ impl Model for Setup {
     ghost use Rattle.std.specs.Coded.{codes};
     ghost use Rattle.protocol_lang.specs.Codes.{expression_code};
     ghost use Rattle.std.specs.Prelude.{◌≡◌, [], string_bytes};
-    ghost use Rattle.history_checker.specs.Verdicts.{HasProcessed, specs_of, names_of};
+    ghost use Rattle.history_checker.specs.Verdicts.{HasProcessed, specs_of};
     ghost use Rattle.bgsim_console.specs.Check.{Setup as SetupSpec};
 
     ghost Value = { SetupSpec };
@@ -44,7 +42,7 @@ impl Model for Setup {
 
     ghost view = { λ setup. record { rooms = specs_of setup.rooms; refused = string_bytes setup.refused; line = setup.line } };
 
-    ghost invariant = { λ setup. HasProcessed setup.rooms [] × (setup.names.items ≡ names_of (specs_of setup.rooms)) };
+    ghost invariant = { λ setup. HasProcessed setup.rooms [] };
 }
 
 impl Setup {
@@ -53,7 +51,6 @@ impl Setup {
     {
         Setup {
             rooms: Rooms::new(alloc),
-            names: Vec::new(alloc),
             refused: String::new(alloc),
             line: 1,
         }
@@ -81,15 +78,20 @@ impl Setup {
         ensures room { IfOk result (λ setup. setup ≡ open_room self spec) }
         ensures line { IfOk result (λ setup. setup.line ≡ self.line) }
     {
-        let name = spec.name().clone()?;
         match self.rooms.add(alloc, spec) {
-            Ok(()) => {
-                self.names.push(name)?;
-                Ok(self)
-            }
-            Err(AddFault::NameTaken) => self.refuse(alloc, "41"),
+            Ok(()) => Ok(self),
             Err(AddFault::OutOfMemory) => Err(AllocError),
+            Err(AddFault::NameTaken) => self.refuse_code(alloc, AddFault::NameTaken.code()),
         }
+    }
+
+    /// Refuses a block for a fault that its code alone tells.
+    fn refuse_code(self, alloc: Global, code: u16) -> Result<Setup, AllocError>
+        ensures refused { IfOk result (λ setup. setup ≡ refuse self (decimal code)) }
+        ensures line { IfOk result (λ setup. setup.line ≡ self.line) }
+    {
+        let text = format!(in alloc; "{code}")?;
+        self.refuse(alloc, text.as_str())
     }
 
     fn refuse(mut self, alloc: Global, fault: &str) -> Result<Setup, AllocError>

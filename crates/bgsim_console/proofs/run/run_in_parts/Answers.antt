@@ -1,4 +1,4 @@
-use Rattle.std.proofs.Common.{◌≡◌, List, length, subst, arith, rules}
+use Rattle.std.proofs.Common.{◌≡◌, length, arith, rules}
 use Rattle.bgsim_console.proofs.RunTexts.{all_reported, none_reported, part_reported}
 use Rattle.bgsim_console.proofs.run.run_in_parts.Goals as goal
 
