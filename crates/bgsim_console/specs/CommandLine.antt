@@ -1,5 +1,5 @@
 -- What the words of the command line ask for, and what `clap`'s parse reads of the program's command.
-use Rattle.std.specs.Prelude.{◌≡◌, ◌==◌, ◌≤◌, ⊤, ℕ, Bool, true, false, List, [], ◌∷◌, Option, None, Some, pos, codes, if◌then◌else◌, option_and_then, slice_get}
+use Rattle.std.specs.Prelude.{◌≡◌, ◌==◌, ◌≤◌, ℕ, Bool, true, false, List, [], ◌∷◌, Option, None, Some, pos, codes, if◌then◌else◌, option_and_then, slice_get, take}
 use Rattle.std.specs.Option.{option_map_or}
 use Rattle.std.specs.Str.{bytes_eq}
 use Rattle.std.specs.Str.Parse.{IsNumeral, digits_value, without_leading_plus}
@@ -26,23 +26,27 @@ abbrev pub begins_with_dash : List ℕ → Bool
 begins_with_dash [] = false
 begins_with_dash (byte ∷ bytes) = byte == 45
 
--- there is no word, or one that doesn't begin with `-`
-abbrev pub AreBare : List (List ℕ) → Type 0
-AreBare [] = ⊤
-AreBare (word ∷ []) = begins_with_dash word ≡ false
-AreBare (word ∷ other ∷ others) = ⊥
+-- the words behind those that give the number of workers, which is `--workers=W`, or `--workers` and then `W`; `is_next` says that
+-- the first word is such a `W`
+abbrev pub behind_workers : (is_next : Bool) → List (List ℕ) → List (List ℕ)
+behind_workers is_next [] = []
+behind_workers true (number ∷ words) = behind_workers false words
+behind_workers false (word ∷ words) =
+    if bytes_eq word (codes "--workers") then behind_workers true words
+    else if bytes_eq (take 10 word) (codes "--workers=") then behind_workers false words
+    else word ∷ words
 
--- the words behind a mode's name ask for the file; behind `run` other words than a file may stand
-abbrev pub IsFileAsked : Mode → List (List ℕ) → Option (List ℕ) → Type 0
-IsFileAsked Check words file = file ≡ file_named words
-IsFileAsked Play words file = file ≡ file_named words
-IsFileAsked Run words file = AreBare words → file ≡ file_named words
+-- the words behind a mode's name that name the file
+abbrev pub file_words : Mode → List (List ℕ) → List (List ℕ)
+file_words Check words = words
+file_words Play words = words
+file_words Run words = behind_workers false words
 
 -- the words ask for the mode and the file: there are no words, the mode is `check` and there is no file; or the first word is the
 -- mode's, and those behind it name the file
 abbrev pub IsAsked : List (List ℕ) → Mode → Option (List ℕ) → Type 0
 IsAsked [] mode file = (mode ≡ Check) × (file ≡ None)
-IsAsked (word ∷ words) mode file = (word ≡ word_of mode) × IsFileAsked mode words file
+IsAsked (word ∷ words) mode file = (word ≡ word_of mode) × (file ≡ file_named (file_words mode words))
 
 -- the words are the mode's, and at most a file behind it that doesn't begin with `-`
 abbrev pub IsPlainly : List (List ℕ) → Mode → Type 0
