@@ -1,15 +1,8 @@
 -- A line is written field by field.
-use Rattle.std.proofs.Common.{◌≡◌, ℕ, ◌≤◌, ◌<◌, ◌+◌, true, List, [], ◌∷◌, ◌++◌, Option, Result, Ok, Err, length, map, drop, slice_index_or, refl, sym, ap, ◌∙◌, append_assoc, drop-cons}
+use Rattle.std.proofs.Common.{◌≡◌, ℕ, ◌<◌, ◌+◌, List, [], ◌∷◌, ◌++◌, Option, length, map, drop, slice_index_or, refl, sym, ap, ◌∙◌, append_assoc, drop-cons}
 use native.Mathlib.Numerals.{unary_clauses}
 use Rattle.std.specs.List.{join_with_byte}
-use Rattle.std.specs.Prelude.{IfOk}
-use Rattle.std.specs.declared.alloc.AllocError.{AllocError}
-use Rattle.room_spec.specs.Names.{is_name}
-use Rattle.transcript.specs.declared.event.Event.{Event}
-use Rattle.transcript.specs.Runs.{process_of}
-use Rattle.transcript.specs.Grammar.{entry_text, event_line, HasValues}
-use Rattle.transcript.specs.Lines.{line_in}
-use Rattle.transcript.proofs.Events.{line_again}
+use Rattle.transcript.specs.Grammar.{entry_text}
 
 -- two fields with the space between them are as one
 pub join_two : (first second : List ℕ) (others : List (List ℕ)) → join_with_byte 32 (join_with_byte 32 (first ∷ second ∷ []) ∷ others) ≡ join_with_byte 32 (first ∷ second ∷ others)
@@ -28,9 +21,3 @@ writes_on start before after entries i d below text so_far =
     ∙ join_two before (entry_text (slice_index_or entries i d)) (map entry_text (drop (i + 1) entries))
     ∙ ap (λ (rest : List (Option ℕ)). join_with_byte 32 (before ∷ map entry_text rest)) (sym (drop-plus entries i d below))
     ∙ so_far
-
-pub reads_again : {A : Type 0} (bytes : A → List ℕ) (name said : List ℕ) (event : Event) (written : Result A AllocError) → is_name name ≡ true → said ≡ name → process_of event ≤ 15 → HasValues event
-    → IfOk written (λ line. bytes line ≡ event_line said event) → IfOk written (λ line. line_in (bytes line) ≡ Ok (name, event))
-reads_again bytes name said event (Ok line) named same process values text =
-    line_again (bytes line) name event (record { text = text ∙ ap (λ (n : List ℕ). event_line n event) same; room = named; process = process; values = values })
-reads_again bytes name said event (Err refused) named same process values text = tt

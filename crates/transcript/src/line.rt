@@ -1,5 +1,5 @@
 //! Event lines.
-ghost use Rattle.std.specs.Prelude.{◌≡◌, [], ◌∷◌, ◌≤◌, ℕ, List, length, map, string_bytes, IfOk};
+ghost use Rattle.std.specs.Prelude.{◌≡◌, [], ◌∷◌, ◌++◌, ◌≤◌, ℕ, List, length, map, string_bytes, IfOk};
 ghost use Rattle.std.specs.List.{count_by, join_with_byte};
 ghost use Rattle.std.specs.Result.{OnOk};
 ghost use Rattle.room_spec.specs.Texts.{is_space, fields_of};
@@ -160,23 +160,31 @@ pub fn write_event(alloc: Global, name: &Name, event: &Event) -> Result<Vec<u8>,
     // An event of a process 0 to 15, with a row of 1 to 16 entries in a snapshot, is read again from it.
     ensures again { process_of event.now ≤ 15 → HasValues event.now → IfOk result (λ line. line_in line.items ≡ Ok (name.now, event.now)) }
 {
-    write_named_event(alloc, name.as_str(), event)
+    let mut line = String::with_capacity(alloc, MAX_LINE)?;
+    append_named_event(&mut line, name.as_str(), event)?;
+    Ok(line.into_bytes())
+}
+
+/// Writes the line of an event in the room of this name behind the text, without a line end. The one
+/// error is want of memory.
+pub fn append_event(text: &mut String, name: &Name, event: &Event) -> Result<(), AllocError>
+    ensures { OnOk result (string_bytes text.new ≡ string_bytes text.old ++ event_line name.now event.now) }
+{
+    append_named_event(text, name.as_str(), event)
 }
 
 /// Writes the name and the fields behind it.
-fn write_named_event(alloc: Global, name: &str, event: &Event) -> Result<Vec<u8>, AllocError>
-    ensures { IfOk result (λ line. line.items ≡ event_line name.now event.now) }
+fn append_named_event(text: &mut String, name: &str, event: &Event) -> Result<(), AllocError>
+    ensures { OnOk result (string_bytes text.new ≡ string_bytes text.old ++ event_line name.now event.now) }
 {
-    let mut line = String::with_capacity(alloc, MAX_LINE)?;
     match event {
-        Event::Write { p, v } => write!(line, "{name} {p} write {v}")?,
+        Event::Write { p, v } => write!(text, "{name} {p} write {v}"),
         Event::Snap { p, row } => {
-            write!(line, "{name} {p} snap")?;
-            write_entries(&mut line, row.as_slice())?;
+            write!(text, "{name} {p} snap")?;
+            write_entries(text, row.as_slice())
         }
-        Event::Decide { p, v } => write!(line, "{name} {p} decide {v}")?,
+        Event::Decide { p, v } => write!(text, "{name} {p} decide {v}"),
     }
-    Ok(line.into_bytes())
 }
 
 /// Writes the entries of a snapshot, each behind a space.

@@ -87,6 +87,9 @@ fn written_lines(rt: HostRuntime) -> Result<(), Fail> {
     row.push(Some(5));
     let written = write_event(rt.alloc(), &name, &Event::Snap { p: 0, row })?;
     assert_eq!(rt; written.as_slice(), b"one 0 snap 5".as_slice());
+    let mut text = String::from_str(rt.alloc(), "one 0 write 5\n")?;
+    append_event(&mut text, &name, &Event::Write { p: 15, v: 6 })?;
+    assert_eq!(rt; text.as_str(), "one 0 write 5\none 15 write 6");
     Ok(())
 }
 
