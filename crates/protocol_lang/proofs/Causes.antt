@@ -1,15 +1,15 @@
 -- What the first fault of a text is.
-use Rattle.std.proofs.Common.{arith, ◌≡◌, ◌⊎◌, ℕ, zero, suc, ◌+◌, ◌<◌, ◌≤◌, Bool, true, false, cond, leb, ltb, List, [], ◌∷◌, ◌++◌, length, take, drop, length-append, Option, Some, None, Result, Ok, Err, refl, sym, ap, ◌∙◌, subst, inl, inr}
+use Rattle.std.proofs.Common.{arith, ◌≡◌, ℕ, zero, suc, ◌+◌, ◌<◌, ◌≤◌, cond, leb, List, [], ◌∷◌, length, take, drop, length-append, Option, Some, None, Result, Ok, Err, refl, sym, ap, ◌∙◌, subst, inl, inr}
 use Rattle.std.specs.Prelude.{⊤, IfErr}
-use Rattle.std.specs.List.{count_by, prefix_len, take_while}
+use Rattle.std.specs.List.{prefix_len, take_while}
 use Rattle.std.proofs.lemmas.Bool.{cases_Bool, cases_lt}
 use Rattle.std.proofs.lemmas.List.{take-append-drop, drop-drop}
 use Rattle.protocol_lang.specs.Numbers.{greatest, is_digit, number_of}
 use Rattle.protocol_lang.specs.Tokens.{is_blank, is_letter, is_end, word_of, symbol_of}
 use Rattle.protocol_lang.specs.Trees.{Expression, Tree}
 use Rattle.protocol_lang.specs.Formulas.{trees}
-use Rattle.protocol_lang.specs.Grammar.{Written, AreTokens, CanFollow, IsOutOfPlace, IsNoToken, IsTooDeep, IsRuleMore, IsViewBefore, WantOpen, IsFirstFault, place_of}
-use Rattle.protocol_lang.specs.Reading.{◌>>=◌, word_token, number_token, symbol_token, token_at, extent_of, past_blanks, next_token, State, opening, step, fault_at, stepped, one_token, onward, run, most_tokens, tree_read, reading, IsReading}
+use Rattle.protocol_lang.specs.Grammar.{Written, CanFollow, IsOutOfPlace, IsNoToken, IsTooDeep, IsRuleMore, IsViewBefore, WantOpen, IsFirstFault, place_of}
+use Rattle.protocol_lang.specs.Reading.{word_token, number_token, symbol_token, token_at, extent_of, past_blanks, next_token, State, opening, step, fault_at, stepped, one_token, onward, run, most_tokens, tree_read, reading, IsReading}
 use Rattle.protocol_lang.specs.declared.fault.ParseFault.{ParseFault}
 use Rattle.protocol_lang.specs.declared.fault.ParseFault.TheVariants.{TooLong, BadToken, Unexpected, TooDeep, TooManyRules, ViewInFirst, NumberTooLarge, OutOfMemory}
 use Rattle.protocol_lang.specs.declared.token.Token.{Token}
@@ -29,8 +29,8 @@ use Rattle.protocol_lang.proofs.Steps.{placed, next_token_is, token_reads, stand
 use Rattle.protocol_lang.proofs.Front.{at_letter, at_digit, at_other}
 use Rattle.protocol_lang.proofs.Onward.{reading_by}
 use Rattle.protocol_lang.proofs.Locality.{bind_err, next_fault, one_is, run_is, behind_token, run_whole}
-use Rattle.protocol_lang.proofs.Whens.{begun_rules, Counts, step_counts, text_short}
-use Rattle.protocol_lang.proofs.Reasons.{Follows, follows, TakesOpen, is_early, Counted, counted}
+use Rattle.protocol_lang.proofs.Whens.{Counts, step_counts, text_short}
+use Rattle.protocol_lang.proofs.Reasons.{Follows, follows, TakesOpen, counted}
 use Rattle.protocol_lang.proofs.Following.{Stops, stops, are_begun, holds_all, never_follows, wants_operand, wanting_at}
 
 -- ---- a token's own faults

@@ -1,15 +1,15 @@
 -- The first token that can't follow those before it.
-use Rattle.std.proofs.Common.{arith, ◌≡◌, ◌⊎◌, ℕ, zero, suc, ◌+◌, ◌<◌, ◌≤◌, Bool, true, false, cond, not, ltb, List, [], ◌∷◌, ◌++◌, append_assoc, length, Option, Some, None, Result, Ok, Err, refl, sym, ap, ◌∙◌, subst, inl, inr}
-use Rattle.std.specs.List.{count_by, list_all}
-use Rattle.std.proofs.lemmas.Bool.{cases_Bool, cases_lt, and_from, and_parts, lt-ltb, le-ltb}
+use Rattle.std.proofs.Common.{◌≡◌, ℕ, zero, suc, Bool, true, false, not, List, [], ◌∷◌, ◌++◌, append_assoc, Option, Some, None, Result, Ok, Err, refl, sym, ap, ◌∙◌, subst, inl, inr}
+use Rattle.std.specs.List.{list_all}
+use Rattle.std.proofs.lemmas.Bool.{cases_Bool, and_from, and_parts}
 use Rattle.std.proofs.lemmas.List.{append-nil}
-use Rattle.protocol_lang.specs.Tokens.{is_end, name_of, call_of, operator_of, comparator_of, kind_of, reads_view}
-use Rattle.protocol_lang.specs.Trees.{Expression, TreeOf}
-use Rattle.protocol_lang.specs.Formulas.{Operands, trees}
-use Rattle.protocol_lang.specs.Grammar.{Written, AreTokens, word_for, call_word, tree_tokens, IsFormed, Begins, CanFollow, WantOperand, EndInCall, AreBegun}
-use Rattle.protocol_lang.specs.Reading.{◌>>=◌, State, opening, step_at, step, one_token, onward, run, tree_read}
+use Rattle.protocol_lang.specs.Tokens.{is_end}
+use Rattle.protocol_lang.specs.Trees.{Expression}
+use Rattle.protocol_lang.specs.Formulas.{trees}
+use Rattle.protocol_lang.specs.Grammar.{Written, AreTokens, tree_tokens, Begins, CanFollow, WantOperand, AreBegun}
+use Rattle.protocol_lang.specs.Reading.{State, opening, step, one_token, onward, run, tree_read}
 use Rattle.protocol_lang.specs.declared.fault.ParseFault.{ParseFault}
-use Rattle.protocol_lang.specs.declared.fault.ParseFault.TheVariants.{TooLong, BadToken, Unexpected, TooDeep, TooManyRules, ViewInFirst, NumberTooLarge, OutOfMemory}
+use Rattle.protocol_lang.specs.declared.fault.ParseFault.TheVariants.{TooLong}
 use Rattle.protocol_lang.specs.declared.token.Token.{Token}
 use Rattle.protocol_lang.specs.declared.token.Token.TheVariants as tokens
 use Rattle.protocol_lang.specs.declared.token.Word.TheVariants as words
@@ -20,18 +20,16 @@ use Rattle.protocol_lang.specs.declared.parser.Part.{Part}
 use Rattle.protocol_lang.specs.declared.parser.Part.TheVariants as parts
 use Rattle.protocol_lang.specs.declared.parser.Level.{Level}
 use Rattle.protocol_lang.specs.declared.parser.Refusal.{Refusal}
-use Rattle.protocol_lang.specs.declared.parser.Refusal.TheVariants as refusals
-use Rattle.protocol_lang.specs.declared.tree.Call.{Call}
 use Rattle.protocol_lang.specs.declared.tree.Kind.{Kind}
 use Rattle.protocol_lang.specs.declared.tree.Kind.TheVariants as kinds
 use Rattle.protocol_lang.specs.declared.tree.Comparator.{Comparator}
 use Rattle.protocol_lang.specs.declared.tree.Comparator.TheVariants as comparators
 use Rattle.protocol_lang.proofs.Carrying.{writings}
-use Rattle.protocol_lang.proofs.Locality.{bind_err, one_is, run_is, run_none, behind_token}
+use Rattle.protocol_lang.proofs.Locality.{bind_err, run_is, run_none}
 use Rattle.protocol_lang.proofs.Going.{Goes, Took, took, ends_again}
 use Rattle.protocol_lang.proofs.Only.{tree_reads}
 use Rattle.protocol_lang.proofs.Holding.{Wanting}
-use Rattle.protocol_lang.proofs.Holds.{Holds, HoldsAt, Between, holds_on}
+use Rattle.protocol_lang.proofs.Holds.{Holds, HoldsAt, holds_on}
 
 -- ---- from wherever reading stands some tokens lead to an end
 

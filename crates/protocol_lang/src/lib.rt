@@ -18,7 +18,7 @@ mod token;
 mod tree;
 
 pub use fault::ParseFault;
-pub use meaning::{Action, View, first, next};
+pub use meaning::{Action, MAX_PROCESSES, View, first, next};
 pub use number::read_number;
 pub use printer::print;
 pub use protocol::{Protocol, parse, parse_bytes};

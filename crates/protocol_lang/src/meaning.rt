@@ -12,8 +12,11 @@ use crate::stack::Stack;
 use crate::tree::Kind;
 use arrayvec::ArrayVec;
 
+/// The most processes of a room.
+pub const MAX_PROCESSES: usize = 16;
+
 /// A snapshot: for each process its last write, or nothing. It has an entry for each process.
-pub type View = ArrayVec<Option<u32>, 16>;
+pub type View = ArrayVec<Option<u32>, MAX_PROCESSES>;
 
 /// What a process does after a snapshot.
 #[derive(Clone, Copy, Debug, PartialEq, Eq)]

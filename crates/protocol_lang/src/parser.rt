@@ -148,6 +148,15 @@ impl Part {
     }
 }
 
+/// The longest text of a protocol, in bytes.
+const MAX_TEXT: usize = 4096;
+
+/// The most rules of a protocol.
+const MAX_RULES: usize = 32;
+
+/// The most parentheses that are open at once.
+const MAX_OPEN: usize = 32;
+
 /// What has been read so far.
 #[derive(Drop)]
 pub struct Parser {
@@ -155,7 +164,7 @@ pub struct Parser {
     expected: Expected,
     part: Part,
     level: Level,
-    outer: Stack<Level, 32>,
+    outer: Stack<Level, MAX_OPEN>,
     draft: Draft,
     left: Formula,
     conditions: Conditions,
@@ -443,7 +452,7 @@ impl Parser {
         ensures { Ends (rule self.old token) result self.new }
     {
         match token {
-            Token::Word(Word::When) if self.rules.len() >= 32 => Err(Refusal::TooManyRules),
+            Token::Word(Word::When) if self.rules.len() >= MAX_RULES => Err(Refusal::TooManyRules),
             Token::Word(Word::When) => {
                 self.part = Part::Left;
                 self.expected = Expected::Operand;
@@ -512,9 +521,6 @@ impl Parser {
         })
     }
 }
-
-/// The longest text of a protocol, in bytes.
-const MAX_TEXT: usize = 4096;
 
 /// The tree of a whole text, or its first fault.
 pub(crate) fn read(alloc: Global, text: &[u8]) -> Result<Tree, ParseFault>

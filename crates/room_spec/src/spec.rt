@@ -4,11 +4,9 @@ ghost use Rattle.room_spec.specs.Rooms.{IsShape, IsWithinLimits, bits_of, fuse_o
 
 use crate::name::Name;
 use arrayvec::ArrayVec;
+pub use protocol_lang::MAX_PROCESSES;
 use protocol_lang::Protocol;
 use std::marker::Model;
-
-/// The most processes of a room.
-pub const MAX_PROCESSES: usize = 16;
 
 /// The most simulators of a room.
 pub const MAX_SIMULATORS: usize = 8;
