@@ -148,6 +148,8 @@ impl Room {
 #[derive(Drop)]
 pub struct Rooms {
     rooms: IndexMap<Name, Room>,
+    /// Whether a room has a row.
+    has_rows: bool,
 }
 
 impl Model for Rooms {
@@ -172,6 +174,7 @@ impl Rooms {
     {
         Rooms {
             rooms: IndexMap::new(alloc),
+            has_rows: false,
         }
     }
 
@@ -202,6 +205,7 @@ impl Rooms {
     {
         let name = spec.name().clone()?;
         let room = Room::open(alloc, spec)?;
+        self.has_rows |= room.row.is_some();
         self.rooms.insert(name, room)?;
         Ok(())
     }
@@ -234,6 +238,9 @@ impl Rooms {
         ensures rooms { specs_of self.new ≡ specs_of self.old }
         ensures other { IsFalse result → self.new ≡ self.old }
     {
+        if !self.has_rows {
+            return false;
+        }
         let Some((name, p, entries)) = snap_parts(line) else {
             return false;
         };
