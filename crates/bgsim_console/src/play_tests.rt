@@ -1,8 +1,8 @@
 use crate::device::Device;
 use crate::engine::play_io;
 use crate::fault::{IoFault, Outcome};
-use std::alloc::Global;
-use std::fmt::Write;
+use crate::script_tests::named;
+use std::alloc::{AllocError, Global};
 use std::process::Abort;
 use std::test::*;
 
@@ -20,6 +20,9 @@ const A: &str =
 
 const B: &str =
     "bgsim 1\nroom b\ninputs 9\nsimulators 1\nrounds 1\nturns 10\nprotocol\nfirst input;\nelse decide mine;\nend\n";
+
+const TENANT: &str =
+    "open\nbgsim 1\nroom @\ninputs 5\nsimulators 1\nrounds 1\nturns 10\nprotocol\nfirst input;\nelse decide mine;\nend\n";
 
 const PAIR: &str =
     "bgsim 1\nroom pair\ninputs 7 3\nsimulators 2\nrounds 1\nturns 100\nprotocol\nfirst input;\nelse decide min;\nend\n";
@@ -68,100 +71,98 @@ fn expect_in(
     expect(rt, alloc, script.as_str(), Ok(Outcome::AllWell), output)
 }
 
-#[test]
-fn one_process(rt: HostRuntime) -> Result<(), Fail> {
-    let alloc = rt.alloc();
-    expect_in(
-        &rt,
-        alloc,
+/// A room of one process, lines to it, and all replies.
+const OF_ONE: [(&str, &str, &str); 4] = [
+    (
         ONE,
         "step one 0 100\nreport one",
         "one opened\none step 0 11 idle\none report\none process 0 decided 5\none crashed\none history 3\none 0 write 5\none 0 snap 5\none 0 decide 5\none end\n",
-    )?;
-    expect_in(
-        &rt,
-        alloc,
+    ),
+    (
         ONE_THAT_WRITES,
         "step one 0 100\nreport one\nsettle one\nreport one\n",
         "one opened\none step 0 10 idle\none report\none process 0 spent\none crashed\none history 2\none 0 write 5\none 0 snap 5\none end\none settled\none report\none process 0 spent\none crashed\none history 2\none 0 write 5\none 0 snap 5\none end\n",
-    )?;
-    expect_in(
-        &rt,
-        alloc,
+    ),
+    (
         ONE_OF_THREE,
         "step one 0 5\ncrash one 0\nstep one 1 5\ncrash one 1\nstep one 2 100\nreport one\n",
         "one opened\none step 0 5 stepped\none crash 0 crashed\none step 1 5 stepped\none crash 1 crashed\none step 2 8 idle\none report\none process 0 held 0\none crashed 0 1\none history 1\none 0 write 5\none end\n",
-    )?;
-    expect_in(
-        &rt,
-        alloc,
+    ),
+    (
         TWO,
         "step two 0 2\nstep two 1 100\nstep two 0 100\nreport two\n",
         "two opened\ntwo step 0 2 stepped\ntwo step 1 21 idle\ntwo step 0 19 idle\ntwo report\ntwo process 0 decided 6\ntwo crashed\ntwo history 5\ntwo 0 write 5\ntwo 0 snap 5\ntwo 0 write 6\ntwo 0 snap 6\ntwo 0 decide 6\ntwo end\n",
-    )
+    ),
+];
+
+#[test]
+fn one_process(rt: HostRuntime) -> Result<(), Fail> {
+    for (block, lines, output) in OF_ONE {
+        expect_in(&rt, rt.alloc(), block, lines, output)?;
+    }
+    Ok(())
 }
+
+/// A room of two processes, lines to it, their replies, and its report then.
+const OF_TWO: [(&str, &str, &str, &str); 9] = [
+    (PAIR, "step pair 0 100\n", "pair step 0 23 idle\n", IN_ORDER),
+    (
+        PAIR,
+        "step pair 0 100\nstep pair 1 100\n",
+        "pair step 0 23 idle\npair step 1 23 idle\n",
+        IN_ORDER,
+    ),
+    (
+        PAIR,
+        "step pair 0 5\ncrash pair 0\nstep pair 1 100\n",
+        "pair step 0 5 stepped\npair crash 0 crashed\npair step 1 20 idle\n",
+        HELD,
+    ),
+    (
+        PAIR,
+        "step pair 0 4\ncrash pair 0\nstep pair 1 100\n",
+        "pair step 0 4 stepped\npair crash 0 crashed\npair step 1 24 idle\n",
+        TOGETHER,
+    ),
+    (
+        PAIR,
+        "step pair 0 4\nstep pair 1 100\nstep pair 0 1\ncrash pair 0\n",
+        "pair step 0 4 stepped\npair step 1 24 idle\npair step 0 1 stepped\npair crash 0 crashed\n",
+        TOGETHER,
+    ),
+    (
+        PAIR,
+        "crash pair 0\ncrash pair 1\ncrash pair 1\nstep pair 0 1\nsettle pair\n",
+        "pair crash 0 crashed\npair crash 1 crashed\npair crash 1 already\npair step 0 0 crashed\npair settled\n",
+        "pair report\npair process 0 going\npair process 1 going\npair crashed 0 1\npair history 0\npair end\n",
+    ),
+    (
+        PAIR,
+        "step pair 0 5\nsettle pair\nstep pair 0 1\n",
+        "pair step 0 5 stepped\npair settled\npair step 0 0 idle\n",
+        IN_ORDER,
+    ),
+    (
+        PAIR_OF_ONE_TURN,
+        "step pair 0 100\nsettle pair\n",
+        "pair step 0 11 out of turns\npair settled\n",
+        IN_ORDER,
+    ),
+    (
+        PAIR_OF_ONE_TURN,
+        "step pair 0 5\ncrash pair 0\nsettle pair\n",
+        "pair step 0 5 stepped\npair crash 0 crashed\npair settled\n",
+        HELD,
+    ),
+];
 
 #[test]
 fn two_processes(rt: HostRuntime) -> Result<(), Fail> {
     let alloc = rt.alloc();
-    for (lines, replies, report) in [
-        ("step pair 0 100\n", "pair step 0 23 idle\n", IN_ORDER),
-        (
-            "step pair 0 100\nstep pair 1 100\n",
-            "pair step 0 23 idle\npair step 1 23 idle\n",
-            IN_ORDER,
-        ),
-        (
-            "step pair 0 5\ncrash pair 0\nstep pair 1 100\n",
-            "pair step 0 5 stepped\npair crash 0 crashed\npair step 1 20 idle\n",
-            HELD,
-        ),
-        (
-            "step pair 0 4\ncrash pair 0\nstep pair 1 100\n",
-            "pair step 0 4 stepped\npair crash 0 crashed\npair step 1 24 idle\n",
-            TOGETHER,
-        ),
-        (
-            "step pair 0 4\nstep pair 1 100\nstep pair 0 1\ncrash pair 0\n",
-            "pair step 0 4 stepped\npair step 1 24 idle\npair step 0 1 stepped\npair crash 0 crashed\n",
-            TOGETHER,
-        ),
-        (
-            "crash pair 0\ncrash pair 1\ncrash pair 1\nstep pair 0 1\nsettle pair\n",
-            "pair crash 0 crashed\npair crash 1 crashed\npair crash 1 already\npair step 0 0 crashed\npair settled\n",
-            "pair report\npair process 0 going\npair process 1 going\npair crashed 0 1\npair history 0\npair end\n",
-        ),
-        (
-            "step pair 0 5\nsettle pair\nstep pair 0 1\n",
-            "pair step 0 5 stepped\npair settled\npair step 0 0 idle\n",
-            IN_ORDER,
-        ),
-    ] {
+    for (block, lines, replies, report) in OF_TWO {
         let lines = format!(in alloc; "{lines}report pair\n")?;
         let output = format!(in alloc; "pair opened\n{replies}{report}")?;
-        expect_in(&rt, alloc, PAIR, lines.as_str(), output.as_str())?;
-    }
-    for (lines, replies, report) in [
-        (
-            "step pair 0 100\nsettle pair\n",
-            "pair step 0 11 out of turns\npair settled\n",
-            IN_ORDER,
-        ),
-        (
-            "step pair 0 5\ncrash pair 0\nsettle pair\n",
-            "pair step 0 5 stepped\npair crash 0 crashed\npair settled\n",
-            HELD,
-        ),
-    ] {
-        let lines = format!(in alloc; "{lines}report pair\n")?;
-        let output = format!(in alloc; "pair opened\n{replies}{report}")?;
-        expect_in(
-            &rt,
-            alloc,
-            PAIR_OF_ONE_TURN,
-            lines.as_str(),
-            output.as_str(),
-        )?;
+        expect_in(&rt, alloc, block, lines.as_str(), output.as_str())?;
     }
     Ok(())
 }
@@ -196,39 +197,53 @@ fn two_tenants(rt: HostRuntime) -> Result<(), Fail> {
     )
 }
 
+/// How often the rooms of 200 tenants are told this, those of even and of odd number, and what they
+/// reply each time, with a room's name in place of each `@`.
+const OF_TENANTS: [(u8, [&str; 2], [&str; 2]); 5] = [
+    (1, [TENANT, TENANT], ["@ opened\n", "@ opened\n"]),
+    (
+        11,
+        ["step @ 0 1\n", "step @ 0 1\n"],
+        ["@ step 0 1 stepped\n", "@ step 0 1 stepped\n"],
+    ),
+    (
+        1,
+        ["step @ 0 1\n", "step @ 0 1\n"],
+        ["@ step 0 0 idle\n", "@ step 0 0 idle\n"],
+    ),
+    (1, ["", "close @\n"], ["", "@ closed\n"]),
+    (
+        1,
+        ["report @\n", "report @\n"],
+        [
+            "@ report\n@ process 0 decided 5\n@ crashed\n@ history 3\n@ 0 write 5\n@ 0 snap 5\n@ 0 decide 5\n@ end\n",
+            "@ refused 40\n",
+        ],
+    ),
+];
+
+/// The texts of all tenants, in order.
+fn of_tenants(alloc: Global, texts: [&str; 2]) -> Result<String, AllocError> {
+    let mut all = String::new(alloc);
+    for k in 0..200usize {
+        let name = format!(in alloc; "r{k}")?;
+        let own = named(alloc, texts[k % 2], name.as_str())?;
+        all.push_str(own.as_str())?;
+    }
+    Ok(all)
+}
+
 #[test]
 fn two_hundred_tenants(rt: HostRuntime) -> Result<(), Fail> {
     let alloc = rt.alloc();
     let mut script = String::new(alloc);
     let mut output = String::new(alloc);
-    let rest =
-        "inputs 5\nsimulators 1\nrounds 1\nturns 10\nprotocol\nfirst input;\nelse decide mine;\nend\n";
-    for k in 0..200 {
-        write!(script, "open\nbgsim 1\nroom r{k}\n{rest}")?;
-        write!(output, "r{k} opened\n")?;
-    }
-    for round in 1..13 {
-        let answer = if round < 12 { "1 stepped" } else { "0 idle" };
-        for k in 0..200 {
-            write!(script, "step r{k} 0 1\n")?;
-            write!(output, "r{k} step 0 {answer}\n")?;
-        }
-    }
-    for k in 0..200 {
-        if k % 2 == 1 {
-            write!(script, "close r{k}\n")?;
-            write!(output, "r{k} closed\n")?;
-        }
-    }
-    for k in 0..200 {
-        write!(script, "report r{k}\n")?;
-        if k % 2 == 0 {
-            write!(
-                output,
-                "r{k} report\nr{k} process 0 decided 5\nr{k} crashed\nr{k} history 3\nr{k} 0 write 5\nr{k} 0 snap 5\nr{k} 0 decide 5\nr{k} end\n"
-            )?;
-        } else {
-            write!(output, "r{k} refused 40\n")?;
+    for (times, lines, replies) in OF_TENANTS {
+        let lines = of_tenants(alloc, lines)?;
+        let replies = of_tenants(alloc, replies)?;
+        for _ in 0..times {
+            script.push_str(lines.as_str())?;
+            output.push_str(replies.as_str())?;
         }
     }
     expect(
@@ -263,34 +278,37 @@ fn refused_blocks(rt: HostRuntime) -> Result<(), Fail> {
     )
 }
 
+/// Lines that ask for nothing.
+const BAD_LINES: [&str; 23] = [
+    "",
+    "open ",
+    " open",
+    "step",
+    "step one",
+    "step one 0",
+    "step one 0 0",
+    "step one 0 65536",
+    "step one 256 1",
+    "step one 0 01",
+    "step one 0 1 ",
+    "step one 0 1 1",
+    "step  one 0 1",
+    "step One 0 1",
+    "steps one 0 1",
+    "crash one",
+    "crash one 256",
+    "crash one 0 1",
+    "settle",
+    "settle one 0",
+    "report one ",
+    "close",
+    "end",
+];
+
 #[test]
 fn bad_lines(rt: HostRuntime) -> Result<(), Fail> {
     let alloc = rt.alloc();
-    for line in [
-        "",
-        "open ",
-        " open",
-        "step",
-        "step one",
-        "step one 0",
-        "step one 0 0",
-        "step one 0 65536",
-        "step one 256 1",
-        "step one 0 01",
-        "step one 0 1 ",
-        "step one 0 1 1",
-        "step  one 0 1",
-        "step One 0 1",
-        "steps one 0 1",
-        "crash one",
-        "crash one 256",
-        "crash one 0 1",
-        "settle",
-        "settle one 0",
-        "report one ",
-        "close",
-        "end",
-    ] {
+    for line in BAD_LINES {
         let script = format!(in alloc; "open\n{ONE}step one 0 1\n{line}\nstep one 0 1\n")?;
         expect(
             &rt,

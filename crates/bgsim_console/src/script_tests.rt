@@ -29,24 +29,36 @@ fn replies(alloc: Global, script: &str) -> Result<Vec<u8>, Fail> {
     }
 }
 
+/// The text with a name in place of each `@`.
+pub fn named(alloc: Global, text: &str, name: &str) -> Result<String, AllocError> {
+    let mut named = String::new(alloc);
+    for part in text.chars() {
+        if part == '@' {
+            named.push_str(name)?;
+        } else {
+            named.push(part)?;
+        }
+    }
+    Ok(named)
+}
+
 /// A line to the room of this name, and a block behind it where it is `open`.
 fn random_line(alloc: Global, random: &mut Random, name: &str) -> Result<String, AllocError> {
     let sim = random.below(3);
-    match random.below(12) {
-        0 => format!(in alloc; "close {name}\n"),
-        1 | 2 => format!(in alloc; "report {name}\n"),
-        3 => format!(in alloc; "settle {name}\n"),
-        4 => format!(in alloc; "crash {name} {sim}\n"),
+    let line = match random.below(12) {
+        0 => "close @\n",
+        1 | 2 => "report @\n",
+        3 => "settle @\n",
+        4 => return format!(in alloc; "crash {name} {sim}\n"),
         5 | 6 => {
-            format!(in alloc;
-                "open\nbgsim 1\nroom {name}\ninputs 7 3\nsimulators 2\nrounds 1\nturns 3\nprotocol\nfirst input;\nelse decide min;\nend\n"
-            )
+            "open\nbgsim 1\nroom @\ninputs 7 3\nsimulators 2\nrounds 1\nturns 3\nprotocol\nfirst input;\nelse decide min;\nend\n"
         }
         _ => {
             let count = random.below(30) + 1;
-            format!(in alloc; "step {name} {sim} {count}\n")
+            return format!(in alloc; "step {name} {sim} {count}\n");
         }
-    }
+    };
+    named(alloc, line, name)
 }
 
 /// The lines that begin with this name.
@@ -91,49 +103,81 @@ fn random_scripts(rt: HostRuntime) -> Result<(), Fail> {
     Ok(())
 }
 
+/// Each command to a room that isn't there, to one of two processes, and to one that is closed.
+const EACH_COMMAND: &str =
+    "step @ 0 1\ncrash @ 0\nsettle @\nreport @\nclose @\nopen\nbgsim 1\nroom @\ninputs 7 3\nsimulators 2\nrounds 1\nturns 1\nprotocol\nfirst input;\nelse decide mine;\nend\nopen\nbgsim 1\nroom @\ninputs 7 3\nsimulators 2\nrounds 1\nturns 1\nprotocol\nfirst input;\nelse decide mine;\nend\nstep @ 0 3\nstep @ 0 99\nstep @ 2 1\ncrash @ 1\ncrash @ 1\nstep @ 1 1\ncrash @ 255\nsettle @\nreport @\nclose @\nclose @\n";
+
+const EACH_REPLY: &str =
+    "@ refused 40\n@ refused 40\n@ refused 40\n@ refused 40\n@ refused 40\n@ opened\n@ refused 41\n@ step 0 3 stepped\n@ step 0 8 out of turns\n@ refused 42\n@ crash 1 crashed\n@ crash 1 already\n@ step 1 0 crashed\n@ refused 42\n@ settled\n@ report\n@ process 0 decided 7\n@ process 1 going\n@ crashed 1\n@ history 3\n@ 0 write 7\n@ 0 snap 7 .\n@ 0 decide 7\n@ end\n@ closed\n@ refused 40\n";
+
 #[test]
 fn each_reply(rt: HostRuntime) -> Result<(), Fail> {
     let alloc = rt.alloc();
-    let mut script = String::new(alloc);
-    let mut output = String::new(alloc);
     for name in ["x", "y-2"] {
-        write!(
-            script,
-            "step {name} 0 1\ncrash {name} 0\nsettle {name}\nreport {name}\nclose {name}\n"
-        )?;
-        write!(
-            output,
-            "{name} refused 40\n{name} refused 40\n{name} refused 40\n{name} refused 40\n{name} refused 40\n"
-        )?;
-        let block = format!(in alloc;
-            "open\nbgsim 1\nroom {name}\ninputs 7 3\nsimulators 2\nrounds 1\nturns 1\n{PROTOCOL}"
-        )?;
-        write!(
-            script,
-            "{block}{block}step {name} 0 3\nstep {name} 0 99\nstep {name} 2 1\n"
-        )?;
-        write!(
-            output,
-            "{name} opened\n{name} refused 41\n{name} step 0 3 stepped\n{name} step 0 8 out of turns\n{name} refused 42\n"
-        )?;
-        write!(
-            script,
-            "crash {name} 1\ncrash {name} 1\nstep {name} 1 1\ncrash {name} 255\nsettle {name}\nreport {name}\nclose {name}\nclose {name}\n"
-        )?;
-        write!(
-            output,
-            "{name} crash 1 crashed\n{name} crash 1 already\n{name} step 1 0 crashed\n{name} refused 42\n{name} settled\n"
-        )?;
-        write!(
-            output,
-            "{name} report\n{name} process 0 decided 7\n{name} process 1 going\n{name} crashed 1\n{name} history 3\n{name} 0 write 7\n{name} 0 snap 7 .\n{name} 0 decide 7\n{name} end\n"
-        )?;
-        write!(output, "{name} closed\n{name} refused 40\n")?;
+        let script = named(alloc, EACH_COMMAND, name)?;
+        let output = named(alloc, EACH_REPLY, name)?;
+        let found = replies(alloc, script.as_str())?;
+        assert_eq!(rt; found.as_slice(), output.as_bytes());
     }
-    let found = replies(alloc, script.as_str())?;
-    assert_eq!(rt; found.as_slice(), output.as_bytes());
     Ok(())
 }
+
+/// The head of a block, its numbers, the rest, and its fault with the numbers behind it.
+const REFUSED: [(&str, &str, &str, &str); 23] = [
+    ("bgsim 2\n", "", PROTOCOL, "11 1"),
+    ("bgsim 1 \n", NUMBERS, PROTOCOL, "11 1"),
+    ("bgsim 1\nroom One\n", NUMBERS, PROTOCOL, "12"),
+    ("bgsim 1\nroom \n", NUMBERS, PROTOCOL, "12"),
+    (TOP, "inputs \n", PROTOCOL, "11 3"),
+    (TOP, "inputs 05\n", PROTOCOL, "11 3"),
+    (TOP, "inputs\n", PROTOCOL, "14"),
+    (TOP, "inputs 1 4294967296\n", PROTOCOL, "14"),
+    (TOP, "inputs 1\nsimulators 0\n", PROTOCOL, "15"),
+    (TOP, "inputs 1\nsimulators 9\n", PROTOCOL, "15"),
+    (TOP, "inputs 1\nsimulators 1\nrounds 0\n", PROTOCOL, "16"),
+    (TOP, "inputs 1\nsimulators 1\nrounds 16\n", PROTOCOL, "16"),
+    (
+        TOP,
+        "inputs 1 1 1\nsimulators 8\nrounds 4\n",
+        PROTOCOL,
+        "18",
+    ),
+    (
+        TOP,
+        "inputs 1 1 1\nsimulators 6\nrounds 8\n",
+        PROTOCOL,
+        "18",
+    ),
+    (
+        TOP,
+        "inputs 1\nsimulators 1\nrounds 1\nturns 0\n",
+        PROTOCOL,
+        "17",
+    ),
+    (
+        TOP,
+        "inputs 1\nsimulators 1\nrounds 1\nturns 65536\n",
+        PROTOCOL,
+        "17",
+    ),
+    (TOP, NUMBERS, "crash 1 after 3\nend\n", "19 7"),
+    (TOP, NUMBERS, "crash 0 after\nend\n", "19 7"),
+    (
+        TOP,
+        NUMBERS,
+        "crash 0 after 1\ncrash 0 after 2\nend\n",
+        "20 8",
+    ),
+    (
+        TOP,
+        NUMBERS,
+        "crash 0 after 1\ncrash 0 after 1\nend\n",
+        "20 8",
+    ),
+    (TOP, NUMBERS, "protocol\nend\n", "13 3 0"),
+    (TOP, NUMBERS, "protocol\nfirst 05;\nend\n", "13 2 6"),
+    (TOP, NUMBERS, "protocol\nfirst min;\nend\n", "13 6 6"),
+];
 
 #[test]
 fn each_refused_block(rt: HostRuntime) -> Result<(), Fail> {
@@ -141,61 +185,7 @@ fn each_refused_block(rt: HostRuntime) -> Result<(), Fail> {
     let mut script = String::new(alloc);
     let mut output = String::new(alloc);
     let mut line: u64 = 2;
-    for (top, numbers, rest, fault) in [
-        ("bgsim 2\n", "", PROTOCOL, "11 1"),
-        ("bgsim 1 \n", NUMBERS, PROTOCOL, "11 1"),
-        ("bgsim 1\nroom One\n", NUMBERS, PROTOCOL, "12"),
-        ("bgsim 1\nroom \n", NUMBERS, PROTOCOL, "12"),
-        (TOP, "inputs \n", PROTOCOL, "11 3"),
-        (TOP, "inputs 05\n", PROTOCOL, "11 3"),
-        (TOP, "inputs\n", PROTOCOL, "14"),
-        (TOP, "inputs 1 4294967296\n", PROTOCOL, "14"),
-        (TOP, "inputs 1\nsimulators 0\n", PROTOCOL, "15"),
-        (TOP, "inputs 1\nsimulators 9\n", PROTOCOL, "15"),
-        (TOP, "inputs 1\nsimulators 1\nrounds 0\n", PROTOCOL, "16"),
-        (TOP, "inputs 1\nsimulators 1\nrounds 16\n", PROTOCOL, "16"),
-        (
-            TOP,
-            "inputs 1 1 1\nsimulators 8\nrounds 4\n",
-            PROTOCOL,
-            "18",
-        ),
-        (
-            TOP,
-            "inputs 1 1 1\nsimulators 6\nrounds 8\n",
-            PROTOCOL,
-            "18",
-        ),
-        (
-            TOP,
-            "inputs 1\nsimulators 1\nrounds 1\nturns 0\n",
-            PROTOCOL,
-            "17",
-        ),
-        (
-            TOP,
-            "inputs 1\nsimulators 1\nrounds 1\nturns 65536\n",
-            PROTOCOL,
-            "17",
-        ),
-        (TOP, NUMBERS, "crash 1 after 3\nend\n", "19 7"),
-        (TOP, NUMBERS, "crash 0 after\nend\n", "19 7"),
-        (
-            TOP,
-            NUMBERS,
-            "crash 0 after 1\ncrash 0 after 2\nend\n",
-            "20 8",
-        ),
-        (
-            TOP,
-            NUMBERS,
-            "crash 0 after 1\ncrash 0 after 1\nend\n",
-            "20 8",
-        ),
-        (TOP, NUMBERS, "protocol\nend\n", "13 3 0"),
-        (TOP, NUMBERS, "protocol\nfirst 05;\nend\n", "13 2 6"),
-        (TOP, NUMBERS, "protocol\nfirst min;\nend\n", "13 6 6"),
-    ] {
+    for (top, numbers, rest, fault) in REFUSED {
         let lines = format!(in alloc; "open\n{top}{numbers}{rest}")?;
         script.push_str(lines.as_str())?;
         write!(output, "line {line} refused {fault}\n")?;
@@ -230,13 +220,15 @@ impl Write for Filling {
     }
 }
 
+/// A script with a block, a bad block and a report.
+fn failing_script(alloc: Global) -> Result<String, AllocError> {
+    format!(in alloc; "open\n{TOP}{NUMBERS}{PROTOCOL}step one 0 4\nopen\nend\nreport one\n")
+}
+
 #[test]
-fn failing_devices(rt: HostRuntime) -> Result<(), Fail> {
+fn failing_readers(rt: HostRuntime) -> Result<(), Fail> {
     let alloc = rt.alloc();
-    let script = format!(in alloc;
-        "open\n{TOP}{NUMBERS}{PROTOCOL}step one 0 4\nopen\nend\nreport one\n"
-    )?;
-    let output = replies(alloc, script.as_str())?;
+    let script = failing_script(alloc)?;
     for fails in 0..script.len() + 1 {
         let mut reader = Device::new(Trickle::new(script.as_bytes(), fails));
         let mut written = Vec::new(alloc);
@@ -247,6 +239,14 @@ fn failing_devices(rt: HostRuntime) -> Result<(), Fail> {
         );
         assert!(rt; written.is_empty());
     }
+    Ok(())
+}
+
+#[test]
+fn failing_writers(rt: HostRuntime) -> Result<(), Fail> {
+    let alloc = rt.alloc();
+    let script = failing_script(alloc)?;
+    let output = replies(alloc, script.as_str())?;
     for room in 0..output.len() {
         let mut reader = Device::new(script.as_bytes());
         let mut inner = Filling {
