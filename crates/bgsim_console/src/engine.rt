@@ -79,7 +79,7 @@ pub fn play_io<R: Read, W: Write>(
     let script = read_input(alloc, reader)?;
     judge_script(&script)?;
     let played = play_script(alloc, &script)?;
-    write_output(writer, &played.output)?;
+    write_output(writer, played.output.as_bytes())?;
     if played.lacking {
         return Err(IoFault::Memory);
     }
@@ -118,6 +118,6 @@ pub fn run_io<H: Threads + Wait + Sync, R: Read, W: Write, G: Gate + Sync>(
 {
     let input = read_input(alloc, reader)?;
     let ran = run_blocks(rt, alloc, input, workers, gate)?;
-    write_output(writer, &ran.output)?;
+    write_output(writer, ran.output.as_bytes())?;
     Ok(ran.outcome)
 }

@@ -1,5 +1,5 @@
 //! A script, entry by entry.
-ghost use Rattle.std.specs.Prelude.{◌≡◌, ◌≤◌, ◌<◌, ◌+◌, ◌^◌, ◌||◌, ◌++◌, ◌∷◌, [], true, false, List, Ok, IsOk, IfOk, IfErr, OnOk, is_some, length};
+ghost use Rattle.std.specs.Prelude.{◌≡◌, ◌≤◌, ◌<◌, ◌+◌, ◌^◌, ◌||◌, ◌++◌, ◌∷◌, [], true, false, List, Ok, IsOk, IfOk, IfErr, OnOk, is_some, length, string_bytes};
 ghost use Rattle.service_core.specs.declared.reply.Reply.{Reply as ReplyData};
 ghost use Rattle.service_core.specs.Runs.{is_want};
 ghost use Rattle.bgsim_console.specs.Check.{IsFaultOf, refused_line};
@@ -10,7 +10,7 @@ ghost use Rattle.bgsim_console.specs.Script.{Entry, Open, command_in, entry_at, 
 use crate::fault::IoFault;
 use crate::lines::count_lines;
 use crate::reply::write_reply;
-use crate::report::{fault_text, refused_line};
+use crate::report::{fault_text, write_refused};
 use crate::script::{is_open, next_entry, read_command};
 use crate::setup::read_room;
 use service_core::{Command, Refusal, Reply, Service};
@@ -24,7 +24,7 @@ const BAD_COMMAND: u16 = 60;
 pub struct Player {
     service: Service,
     /// The lines of the replies and of the refused blocks.
-    pub output: Vec<u8>,
+    pub output: String,
     /// Whether a block or a command was refused.
     pub refused: bool,
     /// Whether one was refused for want of memory.
@@ -33,11 +33,11 @@ pub struct Player {
 
 impl Player {
     fn new(alloc: Global) -> Player
-        ensures { HasPlayed [] result.service result.output.items result.refused result.lacking }
+        ensures { HasPlayed [] result.service (string_bytes result.output) result.refused result.lacking }
     {
         Player {
             service: Service::new(alloc),
-            output: Vec::new(alloc),
+            output: String::new(alloc),
             refused: false,
             lacking: false,
         }
@@ -52,7 +52,7 @@ impl Player {
         block: &[u8],
     ) -> Result<(), AllocError>
         requires { number + 1 < 2 ^ 64 }
-        ensures { OnOk result ((entry : Entry) → entry_at number line.now block.now ≡ Ok entry → (all : List Done) → HasPlayed all self.old.service self.old.output.items self.old.refused self.old.lacking → PlaysOn entry self.new.service self.new.output.items self.new.refused self.new.lacking all) }
+        ensures { OnOk result ((entry : Entry) → entry_at number line.now block.now ≡ Ok entry → (all : List Done) → HasPlayed all self.old.service (string_bytes self.old.output) self.old.refused self.old.lacking → PlaysOn entry self.new.service (string_bytes self.new.output) self.new.refused self.new.lacking all) }
     {
         if is_open(line) {
             return self.open(alloc, number + 1, block);
@@ -65,41 +65,40 @@ impl Player {
 
     /// Opens the room of a block whose first line has this number.
     fn open(&mut self, alloc: Global, number: u64, block: &[u8]) -> Result<(), AllocError>
-        ensures { OnOk result ((all : List Done) → HasPlayed all self.old.service self.old.output.items self.old.refused self.old.lacking → PlaysOn (Open number block.now) self.new.service self.new.output.items self.new.refused self.new.lacking all) }
+        ensures { OnOk result ((all : List Done) → HasPlayed all self.old.service (string_bytes self.old.output) self.old.refused self.old.lacking → PlaysOn (Open number block.now) self.new.service (string_bytes self.new.output) self.new.refused self.new.lacking all) }
     {
         match read_room(alloc, block) {
             Ok(Ok((spec, _))) => self.apply(alloc, Command::Begin(spec)),
             Ok(Err(fault)) => {
                 let text = fault_text(alloc, fault)?;
-                self.refuse(alloc, number, text.as_str())
+                self.refuse(number, text.as_str())
             }
             Err(AllocError) => {
                 self.lacking = true;
-                self.refuse(alloc, number, "8")
+                self.refuse(number, "8")
             }
         }
     }
 
-    fn refuse(&mut self, alloc: Global, number: u64, fault: &str) -> Result<(), AllocError>
-        ensures output { OnOk result (self.new.output.items ≡ self.old.output.items ++ refused_line number fault.now) }
+    fn refuse(&mut self, number: u64, fault: &str) -> Result<(), AllocError>
+        ensures output { OnOk result (string_bytes self.new.output ≡ string_bytes self.old.output ++ refused_line number fault.now) }
         ensures refused { self.new.refused ≡ true }
         ensures lacking { self.new.lacking ≡ self.old.lacking }
         ensures service { self.new.service ≡ self.old.service }
     {
         self.refused = true;
-        let line = refused_line(alloc, number, fault)?;
-        self.output.extend_from_slice(line.as_bytes())
+        write_refused(&mut self.output, number, fault)
     }
 
     fn apply(&mut self, alloc: Global, command: Command) -> Result<(), AllocError>
-        ensures { OnOk result ((reply : ReplyData) × ((all : List Done) → HasPlayed all self.old.service self.old.output.items self.old.refused self.old.lacking → HasPlayed (all ++ Replied command reply ∷ []) self.new.service self.new.output.items self.new.refused self.new.lacking)) }
+        ensures { OnOk result ((reply : ReplyData) × ((all : List Done) → HasPlayed all self.old.service (string_bytes self.old.output) self.old.refused self.old.lacking → HasPlayed (all ++ Replied command reply ∷ []) self.new.service (string_bytes self.new.output) self.new.refused self.new.lacking)) }
     {
         let name = command.name().clone()?;
         let sim = sim_in(&command);
         let reply = self.service.apply(alloc, command);
         self.refused |= is_refusal(&reply);
         self.lacking |= is_want(&reply);
-        write_reply(alloc, &mut self.output, &name, sim, &reply)
+        write_reply(&mut self.output, &name, sim, &reply)
     }
 }
 
@@ -156,7 +155,7 @@ fn is_good(line: &[u8]) -> bool
 pub fn play_script(alloc: Global, script: &[u8]) -> Result<Player, AllocError>
     requires good { IsOk (script_says script.now) }
     requires short { length script.now ≤ 16777216 }
-    ensures { IfOk result (λ player. (entries : List Entry) × (all : List Done) × (script_says script.now ≡ Ok entries) × AreDone entries all × HasPlayed all player.service player.output.items player.refused player.lacking) }
+    ensures { IfOk result (λ player. (entries : List Entry) × (all : List Done) × (script_says script.now ≡ Ok entries) × AreDone entries all × HasPlayed all player.service (string_bytes player.output) player.refused player.lacking) }
 {
     let mut player = Player::new(alloc);
     let mut rest = script;

@@ -1,5 +1,5 @@
 //! The lines of the output.
-ghost use Rattle.std.specs.Prelude.{◌≡◌, IfOk, string_bytes};
+ghost use Rattle.std.specs.Prelude.{◌≡◌, ◌++◌, IfOk, OnOk, string_bytes};
 ghost use Rattle.protocol_lang.specs.Faults.{code_of};
 ghost use Rattle.protocol_lang.specs.Grammar.{place_of};
 ghost use Rattle.bgsim_console.specs.Check.{fault_text, protocol_text, refused_line, verdict_line};
@@ -8,6 +8,7 @@ use history_checker::Verdict;
 use protocol_lang::ParseFault;
 use room_spec::{Name, SpecFault};
 use std::alloc::{AllocError, Global};
+use std::fmt::Write;
 
 /// The code of a block's fault, and the numbers behind it.
 pub fn fault_text(alloc: Global, fault: SpecFault) -> Result<String, AllocError>
@@ -42,11 +43,11 @@ fn protocol_text(alloc: Global, fault: ParseFault) -> Result<String, AllocError>
     format!(in alloc; "{code} {place}")
 }
 
-/// The line of a refused block, whose first line has this number.
-pub fn refused_line(alloc: Global, line: u64, fault: &str) -> Result<String, AllocError>
-    ensures { IfOk result (λ text. string_bytes text ≡ refused_line line fault.now) }
+/// Writes the line of a refused block, whose first line has this number.
+pub fn write_refused(output: &mut String, line: u64, fault: &str) -> Result<(), AllocError>
+    ensures { OnOk result (string_bytes output.new ≡ string_bytes output.old ++ refused_line line fault.now) }
 {
-    format!(in alloc; "line {line} refused {fault}\n")
+    write!(output, "line {line} refused {fault}\n")
 }
 
 /// The line of a room's verdict.

@@ -1,5 +1,5 @@
 //! Rooms that workers run, and their reports.
-ghost use Rattle.std.specs.Prelude.{◌≡◌, ◌<◌, ◌≤◌, ◌++◌, IfErr, IfOk, OnOk, length};
+ghost use Rattle.std.specs.Prelude.{◌≡◌, ◌<◌, ◌≤◌, ◌++◌, IfErr, IfOk, OnOk, length, string_bytes};
 ghost use Rattle.std.specs.List.{flat_map};
 ghost use Rattle.bgsim_console.specs.ReplyTexts.{report_text};
 ghost use Rattle.bgsim_console.specs.Run.{AddsReports, AreWorkers, IsRunFor, MayEndRun};
@@ -22,7 +22,7 @@ const ROOMS_AT_ONCE: usize = 512;
 /// A text of reports, and the outcome that goes with it.
 #[derive(Drop)]
 pub struct Ran {
-    pub output: Vec<u8>,
+    pub output: String,
     pub outcome: Outcome,
 }
 
@@ -35,14 +35,14 @@ pub fn run_blocks<H: Threads + Wait + Sync, G: Gate + Sync>(
     gate: &G,
 ) -> Result<Ran, IoFault>
     requires { length input.items ≤ 16777216 }
-    ensures output { IfOk result (λ ran. IsRunFor workers input.items ran.outcome ran.output.items) }
+    ensures output { IfOk result (λ ran. IsRunFor workers input.items ran.outcome (string_bytes ran.output)) }
     ensures err { IfErr result (MayEndRun workers) }
 {
     let Setup { rooms, refused, .. } = read_all_blocks(alloc, &input)?;
     drop(input);
     let specs = rooms.into_specs();
     let outcome = outcome_if(refused.is_empty());
-    let mut output = refused.into_bytes();
+    let mut output = refused;
     run_in_parts(rt, alloc, specs, workers, gate, &mut output)?;
     Ok(Ran { output, outcome })
 }
@@ -55,9 +55,9 @@ fn run_in_parts<H: Threads + Wait + Sync, G: Gate + Sync>(
     mut left: Specs,
     workers: u8,
     gate: &G,
-    output: &mut Vec<u8>,
+    output: &mut String,
 ) -> Result<(), IoFault>
-    ensures reports { OnOk result (AddsReports left output.old.items output.new.items) }
+    ensures reports { OnOk result (AddsReports left (string_bytes output.old) (string_bytes output.new)) }
     ensures workers { OnOk result (AreWorkers workers) }
     ensures err { IfErr result (MayEndRun workers) }
 {
@@ -93,26 +93,22 @@ fn run_part<H: Threads + Wait + Sync, G: Gate + Sync>(
     specs: Vec<Spec>,
     workers: u8,
     gate: &G,
-    output: &mut Vec<u8>,
+    output: &mut String,
 ) -> Result<(), IoFault>
-    ensures reports { OnOk result (AddsReports specs.items output.old.items output.new.items) }
+    ensures reports { OnOk result (AddsReports specs.items (string_bytes output.old) (string_bytes output.new)) }
     ensures workers { OnOk result (AreWorkers workers) }
     ensures err { IfErr result (MayEndRun workers) }
 {
     let results = run_rooms(rt, alloc, specs, workers, gate)?;
-    write_reports(alloc, output, &results)?;
+    write_reports(output, &results)?;
     Ok(())
 }
 
-fn write_reports(
-    alloc: Global,
-    output: &mut Vec<u8>,
-    results: &[RoomResult],
-) -> Result<(), AllocError>
-    ensures { OnOk result (output.new.items ≡ output.old.items ++ flat_map (λ one. report_text one.core.spec.name one.report) results.now) }
+fn write_reports(output: &mut String, results: &[RoomResult]) -> Result<(), AllocError>
+    ensures { OnOk result (string_bytes output.new ≡ string_bytes output.old ++ flat_map (λ one. report_text one.core.spec.name one.report) results.now) }
 {
     for one in results {
-        write_report(alloc, output, one.core.spec().name(), &one.report)?;
+        write_report(output, one.core.spec().name(), &one.report)?;
     }
     Ok(())
 }

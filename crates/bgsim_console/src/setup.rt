@@ -7,7 +7,7 @@ ghost use Rattle.bgsim_console.specs.Check.{no_blocks, refuse, open_room, after_
 
 use crate::fault::IoFault;
 use crate::lines::count_lines;
-use crate::report::{fault_text, refused_line};
+use crate::report::{fault_text, write_refused};
 use crate::script::block_extent;
 use history_checker::{AddFault, Rooms};
 use protocol_lang::ParseFault;
@@ -68,7 +68,7 @@ impl Setup {
             Ok((spec, _)) => self.open_room(alloc, spec)?,
             Err(fault) => {
                 let text = fault_text(alloc, fault)?;
-                self.refuse(alloc, text.as_str())?
+                self.refuse(text.as_str())?
             }
         };
         Ok(setup.pass_lines(lines))
@@ -91,15 +91,14 @@ impl Setup {
         ensures line { IfOk result (λ setup. setup.line ≡ self.line) }
     {
         let text = format!(in alloc; "{code}")?;
-        self.refuse(alloc, text.as_str())
+        self.refuse(text.as_str())
     }
 
-    fn refuse(mut self, alloc: Global, fault: &str) -> Result<Setup, AllocError>
+    fn refuse(mut self, fault: &str) -> Result<Setup, AllocError>
         ensures refused { IfOk result (λ setup. setup ≡ refuse self fault.now) }
         ensures line { IfOk result (λ setup. setup.line ≡ self.line) }
     {
-        let line = refused_line(alloc, self.line, fault)?;
-        self.refused.push_str(line.as_str())?;
+        write_refused(&mut self.refused, self.line, fault)?;
         Ok(self)
     }
 

@@ -1,4 +1,4 @@
-use Rattle.std.proofs.Common.{◌≡◌, ◌∙◌, ◌++◌, ◌||◌, ap, ap₂, List, ℕ}
+use Rattle.std.proofs.Common.{◌≡◌, ◌∙◌, ◌++◌, ◌||◌, ap, ap₂, List, ℕ, string_bytes}
 use Rattle.service_core.specs.Replies.{name_in}
 use Rattle.service_core.specs.Rooms.{Applies}
 use Rattle.bgsim_console.specs.ReplyTexts.{reply_text}
@@ -14,8 +14,8 @@ returns c =
     where_ok c.write_reply.result _ _
     (λ text. (
       reply,
-      replied c.args.command reply old.service c.apply-reply.new.self old.output.items c.write_reply.new.output.items old.refused _ old.lacking _ applies
-          (text ∙ ap₂ (λ (name : List ℕ) (sim : ℕ). old.output.items ++ reply_text name sim reply) named c.sim_in-sim.ensures)
+      replied c.args.command reply old.service c.apply-reply.new.self (string_bytes old.output) (string_bytes c.write_reply.new.output) old.refused _ old.lacking _ applies
+          (text ∙ ap₂ (λ (name : List ℕ) (sim : ℕ). string_bytes old.output ++ reply_text name sim reply) named c.sim_in-sim.ensures)
           (ap (λ b. old.refused || b) c.is_refusal.ensures) (ap (λ b. old.lacking || b) c.is_want.ensures),
     ))
     c.write_reply.ensures

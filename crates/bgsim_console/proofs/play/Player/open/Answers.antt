@@ -1,4 +1,4 @@
-use Rattle.std.proofs.Common.{◌∙◌, ◌++◌, refl, sym, ap}
+use Rattle.std.proofs.Common.{◌∙◌, ◌++◌, refl, sym, ap, string_bytes}
 use Rattle.bgsim_console.specs.Check.{refused_line}
 use Rattle.bgsim_console.specs.Play.{Faulty, Unread}
 use Rattle.bgsim_console.proofs.Playing.{or_no, or_yes, refused_one, where_ok}
@@ -12,8 +12,8 @@ returns-in_ok-text-in-Ok-Err c =
     (λ text. λ all played. (
       done,
       (refl, sym (rw c.in-Ok-Err.field-0-is at c.in-Ok-Err.ensures)),
-      refused_one done all old.service c.refuse.new.self.service old.output.items c.refuse.new.self.output.items old.refused c.refuse.new.self.refused old.lacking
-          c.refuse.new.self.lacking refl refl refl c.refuse.ensures.service (text ∙ ap (λ t. old.output.items ++ refused_line c.args.number t) (c.as_str.ensures.value ∙ c.in_ok-text-in-Ok-Err.ensures)) c.refuse.ensures.refused
+      refused_one done all old.service c.refuse.new.self.service (string_bytes old.output) (string_bytes c.refuse.new.self.output) old.refused c.refuse.new.self.refused old.lacking
+          c.refuse.new.self.lacking refl refl refl c.refuse.ensures.service (text ∙ ap (λ t. string_bytes old.output ++ refused_line c.args.number t) (c.as_str.ensures.value ∙ c.in_ok-text-in-Ok-Err.ensures)) c.refuse.ensures.refused
           (c.refuse.ensures.lacking ∙ or_no old.lacking) played,
     ))
     c.refuse.ensures.output
@@ -26,7 +26,7 @@ returns-in-Err c =
     (λ text. λ all played. (
       done,
       refl,
-      refused_one done all old.service c.refuse-in-Err.new.self.service old.output.items c.refuse-in-Err.new.self.output.items old.refused c.refuse-in-Err.new.self.refused old.lacking
+      refused_one done all old.service c.refuse-in-Err.new.self.service (string_bytes old.output) (string_bytes c.refuse-in-Err.new.self.output) old.refused c.refuse-in-Err.new.self.refused old.lacking
           c.refuse-in-Err.new.self.lacking refl refl refl c.refuse-in-Err.ensures.service text c.refuse-in-Err.ensures.refused (c.refuse-in-Err.ensures.lacking ∙ or_yes old.lacking) played,
     ))
     c.refuse-in-Err.ensures.output
