@@ -17,7 +17,7 @@ word_of Check = codes "check"
 word_of Play = codes "play"
 word_of Run = codes "run"
 
--- the file that the words behind a mode's name: the first of them, and the second where the first is `--`
+-- the file that these words name: the first of them, or the second where the first is `--`
 abbrev pub file_named : List (List ℕ) → Option (List ℕ)
 file_named [] = None
 file_named (word ∷ words) = if bytes_eq word (codes "--") then slice_get words 0 else Some word

@@ -115,34 +115,65 @@ fn in_more(rt: &HostRuntime, dice: &mut Dice, text: &str) -> Result<String, Fail
     })
 }
 
+/// The text of an operand.
+fn operand(step: u32) -> &'static str {
+    match step {
+        0 => "0",
+        1 => "4294967295",
+        2 => "input",
+        3 => "id",
+        4 => "n",
+        5 => "mine",
+        6 => "min",
+        _ => "count",
+    }
+}
+
+/// The text of a call with its argument taken off the texts.
+fn call(rt: &HostRuntime, step: u32, texts: &mut Vec<String>) -> Result<String, Fail> {
+    let call = ["cell", "seen", "equal"][step as usize % 3];
+    let argument = texts.pop().ok_or("no argument")?;
+    Ok(format!(in rt.alloc(); "{call} ({argument})")?)
+}
+
+/// The text of an operator with its operands taken off the texts.
+fn operation(rt: &HostRuntime, step: u32, texts: &mut Vec<String>) -> Result<String, Fail> {
+    let operator = ["+", "-", "*", "/", "%"][step as usize % 5];
+    let right = texts.pop().ok_or("no right operand")?;
+    let left = texts.pop().ok_or("no left operand")?;
+    Ok(format!(in rt.alloc(); "({left}){operator}({right})")?)
+}
+
 /// One of the texts of an expression, in which each operand stands in parentheses.
 fn one_text(rt: &HostRuntime, dice: &mut Dice, code: &[u32]) -> Result<String, Fail> {
     let mut texts: Vec<String> = Vec::new(rt.alloc());
     for step in code {
         let text = match *step {
-            0 => String::from_str(rt.alloc(), "0")?,
-            1 => String::from_str(rt.alloc(), "4294967295")?,
-            2 => String::from_str(rt.alloc(), "input")?,
-            3 => String::from_str(rt.alloc(), "id")?,
-            4 => String::from_str(rt.alloc(), "n")?,
-            5 => String::from_str(rt.alloc(), "mine")?,
-            6 => String::from_str(rt.alloc(), "min")?,
-            7 => String::from_str(rt.alloc(), "count")?,
-            8..=10 => {
-                let call = ["cell", "seen", "equal"][*step as usize - 8];
-                let argument = texts.pop().ok_or("no argument")?;
-                format!(in rt.alloc(); "{call} ({argument})")?
-            }
-            _ => {
-                let operator = ["+", "-", "*", "/", "%"][(*step as usize - 11) % 5];
-                let right = texts.pop().ok_or("no right operand")?;
-                let left = texts.pop().ok_or("no left operand")?;
-                format!(in rt.alloc(); "({left}){operator}({right})")?
-            }
+            0..=7 => String::from_str(rt.alloc(), operand(*step))?,
+            8..=10 => call(rt, *step, &mut texts)?,
+            _ => operation(rt, *step, &mut texts)?,
         };
         texts.push(in_more(rt, dice, &text)?)?;
     }
     Ok(texts.pop().ok_or("no expression")?)
+}
+
+/// The printed text of one of the texts of an expression. It is no longer than that text, and printing
+/// it again changes nothing.
+fn one_printed(rt: &HostRuntime, dice: &mut Dice, code: &[u32]) -> Result<String, Fail> {
+    let value = one_text(rt, dice, code)?;
+    let text = format!(in rt.alloc();
+        "first 1; when ({value}) == 0 and 1 < 2 write {value}; else decide {value};"
+    )?;
+    let printed = reprinted(rt.alloc(), &text)?;
+    if printed.is_empty() || printed.len() > text.len() {
+        return Err("not printed, or longer than it was".into());
+    }
+    let again = reprinted(rt.alloc(), &printed)?;
+    if again.as_str() != printed.as_str() {
+        return Err("printed in two ways".into());
+    }
+    Ok(printed)
 }
 
 #[test]
@@ -150,20 +181,10 @@ fn shortest_of_many_texts(rt: HostRuntime) -> Result<(), Fail> {
     let mut dice = Dice { state: 7 };
     for _ in 0..200 {
         let code = some_postfix(&rt, &mut dice)?;
-        let mut shortest: Option<String> = None;
-        for _ in 0..20 {
-            let value = one_text(&rt, &mut dice, &code)?;
-            let text = format!(in rt.alloc();
-                "first 1; when ({value}) == 0 and 1 < 2 write {value}; else decide {value};"
-            )?;
-            let printed = print(rt.alloc(), &parse(rt.alloc(), &text)?)?;
-            assert!(rt; printed.len() <= text.len(), "{printed} of {text}");
-            let again = print(rt.alloc(), &parse(rt.alloc(), &printed)?)?;
-            assert_eq!(rt; again.as_str(), printed.as_str());
-            if let Some(first) = &shortest {
-                assert_eq!(rt; first.as_str(), printed.as_str(), "of {text}");
-            }
-            shortest = Some(printed);
+        let first = one_printed(&rt, &mut dice, &code)?;
+        for _ in 1..20 {
+            let printed = one_printed(&rt, &mut dice, &code)?;
+            assert_eq!(rt; printed.as_str(), first.as_str());
         }
     }
     Ok(())
@@ -177,7 +198,7 @@ fn most_rules(rt: HostRuntime) -> Result<(), Fail> {
         text.push_str("when1==1write1;")?;
     }
     text.push_str("else write1;")?;
-    let printed = print(alloc, &parse(alloc, &text)?)?;
+    let printed = reprinted(alloc, &text)?;
     assert_eq!(rt; printed.as_str(), text.as_str());
     Ok(())
 }

@@ -98,64 +98,73 @@ fn longest_text(rt: HostRuntime) -> Result<(), Fail> {
 
 #[test]
 fn limits_of_texts(rt: HostRuntime) -> Result<(), Fail> {
-    let deep = repeated(&rt, "first ", "(", 33, "")?;
-    assert_eq!(rt;
-        parse(rt.alloc(), &deep).err(),
-        Some(ParseFault::TooDeep(38))
-    );
-    let calls = repeated(&rt, "first 1;else decide ", "cell(", 33, "")?;
-    assert_eq!(rt;
-        parse(rt.alloc(), &calls).err(),
-        Some(ParseFault::TooDeep(184))
-    );
-    let many = repeated(
-        &rt,
-        "first input;",
-        "when 0 == 0 write 0;",
-        33,
-        "else write 0;",
-    )?;
-    assert_eq!(rt;
-        parse(rt.alloc(), &many).err(),
-        Some(ParseFault::TooManyRules)
-    );
-    let bad_behind = repeated(&rt, "first input;", "when 0 == 0 write 0;", 32, "when !")?;
-    assert_eq!(rt;
-        parse(rt.alloc(), &bad_behind).err(),
-        Some(ParseFault::TooManyRules)
-    );
-    let most = repeated(
-        &rt,
-        "first input;",
-        "when 0 == 0 write 0;",
-        32,
-        "else write 0;",
-    )?;
-    assert!(rt; parse(rt.alloc(), &most).is_ok());
-    let eight = repeated(
-        &rt,
-        "first 1;when 0==0",
-        " and 0==0",
-        7,
-        " write 0;else write 0;",
-    )?;
-    assert!(rt; parse(rt.alloc(), &eight).is_ok());
-    let nine = repeated(
-        &rt,
-        "first 1;when 0==0",
-        " and 0==0",
-        8,
-        " write 0;else write 0;",
-    )?;
-    assert_eq!(rt;
-        parse(rt.alloc(), &nine).err(),
-        Some(ParseFault::Unexpected(81))
-    );
+    let rule = "when 0 == 0 write 0;";
+    for (head, part, count, tail, fault) in [
+        ("first ", "(", 33, "", Some(ParseFault::TooDeep(38))),
+        (
+            "first 1;else decide ",
+            "cell(",
+            33,
+            "",
+            Some(ParseFault::TooDeep(184)),
+        ),
+        (
+            "first input;",
+            rule,
+            33,
+            "else write 0;",
+            Some(ParseFault::TooManyRules),
+        ),
+        (
+            "first input;",
+            rule,
+            32,
+            "when !",
+            Some(ParseFault::TooManyRules),
+        ),
+        ("first input;", rule, 32, "else write 0;", None),
+        (
+            "first 1;when 0==0",
+            " and 0==0",
+            7,
+            " write 0;else write 0;",
+            None,
+        ),
+        (
+            "first 1;when 0==0",
+            " and 0==0",
+            8,
+            " write 0;else write 0;",
+            Some(ParseFault::Unexpected(81)),
+        ),
+    ] {
+        let text = repeated(&rt, head, part, count, tail)?;
+        assert_eq!(rt;
+            parse(rt.alloc(), &text).err(),
+            fault,
+            "{count} times {part}"
+        );
+    }
+    Ok(())
+}
+
+/// The first value of the protocol of this text, of one process whose input is 0.
+fn first_of(rt: &HostRuntime, text: &str) -> Result<u32, Fail> {
+    Ok(first(&parse(rt.alloc(), text)?, 0, 0, 1))
+}
+
+#[test]
+fn long_chains(rt: HostRuntime) -> Result<(), Fail> {
     let chain = repeated(&rt, "first 1", "+1", 2000, ";else write 0;")?;
-    assert_eq!(rt; first(&parse(rt.alloc(), &chain)?, 0, 0, 1), 2001);
-    let nested = repeated(&rt, "first ", "1+2*(", 32, "3")?;
-    let nested = repeated(&rt, &nested, ")", 32, ";else write 0;")?;
-    assert_eq!(rt; first(&parse(rt.alloc(), &nested)?, 0, 0, 1), 4294967295);
+    assert_eq!(rt; first_of(&rt, &chain)?, 2001);
+    Ok(())
+}
+
+#[test]
+fn deep_chains(rt: HostRuntime) -> Result<(), Fail> {
+    let open = repeated(&rt, "first ", "1+2*(", 32, "3")?;
+    let nested = repeated(&rt, &open, ")", 32, ";else write 0;")?;
+    assert_eq!(rt; first_of(&rt, &nested)?, 4294967295);
     Ok(())
 }
 
@@ -246,9 +255,16 @@ fn values_in_views(rt: HostRuntime) -> Result<(), Fail> {
     Ok(())
 }
 
+/// What process 1 of 3 does after its first snapshot, by these rules or else by `decide 9`.
+fn action_by(rt: &HostRuntime, rules: &str) -> Result<Action, Fail> {
+    let text = repeated(rt, "first 1;", rules, 1, "else decide 9;")?;
+    let protocol = parse(rt.alloc(), &text)?;
+    let view = view_of([Some(3), None, Some(6)]);
+    Ok(next(&protocol, 5, 1, 1, &view))
+}
+
 #[test]
 fn rules(rt: HostRuntime) -> Result<(), Fail> {
-    let view = view_of([Some(3), None, Some(6)]);
     for (rules, action) in [
         (
             "when 1 == 1 write 1; when 1 == 1 write 2;",
@@ -269,14 +285,16 @@ fn rules(rt: HostRuntime) -> Result<(), Fail> {
             Action::Write(6),
         ),
         ("when count >= n write max;", Action::Decide(9)),
+        ("when 0==0and 1==1decide7;", Action::Decide(7)),
     ] {
-        let text = repeated(&rt, "first 1;", rules, 1, "else decide 9;")?;
-        let protocol = parse(rt.alloc(), &text)?;
-        assert_eq!(rt; next(&protocol, 5, 1, 1, &view), action, "in {rules}");
+        assert_eq!(rt; action_by(&rt, rules)?, action, "in {rules}");
     }
-    let close = parse(rt.alloc(), "first5;when 0==0and 1==1decide7;else write 0;")?;
-    assert_eq!(rt; first(&close, 0, 1, 3), 5);
-    assert_eq!(rt; next(&close, 0, 1, 4, &view), Action::Decide(7));
+    Ok(())
+}
+
+#[test]
+fn number_behind_a_word(rt: HostRuntime) -> Result<(), Fail> {
+    assert_eq!(rt; first_of(&rt, "first5;else write 0;")?, 5);
     Ok(())
 }
 
