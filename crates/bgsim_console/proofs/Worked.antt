@@ -2,7 +2,8 @@
 use Rattle.std.proofs.Common.{◌≡◌, [], ◌∷◌, Some, None, refl, codes}
 use Rattle.clap.specs.declared.error.kind.ErrorKind.TheVariants.{InvalidSubcommand, MissingSubcommand, UnknownArgument, ValueValidation}
 use Rattle.clap.proofs.OnLiterals.{clap_on_literals}
-use Rattle.bgsim_console.specs.CommandLine.{file_named, words_fault}
+use Rattle.bgsim_console.specs.CommandLine.{file_named, file_words, words_fault}
+use Rattle.bgsim_console.specs.declared.command_line.words.Mode.TheVariants.{Check, Run}
 
 pub standard_input : file_named [] ≡ None
 standard_input = refl
@@ -12,6 +13,24 @@ a_file = refl
 
 pub behind_dashes : file_named (codes "--" ∷ codes "--rooms" ∷ []) ≡ Some (codes "--rooms")
 behind_dashes = refl
+
+pub behind_workers : file_named (file_words Run (codes "--workers" ∷ codes "4" ∷ codes "rooms.txt" ∷ [])) ≡ Some (codes "rooms.txt")
+behind_workers = refl
+
+pub behind_joined_workers : file_named (file_words Run (codes "--workers=4" ∷ codes "rooms.txt" ∷ [])) ≡ Some (codes "rooms.txt")
+behind_joined_workers = refl
+
+pub before_workers : file_named (file_words Run (codes "rooms.txt" ∷ codes "--workers" ∷ codes "4" ∷ [])) ≡ Some (codes "rooms.txt")
+before_workers = refl
+
+pub behind_workers_and_dashes : file_named (file_words Run (codes "--workers=4" ∷ codes "--" ∷ codes "--workers" ∷ [])) ≡ Some (codes "--workers")
+behind_workers_and_dashes = refl
+
+pub workers_alone : file_named (file_words Run (codes "--workers" ∷ codes "4" ∷ [])) ≡ None
+workers_alone = refl
+
+pub no_workers_of_check : file_words Check (codes "--workers" ∷ []) ≡ codes "--workers" ∷ []
+no_workers_of_check = refl
 
 pub check_taken : words_fault (codes "check" ∷ []) ≡ []
 unfolding clap_on_literals

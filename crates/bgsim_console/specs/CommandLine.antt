@@ -72,9 +72,12 @@ workers_rule = record (new_rule (codes "workers")) { long = Some (codes "workers
 abbrev pub run_app : App
 run_app = with_rule (file_app (word_of Run)) workers_rule
 
+abbrev pub plain_app : App
+plain_app = record { top = plain_shape; subs = [] }
+
 abbrev pub bgsim_app : App
 bgsim_app =
-    with_subcommand (with_subcommand (with_subcommand (record { top = plain_shape; subs = [] }) (file_app (word_of Check)).top) (file_app (word_of Play)).top) run_app.top
+    with_subcommand (with_subcommand (with_subcommand plain_app (file_app (word_of Check)).top) (file_app (word_of Play)).top) run_app.top
 
 -- the mode of a word, which is that of a subcommand
 abbrev pub mode_of : List ℕ → Mode

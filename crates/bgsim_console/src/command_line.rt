@@ -5,7 +5,7 @@ ghost use Rattle.clap.specs.Values.{kind_of};
 ghost use Rattle.clap.specs.declared.error.kind.ErrorKind.TheVariants.{OutOfMemory};
 ghost use Rattle.clap.specs.declared.builder.command.Command.TheViews.{out-Command};
 ghost use Rattle.clap.specs.Words.{app_of, fault_of, first_value, found_of, subcommand_of, subcommand_rows_of};
-ghost use Rattle.bgsim_console.specs.CommandLine.{bgsim_app, file_among, file_app, mode_among, run_app, words_fault, workers_among, IsAsked, IsPlainly, IsWorkers};
+ghost use Rattle.bgsim_console.specs.CommandLine.{bgsim_app, file_among, file_app, mode_among, plain_app, run_app, word_of, words_fault, workers_among, IsAsked, IsPlainly, IsWorkers};
 ghost use Rattle.bgsim_console.specs.declared.command_line.words.Mode.{Mode as ModeData};
 ghost use Rattle.bgsim_console.specs.declared.command_line.words.Mode.TheVariants as ModeVariants;
 
@@ -58,26 +58,41 @@ fn run_command<'a>(alloc: Global) -> Result<Command<'a>, Error>
     Ok(run.arg(workers)?)
 }
 
-fn command<'a>(alloc: Global) -> Result<Command<'a>, Error>
-    ensures app { IfOk result (λ command. app_of command ≡ bgsim_app) }
+/// The subcommand `check`.
+fn check_command<'a>(alloc: Global) -> Result<Command<'a>, Error>
+    ensures app { IfOk result (λ command. app_of command ≡ file_app (word_of ModeVariants.Check)) }
+    ensures local { IfOk result (λ command. (out-Command command).has_globals ≡ false) }
     ensures err { IfErr result (λ error. kind_of error ≡ OutOfMemory) }
 {
-    let check = file_command(
+    file_command(
         alloc,
         "check",
         "Says of each room in a transcript whether its events are a run",
         "bgsim check [FILE]",
         "The transcript; without it, standard input is read",
-    )?;
-    let play = file_command(
+    )
+}
+
+/// The subcommand `play`.
+fn play_command<'a>(alloc: Global) -> Result<Command<'a>, Error>
+    ensures app { IfOk result (λ command. app_of command ≡ file_app (word_of ModeVariants.Play)) }
+    ensures local { IfOk result (λ command. (out-Command command).has_globals ≡ false) }
+    ensures err { IfErr result (λ error. kind_of error ≡ OutOfMemory) }
+{
+    file_command(
         alloc,
         "play",
         "Does what a script asks of its rooms, and replies",
         "bgsim play [FILE]",
         "The script; without it, standard input is read",
-    )?;
-    let run = run_command(alloc)?;
-    let command = Command::new(alloc, "bgsim")
+    )
+}
+
+/// The program's command without its subcommands.
+fn plain_command<'a>(alloc: Global) -> Command<'a>
+    ensures { app_of result ≡ plain_app }
+{
+    Command::new(alloc, "bgsim")
         .version("0.1.0")
         .about(
             "Simulates rooms of protocols on write-snapshot memory, and judges their transcripts",
@@ -87,10 +102,19 @@ fn command<'a>(alloc: Global) -> Result<Command<'a>, Error>
         .no_binary_name(true)
         .disable_help_subcommand(true)
         .subcommand_required(true)
-        .subcommand(check)?
-        .subcommand(play)?
-        .subcommand(run)?;
-    Ok(command)
+}
+
+fn command<'a>(alloc: Global) -> Result<Command<'a>, Error>
+    ensures app { IfOk result (λ command. app_of command ≡ bgsim_app) }
+    ensures err { IfErr result (λ error. kind_of error ≡ OutOfMemory) }
+{
+    let check = check_command(alloc)?;
+    let with_check = plain_command(alloc).subcommand(check)?;
+    let play = play_command(alloc)?;
+    let with_play = with_check.subcommand(play)?;
+    let run = run_command(alloc)?;
+    let with_run = with_play.subcommand(run)?;
+    Ok(with_run)
 }
 
 /// What `clap` finds in the words.

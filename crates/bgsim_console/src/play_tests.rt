@@ -42,6 +42,15 @@ const TOGETHER: &str =
 const HELD: &str =
     "pair report\npair process 0 held 0\npair process 1 decided 3\npair crashed 0\npair history 4\npair 0 write 7\npair 1 write 3\npair 1 snap 7 3\npair 1 decide 3\npair end\n";
 
+/// What `play` answers, and what it writes.
+pub fn played(alloc: Global, script: &str) -> (Result<Outcome, IoFault>, Vec<u8>) {
+    let mut reader = Device::new(script.as_bytes());
+    let mut written = Vec::new(alloc);
+    let mut writer = Device::new(&mut written);
+    let found = play_io(alloc, &mut reader, &mut writer);
+    (found, written)
+}
+
 /// Plays the script, and holds the answer and the output against these.
 fn expect(
     rt: &impl Abort,
@@ -50,10 +59,7 @@ fn expect(
     answer: Result<Outcome, IoFault>,
     output: &str,
 ) -> Result<(), Fail> {
-    let mut reader = Device::new(script.as_bytes());
-    let mut written = Vec::new(alloc);
-    let mut writer = Device::new(&mut written);
-    let found = play_io(alloc, &mut reader, &mut writer);
+    let (found, written) = played(alloc, script);
     assert_eq!(rt; found, answer, "of {script}");
     assert_eq!(rt; written.as_slice(), output.as_bytes(), "of {script}");
     Ok(())

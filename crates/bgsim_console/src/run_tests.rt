@@ -17,7 +17,8 @@ const REPORT: &str =
 
 const PAIR: &str = "bgsim 1\nroom pair\ninputs 7 3\nsimulators 2\nrounds 1\nturns 100\n";
 
-const MINIMUM: &str = "protocol\nfirst input;\nelse decide min;\nend\n";
+const PAIR_WITH_A_FUSE: &str =
+    "bgsim 1\nroom pair\ninputs 7 3\nsimulators 2\nrounds 1\nturns 100\ncrash 0 after 5\nprotocol\nfirst input;\nelse decide min;\nend\n";
 
 const HELD: &str =
     "pair report\npair process 0 held 0\npair process 1 decided 3\npair crashed 0\npair history 4\npair 0 write 7\npair 1 write 3\npair 1 snap 7 3\npair 1 decide 3\npair end\n";
@@ -45,23 +46,19 @@ fn one_room(rt: HostRuntime) {
 
 #[test]
 fn name_taken(rt: HostRuntime) -> Result<(), Fail> {
-    let alloc = rt.alloc();
-    let twice = format!(in alloc; "{ONE}{ONE}")?;
-    let (found, written) = ran(&rt, alloc, twice.as_bytes(), 1);
-    let output = format!(in alloc; "line 11 refused 41\n{REPORT}")?;
+    let twice = format!(in rt.alloc(); "{ONE}{ONE}")?;
+    let (found, written) = ran(&rt, rt.alloc(), twice.as_bytes(), 1);
     assert_eq!(rt; found, Ok(Outcome::SomeRefused));
-    assert_eq!(rt; written.as_slice(), output.as_bytes());
+    let behind = written.as_slice().strip_prefix(b"line 11 refused 41\n".as_slice());
+    assert_eq!(rt; behind, Some(REPORT.as_bytes()));
     Ok(())
 }
 
 #[test]
-fn fuse(rt: HostRuntime) -> Result<(), Fail> {
-    let alloc = rt.alloc();
-    let input = format!(in alloc; "{PAIR}crash 0 after 5\n{MINIMUM}")?;
-    let (found, written) = ran(&rt, alloc, input.as_bytes(), 1);
+fn fuse(rt: HostRuntime) {
+    let (found, written) = ran(&rt, rt.alloc(), PAIR_WITH_A_FUSE.as_bytes(), 1);
     assert_eq!(rt; found, Ok(Outcome::AllWell));
     assert_eq!(rt; written.as_slice(), HELD.as_bytes());
-    Ok(())
 }
 
 #[test]

@@ -3,6 +3,7 @@ use crate::device::Device;
 use crate::engine::play_io;
 use crate::fault::IoFault;
 use crate::lines::count_lines;
+use crate::play_tests::played;
 use crate::room_tests::Random;
 use crate::tests::Trickle;
 use std::alloc::{AllocError, Global};
@@ -20,12 +21,9 @@ const PROTOCOL: &str = "protocol\nfirst input;\nelse decide mine;\nend\n";
 
 /// The replies to a script that can be played.
 fn replies(alloc: Global, script: &str) -> Result<Vec<u8>, Fail> {
-    let mut reader = Device::new(script.as_bytes());
-    let mut written = Vec::new(alloc);
-    let mut writer = Device::new(&mut written);
-    match play_io(alloc, &mut reader, &mut writer) {
-        Ok(_) => Ok(written),
-        Err(_) => Err(Fail::from("a script that can't be played")),
+    match played(alloc, script) {
+        (Ok(_), written) => Ok(written),
+        (Err(_), _) => Err(Fail::from("a script that can't be played")),
     }
 }
 

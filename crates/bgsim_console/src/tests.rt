@@ -231,6 +231,15 @@ const STRANGER_CRASHED: &str =
 const ONE: &str =
     "bgsim 1\nroom one\ninputs 5\nsimulators 1\nrounds 1\nturns 10\nprotocol\nfirst input;\nelse decide mine;\nend\n";
 
+/// What `check` answers, and what it writes.
+fn checked(alloc: Global, input: &[u8]) -> (Result<Outcome, IoFault>, Vec<u8>) {
+    let mut reader = Device::new(input);
+    let mut written = Vec::new(alloc);
+    let mut writer = Device::new(&mut written);
+    let found = engine::check_io(alloc, &mut reader, &mut writer);
+    (found, written)
+}
+
 #[test]
 fn answers(rt: HostRuntime) -> Result<(), Fail> {
     let alloc = rt.alloc();
@@ -302,12 +311,9 @@ fn answers(rt: HostRuntime) -> Result<(), Fail> {
         ),
     ] {
         let input = format!(in alloc; "{first}{second}{events}")?;
-        let mut written = Vec::new(alloc);
-        let mut reader = Device::new(input.as_bytes());
-        let mut writer = Device::new(&mut written);
-        let found = engine::check_io(alloc, &mut reader, &mut writer);
-        assert_eq!(rt; found, answer, "of {input:?}");
-        assert_eq!(rt; written.as_slice(), output.as_bytes(), "of {input:?}");
+        let (found, written) = checked(alloc, input.as_bytes());
+        assert_eq!(rt; found, answer, "of {events:?}");
+        assert_eq!(rt; written.as_slice(), output.as_bytes(), "of {events:?}");
     }
     Ok(())
 }
@@ -320,10 +326,8 @@ fn longest_input(rt: HostRuntime) -> Result<(), Fail> {
         (16777217, Err(IoFault::TooLong)),
     ] {
         let input = vec![in alloc; b'x'; len]?;
-        let mut written = Vec::new(alloc);
-        let mut reader = Device::new(input.as_slice());
-        let mut writer = Device::new(&mut written);
-        assert_eq!(rt; engine::check_io(alloc, &mut reader, &mut writer), answer);
+        let (found, written) = checked(alloc, &input);
+        assert_eq!(rt; found, answer);
         assert!(rt; written.is_empty());
     }
     Ok(())
