@@ -282,6 +282,16 @@ impl Held {
                 Piece::name(alloc, name)?
             }
             Step::Call(call) => Piece::call(alloc, call, top)?,
+            Step::CallNumber(call, number) => {
+                below.push(top)?;
+                let argument = Piece::number(alloc, number)?;
+                Piece::call(alloc, call, argument)?
+            }
+            Step::CallName(call, name) => {
+                below.push(top)?;
+                let argument = Piece::name(alloc, name)?;
+                Piece::call(alloc, call, argument)?
+            }
             Step::Operate(operator) => {
                 let left = below.pop(alloc)?;
                 Piece::operate(operator, left, top)?
