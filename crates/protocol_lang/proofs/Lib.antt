@@ -3,6 +3,7 @@ pub mod Drafts
 pub mod Carrying
 pub mod Onward
 pub mod Views
+pub mod Cells
 pub mod Numerals
 pub mod Runs
 pub mod Words
