@@ -7,7 +7,7 @@ ghost use Rattle.protocol_lang.specs.Meaning.{holds, applies, action, action_of,
 use crate::environment::Environment;
 use crate::formula::MOST_WAITING;
 use crate::protocol::Protocol;
-use crate::rules::{ActionRule, Comparison, Rule, Tree};
+use crate::rules::{ActionRule, Comparison, Rule, Sides, Tree};
 use crate::stack::Stack;
 use crate::tree::Kind;
 use arrayvec::ArrayVec;
@@ -94,8 +94,13 @@ fn holds(
 ) -> bool
     ensures { result ≡ holds environment.now comparison.now }
 {
-    let left = comparison.left.value(environment, stack);
-    let right = comparison.right.value(environment, stack);
+    let (left, right) = match &comparison.sides {
+        Sides::Leaves(left, right) => (left.value(environment), right.value(environment)),
+        Sides::Formulas(left, right) => (
+            left.value(environment, stack),
+            right.value(environment, stack),
+        ),
+    };
     comparison.comparator.holds(left, right)
 }
 

@@ -410,11 +410,8 @@ impl Parser {
     {
         let right = self.take_value()?;
         let left = mem::replace(&mut self.left, Draft::new(self.alloc).finish());
-        self.conditions.push(Comparison {
-            left,
-            comparator,
-            right,
-        })?;
+        self.conditions
+            .push(Comparison::new(left, comparator, right))?;
         self.part = part;
         self.expected = Expected::Operand;
         Ok(())

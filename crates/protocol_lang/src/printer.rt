@@ -3,15 +3,15 @@ ghost use Rattle.std.specs.Prelude.{◌≡◌, ◌≤◌, ◌∷◌, ◌++◌, [
 ghost use Rattle.std.specs.List.{flat_map};
 ghost use Rattle.protocol_lang.specs.Stacks.{pushed, below_top};
 ghost use Rattle.protocol_lang.specs.Tokens.{word_spelling, symbol_spelling};
-ghost use Rattle.protocol_lang.specs.Formulas.{most_waiting, last_of, hold, stepped, made_by};
+ghost use Rattle.protocol_lang.specs.Formulas.{most_waiting, last_of, hold, stepped, made_by, leaf_tree};
 ghost use Rattle.protocol_lang.specs.Grammar.{word_for, call_word, operator_symbol, comparator_symbol, kind_word, enclosed_tokens, expression_tokens, comparison_tokens, conditions_tokens, action_rule_tokens, rule_tokens, tree_tokens, IsText};
 ghost use Rattle.protocol_lang.specs.Reading.{reading};
 ghost use Rattle.protocol_lang.specs.Printing.{stands_left, stands_right, shortest, shortest_comparison, shortest_action_rule, shortest_rule, shortest_tree, is_word, spelling, gap, spelled_behind, printed, enclosed_unless, factor, joined, pieces};
 
-use crate::formula::{Formula, MOST_WAITING, Step};
+use crate::formula::{Formula, Leaf, MOST_WAITING, Step};
 use crate::opcode::Opcode;
 use crate::protocol::Protocol;
-use crate::rules::{ActionRule, Comparison, Rule, Tree};
+use crate::rules::{ActionRule, Comparison, Rule, Sides, Tree};
 use crate::token::{Symbol, Token, Word};
 use crate::tree::{Call, Comparator, Kind, Name, Operator};
 use std::alloc::{AllocError, Global};
@@ -317,6 +317,16 @@ fn expression(alloc: Global, formula: &Formula) -> Result<Tokens, AllocError>
     Ok(piece.tokens)
 }
 
+/// The token of a number or name.
+fn leaf(alloc: Global, leaf: Leaf) -> Result<Tokens, AllocError>
+    ensures { IfOk result (λ tokens. tokens ≡ expression_tokens (shortest (leaf_tree leaf))) }
+{
+    match leaf {
+        Leaf::Number(number) => Tokens::one(alloc, Token::Number(number)),
+        Leaf::Name(name) => Tokens::one(alloc, Token::Word(name.word())),
+    }
+}
+
 /// What the steps make.
 fn piece_by(alloc: Global, code: &[Opcode]) -> Result<Piece, AllocError>
     ensures { IfOk result (λ piece. piece ≡ made_by pieces code.now) }
@@ -335,8 +345,10 @@ fn write_comparison(
 ) -> Result<(), AllocError>
     ensures { OnOk result (tokens.new ≡ tokens.old ++ comparison_tokens (shortest_comparison comparison.now)) }
 {
-    let left = expression(alloc, &comparison.left)?;
-    let right = expression(alloc, &comparison.right)?;
+    let (left, right) = match &comparison.sides {
+        Sides::Leaves(left, right) => (leaf(alloc, *left)?, leaf(alloc, *right)?),
+        Sides::Formulas(left, right) => (expression(alloc, left)?, expression(alloc, right)?),
+    };
     tokens.append(&left)?;
     tokens.push(Token::Symbol(comparison.comparator.symbol()))?;
     tokens.append(&right)
