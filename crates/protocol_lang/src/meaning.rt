@@ -8,7 +8,6 @@ use crate::environment::Environment;
 use crate::formula::MOST_WAITING;
 use crate::protocol::Protocol;
 use crate::rules::{ActionRule, Comparison, Rule, Sides, Tree};
-use crate::stack::Stack;
 use crate::tree::Kind;
 use arrayvec::ArrayVec;
 
@@ -30,7 +29,10 @@ pub fn first(protocol: &Protocol, input: u32, id: u32, n: u32) -> u32
     ensures { result ≡ first_value protocol.now input id n }
 {
     let environment = Environment::new(input, id, n, 0, &[]);
-    protocol.tree.first.value(&environment, &mut Stack::new())
+    protocol
+        .tree
+        .first
+        .value(&environment, &mut [0; MOST_WAITING])
 }
 
 /// What the process number `id` does after its snapshot `view`, before which it made `round`
@@ -39,20 +41,16 @@ pub fn next(protocol: &Protocol, input: u32, id: u32, round: u32, view: &View) -
     ensures { result ≡ next_action protocol.now input id round view.now.items }
 {
     let environment = Environment::new(input, id, view.len() as u32, round, view.as_slice());
-    let mut stack = Stack::new();
-    action_in(&protocol.tree, &environment, &mut stack)
+    let mut below = [0; MOST_WAITING];
+    action_in(&protocol.tree, &environment, &mut below)
 }
 
-fn action_in(
-    tree: &Tree,
-    environment: &Environment<'_>,
-    stack: &mut Stack<u32, MOST_WAITING>,
-) -> Action
+fn action_in(tree: &Tree, environment: &Environment<'_>, below: &mut [u32; MOST_WAITING]) -> Action
     ensures { result ≡ action_in tree.now environment.now }
 {
-    match action_by(tree.rules.as_slice(), environment, stack) {
+    match action_by(tree.rules.as_slice(), environment, below) {
         Some(action) => action,
-        None => action_of(&tree.last, environment, stack),
+        None => action_of(&tree.last, environment, below),
     }
 }
 
@@ -60,13 +58,13 @@ fn action_in(
 fn action_by(
     rules: &[Rule],
     environment: &Environment<'_>,
-    stack: &mut Stack<u32, MOST_WAITING>,
+    below: &mut [u32; MOST_WAITING],
 ) -> Option<Action>
     ensures { result ≡ option_map (λ rule. action_of environment.now rule.action_rule) (find (applies environment.now) rules.now) }
 {
     for rule in rules {
-        if all_hold(rule.conditions.as_slice(), environment, stack) {
-            return Some(action_of(&rule.action_rule, environment, stack));
+        if all_hold(rule.conditions.as_slice(), environment, below) {
+            return Some(action_of(&rule.action_rule, environment, below));
         }
     }
     None
@@ -75,12 +73,12 @@ fn action_by(
 fn all_hold(
     comparisons: &[Comparison],
     environment: &Environment<'_>,
-    stack: &mut Stack<u32, MOST_WAITING>,
+    below: &mut [u32; MOST_WAITING],
 ) -> bool
     ensures { result ≡ list_all (holds environment.now) comparisons.now }
 {
     for comparison in comparisons {
-        if !holds(comparison, environment, stack) {
+        if !holds(comparison, environment, below) {
             return false;
         }
     }
@@ -90,15 +88,15 @@ fn all_hold(
 fn holds(
     comparison: &Comparison,
     environment: &Environment<'_>,
-    stack: &mut Stack<u32, MOST_WAITING>,
+    below: &mut [u32; MOST_WAITING],
 ) -> bool
     ensures { result ≡ holds environment.now comparison.now }
 {
     let (left, right) = match &comparison.sides {
         Sides::Leaves(left, right) => (left.value(environment), right.value(environment)),
         Sides::Formulas(left, right) => (
-            left.value(environment, stack),
-            right.value(environment, stack),
+            left.value(environment, below),
+            right.value(environment, below),
         ),
     };
     comparison.comparator.holds(left, right)
@@ -107,11 +105,11 @@ fn holds(
 fn action_of(
     action_rule: &ActionRule,
     environment: &Environment<'_>,
-    stack: &mut Stack<u32, MOST_WAITING>,
+    below: &mut [u32; MOST_WAITING],
 ) -> Action
     ensures { result ≡ action_of environment.now action_rule.now }
 {
-    let value = action_rule.value.value(environment, stack);
+    let value = action_rule.value.value(environment, below);
     match action_rule.kind {
         Kind::Write => Action::Write(value),
         Kind::Decide => Action::Decide(value),

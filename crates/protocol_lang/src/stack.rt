@@ -58,11 +58,4 @@ impl<T: Copy + Default, const MOST: usize> Stack<T, MOST> {
     {
         self.elements.pop()
     }
-
-    /// Takes all elements away.
-    pub(crate) fn clear(&mut self)
-        ensures { self.new ≡ [] }
-    {
-        self.elements.clear();
-    }
 }
