@@ -68,3 +68,24 @@ pub goes_on : (total : ℕ) (now line rest : List ℕ) (whole : Option ℕ) → 
 goes_on total now line rest whole cut is shorter within so_far =
     let later : body_len now ≡ option_map (λ n. length line + 1 + n) (body_len rest) = body_later now line rest cut is in
     regrouped (total - length now) (length line + 1) (total - length rest) (body_len rest) (omega arith) ∙ (rw later at so_far)
+
+-- ---- the same of the lines up to and with that one, of which `lines` begin no later than `now`
+
+pub counted_here : (lines : ℕ) (now line : List ℕ) (later : Option (List ℕ)) (whole : Option ℕ) → lines_of now ≡ line ∷ pieces_of is_line_end later → is_end line ≡ true → option_map (λ n. lines + n) (position is_end (lines_of now)) ≡ whole → Some lines ≡ whole
+counted_here lines now line later whole cut is so_far =
+    let here : position is_end (lines_of now) ≡ Some 0 = ap (position is_end) cut ∙ position_first is_end line (pieces_of is_line_end later) is in
+    ap Some (omega arith) ∙ (rw here at so_far)
+
+pub counted_nowhere : (lines : ℕ) (now line : List ℕ) (whole : Option ℕ) → lines_of now ≡ line ∷ [] → is_end line ≡ false → option_map (λ n. lines + n) (position is_end (lines_of now)) ≡ whole → None ≡ whole
+counted_nowhere lines now line whole cut is so_far =
+    let nowhere : position is_end (lines_of now) ≡ None = ap (position is_end) cut ∙ position_later is_end line [] is in
+    rw nowhere at so_far
+
+counted_more : (lines : ℕ) (found : Option ℕ) → option_map (λ n. lines + 1 + n) found ≡ option_map (λ n. lines + n) (option_map suc found)
+counted_more lines None = refl
+counted_more lines (Some n) = ap Some (omega arith)
+
+pub counted_on : (lines : ℕ) (now line rest : List ℕ) (whole : Option ℕ) → lines_of now ≡ line ∷ lines_of rest → is_end line ≡ false → option_map (λ n. lines + n) (position is_end (lines_of now)) ≡ whole → option_map (λ n. lines + 1 + n) (position is_end (lines_of rest)) ≡ whole
+counted_on lines now line rest whole cut is so_far =
+    let later : position is_end (lines_of now) ≡ option_map suc (position is_end (lines_of rest)) = ap (position is_end) cut ∙ position_later is_end line (lines_of rest) is in
+    counted_more lines (position is_end (lines_of rest)) ∙ (rw later at so_far)

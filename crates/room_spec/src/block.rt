@@ -1,17 +1,18 @@
 //! Room blocks.
-ghost use Rattle.std.specs.Prelude.{◌≡◌, ◌≢◌, ℕ, IfNone, All, ◌+◌, ◌^◌, ◌≤◌, ◌<◌, min, length, take, IfOk, IfErr, IfSome, None, Some, Ok, Err, if◌then◌else◌, codes};
+ghost use Rattle.std.specs.Prelude.{◌≡◌, ◌≢◌, ℕ, IfNone, All, ◌+◌, ◌^◌, ◌≤◌, ◌<◌, suc, min, length, take, IfOk, IfErr, IfSome, None, Some, Ok, Err, if◌then◌else◌, codes};
+ghost use Rattle.std.specs.List.{position};
 ghost use Rattle.std.specs.Option.{option_copied, option_map, option_and_then};
 ghost use Rattle.protocol_lang.specs.Numbers.{number_of};
 ghost use Rattle.room_spec.specs.Rooms.{RoomSpec, AreFuses};
 ghost use Rattle.room_spec.specs.Texts.{lines_of, first_line, later_lines, fields_of};
 ghost use Rattle.room_spec.specs.declared.fault.SpecFault.TheVariants.{BadLine};
 ghost use Rattle.room_spec.specs.Grammar.{EndsAt, IsBlock, IsLocal, IsOfText, IsFirstFault};
-ghost use Rattle.room_spec.specs.Blocks.{body_len, block_len, value_after, version_line, named, name_line, numbers_of, inputs_of, in_range, inputs_line, up_to, number_line, fuse_in, of_simulator, said_next, is_protocol, has_fuse, fuse_lines, room_in, block_in, Gives, OrMemory, UnlessMemory};
+ghost use Rattle.room_spec.specs.Blocks.{body_len, is_end, block_len, value_after, version_line, named, name_line, numbers_of, inputs_of, in_range, inputs_line, up_to, number_line, fuse_in, of_simulator, said_next, is_protocol, has_fuse, fuse_lines, room_in, block_in, Gives, OrMemory, UnlessMemory};
 
 use crate::fault::SpecFault;
 use crate::name::Name;
 use crate::spec::{MAX_BITS, MAX_PROCESSES, MAX_ROUNDS, MAX_SIMULATORS, MAX_TURNS, Spec, bits};
-use crate::text::cut;
+use crate::text::{cut, cut_near};
 use arrayvec::ArrayVec;
 use protocol_lang::{parse_bytes, read_number};
 use std::alloc::Global;
@@ -26,23 +27,43 @@ pub fn block_len(text: &[u8]) -> Option<usize>
     ensures none { IfNone result (All (λ line. line ≢ codes "end") (lines_of text.now)) }
     ensures exact { result ≡ block_len text.now }
 {
-    let body = body_len(text)?;
-    Some((body + 4).min(text.len()))
+    let end = find_end(text)?;
+    Some((end.body + 4).min(text.len()))
 }
 
-/// How many bytes stand before the first line `end`.
-fn body_len(text: &[u8]) -> Option<usize>
-    ensures value { result ≡ body_len text.now }
-    ensures within { IfSome result (λ body. body + 3 ≤ length text.now) }
+/// Where the room block at the front of a text ends.
+#[derive(Clone, Copy, Debug, PartialEq, Eq)]
+pub struct BlockEnd {
+    /// How many bytes stand before its line `end`.
+    pub body: usize,
+    /// How many lines it has, with that one.
+    pub lines: usize,
+}
+
+/// Finds where the room block at the front of `text` ends, or `None` where no line is `end`.
+pub fn find_end(text: &[u8]) -> Option<BlockEnd>
+    ensures body { option_map (λ end. end.body) result ≡ body_len text.now }
+    // So many lines stand up to and with the first `end`.
+    ensures lines { option_map (λ end. end.lines) result ≡ option_map suc (position is_end (lines_of text.now)) }
+    ensures within { IfSome result (λ end. end.body + 3 ≤ length text.now) }
 {
     let mut rest = text;
+    let mut lines = 1;
     loop {
         let (line, later) = cut(rest, b'\n');
-        if line == b"end".as_slice() {
-            return Some(text.len() - rest.len());
+        if is_end(line) {
+            let body = text.len() - rest.len();
+            return Some(BlockEnd { body, lines });
         }
         rest = later?;
+        lines += 1;
     }
+}
+
+fn is_end(line: &[u8]) -> bool
+    ensures { result ≡ is_end line.now }
+{
+    matches!(line, [b'e', b'n', b'd'])
 }
 
 /// Reads the room block at the front of `text`, and gives its length too. The fault is that of the
@@ -69,14 +90,15 @@ fn read_front(alloc: Global, text: &[u8]) -> Result<(Spec, usize), SpecFault>
     ensures exact { OrMemory result (block_in text.now) }
     ensures within { IfOk result (λ read. read.1 ≤ length text.now) }
 {
-    let body = body_len(text).ok_or(SpecFault::Truncated)?;
-    let spec = read_room(alloc, &text[..body])?;
-    Ok((spec, (body + 4).min(text.len())))
+    let end = find_end(text).ok_or(SpecFault::Truncated)?;
+    let spec = read_body(alloc, &text[..end.body])?;
+    Ok((spec, (end.body + 4).min(text.len())))
 }
 
-/// Reads the lines before the line `end`.
+/// Reads the lines of a room block that stand before its line `end`. The fault is that of the first
+/// line that has one.
 #[tactic(auto, unfolding(crate::specs::Blocks::room_in))]
-fn read_room(alloc: Global, body: &[u8]) -> Result<Spec, SpecFault>
+pub fn read_body(alloc: Global, body: &[u8]) -> Result<Spec, SpecFault>
     ensures { OrMemory result (room_in body.now) }
 {
     let rest = read_version(body)?;
@@ -151,14 +173,14 @@ fn read_inputs(text: &[u8]) -> Result<(ArrayVec<u32, MAX_PROCESSES>, &[u8]), Spe
 fn inputs_from(line: &[u8]) -> Result<ArrayVec<u32, MAX_PROCESSES>, SpecFault>
     ensures { Gives (λ values. values.items) result (in_range (inputs_of (fields_of line.now))) }
 {
-    let (word, mut rest) = cut(line, b' ');
+    let (word, mut rest) = cut_near(line, b' ');
     if word != b"inputs".as_slice() {
         return Err(SpecFault::BadLine(3));
     }
     let mut values = ArrayVec::new();
     let mut fits = true;
     while let Some(fields) = rest {
-        let (field, others) = cut(fields, b' ');
+        let (field, others) = cut_near(fields, b' ');
         let number = read_number(field).ok_or(SpecFault::BadLine(3))?;
         match u32::try_from(number) {
             Ok(value) if !values.is_full() => values.push(value),
@@ -271,9 +293,9 @@ fn read_fuse_of_simulator(
 fn fuse_from(words: &[u8]) -> Option<(u64, u64)>
     ensures { result ≡ option_map (λ fuse. (min fuse.0 (2 ^ 32), min fuse.1 (2 ^ 32))) (fuse_in (fields_of words.now)) }
 {
-    let (simulator, rest) = cut(words, b' ');
-    let (word, rest) = cut(rest?, b' ');
-    let (steps, rest) = cut(rest?, b' ');
+    let (simulator, rest) = cut_near(words, b' ');
+    let (word, rest) = cut_near(rest?, b' ');
+    let (steps, rest) = cut_near(rest?, b' ');
     if rest.is_some() {
         return None;
     }

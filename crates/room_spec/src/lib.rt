@@ -8,11 +8,11 @@ mod name;
 mod spec;
 mod text;
 
-pub use block::{block_len, read_block};
+pub use block::{BlockEnd, block_len, find_end, read_block, read_body};
 pub use fault::SpecFault;
 pub use name::Name;
 pub use spec::{MAX_PROCESSES, MAX_SIMULATORS, Shape, Spec};
-pub use text::cut;
+pub use text::{cut, cut_near};
 
 #[cfg(test)]
 mod tests;

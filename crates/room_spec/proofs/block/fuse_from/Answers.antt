@@ -5,5 +5,5 @@ use Rattle.room_spec.proofs.block.fuse_from.Goals as goal
 
 pub returns-then-is_some : goal.returns-then-is_some
 returns-then-is_some c =
-    sym (ap (option_map (λ fuse. (min fuse.0 (2 ^ 32), min fuse.1 (2 ^ 32)))) (more_words c.args.words.now c.cut.result.0.now c.cut-2.result.0.now c.cut-3.result.0.now c.in_ok-rest.field-0.now c.in_ok-rest-2.field-0.now c.cut-3.result.1
-    (rw c.in_ok-rest.was at c.cut.ensures.pieces) (rw c.in_ok-rest-2.was at c.cut-2.ensures.pieces) c.cut-3.ensures.pieces (sym c.is_some.ensures ∙ c.if-is_some.true)))
+    sym (ap (option_map (λ fuse. (min fuse.0 (2 ^ 32), min fuse.1 (2 ^ 32)))) (more_words c.args.words.now c.cut_near.result.0.now c.cut_near-2.result.0.now c.cut_near-3.result.0.now c.in_ok-rest.field-0.now c.in_ok-rest-2.field-0.now c.cut_near-3.result.1
+    (rw c.in_ok-rest.was at c.cut_near.ensures.pieces) (rw c.in_ok-rest-2.was at c.cut_near-2.ensures.pieces) c.cut_near-3.ensures.pieces (sym c.is_some.ensures ∙ c.if-is_some.true)))

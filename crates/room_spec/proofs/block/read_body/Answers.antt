@@ -3,7 +3,7 @@ use Rattle.std.proofs.lemmas.Grind.{common_steps}
 use Rattle.room_spec.proofs.Heads.{inputs_found, inputs_are_values}
 use Rattle.room_spec.proofs.Readings.{inputs_range}
 use Rattle.room_spec.proofs.Memory.{kept_small}
-use Rattle.room_spec.proofs.block.read_room.Goals as goal
+use Rattle.room_spec.proofs.block.read_body.Goals as goal
 
 pub invariant_of-result : goal.invariant_of-result
 invariant_of-result c =
