@@ -33,7 +33,7 @@ fn feed_line(rooms: &mut Rooms, line: u64, text: &[u8]) -> Result<(), IoFault>
     ensures rooms { specs_of rooms.new ≡ specs_of rooms.old }
     ensures err { IfErr result (IsFaultOf (of_known_room (specs_of rooms.old) line (line_in text.now))) }
 {
-    if rooms.feed_shown(text, line) {
+    if rooms.feed_said(text, line) {
         return Ok(());
     }
     read_and_feed(rooms, line, text)

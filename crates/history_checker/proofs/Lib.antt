@@ -2,5 +2,5 @@ pub mod Tracking
 pub mod Runs
 pub mod Feeding
 pub mod RoomLists
-pub mod SnapLines
+pub mod ToldLines
 pub mod Rows

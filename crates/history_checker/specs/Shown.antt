@@ -1,11 +1,13 @@
--- Lines that say a snapshot, as their bytes.
-use Rattle.std.specs.Prelude.{◌≡◌, ◌≤◌, ℕ, true, List, [], ◌∷◌, ◌++◌, Option, Ok, codes, length, map, suc, take}
+-- Lines that say events, as their bytes.
+use Rattle.std.specs.Prelude.{◌≡◌, ◌≤◌, ℕ, true, List, [], ◌∷◌, ◌++◌, Option, Ok, length, map, suc, take}
 use Rattle.std.specs.Fmt.{decimal}
-use Rattle.std.specs.List.{AllByRecursion, flat_map, sum_by}
+use Rattle.std.specs.List.{AllByRecursion, flat_map, join_with_byte, sum_by}
 use Rattle.protocol_lang.specs.Limits.{IsEntry}
 use Rattle.room_spec.specs.Names.{is_name}
-use Rattle.transcript.specs.Grammar.{entry_text}
+use Rattle.transcript.specs.Grammar.{HasValues, entry_text, event_fields}
 use Rattle.transcript.specs.Lines.{line_in}
+use Rattle.transcript.specs.Runs.{process_of}
+use Rattle.transcript.specs.declared.event.Event.{Event}
 use Rattle.history_checker.specs.Verdicts.{FedEvent, HasProcessed, RoomState, has_room, specs_of}
 
 -- entries, each behind a space
@@ -31,11 +33,17 @@ pub record IsShown (entries : List (Option ℕ)) (text widths : List ℕ) : Type
   pub widths_are : widths ≡ map width entries
   pub few : length entries ≤ 16
 
--- a line of a room and a process, and what stands behind the word `snap`
-pub record SaysSnap (line name : List ℕ) (p : ℕ) (entries : List ℕ) : Type 0 where
-  pub text : line ≡ name ++ 32 ∷ (decimal p ++ 32 ∷ (codes "snap" ++ entries))
+-- a line of a room and a process, and what stands behind these
+pub record IsParted (line name : List ℕ) (p : ℕ) (deed : List ℕ) : Type 0 where
+  pub text : line ≡ name ++ 32 ∷ (decimal p ++ 32 ∷ deed)
   pub room : is_name name ≡ true
   pub process : p ≤ 15
+
+-- in the line of this event of process p that stands behind the process
+pub record SaysDeed (deed : List ℕ) (p : ℕ) (event : Event) : Type 0 where
+  pub text : decimal p ++ 32 ∷ deed ≡ join_with_byte 32 (event_fields event)
+  pub process : process_of event ≡ p
+  pub values : HasValues event
 
 -- the line with this number says an event of one of the rooms, which they have then processed
 pub record HasFed (line : List ℕ) (number : ℕ) (old new : List RoomState) : Type 0 where

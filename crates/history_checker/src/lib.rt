@@ -5,7 +5,7 @@ mod history;
 mod process;
 mod rooms;
 mod row;
-mod shown;
+mod told;
 
 pub use history::check;
 pub use rooms::{AddFault, NoRoom, Rooms, Specs, Verdict};

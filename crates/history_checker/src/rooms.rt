@@ -4,12 +4,12 @@ ghost use Rattle.std.specs.List.{position};
 ghost use Rattle.std.specs.Str.{bytes_eq};
 ghost use Rattle.room_spec.specs.Rooms.{RoomSpec};
 ghost use Rattle.history_checker.specs.Verdicts.{FedEvent, HasProcessed, HasProcessedOwn, StandsAfter, IsVerdict, specs_of, names_of, has_room, fed_to, add_code};
-ghost use Rattle.history_checker.specs.Shown.{HasFed, SaysRow};
+ghost use Rattle.history_checker.specs.Shown.{HasFed, SaysDeed, SaysRow};
 
 use crate::history::open;
 use crate::process::{Process, follow};
 use crate::row::Row;
-use crate::shown::snap_parts;
+use crate::told::{behind_snap, event_told, parts_of};
 use indexmap::IndexMap;
 use indexmap::map::IntoValues;
 use protocol_lang::View;
@@ -148,8 +148,6 @@ impl Room {
 #[derive(Drop)]
 pub struct Rooms {
     rooms: IndexMap<Name, Room>,
-    /// Whether a room has a row.
-    has_rows: bool,
 }
 
 impl Model for Rooms {
@@ -174,7 +172,6 @@ impl Rooms {
     {
         Rooms {
             rooms: IndexMap::new(alloc),
-            has_rows: false,
         }
     }
 
@@ -205,7 +202,6 @@ impl Rooms {
     {
         let name = spec.name().clone()?;
         let room = Room::open(alloc, spec)?;
-        self.has_rows |= room.row.is_some();
         self.rooms.insert(name, room)?;
         Ok(())
     }
@@ -227,31 +223,41 @@ impl Rooms {
         Ok(())
     }
 
-    /// Feeds the event of a transcript's line, which has this number, if the line says a snapshot with
-    /// the last writes of its room. No other line is read: they change nothing, and the answer is
-    /// `false`. This takes no memory.
+    /// Feeds the event of a transcript's line, which has this number, if the line says an event of one
+    /// of the rooms. No other line is read: they change nothing, and the answer is `false`. This takes
+    /// no memory.
     ///
-    /// It is there for speed: most snapshots of a run are right, and that a line says the right one is
-    /// seen without reading its entries.
-    pub fn feed_shown(&mut self, line: &[u8], number: u64) -> bool
+    /// It is there for speed: most lines say events, and most snapshots of a run are right, which is
+    /// seen without reading their entries.
+    pub fn feed_said(&mut self, line: &[u8], number: u64) -> bool
         ensures shown { IsTrue result → HasFed line.now number self.old self.new }
         ensures rooms { specs_of self.new ≡ specs_of self.old }
         ensures other { IsFalse result → self.new ≡ self.old }
     {
-        if !self.has_rows {
-            return false;
-        }
-        let Some((name, p, entries)) = snap_parts(line) else {
+        let Some((name, p, deed)) = parts_of(line) else {
             return false;
         };
         let Some(index) = self.index_of(&name) else {
             return false;
         };
-        let Some(row) = self.row_said(index, entries) else {
+        let Some(event) = self.event_of(index, p, deed) else {
             return false;
         };
-        self.feed_at(index, &name, &Event::Snap { p, row }, number);
+        self.feed_at(index, &name, &event, number);
         true
+    }
+
+    /// What process `p` of the room of this index did, by what stands behind its number. A
+    /// snapshot that the room's row shows is told without reading its entries.
+    fn event_of(&self, index: usize, p: u8, deed: &[u8]) -> Option<Event>
+        ensures { IfSome result (SaysDeed deed.now p) }
+    {
+        if let Some(entries) = behind_snap(deed) {
+            if let Some(row) = self.row_said(index, entries) {
+                return Some(Event::Snap { p, row });
+            }
+        }
+        event_told(p, deed)
     }
 
     /// The index of the room of this name.

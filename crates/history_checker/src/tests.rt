@@ -226,53 +226,77 @@ const FOUR_RUN: [&str; 11] = [
 ];
 
 #[test]
-fn right_snapshots_are_told_by_their_bytes(rt: HostRuntime) -> Result<(), Fail> {
-    let mut rooms = Rooms::new(rt.alloc());
-    rooms
-        .add(rt.alloc(), room_of(rt.alloc(), FOUR)?)
-        .ok()
-        .ok_or("a new room")?;
-    for (number, line) in FOUR_RUN.iter().enumerate() {
-        let shown = rooms.feed_shown(line.as_bytes(), number as u64);
-        assert_eq!(rt; shown, line.contains("snap"), "{line}");
-        if !shown {
-            let (name, event) = event_of(line)?;
-            rooms
-                .feed(&name, &event, number as u64)
-                .ok()
-                .ok_or("a known room")?;
+fn events_are_told_by_their_bytes(rt: HostRuntime) -> Result<(), Fail> {
+    for (block, run) in [
+        (FOUR, FOUR_RUN.as_slice()),
+        (PAIR, PAIR_RUN.as_slice()),
+        (WRITER, WRITER_RUN.as_slice()),
+    ] {
+        let mut rooms = Rooms::new(rt.alloc());
+        rooms
+            .add(rt.alloc(), room_of(rt.alloc(), block)?)
+            .ok()
+            .ok_or("a new room")?;
+        for (number, line) in run.iter().enumerate() {
+            assert!(rt; rooms.feed_said(line.as_bytes(), number as u64), "{line}");
         }
+        assert_eq!(rt; rooms.verdict(0), Some(Verdict::Run));
     }
-    assert_eq!(rt; rooms.verdict(0), Some(Verdict::Run));
     Ok(())
 }
 
 #[test]
-fn no_other_snapshot_is_told_by_its_bytes(rt: HostRuntime) -> Result<(), Fail> {
+fn no_other_line_is_told_by_its_bytes(rt: HostRuntime) -> Result<(), Fail> {
     let mut rooms = Rooms::new(rt.alloc());
     rooms
         .add(rt.alloc(), room_of(rt.alloc(), FOUR)?)
         .ok()
         .ok_or("a new room")?;
     for line in [
+        "",
+        "four",
+        "four 0",
+        "four 0 snap . . . . ",
+        "four 0 snap  . . . .",
+        "four 0 snap",
+        "four 0 snap ",
+        "four 0 snaps . . . .",
+        "four 16 snap . . . .",
+        "four 00 snap . . . .",
+        "four 0 snap . . . . . . . . . . . . . . . . .",
+        "fours 0 snap . . . .",
+        "Four 0 snap . . . .",
+        "four 0 write",
+        "four 0 write ",
+        "four 0 write 07",
+        "four 0 write 7 3",
+        "four 0 write 4294967296",
+        "four 0 writes 7",
+        "four 0 decide 7 ",
+    ] {
+        assert_eq!(rt; rooms.feed_said(line.as_bytes(), 1), false, "{line}");
+    }
+    assert_eq!(rt; rooms.verdict(0), Some(Verdict::Run));
+    Ok(())
+}
+
+#[test]
+fn wrong_snapshots_are_told_too(rt: HostRuntime) -> Result<(), Fail> {
+    for line in [
         "four 0 snap . . . 3",
         "four 0 snap 7 . . .",
         "four 0 snap . . .",
         "four 0 snap . . . . .",
-        "four 0 snap . . . . ",
-        "four 0 snap  . . . .",
-        "four 0 snap",
-        "four 0 snaps . . . .",
-        "four 16 snap . . . .",
-        "four 00 snap . . . .",
-        "fours 0 snap . . . .",
-        "Four 0 snap . . . .",
+        // It shows the last writes of all, but its process has not written.
+        "four 0 snap . . . .",
     ] {
-        assert_eq!(rt; rooms.feed_shown(line.as_bytes(), 1), false, "{line}");
+        let mut rooms = Rooms::new(rt.alloc());
+        rooms
+            .add(rt.alloc(), room_of(rt.alloc(), FOUR)?)
+            .ok()
+            .ok_or("a new room")?;
+        assert!(rt; rooms.feed_said(line.as_bytes(), 2), "{line}");
+        assert_eq!(rt; rooms.verdict(0), Some(Verdict::Broken(2)), "{line}");
     }
-    assert_eq!(rt; rooms.verdict(0), Some(Verdict::Run));
-    // It shows the last writes of all, but its process has not written.
-    assert_eq!(rt; rooms.feed_shown(b"four 0 snap . . . .", 2), true);
-    assert_eq!(rt; rooms.verdict(0), Some(Verdict::Broken(2)));
     Ok(())
 }

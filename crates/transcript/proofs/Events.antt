@@ -78,7 +78,7 @@ value_found [] v e = absurd cc
 value_found (field ∷ []) v e = let found = number_found greatest field v (omega arith) e in (ap (λ (f : List ℕ). f ∷ []) found.0, found.1)
 value_found (first ∷ second ∷ fields) v e = absurd cc
 
-row_found : (fields : List (List ℕ)) (entries : List (Option ℕ)) → 0 < length fields → row_in fields ≡ Ok entries → (fields ≡ map entry_text entries) × IsRow entries
+pub row_found : (fields : List (List ℕ)) (entries : List (Option ℕ)) → 0 < length fields → row_in fields ≡ Ok entries → (fields ≡ map entry_text entries) × IsRow entries
 row_found fields entries some e =
     let g = guard_else (ltb 16 (length fields)) BadLength (entries_in fields) entries e in
     let few = ltb-false 16 (length fields) g.0 in

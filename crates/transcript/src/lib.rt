@@ -10,4 +10,4 @@ mod tests;
 
 pub use event::Event;
 pub use fault::LineFault;
-pub use line::{append_event, read_line, write_event};
+pub use line::{append_event, read_line, read_row, write_event};

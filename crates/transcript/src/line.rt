@@ -11,7 +11,7 @@ ghost use Rattle.transcript.specs.Runs.{process_of};
 use crate::event::Event;
 use crate::fault::LineFault;
 use protocol_lang::{View, read_number};
-use room_spec::{MAX_PROCESSES, Name, cut};
+use room_spec::{MAX_PROCESSES, Name, cut_near};
 use std::alloc::{AllocError, Global};
 use std::fmt::Write;
 
@@ -42,7 +42,7 @@ fn read_named_event(line: &[u8]) -> Result<(Name, Event), LineFault>
     if line.len() > MAX_LINE {
         return Err(LineFault::TooLong);
     }
-    let (name, fields) = cut(line, b' ');
+    let (name, fields) = cut_near(line, b' ');
     let name = Name::read(name).ok_or(LineFault::BadName)?;
     let event = read_event(fields.ok_or(LineFault::BadLength)?)?;
     Ok((name, event))
@@ -52,7 +52,7 @@ fn read_named_event(line: &[u8]) -> Result<(Name, Event), LineFault>
 fn read_event(fields: &[u8]) -> Result<Event, LineFault>
     ensures { result ≡ event_in (fields_of fields.now) }
 {
-    match cut(fields, b' ') {
+    match cut_near(fields, b' ') {
         (process, Some(others)) => read_event_of(process, others),
         (_, None) => Err(LineFault::BadLength),
     }
@@ -62,7 +62,7 @@ fn read_event(fields: &[u8]) -> Result<Event, LineFault>
 fn read_event_of(process: &[u8], fields: &[u8]) -> Result<Event, LineFault>
     ensures { result ≡ event_in (process.now ∷ fields_of fields.now) }
 {
-    match cut(fields, b' ') {
+    match cut_near(fields, b' ') {
         (word, Some(values)) => {
             let p = read_up_to(MAX_PROCESS, process)?;
             read_deed(p as u8, word, values)
@@ -104,14 +104,14 @@ fn read_up_to(most: u32, field: &[u8]) -> Result<u32, LineFault>
 fn read_value(fields: &[u8]) -> Result<u32, LineFault>
     ensures { result ≡ value_in (fields_of fields.now) }
 {
-    match cut(fields, b' ') {
+    match cut_near(fields, b' ') {
         (field, None) => read_up_to(u32::MAX, field),
         (_, Some(_)) => Err(LineFault::BadLength),
     }
 }
 
-/// Reads a snapshot, of which the number of entries is judged before each of them.
-fn read_row(fields: &[u8]) -> Result<View, LineFault>
+/// Reads the entries of a snapshot, whose number is judged before each of them.
+pub fn read_row(fields: &[u8]) -> Result<View, LineFault>
     ensures { Gives (λ row. row.items) result (row_in (fields_of fields.now)) }
 {
     if spaces(fields) >= MAX_PROCESSES {
@@ -128,7 +128,7 @@ fn read_entries(fields: &[u8]) -> Result<View, LineFault>
     let mut row = View::new();
     let mut rest = Some(fields);
     while let Some(fields) = rest {
-        let (field, others) = cut(fields, b' ');
+        let (field, others) = cut_near(fields, b' ');
         row.push(read_entry(field)?);
         rest = others;
     }

@@ -4,4 +4,4 @@ use Rattle.transcript.proofs.line.read_value.Goals as goal
 
 pub returns-in_default-Some : goal.returns-in_default-Some
 returns-in_default-Some c =
-    let pieces = rw c.in_default-Some.is-1 at c.cut.ensures.pieces in rw pieces (sym (value_two _ c.cut.result.0.now c.in_default-Some.field-0-1.now))
+    let pieces = rw c.in_default-Some.is-1 at c.cut_near.ensures.pieces in rw pieces (sym (value_two _ c.cut_near.result.0.now c.in_default-Some.field-0-1.now))
