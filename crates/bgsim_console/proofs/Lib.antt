@@ -1,4 +1,5 @@
 pub mod Blocks
+pub mod BlockEnds
 pub mod Commands
 pub mod LineLists
 pub mod Naming

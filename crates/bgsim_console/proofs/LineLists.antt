@@ -4,7 +4,7 @@ use Rattle.std.proofs.lemmas.List.Splits.{length-slice_split}
 use Rattle.room_spec.specs.Texts.{is_line_end, lines_of}
 use Rattle.bgsim_console.specs.Lines.{lines_in, text_lines}
 
-before_more : (line : List ℕ) (pieces : List (List ℕ)) → 0 < length pieces → lines_in (line ∷ pieces) ≡ line ∷ lines_in pieces
+pub before_more : (line : List ℕ) (pieces : List (List ℕ)) → 0 < length pieces → lines_in (line ∷ pieces) ≡ line ∷ lines_in pieces
 before_more line [] some = absurd (omega arith)
 before_more line (piece ∷ pieces) some = refl
 

@@ -1,9 +1,9 @@
 //! What the blocks of an input say.
 ghost use Rattle.std.specs.Prelude.{◌≡◌, ◌+◌, ◌<◌, ◌^◌, ◌≤◌, [], Ok, IfOk, IfErr, length, string_bytes, codes, decimal};
 ghost use Rattle.bgsim_console.specs.declared.fault.IoFault.TheVariants.{Memory};
-ghost use Rattle.room_spec.specs.Blocks.{block_in};
+ghost use Rattle.room_spec.specs.Blocks.{block_in, room_in};
 ghost use Rattle.bgsim_console.specs.Run.{all_blocks};
-ghost use Rattle.bgsim_console.specs.Check.{no_blocks, refuse, open_room, after_block, pass_lines, blocks_in, fault_text, BeginsWithBlock, IsFaultOr};
+ghost use Rattle.bgsim_console.specs.Check.{no_blocks, refuse, open_room, after_block, pass_lines, blocks_in, fault_text, BeginsWithBlock, IsEnded, IsFaultOr};
 
 use crate::fault::IoFault;
 use crate::lines::count_lines;
@@ -11,7 +11,7 @@ use crate::report::{fault_text, write_refused};
 use crate::script::block_extent;
 use history_checker::{AddFault, Rooms};
 use protocol_lang::ParseFault;
-use room_spec::{Spec, SpecFault, block_len, cut, read_block};
+use room_spec::{BlockEnd, Spec, SpecFault, cut, find_end, read_block, read_body};
 use std::alloc::{AllocError, Global};
 use std::marker::Model;
 
@@ -66,12 +66,25 @@ impl Setup {
         let lines = count_lines(block);
         let setup = match read_room(alloc, block)? {
             Ok((spec, _)) => self.open_room(alloc, spec)?,
-            Err(fault) => {
-                let text = fault_text(alloc, fault)?;
-                self.refuse(text.as_str())?
-            }
+            Err(fault) => self.refuse_fault(alloc, fault)?,
         };
         Ok(setup.pass_lines(lines))
+    }
+
+    /// Takes the next block, of which is known where it ends.
+    fn take_ended(self, alloc: Global, block: &[u8], end: BlockEnd) -> Result<Setup, IoFault>
+        requires fits { self.line + length block.now < 2 ^ 64 }
+        requires ended { IsEnded block.now end.body end.lines }
+        requires within { (end.body ≤ length block.now) × (end.lines ≤ length block.now) }
+        ensures block { IfOk result (λ setup. setup ≡ after_block self block.now) }
+        ensures line { IfOk result (λ setup. setup.line ≤ self.line + length block.now) }
+        ensures err { IfErr result (λ fault. fault ≡ Memory) }
+    {
+        let setup = match read_lines(alloc, &block[..end.body])? {
+            Ok(spec) => self.open_room(alloc, spec)?,
+            Err(fault) => self.refuse_fault(alloc, fault)?,
+        };
+        Ok(setup.pass_lines(end.lines as u64))
     }
 
     fn open_room(mut self, alloc: Global, spec: Spec) -> Result<Setup, AllocError>
@@ -83,6 +96,15 @@ impl Setup {
             Err(AddFault::OutOfMemory) => Err(AllocError),
             Err(AddFault::NameTaken) => self.refuse_code(alloc, AddFault::NameTaken.code()),
         }
+    }
+
+    /// Refuses a block for a fault of its own.
+    fn refuse_fault(self, alloc: Global, fault: SpecFault) -> Result<Setup, AllocError>
+        ensures refused { IfOk result (λ setup. setup ≡ refuse self (fault_text fault)) }
+        ensures line { IfOk result (λ setup. setup.line ≡ self.line) }
+    {
+        let text = fault_text(alloc, fault)?;
+        self.refuse(text.as_str())
     }
 
     /// Refuses a block for a fault that its code alone tells.
@@ -124,6 +146,17 @@ pub fn read_room(
     }
 }
 
+/// Reads the lines of a block that stand before its line `end`, unless memory is refused to its
+/// protocol.
+fn read_lines(alloc: Global, body: &[u8]) -> Result<Result<Spec, SpecFault>, AllocError>
+    ensures { IfOk result (λ read. read ≡ room_in body.now) }
+{
+    match read_body(alloc, body) {
+        Err(SpecFault::BadProtocol(ParseFault::OutOfMemory)) => Err(AllocError),
+        read => Ok(read),
+    }
+}
+
 /// Takes the blocks up to the line `events`: what they say, and the text behind that line.
 #[tactic(auto, unfolding(crate::specs::Check::blocks_from))]
 pub fn read_blocks(alloc: Global, input: &[u8]) -> Result<(Setup, &[u8]), IoFault>
@@ -139,13 +172,14 @@ pub fn read_blocks(alloc: Global, input: &[u8]) -> Result<(Setup, &[u8]), IoFaul
         if first == b"events".as_slice() {
             return Ok((setup.pass_lines(1), later.unwrap_or(&[])));
         }
-        let Some(len) = block_len(rest) else {
+        let Some(end) = find_end(rest) else {
             return Err(IoFault::BadInput {
                 line: setup.line + count_lines(rest),
                 code: ENDED_EARLY,
             });
         };
-        setup = setup.take_block(alloc, &rest[..len])?;
+        let len = (end.body + 4).min(rest.len());
+        setup = setup.take_ended(alloc, &rest[..len], end)?;
         rest = &rest[len..];
     }
 }
