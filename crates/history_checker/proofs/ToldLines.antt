@@ -11,6 +11,7 @@ use Rattle.std.proofs.lemmas.List.Sums.{split_at_first, passes_at_first}
 use Rattle.std.proofs.Math.ListN.{get_or}
 use Rattle.arrayvec.specs.ArrayVec.{ArrayVec}
 use Rattle.protocol_lang.specs.Numbers.{greatest}
+use Rattle.room_spec.specs.Names.{is_name}
 use Rattle.room_spec.specs.Texts.{is_space, fields_of}
 use Rattle.transcript.specs.declared.event.Event.{Event}
 use Rattle.transcript.specs.declared.event.Event.TheVariants.{Write, Snap, Decide}
@@ -40,11 +41,11 @@ behind_name name (Write p v) = refl
 behind_name name (Snap p row) = refl
 behind_name name (Decide p v) = refl
 
-pub is_line : (line name deed : List ℕ) (p : ℕ) (event : Event) → IsParted line name p deed → SaysDeed deed p event → line_in line ≡ Ok (name, event)
-is_line line name deed p event parted says =
+pub is_line : (line name deed : List ℕ) (p : ℕ) (event : Event) → IsParted line name p deed → is_name name ≡ true → SaysDeed deed p event → line_in line ≡ Ok (name, event)
+is_line line name deed p event parted room says =
     line_again line name event (record {
       text = parted.text ∙ ap (λ (behind : List ℕ). name ++ 32 ∷ behind) says.text ∙ behind_name name event;
-      room = parted.room;
+      room = room;
       process = omega (arith, says.process, parted.process);
       values = says.values;
     })

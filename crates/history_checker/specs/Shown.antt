@@ -3,7 +3,6 @@ use Rattle.std.specs.Prelude.{◌≡◌, ◌≤◌, ℕ, true, List, [], ◌∷�
 use Rattle.std.specs.Fmt.{decimal}
 use Rattle.std.specs.List.{AllByRecursion, flat_map, join_with_byte, sum_by}
 use Rattle.protocol_lang.specs.Limits.{IsEntry}
-use Rattle.room_spec.specs.Names.{is_name}
 use Rattle.transcript.specs.Grammar.{HasValues, entry_text, event_fields}
 use Rattle.transcript.specs.Lines.{line_in}
 use Rattle.transcript.specs.Runs.{process_of}
@@ -33,10 +32,9 @@ pub record IsShown (entries : List (Option ℕ)) (text widths : List ℕ) : Type
   pub widths_are : widths ≡ map width entries
   pub few : length entries ≤ 16
 
--- a line of a room and a process, and what stands behind these
+-- the first field and the process of a line, and what stands behind these
 pub record IsParted (line name : List ℕ) (p : ℕ) (deed : List ℕ) : Type 0 where
   pub text : line ≡ name ++ 32 ∷ (decimal p ++ 32 ∷ deed)
-  pub room : is_name name ≡ true
   pub process : p ≤ 15
 
 -- in the line of this event of process p that stands behind the process

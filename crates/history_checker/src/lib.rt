@@ -5,6 +5,7 @@ mod history;
 mod process;
 mod rooms;
 mod row;
+mod spelled;
 mod told;
 
 pub use history::check;

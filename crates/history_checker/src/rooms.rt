@@ -1,7 +1,8 @@
 //! Verdicts on many rooms, whose events come mixed.
-ghost use Rattle.std.specs.Prelude.{◌≡◌, ◌↔◌, ◌≤◌, ℕ, List, length, [], ◌∷◌, ◌++◌, IsTrue, IsFalse, IsOk, IfOk, IsErrOf, OnOk, OnErr, None, Some, MatchOption, IfSome, IsSomeAnd, is_some, option_map, slice_get};
+ghost use Rattle.std.specs.Prelude.{◌≡◌, ◌↔◌, ◌≤◌, ℕ, List, true, length, [], ◌∷◌, ◌++◌, IsTrue, IsFalse, IsOk, IfOk, IsErrOf, OnOk, OnErr, None, Some, MatchOption, IfSome, IsSomeAnd, is_some, option_map, slice_get};
 ghost use Rattle.std.specs.List.{position};
 ghost use Rattle.std.specs.Str.{bytes_eq};
+ghost use Rattle.room_spec.specs.Names.{is_name};
 ghost use Rattle.room_spec.specs.Rooms.{RoomSpec};
 ghost use Rattle.history_checker.specs.Verdicts.{FedEvent, HasProcessed, HasProcessedOwn, StandsAfter, IsVerdict, specs_of, names_of, has_room, fed_to, add_code};
 ghost use Rattle.history_checker.specs.Shown.{HasFed, SaysDeed, SaysRow};
@@ -9,6 +10,7 @@ ghost use Rattle.history_checker.specs.Shown.{HasFed, SaysDeed, SaysRow};
 use crate::history::open;
 use crate::process::{Process, follow};
 use crate::row::Row;
+use crate::spelled::Spelled;
 use crate::told::{behind_snap, event_told, parts_of};
 use indexmap::IndexMap;
 use indexmap::map::IntoValues;
@@ -219,7 +221,7 @@ impl Rooms {
         let Some(index) = self.index_of(name) else {
             return Err(NoRoom);
         };
-        self.feed_at(index, name, event, line);
+        self.feed_at(index, name.as_str().as_bytes(), event, line);
         Ok(())
     }
 
@@ -237,13 +239,13 @@ impl Rooms {
         let Some((name, p, deed)) = parts_of(line) else {
             return false;
         };
-        let Some(index) = self.index_of(&name) else {
+        let Some(index) = self.index_spelled(name) else {
             return false;
         };
         let Some(event) = self.event_of(index, p, deed) else {
             return false;
         };
-        self.feed_at(index, &name, &event, number);
+        self.feed_at(index, name, &event, number);
         true
     }
 
@@ -268,8 +270,22 @@ impl Rooms {
         self.rooms.get_index_of(name)
     }
 
+    /// The index of the room whose name these bytes are.
+    fn index_spelled(&self, bytes: &[u8]) -> Option<usize>
+        ensures index { result ≡ position (bytes_eq bytes.now) (names_of (specs_of self.now)) }
+        ensures found { is_some result ≡ has_room bytes.now (specs_of self.now) }
+        ensures name { IfSome result (λ index. is_name bytes.now ≡ true) }
+    {
+        let index = self.rooms.get_index_of(Spelled { bytes })?;
+        let Some((_, room)) = self.rooms.get_index(index) else {
+            unreachable!() // the name was found at this index
+        };
+        let _ = room.spec.name().as_str(); // a room's name is one
+        Some(index)
+    }
+
     /// Feeds the room of this index, which has this name, an event.
-    fn feed_at(&mut self, index: usize, name: &Name, event: &Event, line: u64)
+    fn feed_at(&mut self, index: usize, name: &[u8], event: &Event, line: u64)
         requires { position (bytes_eq name.now) (names_of (specs_of self.old)) ≡ Some index }
         ensures rooms { specs_of self.new ≡ specs_of self.old }
         ensures processed { (fed : List FedEvent) → HasProcessed self.old fed
@@ -341,6 +357,7 @@ impl Model for Specs {
     ghost use Rattle.std.specs.Coded.{codes};
     ghost use Rattle.protocol_lang.specs.Codes.{expression_code};
     ghost use Rattle.std.specs.Prelude.{List};
+    ghost use Rattle.room_spec.specs.Names.{is_name};
     ghost use Rattle.room_spec.specs.Rooms.{RoomSpec};
     ghost use Rattle.history_checker.specs.Verdicts.{specs_of};
 

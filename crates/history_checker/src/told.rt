@@ -3,17 +3,17 @@ ghost use Rattle.std.specs.Prelude.{◌≡◌, ◌∷◌, ◌++◌, ◌≤◌, I
 ghost use Rattle.history_checker.specs.Shown.{IsParted, SaysDeed};
 
 use protocol_lang::read_number;
-use room_spec::{Name, cut_near};
+use room_spec::cut_near;
 use transcript::{Event, read_row};
 
-/// The room and the process of a line, and what stands behind these.
-pub(crate) fn parts_of(line: &[u8]) -> Option<(Name, u8, &[u8])>
-    ensures { IfSome result (λ parts. IsParted line.now parts.0 parts.1 parts.2.now) }
+/// The first field and the process of a line, and what stands behind these.
+pub(crate) fn parts_of(line: &[u8]) -> Option<(&[u8], u8, &[u8])>
+    ensures { IfSome result (λ parts. IsParted line.now parts.0.now parts.1 parts.2.now) }
 {
     let (name, fields) = parted(line)?;
     let (process, deed) = parted(fields)?;
     let process = process_number(process)?;
-    Some((Name::read(name)?, process, deed))
+    Some((name, process, deed))
 }
 
 /// What stands before the first space, and what stands behind it.
