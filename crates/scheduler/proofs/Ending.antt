@@ -1,8 +1,10 @@
 -- A room whose simulators have all stopped and are at home.
-use Rattle.std.proofs.Common.{◌≡◌, ℕ, zero, suc, ◌<◌, Bool, false, List, [], ◌∷◌, ◌++◌, length, get_or, map, reverse, Option, Some, None, refl, sym, ap, ◌∙◌, subst, arith}
+use Rattle.std.proofs.Common.{◌≡◌, ℕ, zero, suc, ◌+◌, ◌<◌, ◌≤◌, Bool, false, List, [], ◌∷◌, ◌++◌, length, get_or, map, take, drop, reverse, Option, Some, None, inl, inr, refl, sym, ap, ◌∙◌, subst, arith}
 use Rattle.std.specs.Option.{IsSome}
 use Rattle.std.specs.List.{slice_get}
-use Rattle.std.proofs.lemmas.List.{get_or-map, length-append, length-map, reverse-append}
+use Rattle.std.proofs.lemmas.Bool.{cases_lt}
+use Rattle.std.proofs.lemmas.List.{get_or-drop, get_or-map, get_or-take, length-append, length-drop, length-map, length-take, map-append, reverse-append, take-append-drop}
+use Rattle.std.proofs.lemmas.Option.{get_or_from_slice_get, slice_get_read}
 use Rattle.room_spec.specs.Rooms.{RoomSpec, fuse_of}
 use Rattle.simulator.specs.Sweeps.{SweepState, opening_sweep}
 use Rattle.room_core.specs.Calls.{RoomState, has_crashed, sweep_at}
@@ -13,7 +15,7 @@ use Rattle.scheduler.specs.declared.rooms.RoomResult.{RoomResult}
 use Rattle.scheduler.specs.Results.{AreRoomRuns, HasEnded, IsRoomRun}
 use Rattle.scheduler.specs.Tasks.{AreKept, IsKept, away, away_from}
 use Rattle.scheduler.proofs.Dealing.{away_at_own, away_more, get_or-append_end, get_or-append_left, newest}
-use Rattle.scheduler.proofs.Returning.{is_home, some_is}
+use Rattle.scheduler.proofs.Returning.{away_at, is_home, some_is}
 
 no_some : (o : Option SweepState) → IsSome o → o ≡ None → ⊥
 no_some None some none = absurd cc
@@ -90,3 +92,80 @@ ends_one all f rooms rest room results after result is last run ends =
     let specs : all ≡ map f rest ++ f room ∷ ends.0 = ends.1 ∙ ap (λ l. map f l ++ ends.0) is ∙ one_before f rest room ends.0 in
     let turned : reverse after ≡ result ∷ reverse results = ap reverse last ∙ reverse-append results (result ∷ []) in
     (f room ∷ ends.0, specs, subst (λ (l : List RoomResult). AreRoomRuns (f room ∷ ends.0) l) (sym turned) (run, ends.2))
+
+-- ---- some of the rooms that follow one another
+
+away_past : (keepers : List KeeperData) (k i : ℕ) → length keepers ≤ k → away keepers k i ≡ 0
+away_past [] k i past = refl
+away_past (keeper ∷ keepers) zero i past = absurd (omega (arith, past))
+away_past (keeper ∷ keepers) (suc k) i past = away_past keepers k i (omega (arith, past))
+
+-- the part begins with the m-th of all
+abbrev pub IsPart : {X : Type 0} → List X → List X → ℕ → Type 0
+IsPart {X} all part m = (m + length part ≤ length all) × ((k : ℕ) (d : X) → k < length part → get_or part k d ≡ get_or all (m + k) d)
+
+pub part_home : (keepers part : List KeeperData) (m : ℕ) → IsPart keepers part m → ((k i : ℕ) → away keepers k i ≡ 0) → (k i : ℕ) → away part k i ≡ 0
+part_home keepers [] m is home k i = refl
+part_home keepers (first ∷ part) m is home k i = elim (cases_lt k (length (first ∷ part))) [
+  | inl below ↦
+      let within = is.0 in
+      let own = away_at (first ∷ part) k i first below in
+      let same = ap (λ (keeper : KeeperData). away_from keeper.sweeps i) (is.1 k first below) in
+      let there = away_at keepers (m + k) i first (omega (arith, within, below)) in
+      own ∙ same ∙ sym there ∙ home (m + k) i
+  | inr past ↦ away_past (first ∷ part) k i (omega (arith, past))
+]
+
+pub part_kept : (rooms some_rooms : List RoomName) (keepers some_keepers : List KeeperData) (m : ℕ) → IsPart rooms some_rooms m → IsPart keepers some_keepers m → length some_keepers ≡ length some_rooms → AreKept rooms keepers → AreKept some_rooms some_keepers
+part_kept rooms some_rooms keepers some_keepers m are_rooms are_keepers same kept = record {
+  count = same;
+  each = λ k d below.
+      let within = are_keepers.0 in
+      let at = kept.each (m + k) d (omega (arith, within, below)) in
+      let room : RoomName = (get_or keepers (m + k) d).room in
+      let found = get_or_from_slice_get rooms (m + k) room room at.0 in
+      let here : slice_get some_rooms k ≡ Some room = slice_get_read some_rooms (length some_rooms) k room refl (omega (arith, below, same)) (sym (are_rooms.1 k room (omega (arith, below, same)) ∙ found)) in
+      subst (λ (one : KeeperData). (slice_get some_rooms k ≡ Some one.room) × IsKept one) (sym (are_keepers.1 k d below)) (here, at.1);
+}
+
+pub first_part : {X : Type 0} (all : List X) (m : ℕ) → m ≤ length all → IsPart all (take m all) 0
+first_part all m within = (
+  omega (arith, within, length-take m all),
+  λ k d below. let here : k < m = omega (arith, below, length-take m all) in let is : 0 + k ≡ k = omega arith in get_or-take m all k d here ∙ ap (λ (n : ℕ). get_or all n d) (sym is),
+)
+
+pub last_part : {X : Type 0} (all : List X) (m : ℕ) → m ≤ length all → IsPart all (drop m all) m
+last_part all m within = (omega (arith, within, length-drop m all), λ k d below. get_or-drop m all k d)
+
+pub cut_first : (rooms some_rooms : List RoomName) (keepers some_keepers : List KeeperData) (m : ℕ) → m ≤ length rooms → some_rooms ≡ take m rooms → some_keepers ≡ take m keepers → AreKept rooms keepers → ((k i : ℕ) → away keepers k i ≡ 0)
+    → AreKept some_rooms some_keepers × ((k i : ℕ) → away some_keepers k i ≡ 0)
+cut_first rooms some_rooms keepers some_keepers m within are_rooms are_keepers kept home =
+    let keepers_within : m ≤ length keepers = omega (arith, within, kept.count) in
+    let of_rooms = subst (λ (l : List RoomName). IsPart rooms l 0) (sym are_rooms) (first_part rooms m within) in
+    let of_keepers = subst (λ (l : List KeeperData). IsPart keepers l 0) (sym are_keepers) (first_part keepers m keepers_within) in
+    let same : length some_keepers ≡ length some_rooms = omega (arith, ap length are_rooms, ap length are_keepers, length-take m rooms, length-take m keepers, kept.count) in
+    (part_kept rooms some_rooms keepers some_keepers 0 of_rooms of_keepers same kept, part_home keepers some_keepers 0 of_keepers home)
+
+pub cut_last : (rooms some_rooms : List RoomName) (keepers some_keepers : List KeeperData) (m : ℕ) → m ≤ length rooms → some_rooms ≡ drop m rooms → some_keepers ≡ drop m keepers → AreKept rooms keepers → ((k i : ℕ) → away keepers k i ≡ 0)
+    → AreKept some_rooms some_keepers × ((k i : ℕ) → away some_keepers k i ≡ 0)
+cut_last rooms some_rooms keepers some_keepers m within are_rooms are_keepers kept home =
+    let keepers_within : m ≤ length keepers = omega (arith, within, kept.count) in
+    let of_rooms = subst (λ (l : List RoomName). IsPart rooms l m) (sym are_rooms) (last_part rooms m within) in
+    let of_keepers = subst (λ (l : List KeeperData). IsPart keepers l m) (sym are_keepers) (last_part keepers m keepers_within) in
+    let same : length some_keepers ≡ length some_rooms = omega (arith, ap length are_rooms, ap length are_keepers, length-drop m rooms, length-drop m keepers, kept.count) in
+    (part_kept rooms some_rooms keepers some_keepers m of_rooms of_keepers same kept, part_home keepers some_keepers m of_keepers home)
+
+pub cut_specs : {X : Type 0} (f : X → RoomSpec) (all first last : List X) (m : ℕ) → first ≡ take m all → last ≡ drop m all → map f all ≡ map f first ++ map f last
+cut_specs f all first last m is_first is_last =
+    ap (λ l. map f l) (sym (take-append-drop m all) ∙ ap (λ l. l ++ drop m all) (sym is_first) ∙ ap (λ l. first ++ l) (sym is_last)) ∙ map-append f first last
+
+-- the results of both parts
+runs_of_both : (specs more : List RoomSpec) (results after : List RoomResult) → AreRoomRuns specs results → AreRoomRuns more after → AreRoomRuns (specs ++ more) (results ++ after)
+runs_of_both [] more [] after are are_more = are_more
+runs_of_both [] more (result ∷ results) after are are_more = absurd are
+runs_of_both (spec ∷ specs) more [] after are are_more = absurd are
+runs_of_both (spec ∷ specs) more (result ∷ results) after are are_more = (are.0, runs_of_both specs more results after are.1 are_more)
+
+pub runs_of_all : (all specs more : List RoomSpec) (results first rest : List RoomResult) → all ≡ specs ++ more → results ≡ first ++ rest → AreRoomRuns specs first → AreRoomRuns more rest → AreRoomRuns all results
+runs_of_all all specs more results first rest are_specs are_results runs more_runs =
+    subst (λ (l : List RoomSpec). AreRoomRuns l results) (sym are_specs) (subst (λ (l : List RoomResult). AreRoomRuns (specs ++ more) l) (sym are_results) (runs_of_both specs more first rest runs more_runs))

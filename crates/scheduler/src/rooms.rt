@@ -1,5 +1,5 @@
 //! All rooms of a list, run by workers.
-ghost use Rattle.std.specs.Prelude.{◌≡◌, ◌≢◌, ◌↔◌, ◌⊎◌, ◌<◌, ℕ, Err, IfOk, map};
+ghost use Rattle.std.specs.Prelude.{◌≡◌, ◌≢◌, ◌↔◌, ◌⊎◌, ◌<◌, ◌≤◌, ◌++◌, ℕ, Err, IfOk, OnOk, length, map};
 ghost use Rattle.room_core.specs.Calls.{room_after_settle};
 ghost use Rattle.scheduler.specs.Results.{AreRoomRuns, IsRoomRun, fault_code};
 ghost use Rattle.scheduler.specs.Tasks.{AreKept, IsKept, away, away_from};
@@ -13,6 +13,7 @@ use room_spec::Spec;
 use ruled_room::{Gone, Keeper, RuledRoom};
 use std::alloc::{AllocError, Global};
 use std::sync::Wait;
+use std::thread;
 use std::thread::Threads;
 use thiserror::Error;
 use ws_history::{Report, report};
@@ -96,7 +97,67 @@ pub fn run_rooms<R: Threads + Wait + Sync, G: Gate + Sync>(
         queues,
     } = open_all(alloc, specs, workers)?;
     let keepers = run_all(rt, alloc, rooms.as_slice(), keepers, queues, gate)?;
-    Ok(finish_all(alloc, rooms, keepers)?)
+    Ok(finish_by(rt, alloc, rooms, keepers, workers)?)
+}
+
+/// Ends all rooms, by so many threads at the same time: each ends an equal part of them.
+#[cycle(parts)]
+fn finish_by<R: Threads>(
+    rt: &R,
+    alloc: Global,
+    mut rooms: Vec<RuledRoom>,
+    mut keepers: Vec<Keeper>,
+    threads: u8,
+) -> Result<Vec<RoomResult>, AllocError>
+    requires kept { AreKept rooms.items keepers.items }
+    requires home { (k i : ℕ) → away keepers.items k i ≡ 0 }
+    ensures { IfOk result (λ results. AreRoomRuns (map (λ room. room.spec) rooms.items) results.items) }
+{
+    if threads <= 1 {
+        return finish_all(alloc, rooms, keepers);
+    }
+    let others = threads - 1;
+    let count = rooms.len() / usize::from(threads);
+    let (other_rooms, other_keepers) = cut(&mut rooms, &mut keepers, count)?;
+    let first = move || -> Result<Vec<RoomResult>, AllocError>
+        requires { AreKept rooms.items keepers.items × ((k i : ℕ) → away keepers.items k i ≡ 0) }
+        ensures { IfOk result (λ results. AreRoomRuns (map (λ room. room.spec) rooms.items) results.items) }
+    { finish_all(alloc, rooms, keepers) };
+    let rest = move || -> Result<Vec<RoomResult>, AllocError>
+        requires { AreKept other_rooms.items other_keepers.items × ((k i : ℕ) → away other_keepers.items k i ≡ 0) }
+        ensures { IfOk result (λ results. AreRoomRuns (map (λ room. room.spec) other_rooms.items) results.items) }
+    { finish_by(rt, alloc, other_rooms, other_keepers, others) };
+    let (first, rest) = thread::join(rt, first, rest);
+    Ok(both(first?, rest?)?)
+}
+
+/// Leaves so many rooms, the first, and gives the others.
+fn cut(
+    rooms: &mut Vec<RuledRoom>,
+    keepers: &mut Vec<Keeper>,
+    count: usize,
+) -> Result<(Vec<RuledRoom>, Vec<Keeper>), AllocError>
+    requires count { count ≤ length rooms.old.items }
+    requires kept { AreKept rooms.old.items keepers.old.items }
+    requires home { (k i : ℕ) → away keepers.old.items k i ≡ 0 }
+    ensures first { OnOk result (AreKept rooms.new.items keepers.new.items × ((k i : ℕ) → away keepers.new.items k i ≡ 0)) }
+    ensures others { IfOk result (λ others. AreKept others.0.items others.1.items × ((k i : ℕ) → away others.1.items k i ≡ 0)) }
+    ensures specs { IfOk result (λ others. map (λ room. room.spec) rooms.old.items ≡ map (λ room. room.spec) rooms.new.items ++ map (λ room. room.spec) others.0.items) }
+{
+    let other_rooms = rooms.split_off(count)?;
+    let other_keepers = keepers.split_off(count)?;
+    Ok((other_rooms, other_keepers))
+}
+
+/// The results of the first rooms, and after them those of the others.
+fn both(
+    mut first: Vec<RoomResult>,
+    mut rest: Vec<RoomResult>,
+) -> Result<Vec<RoomResult>, AllocError>
+    ensures { IfOk result (λ all. all.items ≡ first.items ++ rest.items) }
+{
+    first.append(&mut rest)?;
+    Ok(first)
 }
 
 /// Ends each room, one after the other.
