@@ -49,7 +49,9 @@ fn name_taken(rt: HostRuntime) -> Result<(), Fail> {
     let twice = format!(in rt.alloc(); "{ONE}{ONE}")?;
     let (found, written) = ran(&rt, rt.alloc(), twice.as_bytes(), 1);
     assert_eq!(rt; found, Ok(Outcome::SomeRefused));
-    let behind = written.as_slice().strip_prefix(b"line 11 refused 41\n".as_slice());
+    let behind = written
+        .as_slice()
+        .strip_prefix(b"line 11 refused 41\n".as_slice());
     assert_eq!(rt; behind, Some(REPORT.as_bytes()));
     Ok(())
 }

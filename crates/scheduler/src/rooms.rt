@@ -100,7 +100,8 @@ pub fn run_rooms<R: Threads + Wait + Sync, G: Gate + Sync>(
     Ok(finish_by(rt, alloc, rooms, keepers, workers)?)
 }
 
-/// Ends all rooms, by so many threads at the same time: each ends an equal part of them.
+/// Ends all rooms, by so many threads at the same time: each ends an equal part of them. Where there are
+/// fewer rooms than threads, one thread ends them all.
 #[cycle(parts)]
 fn finish_by<R: Threads>(
     rt: &R,
@@ -113,7 +114,7 @@ fn finish_by<R: Threads>(
     requires home { (k i : ℕ) → away keepers.items k i ≡ 0 }
     ensures { IfOk result (λ results. AreRoomRuns (map (λ room. room.spec) rooms.items) results.items) }
 {
-    if threads <= 1 {
+    if threads <= 1 || rooms.len() < usize::from(threads) {
         return finish_all(alloc, rooms, keepers);
     }
     let others = threads - 1;
