@@ -1,5 +1,5 @@
 //! All rooms of a list, run by workers.
-ghost use Rattle.std.specs.Prelude.{◌≡◌, ◌≢◌, ◌↔◌, ◌⊎◌, ◌<◌, ◌≤◌, ◌++◌, ℕ, Err, IfOk, OnOk, length, map};
+ghost use Rattle.std.specs.Prelude.{◌≡◌, ◌≢◌, ◌↔◌, ◌⊎◌, ◌<◌, ◌≤◌, ◌++◌, ◌/◌, ℕ, Err, IfOk, OnOk, length, map, min};
 ghost use Rattle.room_core.specs.Calls.{room_after_settle};
 ghost use Rattle.scheduler.specs.Results.{AreRoomRuns, IsRoomRun, fault_code};
 ghost use Rattle.scheduler.specs.Tasks.{AreKept, IsKept, away, away_from};
@@ -97,11 +97,22 @@ pub fn run_rooms<R: Threads + Wait + Sync, G: Gate + Sync>(
         queues,
     } = open_all(alloc, specs, workers)?;
     let keepers = run_all(rt, alloc, rooms.as_slice(), keepers, queues, gate)?;
-    Ok(finish_by(rt, alloc, rooms, keepers, workers)?)
+    let threads = ending_threads(rooms.len(), workers);
+    Ok(finish_by(rt, alloc, rooms, keepers, threads)?)
 }
 
-/// Ends all rooms, by so many threads at the same time: each ends an equal part of them. Where there are
-/// fewer rooms than threads, one thread ends them all.
+/// How many rooms a thread ends at least, where more than one does: a thread for a few rooms takes more
+/// time than it saves, and memory of its own.
+const ROOMS_A_THREAD: usize = 64;
+
+/// How many threads end so many rooms: no more than there are workers. One does where it is 0.
+fn ending_threads(rooms: usize, workers: u8) -> u8
+    ensures { result ≡ min workers (rooms / 64) }
+{
+    usize::from(workers).min(rooms / ROOMS_A_THREAD) as u8
+}
+
+/// Ends all rooms, by so many threads at the same time: each ends an equal part of them.
 #[cycle(parts)]
 fn finish_by<R: Threads>(
     rt: &R,
@@ -114,7 +125,7 @@ fn finish_by<R: Threads>(
     requires home { (k i : ℕ) → away keepers.items k i ≡ 0 }
     ensures { IfOk result (λ results. AreRoomRuns (map (λ room. room.spec) rooms.items) results.items) }
 {
-    if threads <= 1 || rooms.len() < usize::from(threads) {
+    if threads <= 1 {
         return finish_all(alloc, rooms, keepers);
     }
     let others = threads - 1;
