@@ -17,7 +17,7 @@ use std::thread::Threads;
 
 /// The most rooms that run at the same time. While it runs a room takes some 6.5 KB, however short its
 /// block is.
-const ROOMS_AT_ONCE: usize = 256;
+const ROOMS_AT_ONCE: usize = 128;
 
 /// A text of reports, and the outcome that goes with it.
 #[derive(Drop)]
