@@ -3,20 +3,20 @@ ghost use Rattle.std.specs.Prelude.{◌≡◌, true, [], MatchOption, Some, None
 ghost use Rattle.ruled_room.specs.Parts.{IsComplete, IsFirstOut, holds_in, marked, sweep_home};
 ghost use Rattle.ruled_room.specs.Views.{IsAlone, given, mind_in, with_back, without};
 
+use crate::boxed::BoxedSweep;
 use crate::room::RuledRoom;
 use crate::rule::{Chosen, HandsOver, View};
 use crate::step::Simulator;
 use crate::stop::Stop;
 use arrayvec::ArrayVec;
 use atomic_table::Seat;
-use simulator::Sweep;
 use std::marker::{Brand, Model};
 
 /// The simulators of a room that are at home, and which of all its simulators have crashed.
 #[derive(Drop)]
 pub struct Keeper {
     pub(crate) seat: Seat<(), View>,
-    pub(crate) sweeps: ArrayVec<Option<Sweep>, 8>,
+    pub(crate) sweeps: ArrayVec<Option<BoxedSweep>, 8>,
     pub(crate) crashed: ArrayVec<bool, 8>,
 }
 

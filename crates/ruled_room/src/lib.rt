@@ -12,6 +12,7 @@
 //! table is what holds between any two operations.
 #![tactic(auto)]
 
+mod boxed;
 mod keeper;
 mod room;
 pub mod rule;

@@ -1,12 +1,14 @@
 //! A room on words that threads share: its beginning and its end.
-ghost use Rattle.std.specs.Prelude.{◌≡◌, suc, ◌≤◌, length, take, map, replicate, false, IfOk, IfErr, OnOk, Some};
+ghost use Rattle.std.specs.Prelude.{◌≡◌, suc, ◌<◌, ◌≤◌, length, take, map, replicate, false, IfOk, IfErr, OnOk, Some};
 ghost use Rattle.std.specs.Mem.Slots.{IsFull, slots_items, slots_len};
+ghost use Rattle.simulator.specs.Sweeps.{opening_sweep};
 ghost use Rattle.room_spec.specs.Rooms.{IsWithinLimits};
 ghost use Rattle.room_core.specs.Calls.{configuration_of};
 ghost use Rattle.room_core.specs.Rooms.{IsOneInterleaving};
 ghost use Rattle.ruled_room.specs.Parts.{GoneFor, IsComplete, first_sweeps};
 ghost use Rattle.ruled_room.specs.Rule.{word_count};
 
+use crate::boxed::BoxedSweep;
 use crate::keeper::Keeper;
 use crate::rule::{Begins, Interleaves, View};
 use arrayvec::ArrayVec;
@@ -68,6 +70,7 @@ impl RuledRoom {
     {
         let count = words(&spec.shape());
         let zero = zeros(alloc, count + 1)?;
+        let sweeps = first_sweeps(alloc, &spec)?;
         let (table, mut seat) = Table::of_words(alloc, zero.as_slice(), &spec)?;
         let found = table.shared.swap::<Begins>(&mut seat, count, 1);
         if found != 0 {
@@ -75,7 +78,7 @@ impl RuledRoom {
         }
         let keeper = Keeper {
             seat,
-            sweeps: first_sweeps(&spec),
+            sweeps,
             crashed: nobody(spec.m()),
         };
         Ok((RuledRoom { table, spec }, keeper))
@@ -135,7 +138,7 @@ fn read(closed: &Closed<(), Global>, words: &mut Vec<u64>)
 }
 
 /// The sweeps, which are all there.
-fn all(sweeps: ArrayVec<Option<Sweep>, 8>) -> ArrayVec<Sweep, 8>
+fn all(sweeps: ArrayVec<Option<BoxedSweep>, 8>) -> ArrayVec<Sweep, 8>
     requires { IsComplete sweeps.items }
     ensures { map Some result.items ≡ sweeps.items }
 {
@@ -144,7 +147,7 @@ fn all(sweeps: ArrayVec<Option<Sweep>, 8>) -> ArrayVec<Sweep, 8>
         let Some(sweep) = sweep else {
             unreachable!() // none of them is out
         };
-        whole.push(sweep);
+        whole.push(sweep.into_inner());
     }
     whole
 }
@@ -156,14 +159,21 @@ fn zeros(alloc: Global, count: usize) -> Result<Vec<u64>, AllocError>
 }
 
 /// A sweep for each simulator, before its first step.
-fn first_sweeps(spec: &Spec) -> ArrayVec<Option<Sweep>, 8>
-    ensures { result.items ≡ first_sweeps spec.now }
+fn first_sweeps(alloc: Global, spec: &Spec) -> Result<ArrayVec<Option<BoxedSweep>, 8>, AllocError>
+    ensures { IfOk result (λ sweeps. sweeps.items ≡ first_sweeps spec.now) }
 {
     let mut sweeps = ArrayVec::new();
     for i in 0..spec.m() {
-        sweeps.push(Some(Sweep::new(spec, i)));
+        sweeps.push(Some(first_sweep(alloc, spec, i)?));
     }
-    sweeps
+    Ok(sweeps)
+}
+
+fn first_sweep(alloc: Global, spec: &Spec, i: usize) -> Result<BoxedSweep, AllocError>
+    requires { i < spec.now.simulators }
+    ensures { IfOk result (λ sweep. sweep ≡ opening_sweep spec.now i) }
+{
+    BoxedSweep::new(alloc, Sweep::new(spec, i))
 }
 
 /// Marks for so many simulators of whom nobody has crashed.

@@ -10,11 +10,12 @@ ghost use Rattle.room_core.specs.declared.reply.StepReply.TheVariants.{Idle};
 ghost use Rattle.ruled_room.specs.Parts.{IsSweepOf, TakesStep};
 ghost use Rattle.ruled_room.specs.Views.{alone, noted};
 
+use crate::boxed::BoxedSweep;
 use crate::room::RuledRoom;
 use crate::rule::{Adds, Loads, Stores, Subtracts, View};
 use atomic_table::Seat;
 use room_core::StepReply;
-use simulator::{Mind, Move, Ready, Sweep};
+use simulator::{Mind, Move, Ready};
 use std::marker::Model;
 
 /// One simulator, which any thread may step. What it has in mind is its own: no other thread sees it.
@@ -22,7 +23,7 @@ use std::marker::Model;
 #[derive(Drop)]
 pub struct Simulator {
     pub(crate) seat: Seat<(), View>,
-    pub(crate) sweep: Sweep,
+    pub(crate) sweep: BoxedSweep,
     pub(crate) number: usize,
 }
 
@@ -84,8 +85,7 @@ impl Simulator {
             Ready::Step => {
                 let next = self.sweep.mind().next_move(&room.spec);
                 let answer = perform(room, &mut self.seat, self.sweep.mind(), next);
-                let turn = self.sweep.mind_mut().take(&room.spec, answer);
-                self.sweep.note(turn);
+                self.sweep.take(&room.spec, answer);
                 StepReply::Stepped
             }
             Ready::Idle => {

@@ -35,9 +35,9 @@ invariant_of-keeper c =
     let limits = c.shape.ensures.limits in
     let me : c.swap-found.new.seat.me ≡ (begun (nobody spec), []) = w.2 c.if-found-ne0.false ∙ ap (λ (m : Me (Unit {0}) View). (begun m.0, m.1)) t.4 in
     let spec-is : c.swap-found.new.seat.me.0.spec ≡ spec = ap (λ (m : Me (Unit {0}) View). m.0.spec) me in
-    let first : c.first_sweeps.result.items ≡ first_sweeps spec = c.first_sweeps.ensures in
+    let first : c.in_ok-sweeps.sweeps.items ≡ first_sweeps spec = c.in_ok-sweeps.ensures in
     let count = ap (λ (q : RoomSpec). q.simulators) (sym spec-is) in
-    let minds : c.swap-found.new.seat.me.0.minds ≡ minds_of c.first_sweeps.result.items =
+    let minds : c.swap-found.new.seat.me.0.minds ≡ minds_of c.in_ok-sweeps.sweeps.items =
     ap (λ (m : Me (Unit {0}) View). m.0.minds) me ∙ sym (first_homes spec (range_with_len 0 spec.simulators)) ∙ ap minds_of (sym first) in (
       minds,
       ap (λ (m : Me (Unit {0}) View). m.1) me,

@@ -1,12 +1,12 @@
-use Rattle.std.proofs.Common.{◌≡◌, ℕ, map, List, Option, sym, ap, ◌∙◌, subst}
+use Rattle.std.proofs.Common.{◌≡◌, map, List, Option, sym, ap, ◌∙◌, subst}
 use Rattle.room_spec.specs.Rooms.{RoomSpec}
 use Rattle.simulator.specs.Minds.{MindState, goal_at}
 use Rattle.simulator.specs.Moves.{move_of, taken, IsOperation}
 use Rattle.simulator.specs.Quiet.{HasNoWrite, IsQuietCount}
 use Rattle.simulator.specs.Ranges.{IsMind}
-use Rattle.simulator.specs.Sweeps.{SweepState, quiet_after}
-use Rattle.simulator.specs.declared.turn.Turn.{Turn}
+use Rattle.simulator.specs.Sweeps.{SweepState}
 use Rattle.simulator.proofs.Counting.{counts_on, idle_waits}
+use Rattle.simulator.proofs.Keeping.{kept}
 use Rattle.simulator.proofs.Stepping.{moves, keeps_number}
 use Rattle.atomic_table.specs.Table.{Me}
 use Rattle.ruled_room.specs.declared.rule.View.{View}
@@ -25,14 +25,13 @@ perform-answer-requires-clause-operation c =
     let named : spec ≡ c.args.room.now.spec = ap (λ (r : RoomName). r.spec) c.room.view_is in
     subst (λ (q : RoomSpec × MindState). IsOperation (move_of q.0 q.1)) (λ p. (named p, sym c.mind-in-Step.ensures p)) operation
 
-pub take-turn-requires-clause-operation : goal.take-turn-requires-clause-operation
-take-turn-requires-clause-operation c =
+pub take-requires-clause-operation : goal.take-requires-clause-operation
+take-requires-clause-operation c =
     let mind = c.self.inside.sweep.mind in
     let spec = c.room.inside.spec in
     let same : c.self.inside.seat.me.0.spec ≡ spec = ap (λ (s : SimulatorData). s.room.spec) c.self.view_is ∙ ap (λ (r : RoomName). r.spec) c.requires ∙ ap (λ (r : RoomName). r.spec) (sym c.room.view_is) in
     let is_mind : IsMind spec mind = subst (λ (s : RoomSpec). IsMind s mind) same c.self.invariant.2.is_mind in
-    let operation : IsOperation (move_of spec mind) = moves spec mind c.self.inside.sweep.quiet is_mind (sym c.ready.ensures ∙ c.in-Step.is) in
-    subst (λ (m : MindState). IsOperation (move_of spec m)) (sym c.mind_mut.ensures.value) operation
+    moves spec mind c.self.inside.sweep.quiet is_mind (sym c.ready.ensures ∙ c.in-Step.is)
 
 pub invariant_of-self : goal.invariant_of-self
 invariant_of-self c =
@@ -42,26 +41,23 @@ invariant_of-self c =
     let n = c.self.inside.number in
     let a = c.perform-answer.result in
     let p = c.perform-answer.ensures in
-    let t = c.take-turn.ensures in
-    let after : c.note.new.self.mind ≡ c.take-turn.new.self = ap (λ (s : SweepState). s.mind) c.note.ensures in
-    let taken-is : (taken c.self.inside.seat.me.0.spec mind a).mind ≡ c.note.new.self.mind =
-    ap (λ (s : RoomSpec). (taken s mind a).mind) same ∙ ap (λ (m : MindState). (taken spec m a).mind) (sym c.mind_mut.ensures.value) ∙ sym t.mind ∙ sym after in
-    let minds : c.perform-answer.new.seat.me.0.minds ≡ only n c.note.new.self.mind =
+    let after : c.take.new.self.mind ≡ (taken spec mind a).mind = ap (λ (s : SweepState). s.mind) c.take.ensures in
+    let taken-is : (taken c.self.inside.seat.me.0.spec mind a).mind ≡ c.take.new.self.mind = ap (λ (s : RoomSpec). (taken s mind a).mind) same ∙ sym after in
+    let minds : c.perform-answer.new.seat.me.0.minds ≡ only n c.take.new.self.mind =
     ap (λ (m : Me (Unit {0}) View). m.0.minds) p.2 ∙ ap (λ (l : List (Option MindState)). map (take_in c.self.inside.seat.me.0.spec a) l) c.self.invariant.0
     ∙ only-answered c.self.inside.seat.me.0.spec n mind a ∙ ap (λ (m : MindState). only n m) taken-is in
     let seat-spec : c.perform-answer.new.seat.me.0.spec ≡ spec = ap (λ (m : Me (Unit {0}) View). m.0.spec) p.2 ∙ same in
-    let number : c.note.new.self.mind.number ≡ n = ap (λ (m : MindState). m.number) (sym taken-is) ∙ keeps_number c.self.inside.seat.me.0.spec mind a ∙ c.self.invariant.2.number in
+    let number : c.take.new.self.mind.number ≡ n = ap (λ (m : MindState). m.number) (sym taken-is) ∙ keeps_number c.self.inside.seat.me.0.spec mind a ∙ c.self.invariant.2.number in
     let old = c.self.invariant.2 in
-    let counts = counts_on spec mind c.self.inside.sweep.quiet a (subst (λ (s : RoomSpec). IsMind s mind) same old.is_mind) old.quiet in
-    let mind-is : (taken spec mind a).mind ≡ c.note.new.self.mind = ap (λ (m : MindState). (taken spec m a).mind) (sym c.mind_mut.ensures.value) ∙ sym t.mind ∙ sym after in
-    let quiet-is : quiet_after (taken spec mind a).turn c.self.inside.sweep.quiet ≡ c.note.new.self.quiet =
-    ap (λ (m : MindState). quiet_after (taken spec m a).turn c.self.inside.sweep.quiet) (sym c.mind_mut.ensures.value) ∙ ap (λ (turn : Turn). quiet_after turn c.self.inside.sweep.quiet) (sym t.turn) ∙ sym (ap (λ (s : SweepState). s.quiet) c.note.ensures) in (
+    let is_mind : IsMind spec mind = subst (λ (s : RoomSpec). IsMind s mind) same old.is_mind in
+    let operation : IsOperation (move_of spec mind) = moves spec mind c.self.inside.sweep.quiet is_mind (sym c.ready.ensures ∙ c.in-Step.is) in
+    let counts = counts_on spec mind c.self.inside.sweep.quiet a is_mind old.quiet in (
       minds,
       ap (λ (m : Me (Unit {0}) View). m.1) p.2,
       record {
-        is_mind = subst (λ (q : RoomSpec × MindState). IsMind q.0 q.1) (λ k. (sym seat-spec k, sym after k)) t.is_mind;
+        is_mind = subst (λ (q : RoomSpec × MindState). IsMind q.0 q.1) (λ k. (sym seat-spec k, sym after k)) (kept spec mind a is_mind operation);
         number = number;
-        quiet = subst (λ (q : MindState × ℕ). IsQuietCount q.0 q.1) (λ k. (mind-is k, quiet-is k)) counts;
+        quiet = subst (λ (s : SweepState). IsQuietCount s.mind s.quiet) (sym c.take.ensures) counts;
       },
     )
 
