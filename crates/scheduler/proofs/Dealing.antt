@@ -31,10 +31,10 @@ put_all rooms f (queue ∷ queues) (suc w) new d task below is task_is all =
     (put_all rooms f queues w new d task (omega (arith, below)) is task_is (all_tail P (f queue) (map f queues) all))
 
 pub put_count : {Q : Type 0} (k i : ℕ) (f : Q → List Task) (queues : List Q) (w : ℕ) (new d : Q) (task : Task) → w < length queues → f new ≡ f (get_or queues w d) ++ task ∷ []
-    → waiting k i (map f (set queues w new)) ≡ waiting k i (map f queues) + is_here k i task.place task.simulator.value.number
+    → waiting k i (map f (set queues w new)) ≡ waiting k i (map f queues) + is_here k i task.place task.simulator.number
 put_count k i f [] w new d task below is = absurd (omega (arith, below))
 put_count k i f (queue ∷ queues) zero new d task below is =
-    let h : Task → ℕ = λ t. is_here k i t.place t.simulator.value.number in
+    let h : Task → ℕ = λ t. is_here k i t.place t.simulator.number in
     let q : List Task → ℕ = λ tasks. queued k i tasks in
     omega (arith, sum_by-cons q (f new) (map f queues), sum_by-cons q (f queue) (map f queues), ap q is, sum_snoc h (f queue) task)
 put_count k i f (queue ∷ queues) (suc w) new d task below is =
@@ -149,11 +149,11 @@ away_one place room n k i keeper new below is to =
 -- a new task is one of its room
 pub new_task : (rooms : List RoomName) (place i : ℕ) (room : RoomName) (task : Task) (simulator : SimulatorData) (fuses : List (Option ℕ)) (d : Option ℕ) → slice_get rooms place ≡ Some room → i < room.spec.simulators
     → fuses ≡ map (fuse_of room.spec.fuses) (range_with_len 0 room.spec.simulators) → simulator.room ≡ room → simulator.number ≡ i → Some simulator.sweep ≡ sweep_home (keeper_after room i) i
-    → task.place ≡ place → task.simulator.value ≡ simulator → task.fuse ≡ get_or fuses i d → IsTaskOf rooms task
+    → task.place ≡ place → task.simulator ≡ simulator → task.fuse ≡ get_or fuses i d → IsTaskOf rooms task
 new_task rooms place i room task simulator fuses d at below list own number home place_is simulator_is fuse_is =
     let sweep : simulator.sweep ≡ opening_sweep room.spec i = some_is simulator.sweep (opening_sweep room.spec i) (home ∙ at_home room i below) in
     let fuse : task.fuse ≡ fuse_of room.spec.fuses i = fuse_is ∙ ap (λ (l : List (Option ℕ)). get_or l i d) list ∙ get_or-map-range_with_len (fuse_of room.spec.fuses) 0 room.spec.simulators i i d below (omega arith) in
-    let steps : task.simulator.value.sweep.mind.steps ≡ 0 = ap (λ (s : SimulatorData). s.sweep.mind.steps) simulator_is ∙ ap (λ (s : SweepState). s.mind.steps) sweep in
+    let steps : task.simulator.sweep.mind.steps ≡ 0 = ap (λ (s : SimulatorData). s.sweep.mind.steps) simulator_is ∙ ap (λ (s : SweepState). s.mind.steps) sweep in
     record {
       room = ap (λ (n : ℕ). slice_get rooms n) place_is ∙ at ∙ ap Some (sym (ap (λ (s : SimulatorData). s.room) simulator_is ∙ own));
       fuse = fuse ∙ sym (ap own_fuse simulator_is ∙ ap (λ (r : RoomName). fuse_of r.spec.fuses simulator.number) own ∙ ap (λ (n : ℕ). fuse_of room.spec.fuses n) number);
@@ -185,7 +185,7 @@ newest [] x = refl
 newest (y ∷ list) x = newest list x
 
 still_task : (rooms : List RoomName) (room : RoomName) (task : Task) → IsTaskOf rooms task → IsTaskOf (rooms ++ room ∷ []) task
-still_task rooms room task is = record { room = longer rooms room task.place task.simulator.value.room is.room; fuse = is.fuse; within = is.within }
+still_task rooms room task is = record { room = longer rooms room task.place task.simulator.room is.room; fuse = is.fuse; within = is.within }
 
 pub still_tasks : (rooms : List RoomName) (room : RoomName) (queues : List (List Task)) → AreTasksOf rooms queues → AreTasksOf (rooms ++ room ∷ []) queues
 still_tasks rooms room queues all k d below j e within = still_task rooms room (get_or (get_or queues k d) j e) (all k d below j e within)

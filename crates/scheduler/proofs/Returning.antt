@@ -9,7 +9,7 @@ use Rattle.std.proofs.lemmas.List.{get_or-set_same, get_or-set_other, length-set
 use Rattle.std.proofs.lemmas.Option.{slice_get_within}
 use Rattle.room_spec.specs.Rooms.{RoomSpec, fuse_of}
 use Rattle.simulator.specs.Sweeps.{SweepState}
-use Rattle.ruled_room.specs.Parts.{KeeperData, RoomName, SimulatorData, marked}
+use Rattle.ruled_room.specs.Parts.{KeeperData, RoomName, marked}
 use Rattle.ruled_room.specs.declared.stop.Stop.{Stop}
 use Rattle.ruled_room.specs.declared.stop.Stop.TheVariants.{Idle, OutOfTurns, Crashed}
 use Rattle.scheduler.specs.declared.workers.Stopped.{Stopped}
@@ -177,30 +177,25 @@ kept_back keeper n sweep stop kept is ended = record {
 -- the keeper of the room at a task's place
 pub record IsFor (rooms : List RoomName) (keepers : List KeeperData) (one : Stopped) (d : KeeperData) : Type 0 where
   pub below : one.place < length keepers
-  pub room : (get_or keepers one.place d).room ≡ one.simulator.value.room
+  pub room : (get_or keepers one.place d).room ≡ one.simulator.room
   pub kept : IsKept (get_or keepers one.place d)
-
--- its keeper takes it out of its box
-pub came_back : (keepers : List KeeperData) (one : Stopped) (simulator : SimulatorData) (d : KeeperData) → simulator ≡ one.simulator.value
-    → with_back (get_or keepers one.place d) simulator.number simulator.sweep one.stop ≡ with_back (get_or keepers one.place d) one.simulator.value.number one.simulator.value.sweep one.stop
-came_back keepers one simulator d is = ap (λ (s : SimulatorData). with_back (get_or keepers one.place d) s.number s.sweep one.stop) is
 
 pub is_for : (rooms : List RoomName) (keepers : List KeeperData) (one : Stopped) (d : KeeperData) → AreKept rooms keepers → IsStoppedOf rooms one → IsFor rooms keepers one d
 is_for rooms keepers one d kept is =
-    let within = slice_get_within rooms one.place one.simulator.value.room is.room in
+    let within = slice_get_within rooms one.place one.simulator.room is.room in
     let below : one.place < length keepers = omega (arith, within, kept.count) in
     let at = kept.each one.place d below in
-    record { below = below; room = some_is (get_or keepers one.place d).room one.simulator.value.room (sym at.0 ∙ is.room); kept = at.1 }
+    record { below = below; room = some_is (get_or keepers one.place d).room one.simulator.room (sym at.0 ∙ is.room); kept = at.1 }
 
-pub kept_by_all : (rooms : List RoomName) (keepers : List KeeperData) (one : Stopped) (new : KeeperData) (d : KeeperData) → AreKept rooms keepers → IsStoppedOf rooms one → 1 ≤ away keepers one.place one.simulator.value.number
-    → new ≡ with_back (get_or keepers one.place d) one.simulator.value.number one.simulator.value.sweep one.stop → AreKept rooms (set keepers one.place new)
+pub kept_by_all : (rooms : List RoomName) (keepers : List KeeperData) (one : Stopped) (new : KeeperData) (d : KeeperData) → AreKept rooms keepers → IsStoppedOf rooms one → 1 ≤ away keepers one.place one.simulator.number
+    → new ≡ with_back (get_or keepers one.place d) one.simulator.number one.simulator.sweep one.stop → AreKept rooms (set keepers one.place new)
 kept_by_all rooms keepers one new d kept is some to =
     let keeper : KeeperData = get_or keepers one.place d in
     let for_it = is_for rooms keepers one d kept is in
-    let out = is_away keeper.sweeps one.simulator.value.number (let from = away_at keepers one.place one.simulator.value.number d for_it.below in omega (arith, some, from)) in
-    let ended = ended_by one.stop (own_fuse one.simulator.value) one.simulator.value.room.spec one.simulator.value.sweep is.stops is.within in
-    let here = subst (λ (r : RoomName). HasEnded (fuse_of r.spec.fuses one.simulator.value.number) r.spec one.simulator.value.sweep (crashes one.stop)) (sym for_it.room) ended in
-    let after : IsKept new = subst IsKept (sym to) (kept_back keeper one.simulator.value.number one.simulator.value.sweep one.stop for_it.kept out here) in
+    let out = is_away keeper.sweeps one.simulator.number (let from = away_at keepers one.place one.simulator.number d for_it.below in omega (arith, some, from)) in
+    let ended = ended_by one.stop (own_fuse one.simulator) one.simulator.room.spec one.simulator.sweep is.stops is.within in
+    let here = subst (λ (r : RoomName). HasEnded (fuse_of r.spec.fuses one.simulator.number) r.spec one.simulator.sweep (crashes one.stop)) (sym for_it.room) ended in
+    let after : IsKept new = subst IsKept (sym to) (kept_back keeper one.simulator.number one.simulator.sweep one.stop for_it.kept out here) in
     let room : new.room ≡ keeper.room = ap (λ (k : KeeperData). k.room) to in
     let at = kept.each one.place d for_it.below in
     record {
@@ -214,28 +209,28 @@ kept_by_all rooms keepers one new d kept is some to =
           (λ other. subst (λ (n : KeeperData). (slice_get rooms k ≡ Some n.room) × IsKept n) (sym (get_or-set_other keepers one.place k new e other)) (kept.each k e (let same = length-set keepers one.place new in omega (arith, below, same))));
     }
 
-pub fewer_away : (rooms : List RoomName) (keepers : List KeeperData) (one : Stopped) (new : KeeperData) (d : KeeperData) → AreKept rooms keepers → IsStoppedOf rooms one → 1 ≤ away keepers one.place one.simulator.value.number
-    → new ≡ with_back (get_or keepers one.place d) one.simulator.value.number one.simulator.value.sweep one.stop
-    → (k i : ℕ) → away (set keepers one.place new) k i + is_here k i one.place one.simulator.value.number ≡ away keepers k i
+pub fewer_away : (rooms : List RoomName) (keepers : List KeeperData) (one : Stopped) (new : KeeperData) (d : KeeperData) → AreKept rooms keepers → IsStoppedOf rooms one → 1 ≤ away keepers one.place one.simulator.number
+    → new ≡ with_back (get_or keepers one.place d) one.simulator.number one.simulator.sweep one.stop
+    → (k i : ℕ) → away (set keepers one.place new) k i + is_here k i one.place one.simulator.number ≡ away keepers k i
 fewer_away rooms keepers one new d kept is some to k i =
     let keeper : KeeperData = get_or keepers one.place d in
-    let n = one.simulator.value.number in
+    let n = one.simulator.number in
     let for_it = is_for rooms keepers one d kept is in
     let out = is_away keeper.sweeps n (let from = away_at keepers one.place n d for_it.below in omega (arith, some, from)) in
-    let sweeps : new.sweeps ≡ set keeper.sweeps n (Some one.simulator.value.sweep) = ap (λ (a : KeeperData). a.sweeps) to in
+    let sweeps : new.sweeps ≡ set keeper.sweeps n (Some one.simulator.sweep) = ap (λ (a : KeeperData). a.sweeps) to in
     dite (ℕ_discrete k one.place)
     (λ same. dite (ℕ_discrete i n)
     (λ own.
     let old = away_at keepers one.place n d for_it.below in
     let now = away_set_same keepers one.place n new for_it.below in
-    let none = ap (λ (l : List (Option SweepState)). away_from l n) sweeps ∙ from_same keeper.sweeps n one.simulator.value.sweep out.below in
+    let none = ap (λ (l : List (Option SweepState)). away_from l n) sweeps ∙ from_same keeper.sweeps n one.simulator.sweep out.below in
     subst (λ (a : ℕ). away (set keepers one.place new) a i + is_here a i one.place n ≡ away keepers a i) (sym same)
     (subst (λ (b : ℕ). away (set keepers one.place new) one.place b + is_here one.place b one.place n ≡ away keepers one.place b) (sym own)
     (omega (arith, old, now, none, out.one, here_same one.place n))))
     (λ other.
     let old = away_at keepers one.place i d for_it.below in
     let now = away_set_same keepers one.place i new for_it.below in
-    let stays = ap (λ (l : List (Option SweepState)). away_from l i) sweeps ∙ from_other keeper.sweeps n i (Some one.simulator.value.sweep) other in
+    let stays = ap (λ (l : List (Option SweepState)). away_from l i) sweeps ∙ from_other keeper.sweeps n i (Some one.simulator.sweep) other in
     subst (λ (a : ℕ). away (set keepers one.place new) a i + is_here a i one.place n ≡ away keepers a i) (sym same)
     (omega (arith, old, now, stays, here_not_number one.place i one.place n other))))
     (λ other. omega (arith, away_set_other keepers one.place k i new other, here_not_place k i one.place n other))

@@ -1,6 +1,5 @@
 -- Lists of tasks, from which a worker takes the first and to which it puts it back.
-use Rattle.std.proofs.Common.{Global, ◌≡◌, ℕ, zero, suc, ◌+◌, ◌<◌, List, [], ◌∷◌, ◌++◌, get_or, map, Option, Some, sym, ap, ◌∙◌, subst, arith}
-use Rattle.std.specs.declared.boxed.Box.{Box}
+use Rattle.std.proofs.Common.{◌≡◌, ℕ, zero, suc, ◌+◌, ◌<◌, List, [], ◌∷◌, ◌++◌, get_or, map, Option, Some, sym, ap, ◌∙◌, subst, arith}
 use Rattle.std.specs.List.{All, slice_get, sum_by}
 use Rattle.std.proofs.lemmas.Option.{get_or_from_slice_get}
 use Rattle.room_spec.specs.Rooms.{fuse_of}
@@ -16,7 +15,7 @@ use Rattle.scheduler.proofs.Stepwise.{left}
 
 -- a task counts the steps that it may still take, and one more
 abbrev pub left_in : Task → ℕ
-left_in task = suc (left task.simulator.value)
+left_in task = suc (left task.simulator)
 
 abbrev pub left_in_all : List Task → ℕ
 left_in_all tasks = sum_by (λ task. left_in task) tasks
@@ -41,40 +40,24 @@ sum_snoc f list x = omega (arith, sum_by-append f list (x ∷ []), sum_by-cons f
 
 -- ---- a visit
 
-abbrev pub moved_on : Box SimulatorData Global → SimulatorData → Box SimulatorData Global
-moved_on place simulator = record { ptr = place.ptr; alloc = place.alloc; value = simulator }
-
 abbrev pub with_simulator : Task → SimulatorData → Task
-with_simulator task simulator = record { place = task.place; simulator = moved_on task.simulator simulator; fuse = task.fuse }
-
--- what a turn keeps of a task's simulator
-pub record IsVisit (task : Task) (next : SimulatorData) : Type 0 where
-  pub room : next.room ≡ task.simulator.value.room
-  pub number : next.number ≡ task.simulator.value.number
-  pub within : IsWithinFuse task.fuse task.simulator.value.sweep.mind.steps → IsWithinFuse task.fuse next.sweep.mind.steps
-
-pub visited : (task : Task) (before next : SimulatorData) → before ≡ task.simulator.value → next.room ≡ before.room → next.number ≡ before.number → (IsWithinFuse task.fuse before.sweep.mind.steps → IsWithinFuse task.fuse next.sweep.mind.steps)
-    → IsVisit task next
-visited task before next is room number within = record {
-  room = room ∙ ap (λ (s : SimulatorData). s.room) is;
-  number = number ∙ ap (λ (s : SimulatorData). s.number) is;
-  within = subst (λ (s : SimulatorData). IsWithinFuse task.fuse s.sweep.mind.steps → IsWithinFuse task.fuse next.sweep.mind.steps) is within;
-}
+with_simulator task simulator = record { place = task.place; simulator = simulator; fuse = task.fuse }
 
 -- the room at a task's place is that of its simulator
 pub room_at : (rooms : List RoomName) (place : ℕ) (own room d : RoomName) → slice_get rooms place ≡ Some own → room ≡ get_or rooms place d → own ≡ room
 room_at rooms place own room d is at = sym (at ∙ get_or_from_slice_get rooms place own d is)
 
-pub first_at : (rooms : List RoomName) (task : Task) (rest tasks : List Task) (room d : RoomName) → tasks ≡ task ∷ rest → All (λ task. IsTaskOf rooms task) tasks → room ≡ get_or rooms task.place d → task.simulator.value.room ≡ room
+pub first_at : (rooms : List RoomName) (task : Task) (rest tasks : List Task) (room d : RoomName) → tasks ≡ task ∷ rest → All (λ task. IsTaskOf rooms task) tasks → room ≡ get_or rooms task.place d → task.simulator.room ≡ room
 first_at rooms task rest tasks room d first all at =
     let here = all_head (λ (t : Task). IsTaskOf rooms t) task rest (subst (λ (l : List Task). All (λ task. IsTaskOf rooms task) l) first all) in
-    room_at rooms task.place task.simulator.value.room room d here.room at
+    room_at rooms task.place task.simulator.room room d here.room at
 
-still_task : (rooms : List RoomName) (task : Task) (next : SimulatorData) → IsTaskOf rooms task → IsVisit task next → IsTaskOf rooms (with_simulator task next)
-still_task rooms task next is visit = record {
-  room = is.room ∙ ap Some (sym visit.room);
-  fuse = is.fuse ∙ sym (ap (λ (r : RoomName). fuse_of r.spec.fuses task.simulator.value.number) visit.room) ∙ sym (ap (λ (i : ℕ). fuse_of next.room.spec.fuses i) visit.number);
-  within = visit.within is.within;
+still_task : (rooms : List RoomName) (task : Task) (next : SimulatorData) → IsTaskOf rooms task → next.room ≡ task.simulator.room → next.number ≡ task.simulator.number
+    → (IsWithinFuse task.fuse task.simulator.sweep.mind.steps → IsWithinFuse task.fuse next.sweep.mind.steps) → IsTaskOf rooms (with_simulator task next)
+still_task rooms task next is room number within = record {
+  room = is.room ∙ ap Some (sym room);
+  fuse = is.fuse ∙ sym (ap (λ (r : RoomName). fuse_of r.spec.fuses task.simulator.number) room) ∙ sym (ap (λ (i : ℕ). fuse_of next.room.spec.fuses i) number);
+  within = within is.within;
 }
 
 -- the first task has taken a turn, and waits again
@@ -84,16 +67,17 @@ pub record GoesBack (rooms : List RoomName) (tasks after : List Task) : Type 0 w
   pub less : left_in_all after < left_in_all tasks
 
 pub goes_back : (rooms : List RoomName) (task : Task) (rest tasks after : List Task) (next : SimulatorData) → tasks ≡ task ∷ rest → after ≡ rest ++ with_simulator task next ∷ [] → All (λ task. IsTaskOf rooms task) tasks
-    → IsVisit task next → left next < left task.simulator.value → GoesBack rooms tasks after
-goes_back rooms task rest tasks after next first last all visit less =
+    → next.room ≡ task.simulator.room → next.number ≡ task.simulator.number → (IsWithinFuse task.fuse task.simulator.sweep.mind.steps → IsWithinFuse task.fuse next.sweep.mind.steps) → left next < left task.simulator
+    → GoesBack rooms tasks after
+goes_back rooms task rest tasks after next first last all room number within less =
     let each : All (λ task. IsTaskOf rooms task) (task ∷ rest) = subst (λ (l : List Task). All (λ task. IsTaskOf rooms task) l) first all in
     let here = all_head (λ (t : Task). IsTaskOf rooms t) task rest each in
     let more = all_tail (λ (t : Task). IsTaskOf rooms t) task rest each in
     record {
-      all = subst (λ (l : List Task). All (λ task. IsTaskOf rooms task) l) (sym last) (all_snoc (λ (t : Task). IsTaskOf rooms t) rest (with_simulator task next) more (still_task rooms task next here visit));
+      all = subst (λ (l : List Task). All (λ task. IsTaskOf rooms task) l) (sym last) (all_snoc (λ (t : Task). IsTaskOf rooms t) rest (with_simulator task next) more (still_task rooms task next here room number within));
       same = λ k i.
-          let f : Task → ℕ = λ t. is_here k i t.place t.simulator.value.number in
-          let one : f (with_simulator task next) ≡ f task = ap (λ (n : ℕ). is_here k i task.place n) visit.number in
+          let f : Task → ℕ = λ t. is_here k i t.place t.simulator.number in
+          let one : f (with_simulator task next) ≡ f task = ap (λ (n : ℕ). is_here k i task.place n) number in
           omega (arith, ap (λ (l : List Task). sum_by f l) last, ap (λ (l : List Task). sum_by f l) first, sum_snoc f rest (with_simulator task next), sum_by-cons f task rest, one);
       less =
           let f : Task → ℕ = λ t. left_in t in
@@ -107,16 +91,16 @@ pub record IsDone (rooms : List RoomName) (tasks rest : List Task) (before after
   pub same : (k i : ℕ) → brought k i after + queued k i rest ≡ brought k i before + queued k i tasks
 
 pub is_done : (rooms : List RoomName) (task : Task) (rest tasks : List Task) (before after : List Stopped) (one : Stopped) (next : SimulatorData) (stop : Stop) → tasks ≡ task ∷ rest → after ≡ before ++ one ∷ [] → All (λ task. IsTaskOf rooms task) tasks → All (λ one. IsStoppedOf rooms one) before
-    → one.place ≡ task.place → one.simulator ≡ moved_on task.simulator next → one.stop ≡ stop
-    → IsVisit task next → HasStopped task.fuse task.simulator.value.room.spec stop next.sweep
+    → one.place ≡ task.place → one.simulator ≡ next → one.stop ≡ stop
+    → next.room ≡ task.simulator.room → next.number ≡ task.simulator.number → (IsWithinFuse task.fuse task.simulator.sweep.mind.steps → IsWithinFuse task.fuse next.sweep.mind.steps) → HasStopped task.fuse task.simulator.room.spec stop next.sweep
     → IsDone rooms tasks rest before after
-is_done rooms task rest tasks before after one next stop first last all done place simulator is_stop visit stops =
+is_done rooms task rest tasks before after one next stop first last all done place simulator is_stop room number within stops =
     let each : All (λ task. IsTaskOf rooms task) (task ∷ rest) = subst (λ (l : List Task). All (λ task. IsTaskOf rooms task) l) first all in
     let here = all_head (λ (t : Task). IsTaskOf rooms t) task rest each in
     let more = all_tail (λ (t : Task). IsTaskOf rooms t) task rest each in
-    let still = still_task rooms task next here visit in
-    let ended : Stopped = record { place = task.place; simulator = moved_on task.simulator next; stop = stop } in
-    let by_room : HasStopped task.fuse next.room.spec stop next.sweep = subst (λ (r : RoomName). HasStopped task.fuse r.spec stop next.sweep) (sym visit.room) stops in
+    let still = still_task rooms task next here room number within in
+    let ended : Stopped = record { place = task.place; simulator = next; stop = stop } in
+    let by_room : HasStopped task.fuse next.room.spec stop next.sweep = subst (λ (r : RoomName). HasStopped task.fuse r.spec stop next.sweep) (sym room) stops in
     let is_of : IsStoppedOf rooms ended = record {
       room = still.room;
       stops = subst (λ (f : Option ℕ). HasStopped f next.room.spec stop next.sweep) still.fuse by_room;
@@ -127,9 +111,9 @@ is_done rooms task rest tasks before after one next stop first last all done pla
       all = more;
       stopped = subst (λ (l : List Stopped). All (λ one. IsStoppedOf rooms one) l) (sym last) (all_snoc (λ (o : Stopped). IsStoppedOf rooms o) before one done (subst (IsStoppedOf rooms) (sym is) is_of));
       same = λ k i.
-          let f : Task → ℕ = λ t. is_here k i t.place t.simulator.value.number in
-          let h : Stopped → ℕ = λ o. is_here k i o.place o.simulator.value.number in
-          let one_is : h one ≡ f task = ap h is ∙ ap (λ (n : ℕ). is_here k i task.place n) visit.number in
+          let f : Task → ℕ = λ t. is_here k i t.place t.simulator.number in
+          let h : Stopped → ℕ = λ o. is_here k i o.place o.simulator.number in
+          let one_is : h one ≡ f task = ap h is ∙ ap (λ (n : ℕ). is_here k i task.place n) number in
           omega (arith, ap (λ (l : List Stopped). sum_by h l) last, ap (λ (l : List Task). sum_by f l) first, sum_snoc h before one, sum_by-cons f task rest, one_is);
     }
 

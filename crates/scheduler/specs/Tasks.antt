@@ -14,14 +14,14 @@ own_fuse simulator = fuse_of simulator.room.spec.fuses simulator.number
 
 -- a simulator of the room at its place, with its own fuse
 pub record IsTaskOf (rooms : List RoomName) (task : Task) : Type 0 where
-  pub room : slice_get rooms task.place ≡ Some task.simulator.value.room
-  pub fuse : task.fuse ≡ own_fuse task.simulator.value
-  pub within : IsWithinFuse task.fuse task.simulator.value.sweep.mind.steps
+  pub room : slice_get rooms task.place ≡ Some task.simulator.room
+  pub fuse : task.fuse ≡ own_fuse task.simulator
+  pub within : IsWithinFuse task.fuse task.simulator.sweep.mind.steps
 
 pub record IsStoppedOf (rooms : List RoomName) (one : Stopped) : Type 0 where
-  pub room : slice_get rooms one.place ≡ Some one.simulator.value.room
-  pub stops : HasStopped (own_fuse one.simulator.value) one.simulator.value.room.spec one.stop one.simulator.value.sweep
-  pub within : IsWithinFuse (own_fuse one.simulator.value) one.simulator.value.sweep.mind.steps
+  pub room : slice_get rooms one.place ≡ Some one.simulator.room
+  pub stops : HasStopped (own_fuse one.simulator) one.simulator.room.spec one.stop one.simulator.sweep
+  pub within : IsWithinFuse (own_fuse one.simulator) one.simulator.sweep.mind.steps
 
 -- ---- how often a simulator stands in a list
 
@@ -30,10 +30,10 @@ abbrev pub is_here : ℕ → ℕ → ℕ → ℕ → ℕ
 is_here k i place number = if (place == k) && (number == i) then 1 else 0
 
 abbrev pub queued : ℕ → ℕ → List Task → ℕ
-queued k i tasks = sum_by (λ task. is_here k i task.place task.simulator.value.number) tasks
+queued k i tasks = sum_by (λ task. is_here k i task.place task.simulator.number) tasks
 
 abbrev pub brought : ℕ → ℕ → List Stopped → ℕ
-brought k i all = sum_by (λ one. is_here k i one.place one.simulator.value.number) all
+brought k i all = sum_by (λ one. is_here k i one.place one.simulator.number) all
 
 -- a worker's tasks have all come back, stopped, each as often as it was given
 pub record BringsBack (rooms : List RoomName) (tasks : List Task) (done : List Stopped) : Type 0 where

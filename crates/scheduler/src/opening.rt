@@ -65,7 +65,6 @@ impl Opened {
         let place = self.rooms.len();
         let (room, mut keeper) = RuledRoom::fresh(alloc, spec)?;
         deal(
-            alloc,
             &mut self.queues,
             next,
             &room,
@@ -100,7 +99,6 @@ fn fuse_from(steps: Option<u32>) -> Fuse
 
 /// Gives all simulators of a new room away, to one worker after the other.
 fn deal(
-    alloc: Global,
     queues: &mut Vec<VecDeque<Task>>,
     next: &mut usize,
     room: &RuledRoom,
@@ -120,7 +118,7 @@ fn deal(
         let simulator = keeper.give(room, i);
         let task = Task {
             place,
-            simulator: Box::new(alloc, simulator)?,
+            simulator,
             fuse: fuses[i],
         };
         put(queues, *next, task)?;
@@ -134,7 +132,7 @@ fn put(queues: &mut Vec<VecDeque<Task>>, worker: usize, task: Task) -> Result<()
     requires { worker < length queues.old.items }
     ensures len { OnOk result (length queues.new.items ≡ length queues.old.items) }
     ensures tasks { OnOk result ((rooms : List RoomName) → IsTaskOf rooms task → AreTasksOf rooms (map (λ queue. queue.items) queues.old.items) → AreTasksOf rooms (map (λ queue. queue.items) queues.new.items)) }
-    ensures count { OnOk result ((k i : ℕ) → waiting k i (map (λ queue. queue.items) queues.new.items) ≡ waiting k i (map (λ queue. queue.items) queues.old.items) + is_here k i task.place task.simulator.value.number) }
+    ensures count { OnOk result ((k i : ℕ) → waiting k i (map (λ queue. queue.items) queues.new.items) ≡ waiting k i (map (λ queue. queue.items) queues.old.items) + is_here k i task.place task.simulator.number) }
 {
     queues[worker].push_back(task)?;
     Ok(())

@@ -16,12 +16,11 @@ use std::sync::Wait;
 use std::thread;
 use std::thread::{Promise, Scope, Threads};
 
-/// A simulator that is to run, its room's place among all rooms, and when it crashes. The simulator stays where it is in
-/// memory while the task goes from a queue's front to its end.
+/// A simulator that is to run, its room's place among all rooms, and when it crashes.
 #[derive(Drop)]
 pub(crate) struct Task {
     pub(crate) place: usize,
-    pub(crate) simulator: Box<Simulator>,
+    pub(crate) simulator: Simulator,
     pub(crate) fuse: Fuse,
 }
 
@@ -29,7 +28,7 @@ pub(crate) struct Task {
 #[derive(Drop)]
 pub(crate) struct Stopped {
     pub(crate) place: usize,
-    pub(crate) simulator: Box<Simulator>,
+    pub(crate) simulator: Simulator,
     pub(crate) stop: Stop,
 }
 
@@ -200,15 +199,14 @@ pub(crate) fn bring_back(rooms: &[RuledRoom], keepers: &mut [Keeper], mut all: V
 fn bring_one(rooms: &[RuledRoom], keepers: &mut [Keeper], one: Stopped)
     requires kept { AreKept rooms.now keepers.old }
     requires stopped { IsStoppedOf rooms.now one }
-    requires away { 1 ≤ away keepers.old one.place one.simulator.value.number }
+    requires away { 1 ≤ away keepers.old one.place one.simulator.number }
     ensures kept { AreKept rooms.now keepers.new }
-    ensures away { (k i : ℕ) → away keepers.new k i + is_here k i one.place one.simulator.value.number ≡ away keepers.old k i }
+    ensures away { (k i : ℕ) → away keepers.new k i + is_here k i one.place one.simulator.number ≡ away keepers.old k i }
 {
     let Stopped {
         place,
         simulator,
         stop,
     } = one;
-    let simulator = Box::into_inner(simulator);
     keepers[place].take_back(&rooms[place], simulator, stop);
 }

@@ -1,5 +1,5 @@
 use Rattle.std.proofs.Common.{◌≡◌, ℕ, ◌<◌, refl, ap, ◌∙◌, arith}
-use Rattle.ruled_room.specs.Parts.{KeeperData, SimulatorData, holds_in, sweep_home}
+use Rattle.ruled_room.specs.Parts.{KeeperData, holds_in, sweep_home}
 use Rattle.scheduler.specs.Tasks.{away_at, is_here}
 use Rattle.scheduler.proofs.Dealing.{all_given, away_one, fuses_count, keeper_after, may_give, new_task, one_given, starts_at_home}
 use Rattle.scheduler.proofs.opening.deal.Goals as goal
@@ -23,14 +23,13 @@ loop-i-preserved c =
     let count = fuses_count c.args.room.now c.args.fuses.now c.requires.fuses in
     let below : c.loop-i.i < c.args.room.now.spec.simulators = omega (arith, c.loop-i-test.true, c.loop-i.auto.i-end, count) in
     let given = c.give-simulator.ensures.simulator in
-    let boxed = c.in_ok-new.ensures.ok in
     record {
       keeper = one_given c.args.room.now c.loop-i.i c.loop-i.keeper c.give-simulator.new.self c.loop-i.invariant.keeper c.give-simulator.ensures.keeper;
       next = (omega (arith, c.after.ensures, c.len.ensures), c.in_ok-put.ensures.len ∙ c.loop-i.invariant.next.1);
       tasks = λ rooms at all. c.in_ok-put.ensures.tasks rooms
-          (new_task rooms c.args.place c.loop-i.i c.args.room.now _ c.give-simulator.result c.args.fuses.now c.index-fuses-i.result at below c.requires.fuses given.0 given.1 (given.2 ∙ ap (λ (keeper : KeeperData). sweep_home keeper c.loop-i.i) c.loop-i.invariant.keeper) refl boxed c.index-fuses-i.is)
+          (new_task rooms c.args.place c.loop-i.i c.args.room.now _ c.give-simulator.result c.args.fuses.now c.index-fuses-i.result at below c.requires.fuses given.0 given.1 (given.2 ∙ ap (λ (keeper : KeeperData). sweep_home keeper c.loop-i.i) c.loop-i.invariant.keeper) refl refl c.index-fuses-i.is)
           (c.loop-i.invariant.tasks rooms at all);
-      away = λ k i. omega (arith, c.in_ok-put.ensures.count k i, c.loop-i.invariant.away k i, away_one c.args.place c.args.room.now c.loop-i.i k i c.loop-i.keeper c.give-simulator.new.self below c.loop-i.invariant.keeper c.give-simulator.ensures.keeper, ap (λ (n : ℕ). is_here k i c.args.place n) (ap (λ (s : SimulatorData). s.number) boxed ∙ given.1));
+      away = λ k i. omega (arith, c.in_ok-put.ensures.count k i, c.loop-i.invariant.away k i, away_one c.args.place c.args.room.now c.loop-i.i k i c.loop-i.keeper c.give-simulator.new.self below c.loop-i.invariant.keeper c.give-simulator.ensures.keeper, ap (λ (n : ℕ). is_here k i c.args.place n) given.1);
     }
 
 pub returns-clause-keeper : goal.returns-clause-keeper
