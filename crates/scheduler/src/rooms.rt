@@ -1,6 +1,5 @@
 //! All rooms of a list, run by workers.
 ghost use Rattle.std.specs.Prelude.{◌≡◌, ◌≢◌, ◌↔◌, ◌⊎◌, ◌<◌, ◌≤◌, ◌++◌, ◌/◌, ℕ, Err, IfOk, OnOk, length, map, min};
-ghost use Rattle.room_core.specs.Calls.{room_after_settle};
 ghost use Rattle.scheduler.specs.Results.{AreRoomRuns, IsRoomRun, fault_code};
 ghost use Rattle.scheduler.specs.Tasks.{AreKept, IsKept, away, away_from};
 ghost use Rattle.scheduler.specs.declared.rooms.RunFault.TheVariants.{Workers};
@@ -200,19 +199,12 @@ fn finish(alloc: Global, room: RuledRoom, keeper: Keeper) -> Result<RoomResult, 
     requires home { (i : ℕ) → away_from keeper.sweeps i ≡ 0 }
     ensures { IfOk result (λ result. IsRoomRun room.spec result) }
 {
-    let core = match room.close(alloc, keeper) {
+    let mut core = match room.close(alloc, keeper) {
         Ok(core) => core,
         Err((_, _, Gone::OutOfMemory)) => return Err(AllocError),
         Err((_, _, Gone::StillOut(_))) => unreachable!(), // all have come back
     };
-    let core = settled(core);
+    core.settle();
     let report = report(alloc, &core)?;
     Ok(RoomResult { core, report })
-}
-
-fn settled(mut core: RoomCore) -> RoomCore
-    ensures { result ≡ room_after_settle core }
-{
-    core.settle();
-    core
 }

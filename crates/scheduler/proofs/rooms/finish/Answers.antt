@@ -13,6 +13,6 @@ returns c =
       same = core.0;
       run = c.in-Ok.ensures.run;
       each = each_ended c.args.room c.args.keeper c.in-Ok.core c.requires.room c.requires.kept core.0 core.1 core.2;
-      settled = c.settled-core.ensures;
+      settled = c.settle.ensures.room;
       reported = record { fields = c.in_ok-report.ensures.fields; run = c.in_ok-report.ensures.run; held = c.in_ok-report.ensures.held };
     }
