@@ -16,7 +16,7 @@ use crate::reading::{
     Row, decided_in, greatest_step, greatest_steps, number_of, process_count, round_count, row_of,
     shape_of, shown_by, written,
 };
-use crate::snapshots::{Agreed, AllAgreed, in_order, sum};
+use crate::snapshots::{Agreed, in_order, sum};
 use room_core::RoomCore;
 use std::alloc::{AllocError, Global};
 use transcript::Event;
@@ -45,9 +45,12 @@ pub fn history(alloc: Global, room: &RoomCore) -> Result<Vec<Event>, AllocError>
 fn read_history(alloc: Global, room: &RoomCore) -> Result<Vec<Event>, AllocError>
     ensures { IfOk result (λ events. events.items ≡ history_of room.now.spec (read_of room.now)) }
 {
-    let order = in_order(room);
+    let order = in_order(alloc, room)?;
     let greatest = greatest_steps(room);
-    let mut events = Vec::with_capacity(alloc, most_events(room, &order, greatest.as_slice()))?;
+    let mut events = Vec::with_capacity(
+        alloc,
+        most_events(room, order.as_slice(), greatest.as_slice()),
+    )?;
     let mut shown = nothing(process_count(room));
     for snapshot in order.as_slice() {
         push_block(&mut events, room, &mut shown, snapshot)?;
@@ -57,7 +60,7 @@ fn read_history(alloc: Global, room: &RoomCore) -> Result<Vec<Event>, AllocError
 }
 
 /// As many events as the history may have: each write, each snapshot, and a decision of each process.
-fn most_events(room: &RoomCore, order: &AllAgreed, greatest: &[usize]) -> usize
+fn most_events(room: &RoomCore, order: &[Agreed], greatest: &[usize]) -> usize
     requires count { length greatest.now ≡ processes room.now.spec }
     requires range { (p : ℕ) → slice_index greatest.now p ≤ room.now.spec.rounds }
 {

@@ -1,5 +1,5 @@
 //! The snapshots of a room that were agreed on, in the order of its history.
-ghost use Rattle.std.specs.Prelude.{◌≡◌, ℕ, ◌+◌, ◌<◌, ◌≤◌, [], ◌∷◌, ◌++◌, length, map, slice_index, if◌then◌else◌};
+ghost use Rattle.std.specs.Prelude.{◌≡◌, ℕ, ◌<◌, ◌≤◌, [], ◌∷◌, ◌++◌, IfOk, OnOk, length, map, slice_index, if◌then◌else◌};
 ghost use Rattle.std.specs.List.{sum};
 ghost use Rattle.room_spec.specs.Rooms.{processes};
 ghost use Rattle.room_spec.specs.Sizes.{sizes_in};
@@ -11,8 +11,8 @@ ghost use Rattle.ws_history.specs.Readings.{read_of};
 ghost use Rattle.ws_history.specs.Sources.{source_of};
 
 use crate::reading::{is_passed, process_count, round_count, row_of, shape_of, view_at};
-use arrayvec::ArrayVec;
 use room_core::RoomCore;
+use std::alloc::{AllocError, Global};
 
 /// The snapshot of a process after so many writes of its own: how many writes of all processes it
 /// shows, and the memory word that shows them. Snapshots go by that sum, and then by process; no two
@@ -25,53 +25,53 @@ pub(crate) struct Agreed {
     pub(crate) word: u64,
 }
 
-/// A room has at most as many: 16 processes with 15 rounds each.
-pub(crate) type AllAgreed = ArrayVec<Agreed, 240>;
-
 /// The passed snapshots of a room, by the sum of their rows, and then by process.
-pub(crate) fn in_order(room: &RoomCore) -> AllAgreed
-    ensures { result.items ≡ map (agreed_at room.now) (source_of room.now.spec (read_of room.now)).order }
+pub(crate) fn in_order(alloc: Global, room: &RoomCore) -> Result<Vec<Agreed>, AllocError>
+    ensures { IfOk result (λ agreed. agreed.items ≡ map (agreed_at room.now) (source_of room.now.spec (read_of room.now)).order) }
 {
     let _shape = shape_of(room); // The room stands for some fields, so its rows compare.
-    let mut agreed = all_agreed(room);
+    let mut agreed = all_agreed(alloc, room)?;
     agreed.sort_unstable();
-    agreed
+    Ok(agreed)
 }
 
 /// The passed snapshots of a room, by process, and then by round.
-fn all_agreed(room: &RoomCore) -> AllAgreed
-    ensures { result.items ≡ map (agreed_at room.now) (all_passed (is_passed room.now.spec (read_of room.now)) (processes room.now.spec) room.now.spec.rounds) }
+fn all_agreed(alloc: Global, room: &RoomCore) -> Result<Vec<Agreed>, AllocError>
+    ensures { IfOk result (λ agreed. agreed.items ≡ map (agreed_at room.now) (all_passed (is_passed room.now.spec (read_of room.now)) (processes room.now.spec) room.now.spec.rounds)) }
 {
-    let mut agreed = AllAgreed::new();
+    let mut agreed = Vec::with_capacity(alloc, process_count(room) * round_count(room))?;
     for process in 0..process_count(room) {
-        push_rounds(&mut agreed, room, process);
+        push_rounds(&mut agreed, room, process)?;
     }
-    agreed
+    Ok(agreed)
 }
 
 /// Adds the passed snapshots of this process.
-fn push_rounds(agreed: &mut AllAgreed, room: &RoomCore, process: usize)
-    requires count { length agreed.old.items ≤ 225 }
-    requires process { process < processes room.now.spec }
-    ensures items { agreed.new.items ≡ agreed.old.items ++ map (agreed_at room.now) (passed_of (is_passed room.now.spec (read_of room.now)) process room.now.spec.rounds) }
-    ensures count { length agreed.new.items ≤ length agreed.old.items + 15 }
+fn push_rounds(agreed: &mut Vec<Agreed>, room: &RoomCore, process: usize) -> Result<(), AllocError>
+    requires { process < processes room.now.spec }
+    ensures { OnOk result (agreed.new.items ≡ agreed.old.items ++ map (agreed_at room.now) (passed_of (is_passed room.now.spec (read_of room.now)) process room.now.spec.rounds)) }
 {
     for r in 0..round_count(room) {
-        push_passed(agreed, room, process, r + 1);
+        push_passed(agreed, room, process, r + 1)?;
     }
+    Ok(())
 }
 
 /// Adds the snapshot of this process and round, if it is passed.
-fn push_passed(agreed: &mut AllAgreed, room: &RoomCore, process: usize, round: usize)
-    requires count { length agreed.old.items < 240 }
+fn push_passed(
+    agreed: &mut Vec<Agreed>,
+    room: &RoomCore,
+    process: usize,
+    round: usize,
+) -> Result<(), AllocError>
     requires process { process < processes room.now.spec }
     requires round { IsRound (sizes_in room.now.spec) round }
-    ensures items { agreed.new.items ≡ agreed.old.items ++ map (agreed_at room.now) (if is_passed room.now.spec (read_of room.now) process round then record { process = process; round = round } ∷ [] else []) }
-    ensures count { length agreed.new.items ≤ length agreed.old.items + 1 }
+    ensures { OnOk result (agreed.new.items ≡ agreed.old.items ++ map (agreed_at room.now) (if is_passed room.now.spec (read_of room.now) process round then record { process = process; round = round } ∷ [] else [])) }
 {
     if is_passed(room, process, round) {
-        agreed.push(snapshot_at(room, process, round));
+        agreed.push(snapshot_at(room, process, round))?;
     }
+    Ok(())
 }
 
 fn snapshot_at(room: &RoomCore, process: usize, round: usize) -> Agreed

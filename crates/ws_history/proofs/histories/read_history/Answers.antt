@@ -19,7 +19,7 @@ none = record { process = 0; round = 0 }
 
 pub most_events-requires-clause-range : goal.most_events-requires-clause-range
 most_events-requires-clause-range c =
-    λ p. subst (λ (l : List ℕ). get_or l p 0 ≤ c.args.room.now.spec.rounds) (sym c.as_slice.ensures.value) (c.greatest_steps-greatest.ensures.range p)
+    λ p. subst (λ (l : List ℕ). get_or l p 0 ≤ c.args.room.now.spec.rounds) (sym c.as_slice-2.ensures.value) (c.greatest_steps-greatest.ensures.range p)
 
 pub loop-snapshot-init : goal.loop-snapshot-init
 loop-snapshot-init c =
@@ -41,7 +41,7 @@ push_block-requires-clause-is c =
     let room = c.args.room.now in
     let src = source_of room.spec (read_of room) in
     let i = c.loop-snapshot.snapshot-index in
-    let items = c.as_slice-snapshot-items.ensures.value ∙ c.in_order-order.ensures in
+    let items = c.as_slice-snapshot-items.ensures.value ∙ c.in_ok-order.ensures in
     let less : i < length src.order = subst (λ (n : ℕ). i < n) (ap length items ∙ length-map src.order (agreed_at room)) c.loop-snapshot-test.true in
     let here = ap (λ (l : List Agreed). get_or l i blank) items ∙ map_at (agreed_at room) src.order i none blank less in
     subst (IsSnapshotOf room) (sym here) (is_snapshot room i none less)
@@ -54,7 +54,7 @@ loop-snapshot-preserved c =
     let events = c.loop-snapshot.events.items in
     let earlier = take i src.order in
     let s = get_or src.order i none in
-    let items = c.as_slice-snapshot-items.ensures.value ∙ c.in_order-order.ensures in
+    let items = c.as_slice-snapshot-items.ensures.value ∙ c.in_ok-order.ensures in
     let less : i < length src.order = subst (λ (n : ℕ). i < n) (ap length items ∙ length-map src.order (agreed_at room)) c.loop-snapshot-test.true in
     let here = ap (λ (l : List Agreed). get_or l i blank) items ∙ map_at (agreed_at room) src.order i none blank less in
     let one = get_or c.as_slice-snapshot-items.result.now i blank in
@@ -79,14 +79,14 @@ returns c =
     let n = processes room.spec in
     let i = c.loop-snapshot.snapshot-index in
     let events = c.loop-snapshot.events.items in
-    let items = c.as_slice-snapshot-items.ensures.value ∙ c.in_order-order.ensures in
+    let items = c.as_slice-snapshot-items.ensures.value ∙ c.in_ok-order.ensures in
     let past : length src.order ≤ i = subst (λ (m : ℕ). m ≤ i) (ap length items ∙ length-map src.order (agreed_at room)) c.loop-snapshot-test.false in
     let all = take_past src.order i past in
     let done : events ≡ blocks src n [] src.order = sym (append-nil events)
     ∙ ap (λ (l : List Snapshot). events ++ blocks src n (take i src.order) l) (sym (drop_past src.order i past))
     ∙ c.loop-snapshot.invariant.so_far in
-    let shown = c.as_slice-2.ensures.value ∙ c.loop-snapshot.invariant.shown ∙ ap (λ (l : List Snapshot). running room l) all in
+    let shown = c.as_slice-3.ensures.value ∙ c.loop-snapshot.invariant.shown ∙ ap (λ (l : List Snapshot). running room l) all in
     c.in_ok-push_writes.ensures
-    ∙ ap (λ (l : List ℕ). events ++ by_process (λ (p : ℕ). new_writes src p (get_or l p 0) (get_or c.as_slice-3.result.now p 0)) n) shown
-    ∙ ap (λ (l : List Event). events ++ l) (last_is room c.as_slice-3.result.now (c.as_slice-3.ensures.value ∙ c.greatest_steps-greatest.ensures.value))
+    ∙ ap (λ (l : List ℕ). events ++ by_process (λ (p : ℕ). new_writes src p (get_or l p 0) (get_or c.as_slice-4.result.now p 0)) n) shown
+    ∙ ap (λ (l : List Event). events ++ l) (last_is room c.as_slice-4.result.now (c.as_slice-4.ensures.value ∙ c.greatest_steps-greatest.ensures.value))
     ∙ ap (λ (l : List Event). l ++ last_writes src n) done

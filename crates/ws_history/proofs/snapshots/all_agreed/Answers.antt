@@ -14,16 +14,13 @@ loop-process-preserved c =
     let passed = is_passed room.spec (read_of room) in
     let p = c.loop-process.process in
     let turned : suc p ≡ p + 1 = omega arith in
-    record {
-      so_far = c.push_rounds.ensures.items
-          ∙ ap (λ (l : List Agreed). l ++ map (agreed_at room) (passed_of passed p room.spec.rounds)) c.loop-process.invariant.so_far
-          ∙ sym (map-append (agreed_at room) (all_passed passed p room.spec.rounds) (passed_of passed p room.spec.rounds))
-          ∙ ap (λ (k : ℕ). map (agreed_at room) (all_passed passed k room.spec.rounds)) turned;
-      count = omega arith;
-    }
+    c.in_ok-push_rounds.ensures
+    ∙ ap (λ (l : List Agreed). l ++ map (agreed_at room) (passed_of passed p room.spec.rounds)) c.loop-process.invariant
+    ∙ sym (map-append (agreed_at room) (all_passed passed p room.spec.rounds) (passed_of passed p room.spec.rounds))
+    ∙ ap (λ (k : ℕ). map (agreed_at room) (all_passed passed k room.spec.rounds)) turned
 
 pub returns : goal.returns
 returns c =
     let room = c.args.room.now in
     let all : c.loop-process.process ≡ processes room.spec = omega arith in
-    c.loop-process.invariant.so_far ∙ ap (λ (n : ℕ). map (agreed_at room) (all_passed (is_passed room.spec (read_of room)) n room.spec.rounds)) all
+    c.loop-process.invariant ∙ ap (λ (n : ℕ). map (agreed_at room) (all_passed (is_passed room.spec (read_of room)) n room.spec.rounds)) all

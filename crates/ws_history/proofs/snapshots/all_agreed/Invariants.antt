@@ -1,4 +1,4 @@
-use Rattle.std.proofs.Common.{◌≡◌, ◌*◌, ◌≤◌, length, map}
+use Rattle.std.proofs.Common.{◌≡◌, map}
 use Rattle.room_core.specs.Agreements.{is_passed}
 use Rattle.ws_history.specs.Orders.{all_passed}
 use Rattle.ws_history.specs.Placing.{agreed_at}
@@ -6,7 +6,4 @@ use Rattle.ws_history.specs.Readings.{read_of}
 use Rattle.ws_history.proofs.snapshots.all_agreed.Given as goal
 
 abbrev pub invariant-loop-process : goal.invariant-loop-process
-invariant-loop-process l = record {
-  so_far : l.agreed.items ≡ map (agreed_at l.room) (all_passed (is_passed l.room.spec (read_of l.room)) l.process l.room.spec.rounds);
-  count : length l.agreed.items ≤ 15 * l.process;
-}
+invariant-loop-process l = l.agreed.items ≡ map (agreed_at l.room) (all_passed (is_passed l.room.spec (read_of l.room)) l.process l.room.spec.rounds)

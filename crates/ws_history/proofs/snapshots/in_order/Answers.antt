@@ -1,6 +1,5 @@
-use Rattle.std.proofs.Common.{◌∙◌, List, subst, rules}
+use Rattle.std.proofs.Common.{List, subst}
 use Rattle.std.specs.List.Sorted.{IsPermutation}
-use Rattle.arrayvec.proofs.ArrayVecLemmas.{items-with_items}
 use Rattle.ws_history.specs.declared.snapshots.Agreed.{Agreed}
 use Rattle.ws_history.proofs.Ordering.{sorted_is}
 use Rattle.ws_history.proofs.RoomFields.{apart_in}
@@ -10,7 +9,6 @@ pub returns : goal.returns
 returns c =
     let room = c.args.room.now in
     let at = c.shape_of-shape.ensures.fields in
-    rw (items-with_items c.all_agreed-agreed.result c.sort_unstable.new.self (search rules))
-    (sorted_is room _ (apart_in room at.0 c.shape_of-shape.ensures.limits at.1)
-    (subst (λ (l : List Agreed). IsPermutation l c.sort_unstable.new.self) (c.deref_mut.ensures.value ∙ c.all_agreed-agreed.ensures) c.sort_unstable.ensures.permutation)
-    c.sort_unstable.ensures.sorted)
+    sorted_is room _ (apart_in room at.0 c.shape_of-shape.ensures.limits at.1)
+    (subst (λ (l : List Agreed). IsPermutation l c.sort_unstable.new.self.items) c.in_ok-agreed.ensures c.sort_unstable.ensures.permutation)
+    c.sort_unstable.ensures.sorted

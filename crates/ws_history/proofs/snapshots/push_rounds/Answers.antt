@@ -17,11 +17,8 @@ loop-r-preserved c =
     let r = c.loop-r.r in
     let new : List Snapshot = cond (passed p (r + 1)) (record { process = p; round = r + 1 } ∷ []) [] in
     let turned : suc r ≡ r + 1 = omega arith in
-    record {
-      so_far = c.push_passed.ensures.items
-          ∙ ap (λ (l : List Agreed). l ++ map (agreed_at room) new) c.loop-r.invariant.so_far
-          ∙ append_assoc old (map (agreed_at room) (passed_of passed p r)) (map (agreed_at room) new)
-          ∙ ap (λ (l : List Agreed). old ++ l) (sym (map-append (agreed_at room) (passed_of passed p r) new))
-          ∙ ap (λ k. old ++ map (agreed_at room) (passed_of passed p k)) turned;
-      count = omega arith;
-    }
+    c.in_ok-push_passed.ensures
+    ∙ ap (λ (l : List Agreed). l ++ map (agreed_at room) new) c.loop-r.invariant
+    ∙ append_assoc old (map (agreed_at room) (passed_of passed p r)) (map (agreed_at room) new)
+    ∙ ap (λ (l : List Agreed). old ++ l) (sym (map-append (agreed_at room) (passed_of passed p r) new))
+    ∙ ap (λ k. old ++ map (agreed_at room) (passed_of passed p k)) turned
