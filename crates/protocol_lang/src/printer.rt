@@ -3,7 +3,7 @@ ghost use Rattle.std.specs.Prelude.{◌≡◌, ◌≤◌, ◌∷◌, ◌++◌, [
 ghost use Rattle.std.specs.List.{flat_map};
 ghost use Rattle.protocol_lang.specs.Stacks.{pushed, below_top};
 ghost use Rattle.protocol_lang.specs.Tokens.{word_spelling, symbol_spelling};
-ghost use Rattle.protocol_lang.specs.Formulas.{most_waiting, last_of, hold, stepped, made_by, leaf_tree};
+ghost use Rattle.protocol_lang.specs.Formulas.{most_waiting, last_of, hold, stepped, made_by, leaf_tree, leaf_made};
 ghost use Rattle.protocol_lang.specs.Grammar.{word_for, call_word, operator_symbol, comparator_symbol, kind_word, enclosed_tokens, expression_tokens, comparison_tokens, conditions_tokens, action_rule_tokens, rule_tokens, tree_tokens, IsText};
 ghost use Rattle.protocol_lang.specs.Reading.{reading};
 ghost use Rattle.protocol_lang.specs.Printing.{stands_left, stands_right, shortest, shortest_comparison, shortest_action_rule, shortest_rule, shortest_tree, is_word, spelling, gap, spelled_behind, printed, enclosed_unless, factor, joined, pieces};
@@ -137,6 +137,15 @@ impl Piece {
     {
         let tokens = Tokens::one(alloc, Token::Word(name.word()))?;
         Ok(Piece::factor(tokens))
+    }
+
+    fn leaf(alloc: Global, leaf: Leaf) -> Result<Piece, AllocError>
+        ensures { IfOk result (λ piece. piece ≡ leaf_made pieces leaf) }
+    {
+        match leaf {
+            Leaf::Number(number) => Piece::number(alloc, number),
+            Leaf::Name(name) => Piece::name(alloc, name),
+        }
     }
 
     fn call(alloc: Global, call: Call, argument: Piece) -> Result<Piece, AllocError>
@@ -303,6 +312,12 @@ impl Held {
             Step::OperateName(operator, name) => {
                 let right = Piece::name(alloc, name)?;
                 Piece::operate(operator, top, right)?
+            }
+            Step::OperateLeaves(operator, left, right) => {
+                below.push(top)?;
+                let left = Piece::leaf(alloc, left)?;
+                let right = Piece::leaf(alloc, right)?;
+                Piece::operate(operator, left, right)?
             }
         };
         Ok(Held { top, below })

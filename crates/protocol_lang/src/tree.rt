@@ -2,6 +2,7 @@
 ghost use Rattle.std.specs.Prelude.{◌≡◌};
 ghost use Rattle.protocol_lang.specs.Tokens.{reads_view};
 ghost use Rattle.protocol_lang.specs.Trees.{is_sum};
+ghost use Rattle.protocol_lang.specs.Formulas.{source_of};
 ghost use Rattle.protocol_lang.specs.Meaning.{operated, compared};
 
 /// A word that stands for a value.
@@ -32,6 +33,37 @@ impl Name {
     {
         !matches!(self, Name::Input | Name::Id | Name::N)
     }
+
+    /// Where its value comes from.
+    pub(crate) fn source(self) -> Source
+        ensures { result ≡ source_of self }
+    {
+        match self {
+            Name::Input => Source::Input,
+            Name::Id => Source::Id,
+            Name::N => Source::N,
+            Name::Round => Source::Round,
+            Name::Mine => Source::Mine,
+            Name::Count => Source::Count,
+            Name::Min => Source::Min,
+            Name::Max => Source::Max,
+        }
+    }
+}
+
+/// Where the value of a number or a name comes from: a name, in the order of [`Name`], or a number
+/// that is kept beside it. So it is found without a jump.
+#[derive(Clone, Copy, Debug, PartialEq, Eq)]
+pub enum Source {
+    Input,
+    Id,
+    N,
+    Round,
+    Mine,
+    Count,
+    Min,
+    Max,
+    Number,
 }
 
 /// A word that asks the view for something, by an expression in parentheses.
