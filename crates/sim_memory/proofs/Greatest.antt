@@ -73,7 +73,7 @@ holder_is m steps p holder is =
     (λ within. eq-eqb _ _ (column_at m steps p holder is.below ∙ sym merged))
 
 -- one simulator more: it is the holder where its number is greater, and else the holder stays
-holder_passed : (m : ℕ) (steps : ℕ → ℕ → ℕ) (p holder : ℕ) → IsHolder m steps p holder → steps holder p < steps m p → IsHolder (suc m) steps p m
+pub holder_passed : (m : ℕ) (steps : ℕ → ℕ → ℕ) (p holder : ℕ) → IsHolder m steps p holder → steps holder p < steps m p → IsHolder (suc m) steps p m
 holder_passed m steps p holder is more = record {
   below = omega arith;
   greatest = λ i below.
@@ -83,7 +83,7 @@ holder_passed m steps p holder is more = record {
   least = λ i before. let h = is.greatest i before in omega arith;
 }
 
-holder_kept : (m : ℕ) (steps : ℕ → ℕ → ℕ) (p holder : ℕ) → IsHolder m steps p holder → steps m p ≤ steps holder p → IsHolder (suc m) steps p holder
+pub holder_kept : (m : ℕ) (steps : ℕ → ℕ → ℕ) (p holder : ℕ) → IsHolder m steps p holder → steps m p ≤ steps holder p → IsHolder (suc m) steps p holder
 holder_kept m steps p holder is no_more = record {
   below = let b = is.below in omega arith;
   greatest = λ i below.
@@ -100,7 +100,7 @@ holder_by_order m steps p holder is (inr no_more) = (holder, holder_kept m steps
 holder_more : (m : ℕ) (steps : ℕ → ℕ → ℕ) (p holder : ℕ) → IsHolder m steps p holder → (h : ℕ) × IsHolder (suc m) steps p h
 holder_more m steps p holder is = holder_by_order m steps p holder is (cases_lt _ _)
 
-alone : (steps : ℕ → ℕ → ℕ) (p : ℕ) → IsHolder 1 steps p 0
+pub alone : (steps : ℕ → ℕ → ℕ) (p : ℕ) → IsHolder 1 steps p 0
 alone steps p = record {
   below = omega arith;
   greatest = λ i below. let same : steps i p ≡ steps 0 p = let z : i ≡ 0 = omega arith in ap (λ (k : ℕ). steps k p) z in omega arith;

@@ -1,3 +1,4 @@
+pub mod Columns
 pub mod Greatest
 pub mod Rows
 pub mod Words

@@ -9,7 +9,7 @@
 //! Distributed Computing 14(3), 2001.
 #![tactic(auto)]
 
-ghost use Rattle.std.specs.Prelude.{◌≡◌, ◌+◌, ◌<◌, ◌≤◌};
+ghost use Rattle.std.specs.Prelude.{◌≡◌, ◌+◌, ◌%◌, ◌^◌, ◌<◌, ◌≤◌, ◌==◌, min};
 ghost use Rattle.room_spec.specs.Sizes.{sizes_of};
 ghost use Rattle.sim_memory.specs.Steps.{IsHolder, holder_of, merged_of, place_of, step_in};
 
@@ -40,8 +40,7 @@ pub fn step_of(shape: &Shape, word: u64, i: usize, p: usize) -> usize
     ensures value { result ≡ step_in (sizes_of shape.now) word i p }
     ensures range { result ≤ shape.now.rounds }
 {
-    let step = field(word, place(shape, i, p), shape.bits) as usize;
-    step.min(shape.rounds)
+    lowest_step(shape, word >> place(shape, i, p))
 }
 
 /// The greatest step number that a simulator has for process `p`: how many writes of it the memory
@@ -51,11 +50,7 @@ pub fn merged(shape: &Shape, word: u64, p: usize) -> usize
     ensures value { result ≡ merged_of shape.now.m (step_in (sizes_of shape.now) word) p }
     ensures range { result ≤ shape.now.rounds }
 {
-    let mut greatest = 0;
-    for i in 0..shape.m {
-        greatest = greatest.max(step_of(shape, word, i, p));
-    }
-    greatest
+    last_write(shape, word, p).1
 }
 
 /// The least simulator that has the greatest step number for process `p`, 0 to `shape.m - 1`.
@@ -76,14 +71,39 @@ pub fn last_write(shape: &Shape, word: u64, p: usize) -> (usize, usize)
     ensures merged { result.1 ≡ merged_of shape.now.m (step_in (sizes_of shape.now) word) p }
     ensures range { result.1 ≤ shape.now.rounds }
 {
+    let mut column = word >> (p * shape.bits);
     let mut holder = 0;
-    let mut greatest = step_of(shape, word, 0, p);
+    let mut greatest = lowest_step(shape, column);
     for i in 1..shape.m {
-        let step = step_of(shape, word, i, p);
+        column >>= shape.n * shape.bits;
+        let step = lowest_step(shape, column);
         if step > greatest {
             holder = i;
             greatest = step;
         }
     }
     (holder, greatest)
+}
+
+/// Whether the memory word shows no write of process `p`.
+pub fn shows_none(shape: &Shape, word: u64, p: usize) -> bool
+    requires { p < shape.now.n }
+    ensures { result ≡ (merged_of shape.now.m (step_in (sizes_of shape.now) word) p == 0) }
+{
+    let mut column = word >> (p * shape.bits);
+    let mut any = column;
+    for _ in 1..shape.m {
+        column >>= shape.n * shape.bits;
+        any |= column;
+    }
+    field(any, 0, shape.bits) == 0
+}
+
+/// The step number in the lowest field of a word.
+fn lowest_step(shape: &Shape, word: u64) -> usize
+    ensures value { result ≡ min (word % 2 ^ shape.now.bits) shape.now.rounds }
+    ensures range { result ≤ shape.now.rounds }
+{
+    let step = field(word, 0, shape.bits) as usize;
+    step.min(shape.rounds)
 }

@@ -12,6 +12,10 @@ fn one_round(rt: HostRuntime) {
     assert_eq!(rt; step_of(&shape, 9, 1, 0), 0);
     assert_eq!(rt; (merged(&shape, 9, 0), merged(&shape, 9, 1)), (1, 1));
     assert_eq!(rt; (holder(&shape, 9, 0), holder(&shape, 9, 1)), (0, 1));
+    assert_eq!(rt;
+        (shows_none(&shape, 4, 0), shows_none(&shape, 4, 1)),
+        (false, true)
+    );
 }
 
 #[test]
@@ -52,6 +56,7 @@ fn any_word(rt: HostRuntime) {
     assert_eq!(rt; (merged(&shape, 35, 0), holder(&shape, 35, 0)), (2, 0));
     assert_eq!(rt; (merged(&shape, 11, 0), holder(&shape, 11, 0)), (2, 0));
     assert_eq!(rt; merged(&shape, u64::MAX - 255, 1), 0);
+    assert!(rt; shows_none(&shape, u64::MAX - 255, 1));
     assert_eq!(rt; holder(&shape, u64::MAX - 255, 1), 0);
 }
 

@@ -1,5 +1,5 @@
 //! What is left to do for a simulated process.
-ghost use Rattle.std.specs.Prelude.{◌≡◌, ◌+◌, ◌<◌, ◌≤◌, Option, length, map, position, drop, take};
+ghost use Rattle.std.specs.Prelude.{◌≡◌, ◌+◌, ◌<◌, ◌≤◌, Option, length, map, nat_lt, position, drop, take};
 ghost use Rattle.std.specs.List.{filter, range_with_len};
 ghost use Rattle.std.specs.Option.{option_map};
 ghost use Rattle.room_spec.specs.Rooms.{processes};
@@ -74,6 +74,22 @@ pub(crate) fn unfinished_in(goals: &[Goal]) -> usize
     ensures { result ≡ unfinished_in goals.now }
 {
     goals.iter().filter(|goal| goal.is_unfinished()).count()
+}
+
+/// Whether more than so many processes are neither done nor spent.
+pub(crate) fn more_unfinished(goals: &[Goal], count: u8) -> bool
+    ensures { result ≡ nat_lt count (unfinished_in goals.now) }
+{
+    let mut left = count;
+    for goal in goals {
+        if goal.is_unfinished() {
+            if left == 0 {
+                return true;
+            }
+            left -= 1;
+        }
+    }
+    false
 }
 
 /// The first unfinished process at or after the sweep's place, going round.

@@ -1,5 +1,5 @@
 //! What a simulator has in mind.
-ghost use Rattle.std.specs.Prelude.{◌≡◌, ◌≢◌, ◌+◌, ◌<◌, ◌≤◌, true, length};
+ghost use Rattle.std.specs.Prelude.{◌≡◌, ◌≢◌, ◌+◌, ◌<◌, ◌≤◌, true, length, nat_lt};
 ghost use Rattle.room_spec.specs.Rooms.{processes};
 ghost use Rattle.room_spec.specs.Sizes.{sizes_in};
 ghost use Rattle.view_table.specs.Places.{words_of};
@@ -9,7 +9,7 @@ ghost use Rattle.simulator.specs.Moves.{IsOperation, IsWithin, answer_of, move_o
 ghost use Rattle.simulator.specs.Ranges.{IsMind};
 ghost use Rattle.simulator.specs.Sweeps.{is_resting};
 
-use crate::goal::{Goal, first_goals, unfinished_in};
+use crate::goal::{Goal, first_goals, more_unfinished, unfinished_in};
 use crate::line::Line;
 use crate::operation::Move;
 use crate::turn::Turn;
@@ -104,7 +104,7 @@ impl Mind {
             Line::Leave { .. } => self.go_on(Line::Ask),
             Line::Ask => self.ask(chosen_in(spec, answer)),
             Line::GetView { .. } => self.get_view(spec, answer),
-            Line::Values => self.get_value(spec, answer),
+            Line::Values => self.get_value(spec, &spec.shape(), answer),
             Line::Out { .. } => self.end(Turn::Useful, Goal::Done),
         }
     }
@@ -162,6 +162,13 @@ impl Mind {
         ensures { result ≡ unfinished_in self.now.goals }
     {
         unfinished_in(self.goals.as_slice())
+    }
+
+    /// Whether something is left to do for more than so many processes.
+    pub(crate) fn more_unfinished(&self, count: u8) -> bool
+        ensures { result ≡ nat_lt count (unfinished_in self.now.goals) }
+    {
+        more_unfinished(self.goals.as_slice(), count)
     }
 }
 

@@ -63,8 +63,9 @@ impl Mind {
                 self.get_view(spec, snapshot)
             }
             Line::Values => {
+                let shape = spec.shape();
                 let value = self.operate(spec, words, line);
-                self.get_value(spec, value)
+                self.get_value(spec, &shape, value)
             }
             Line::Out { .. } => {
                 self.operate(spec, words, line);

@@ -61,7 +61,7 @@ impl Sweep {
         if !self.mind.resting() {
             return Ready::Step;
         }
-        if self.mind.unfinished() <= usize::from(self.quiet) {
+        if !self.mind.more_unfinished(self.quiet) {
             return Ready::Idle;
         }
         if self.mind.turns_taken() < spec.turns() {

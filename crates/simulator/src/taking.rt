@@ -2,6 +2,8 @@
 ghost use Rattle.std.specs.Prelude.{◌≡◌, ◌+◌, ◌-◌, ◌<◌, ◌≤◌, [], ◌∷◌, ◌++◌, Some, length, min};
 ghost use Rattle.protocol_lang.specs.Numbers.{greatest};
 ghost use Rattle.room_spec.specs.Rooms.{processes};
+ghost use Rattle.room_spec.specs.Sizes.{sizes_in, sizes_of};
+ghost use Rattle.sim_memory.specs.Steps.{merged_of, step_in};
 ghost use Rattle.simulator.specs.Minds.{goal_at, next_process};
 ghost use Rattle.simulator.specs.Moves.{chosen_in, entry_in};
 ghost use Rattle.simulator.specs.Turns.{acted, after_write, asked, counted, ended, gathered, gathered_all, goes_on, got_value, got_view, opened, padded, snapped};
@@ -10,9 +12,10 @@ use crate::goal::{Goal, next_process};
 use crate::line::Line;
 use crate::mind::Mind;
 use crate::turn::Turn;
-use crate::words::{chosen_in, shows_none};
+use crate::words::chosen_in;
 use protocol_lang::{Action, View, next};
-use room_spec::Spec;
+use room_spec::{Shape, Spec};
+use sim_memory::shows_none;
 
 impl Mind {
     pub(crate) fn count_step(&mut self)
@@ -58,7 +61,11 @@ impl Mind {
         ensures turn { result ≡ turn }
     {
         self.goals[self.sweep] = goal;
-        self.sweep = (self.sweep + 1) % self.goals.len();
+        self.sweep = if self.sweep + 1 < self.goals.len() {
+            self.sweep + 1
+        } else {
+            0
+        };
         self.turn_steps = 0;
         self.line = Line::Rest;
         turn
@@ -94,10 +101,11 @@ impl Mind {
     {
         self.snapshot = snapshot;
         self.entries.clear();
-        self.gather(spec)
+        self.gather(spec, &spec.shape())
     }
 
-    pub(crate) fn get_value(&mut self, spec: &Spec, value: u64) -> Turn
+    pub(crate) fn get_value(&mut self, spec: &Spec, shape: &Shape, value: u64) -> Turn
+        requires sizes { sizes_of shape.now ≡ sizes_in spec.now }
         requires sweep { self.old.sweep < length self.old.goals }
         requires goals { length self.old.goals ≡ processes spec.now }
         requires entries { length self.old.entries < processes spec.now }
@@ -107,18 +115,19 @@ impl Mind {
     {
         let value = value.min(u64::from(u32::MAX)) as u32;
         self.entries.push(Some(value));
-        self.gather(spec)
+        self.gather(spec, shape)
     }
 
     /// Goes on to the next value that the snapshot shows, or after the last to what the process does.
-    fn gather(&mut self, spec: &Spec) -> Turn
+    fn gather(&mut self, spec: &Spec, shape: &Shape) -> Turn
+        requires sizes { sizes_of shape.now ≡ sizes_in spec.now }
         requires sweep { self.old.sweep < length self.old.goals }
         requires goals { length self.old.goals ≡ processes spec.now }
         requires entries { length self.old.entries ≤ processes spec.now }
         ensures mind { self.new ≡ (gathered (entry_in spec.now self.old.snapshot) spec.now self.old.entries self.old).mind }
         ensures turn { result ≡ (gathered (entry_in spec.now self.old.snapshot) spec.now self.old.entries self.old).turn }
     {
-        pad(&mut self.entries, spec, self.snapshot);
+        pad(&mut self.entries, shape, self.snapshot);
         if self.entries.len() < spec.n() {
             return self.go_on(Line::Values);
         }
@@ -175,11 +184,11 @@ fn after_write(spec: &Spec, round: u8, value: u32) -> Goal
 }
 
 /// Adds nothing for each next process of which the memory word shows no write.
-fn pad(entries: &mut View, spec: &Spec, word: u64)
-    requires { length entries.old.items ≤ processes spec.now }
-    ensures { entries.new.items ≡ padded (entry_in spec.now word) (processes spec.now - length entries.old.items) entries.old.items }
+fn pad(entries: &mut View, shape: &Shape, word: u64)
+    requires { length entries.old.items ≤ shape.now.n }
+    ensures { entries.new.items ≡ padded (merged_of shape.now.m (step_in (sizes_of shape.now) word)) (shape.now.n - length entries.old.items) entries.old.items }
 {
-    while entries.len() < spec.n() && shows_none(spec, word, entries.len()) {
+    while entries.len() < shape.n && shows_none(shape, word, entries.len()) {
         entries.push(None);
     }
 }

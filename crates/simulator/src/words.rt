@@ -1,5 +1,5 @@
 //! The words of a room, by its spec: where they stand, and what is read of them.
-ghost use Rattle.std.specs.Prelude.{◌≡◌, ◌<◌, ◌≤◌, ◌==◌};
+ghost use Rattle.std.specs.Prelude.{◌≡◌, ◌<◌, ◌≤◌};
 ghost use Rattle.room_spec.specs.Rooms.{processes};
 ghost use Rattle.room_spec.specs.Sizes.{sizes_in};
 ghost use Rattle.level_cells.specs.Fields.{levels_of};
@@ -9,7 +9,6 @@ ghost use Rattle.simulator.specs.Moves.{chosen_in, holder_in, index_in, entry_in
 
 use level_cells::least_at;
 use room_spec::Spec;
-use sim_memory::step_of;
 use view_table::{Place, index};
 
 pub(crate) fn index_in(spec: &Spec, place: Place) -> usize
@@ -18,20 +17,6 @@ pub(crate) fn index_in(spec: &Spec, place: Place) -> usize
     ensures within { result < words_of (sizes_in spec.now) }
 {
     index(&spec.shape(), place)
-}
-
-/// Whether a memory word shows no write of the process.
-pub(crate) fn shows_none(spec: &Spec, word: u64, process: usize) -> bool
-    requires { process < processes spec.now }
-    ensures { result ≡ (entry_in spec.now word process == 0) }
-{
-    let shape = spec.shape();
-    for i in 0..shape.m {
-        if step_of(&shape, word, i, process) > 0 {
-            return false;
-        }
-    }
-    true
 }
 
 /// The last write of the process that a memory word shows: the simulator that has stored it, and
