@@ -1,20 +1,18 @@
 -- What holds of a block that was read, or of its fault, where memory may have been refused.
 use Rattle.std.proofs.Common.{◌≡◌, ℕ, ◌+◌, min, List, length, take, Option, Some, None, Result, Ok, Err, refl, sym, ◌∙◌, subst, inl, inr}
-use Rattle.std.specs.Prelude.{IfOk, IfErr, MatchResult}
-use Rattle.std.specs.Result.{is_ok}
-use Rattle.protocol_lang.specs.Grammar.{IsText}
+use Rattle.std.specs.Prelude.{IfOk, IfErr}
+use Rattle.protocol_lang.specs.Reading.{reading}
 use Rattle.protocol_lang.specs.Limits.{HasSmallNumerals}
 use Rattle.protocol_lang.specs.declared.protocol.Protocol.{Protocol}
-use Rattle.protocol_lang.specs.declared.fault.ParseFault.{ParseFault}
 use Rattle.protocol_lang.specs.declared.fault.ParseFault.TheVariants.{OutOfMemory}
-use Rattle.protocol_lang.proofs.Limits.{small_numerals}
+use Rattle.protocol_lang.proofs.Limits.{small_if_read}
 use Rattle.room_spec.specs.Rooms.{RoomSpec}
-use Rattle.room_spec.specs.Blocks.{body_len, room_in, room_before, block_in, OrMemory, UnlessMemory, out_of_memory}
+use Rattle.room_spec.specs.Blocks.{body_len, protocol_of, room_in, room_before, block_in, GivesOrMemory, OrMemory, UnlessMemory, out_of_memory}
 use Rattle.room_spec.specs.Grammar.{IsBlock, IsLocal, IsOfText, IsFirstFault}
 use Rattle.room_spec.specs.declared.fault.SpecFault.{SpecFault}
 use Rattle.room_spec.specs.declared.fault.SpecFault.TheVariants.{BadProtocol}
 use Rattle.room_spec.proofs.Heads.{bind_ok}
-use Rattle.room_spec.proofs.Readings.{block_found, block_again}
+use Rattle.room_spec.proofs.Readings.{block_found, block_again, protocol_read}
 use Rattle.room_spec.proofs.Locality.{block_local, block_of_text}
 use Rattle.room_spec.proofs.FirstFaults.{block_first}
 
@@ -60,7 +58,7 @@ first_or text (Ok read) e = tt
 first_or text (Err fault) (inl e) = unless fault (IsFirstFault text fault) (block_first text (Err fault) e)
 first_or text (Err fault) (inr e) = let same : fault ≡ out_of_memory = (let is = e.0 in cc) in refused fault (IsFirstFault text fault) same
 
--- what is kept of a protocol that was read has small numerals
-pub kept_small : (P : ParseFault → Type 0) (text : List ℕ) (read : Result Protocol ParseFault) (kept : Result Protocol SpecFault) (protocol : Protocol) → IfOk read (IsText text) → MatchResult read (λ tree. kept ≡ Ok tree) P → is_ok kept ≡ is_ok read → kept ≡ Ok protocol → HasSmallNumerals protocol
-kept_small P text (Ok tree) kept protocol is same variant e = let equal : tree ≡ protocol = cc in subst HasSmallNumerals equal (small_numerals text tree is)
-kept_small P text (Err fault) kept protocol is same variant e = absurd (let never = rw e at variant in cc)
+-- a protocol that was read has small numerals
+pub kept_small : {X : Type 0} (view : X → Protocol) (text : List ℕ) (kept : Result X SpecFault) (x : X) → GivesOrMemory view kept (protocol_of (reading text)) → kept ≡ Ok x → HasSmallNumerals (view x)
+kept_small view text (Ok y) x gives e = let same : y ≡ x = cc in subst (λ z. HasSmallNumerals (view z)) same (small_if_read text (view y) (protocol_read (reading text) (view y) gives))
+kept_small view text (Err fault) x gives e = absurd cc

@@ -87,7 +87,7 @@ pub record AreRoom (lines : List (List ℕ)) (room : RoomSpec) : Type 0 where
   pub parts : lines ≡ head_lines room ++ more
   pub protocol : reading (text_of more) ≡ Ok room.protocol
 
-protocol_read : (outcome : Result Protocol ParseFault) (protocol : Protocol) → protocol_of outcome ≡ Ok protocol → outcome ≡ Ok protocol
+pub protocol_read : (outcome : Result Protocol ParseFault) (protocol : Protocol) → protocol_of outcome ≡ Ok protocol → outcome ≡ Ok protocol
 protocol_read (Ok read) protocol e = cc
 protocol_read (Err fault) protocol e = absurd cc
 

@@ -171,7 +171,7 @@ abbrev pub Gives : {X Y : Type 0} → (X → Y) → Result X SpecFault → Resul
 Gives view (Ok x) read = read ≡ Ok (view x)
 Gives view (Err fault) read = read ≡ Err fault
 
--- memory was refused to the protocol
+-- memory was refused to the protocol or the room
 abbrev pub out_of_memory : SpecFault
 out_of_memory = BadProtocol OutOfMemory
 
@@ -181,9 +181,14 @@ IsHeadRight (Ok read) = Unit {0}
 IsHeadRight (Err (BadProtocol fault)) = Unit {0}
 IsHeadRight (Err fault) = ⊥
 
--- what a function returned is this, or memory was refused to the protocol, whose lines before it are right
+-- what a function returned is this, or memory was refused behind the head, whose lines are right
 abbrev pub OrMemory : {A : Type 0} → Result A SpecFault → Result A SpecFault → Type 0
 OrMemory result wanted = (result ≡ wanted) ⊎ ((result ≡ Err out_of_memory) × IsHeadRight wanted)
+
+-- the same of what a function returned, seen by `view`
+abbrev pub GivesOrMemory : {X Y : Type 0} → (X → Y) → Result X SpecFault → Result Y SpecFault → Type 0
+GivesOrMemory view (Ok x) wanted = wanted ≡ Ok (view x)
+GivesOrMemory view (Err fault) wanted = OrMemory (Err fault) wanted
 
 abbrev pub UnlessMemory : SpecFault → Type 0 → Type 0
 UnlessMemory (BadProtocol OutOfMemory) fact = ⊤

@@ -11,10 +11,11 @@ ghost use Rattle.room_spec.specs.Blocks.{body_len, is_end, block_len, value_afte
 
 use crate::fault::SpecFault;
 use crate::name::Name;
+use crate::protocols::Protocols;
 use crate::spec::{MAX_BITS, MAX_PROCESSES, MAX_ROUNDS, MAX_SIMULATORS, MAX_TURNS, Spec, bits};
 use crate::text::{cut, cut_near};
 use arrayvec::ArrayVec;
-use protocol_lang::{parse_bytes, read_number};
+use protocol_lang::read_number;
 use std::alloc::Global;
 
 /// How many bytes a room block at the front of `text` takes: up to and with the first line `end`,
@@ -83,22 +84,64 @@ pub fn read_block(alloc: Global, text: &[u8]) -> Result<(Spec, usize), SpecFault
     // Which fault it is.
     ensures exact { OrMemory result (block_in text.now) }
 {
-    read_front(alloc, text)
+    let mut protocols = Protocols::new(alloc);
+    read_front(alloc, text, &mut protocols)
 }
 
-fn read_front(alloc: Global, text: &[u8]) -> Result<(Spec, usize), SpecFault>
+/// The same as [`read_block`], for one of several blocks: those with the same protocol's text share
+/// the protocol.
+pub fn read_block_with<'a>(
+    alloc: Global,
+    text: &'a [u8],
+    protocols: &mut Protocols<'a>,
+) -> Result<(Spec, usize), SpecFault>
+    // What is read is a block.
+    ensures sound { IfOk result (λ read. IsBlock text.now read.0 read.1) }
+    // What is a block is read.
+    ensures complete { (room : RoomSpec) (len : ℕ) → IsBlock text.now room len → OrMemory result (Ok (room, len)) }
+    ensures within { IfOk result (λ read. read.1 ≤ length text.now) }
+    // A fault rests on the lines up to its own,
+    ensures local { IfErr result (λ fault. UnlessMemory fault (IsLocal text.now fault)) }
+    // or on the protocol's text, or there is no line `end`.
+    ensures of_text { IfErr result (λ fault. UnlessMemory fault (IsOfText text.now fault)) }
+    // The lines before a fault's own begin some block; it can't follow them, or the protocol's text has its fault.
+    ensures first { IfErr result (λ fault. UnlessMemory fault (IsFirstFault text.now fault)) }
+    // Which fault it is.
+    ensures exact { OrMemory result (block_in text.now) }
+{
+    read_front(alloc, text, protocols)
+}
+
+fn read_front<'a>(
+    alloc: Global,
+    text: &'a [u8],
+    protocols: &mut Protocols<'a>,
+) -> Result<(Spec, usize), SpecFault>
     ensures exact { OrMemory result (block_in text.now) }
     ensures within { IfOk result (λ read. read.1 ≤ length text.now) }
 {
     let end = find_end(text).ok_or(SpecFault::Truncated)?;
-    let spec = read_body(alloc, &text[..end.body])?;
+    let spec = read_body_with(alloc, &text[..end.body], protocols)?;
     Ok((spec, (end.body + 4).min(text.len())))
 }
 
 /// Reads the lines of a room block that stand before its line `end`. The fault is that of the first
 /// line that has one.
-#[tactic(auto, unfolding(crate::specs::Blocks::room_in))]
 pub fn read_body(alloc: Global, body: &[u8]) -> Result<Spec, SpecFault>
+    ensures { OrMemory result (room_in body.now) }
+{
+    let mut protocols = Protocols::new(alloc);
+    read_body_with(alloc, body, &mut protocols)
+}
+
+/// The same as [`read_body`], for one of several blocks: those with the same protocol's text share the
+/// protocol.
+#[tactic(auto, unfolding(crate::specs::Blocks::room_in))]
+pub fn read_body_with<'a>(
+    alloc: Global,
+    body: &'a [u8],
+    protocols: &mut Protocols<'a>,
+) -> Result<Spec, SpecFault>
     ensures { OrMemory result (room_in body.now) }
 {
     let rest = read_version(body)?;
@@ -117,7 +160,7 @@ pub fn read_body(alloc: Global, body: &[u8]) -> Result<Spec, SpecFault>
     }
     let (turns, rest) = read_number_line(rest, 6, b"turns ", MAX_TURNS, SpecFault::Turns)?;
     let (fuses, text) = read_fuses(rest, simulators)?;
-    let protocol = parse_bytes(alloc, text).map_err(SpecFault::BadProtocol)?;
+    let protocol = protocols.read(alloc, text)?;
     Ok(Spec {
         name,
         inputs,

@@ -5,12 +5,16 @@ mod block;
 mod fault;
 pub mod laws;
 mod name;
+mod protocols;
 mod spec;
 mod text;
 
-pub use block::{BlockEnd, block_len, find_end, read_block, read_body};
+pub use block::{
+    BlockEnd, block_len, find_end, read_block, read_block_with, read_body, read_body_with,
+};
 pub use fault::SpecFault;
 pub use name::Name;
+pub use protocols::Protocols;
 pub use spec::{MAX_PROCESSES, MAX_SIMULATORS, Shape, Spec};
 pub use text::{cut, cut_near};
 

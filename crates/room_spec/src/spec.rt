@@ -6,7 +6,9 @@ use crate::name::Name;
 use arrayvec::ArrayVec;
 pub use protocol_lang::MAX_PROCESSES;
 use protocol_lang::Protocol;
+use std::alloc::Global;
 use std::marker::Model;
+use std::sync::Arc;
 
 /// The most simulators of a room.
 pub const MAX_SIMULATORS: usize = 8;
@@ -41,10 +43,11 @@ pub struct Spec {
     pub(crate) rounds: u8,
     pub(crate) turns: u16,
     pub(crate) fuses: ArrayVec<(u8, u32), MAX_SIMULATORS>,
-    pub(crate) protocol: Protocol,
+    pub(crate) protocol: Arc<Protocol, Global>,
 }
 
 impl Model for Spec {
+    ghost use Rattle.std.specs.Arc.{arc_value};
     ghost use Rattle.std.specs.Coded.{codes};
     ghost use Rattle.protocol_lang.specs.Codes.{expression_code};
     ghost use Rattle.room_spec.specs.Rooms.{RoomSpec, IsWithinLimits};
@@ -53,9 +56,9 @@ impl Model for Spec {
 
     ghost coded = { Prim.hlevel (codes, expression_code) };
 
-    ghost view = { λ s. record { name = s.name; inputs = s.inputs.items; simulators = s.simulators; rounds = s.rounds; turns = s.turns; fuses = s.fuses.items; protocol = s.protocol } };
+    ghost view = { λ s. record { name = s.name; inputs = s.inputs.items; simulators = s.simulators; rounds = s.rounds; turns = s.turns; fuses = s.fuses.items; protocol = arc_value s.protocol } };
 
-    ghost invariant = { λ s. IsWithinLimits (record { name = s.name; inputs = s.inputs.items; simulators = s.simulators; rounds = s.rounds; turns = s.turns; fuses = s.fuses.items; protocol = s.protocol }) };
+    ghost invariant = { λ s. IsWithinLimits (record { name = s.name; inputs = s.inputs.items; simulators = s.simulators; rounds = s.rounds; turns = s.turns; fuses = s.fuses.items; protocol = arc_value s.protocol }) };
 }
 
 impl Spec {

@@ -81,6 +81,42 @@ fn what_is_behind_a_block_is_left(rt: HostRuntime) -> Result<(), Fail> {
     Ok(())
 }
 
+/// What the one process of a block writes first.
+fn first_write<'a>(alloc: Global, block: &'a [u8], protocols: &mut Protocols<'a>) -> Option<usize> {
+    let (room, _) = read_block_with(alloc, block, protocols).ok()?;
+    Some(first(room.protocol(), 5, 0, 1) as usize)
+}
+
+#[test]
+fn protocols_of_several_blocks(rt: HostRuntime) -> Result<(), Fail> {
+    let mut blocks = Vec::new(rt.alloc());
+    for value in 0..10 {
+        let block = format!(in rt.alloc();
+            "bgsim 1\nroom one\ninputs 5\nsimulators 1\nrounds 1\nturns 10\nprotocol\nfirst {value};else decide mine;\nend\n"
+        )?;
+        blocks.push(block)?;
+    }
+    let mut protocols = Protocols::new(rt.alloc());
+    for _ in 0..2 {
+        for (value, block) in blocks.iter().enumerate() {
+            let read = first_write(rt.alloc(), block.as_bytes(), &mut protocols);
+            assert_eq!(rt; read, Some(value));
+            let again = first_write(rt.alloc(), block.as_bytes(), &mut protocols);
+            assert_eq!(rt; again, Some(value));
+        }
+    }
+    Ok(())
+}
+
+#[test]
+fn bodies_of_blocks(rt: HostRuntime) -> Result<(), Fail> {
+    let body = ONE.strip_suffix("end\n").ok_or("a block")?;
+    let room = read_body(rt.alloc(), body.as_bytes()).ok().ok_or("a room")?;
+    assert_eq!(rt; room.name().as_str(), "one");
+    assert_eq!(rt; room.fuse(0), None);
+    Ok(())
+}
+
 fn fault_of(alloc: Global, text: &str) -> Option<SpecFault> {
     read_block(alloc, text.as_bytes()).err()
 }

@@ -1,9 +1,10 @@
 use Rattle.std.proofs.Common.{arith, refl}
+use Rattle.std.specs.Arc.{arc_value}
 use Rattle.std.proofs.lemmas.Grind.{common_steps}
 use Rattle.room_spec.proofs.Heads.{inputs_found, inputs_are_values}
 use Rattle.room_spec.proofs.Readings.{inputs_range}
 use Rattle.room_spec.proofs.Memory.{kept_small}
-use Rattle.room_spec.proofs.block.read_body.Goals as goal
+use Rattle.room_spec.proofs.block.read_body_with.Goals as goal
 
 pub invariant_of-result : goal.invariant_of-result
 invariant_of-result c =
@@ -14,5 +15,5 @@ invariant_of-result c =
       turns = c.in_ok-turns.ensures.range;
       fuses = c.in_ok-fuses.ensures.fuses;
       values = inputs_are_values c.in_ok-inputs.inputs.items are;
-      numerals = kept_small _ c.in_ok-fuses.text.now c.parse_bytes.result c.map_err.result c.in_ok-protocol.protocol c.parse_bytes.ensures.sound c.map_err.ensures.cases c.map_err.ensures.variant c.in_ok-protocol.was;
+      numerals = kept_small arc_value c.in_ok-fuses.text.now c.read.result c.in_ok-protocol.protocol c.read.ensures c.in_ok-protocol.was;
     }
