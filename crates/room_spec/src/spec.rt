@@ -42,7 +42,7 @@ pub struct Spec {
     pub(crate) simulators: u8,
     pub(crate) rounds: u8,
     pub(crate) turns: u16,
-    pub(crate) fuses: ArrayVec<(u8, u32), MAX_SIMULATORS>,
+    pub(crate) fuses: Vec<(u8, u32)>,
     pub(crate) protocol: Arc<Protocol, Global>,
 }
 

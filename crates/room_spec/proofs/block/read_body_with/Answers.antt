@@ -13,7 +13,7 @@ invariant_of-result c =
       name = grind (arith, common_steps);
       shape = record { n_range = inputs_range c.in_ok-inputs.inputs.items are; m_range = c.in_ok-simulators.ensures.range; rounds_range = c.in_ok-rounds.ensures.range; width = refl; memory = rw (c.from.ensures, c.len.ensures.value, c.bits.ensures, c.from-2.ensures) at c.if-from-len-gt-MAX_BITS.false };
       turns = c.in_ok-turns.ensures.range;
-      fuses = c.in_ok-fuses.ensures.fuses;
+      fuses = rw (c.in_ok-fuses-2.ensures.items, c.as_slice.ensures.value) c.in_ok-fuses.ensures.fuses;
       values = inputs_are_values c.in_ok-inputs.inputs.items are;
       numerals = kept_small arc_value c.in_ok-fuses.text.now c.read.result c.in_ok-protocol.protocol c.read.ensures c.in_ok-protocol.was;
     }
