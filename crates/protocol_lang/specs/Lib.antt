@@ -7,7 +7,7 @@ pub mod Codes
 pub mod Meaning
 pub mod Limits
 pub mod Formulas
-pub mod Sides
+pub mod Comparisons
 pub mod Named
 pub mod Reading
 pub mod Grammar

@@ -7,7 +7,7 @@ ghost use Rattle.protocol_lang.specs.Meaning.{holds, applies, action, action_of,
 use crate::environment::Environment;
 use crate::formula::MOST_WAITING;
 use crate::protocol::Protocol;
-use crate::rules::{ActionRule, Comparison, Rule, Sides, Tree};
+use crate::rules::{ActionRule, Comparison, Rule, Tree};
 use crate::tree::Kind;
 use arrayvec::ArrayVec;
 
@@ -78,28 +78,11 @@ fn all_hold(
     ensures { result ≡ list_all (holds environment.now) comparisons.now }
 {
     for comparison in comparisons {
-        if !holds(comparison, environment, below) {
+        if !comparison.holds(environment, below) {
             return false;
         }
     }
     true
-}
-
-fn holds(
-    comparison: &Comparison,
-    environment: &Environment<'_>,
-    below: &mut [u32; MOST_WAITING],
-) -> bool
-    ensures { result ≡ holds environment.now comparison.now }
-{
-    let (left, right) = match &comparison.sides {
-        Sides::Leaves(left, right) => (left.value(environment), right.value(environment)),
-        Sides::Formulas(left, right) => (
-            left.value(environment, below),
-            right.value(environment, below),
-        ),
-    };
-    comparison.comparator.holds(left, right)
 }
 
 fn action_of(

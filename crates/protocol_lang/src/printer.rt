@@ -4,6 +4,7 @@ ghost use Rattle.std.specs.List.{flat_map};
 ghost use Rattle.protocol_lang.specs.Stacks.{pushed, below_top};
 ghost use Rattle.protocol_lang.specs.Tokens.{word_spelling, symbol_spelling};
 ghost use Rattle.protocol_lang.specs.Formulas.{most_waiting, last_of, hold, stepped, made_by, leaf_tree, leaf_made};
+ghost use Rattle.protocol_lang.specs.Comparisons.{comparison_of};
 ghost use Rattle.protocol_lang.specs.Grammar.{word_for, call_word, operator_symbol, comparator_symbol, kind_word, enclosed_tokens, expression_tokens, comparison_tokens, conditions_tokens, action_rule_tokens, rule_tokens, tree_tokens, IsText};
 ghost use Rattle.protocol_lang.specs.Reading.{reading};
 ghost use Rattle.protocol_lang.specs.Printing.{stands_left, stands_right, shortest, shortest_comparison, shortest_action_rule, shortest_rule, shortest_tree, is_word, spelling, gap, spelled_behind, printed, enclosed_unless, factor, joined, pieces};
@@ -11,7 +12,7 @@ ghost use Rattle.protocol_lang.specs.Printing.{stands_left, stands_right, shorte
 use crate::formula::{Formula, Leaf, MOST_WAITING, Step};
 use crate::opcode::Opcode;
 use crate::protocol::Protocol;
-use crate::rules::{ActionRule, Comparison, Rule, Sides, Tree};
+use crate::rules::{ActionRule, Comparison, Rule, Test, Tree};
 use crate::token::{Symbol, Token, Word};
 use crate::tree::{Call, Comparator, Kind, Name, Operator};
 use std::alloc::{AllocError, Global};
@@ -360,13 +361,54 @@ fn write_comparison(
 ) -> Result<(), AllocError>
     ensures { OnOk result (tokens.new ≡ tokens.old ++ comparison_tokens (shortest_comparison comparison.now)) }
 {
-    let (left, right) = match &comparison.sides {
-        Sides::Leaves(left, right) => (leaf(alloc, *left)?, leaf(alloc, *right)?),
-        Sides::Formulas(left, right) => (expression(alloc, left)?, expression(alloc, right)?),
-    };
+    let left = left_side(alloc, comparison.test())?;
+    let right = right_side(alloc, comparison.test())?;
     tokens.append(&left)?;
-    tokens.push(Token::Symbol(comparison.comparator.symbol()))?;
+    tokens.push(Token::Symbol(comparison.comparator().symbol()))?;
     tokens.append(&right)
+}
+
+fn left_side(alloc: Global, test: &Test) -> Result<Tokens, AllocError>
+    ensures { IfOk result (λ tokens. tokens ≡ expression_tokens (shortest (comparison_of test.now).left)) }
+{
+    match test {
+        Test::FormulaNumber(left, _, _) | Test::Formulas(left, _, _) => expression(alloc, left),
+        Test::NumberName(left, _, _) => leaf(alloc, Leaf::Number(*left)),
+        Test::EqualNames(left, _)
+        | Test::EqualNumber(left, _)
+        | Test::NotEqualNames(left, _)
+        | Test::NotEqualNumber(left, _)
+        | Test::LessNames(left, _)
+        | Test::LessNumber(left, _)
+        | Test::LessOrEqualNames(left, _)
+        | Test::LessOrEqualNumber(left, _)
+        | Test::GreaterNames(left, _)
+        | Test::GreaterNumber(left, _)
+        | Test::GreaterOrEqualNames(left, _)
+        | Test::GreaterOrEqualNumber(left, _) => leaf(alloc, Leaf::Name(*left)),
+    }
+}
+
+fn right_side(alloc: Global, test: &Test) -> Result<Tokens, AllocError>
+    ensures { IfOk result (λ tokens. tokens ≡ expression_tokens (shortest (comparison_of test.now).right)) }
+{
+    match test {
+        Test::Formulas(_, _, right) => expression(alloc, right),
+        Test::FormulaNumber(_, _, right)
+        | Test::EqualNumber(_, right)
+        | Test::NotEqualNumber(_, right)
+        | Test::LessNumber(_, right)
+        | Test::LessOrEqualNumber(_, right)
+        | Test::GreaterNumber(_, right)
+        | Test::GreaterOrEqualNumber(_, right) => leaf(alloc, Leaf::Number(*right)),
+        Test::NumberName(_, _, right)
+        | Test::EqualNames(_, right)
+        | Test::NotEqualNames(_, right)
+        | Test::LessNames(_, right)
+        | Test::LessOrEqualNames(_, right)
+        | Test::GreaterNames(_, right)
+        | Test::GreaterOrEqualNames(_, right) => leaf(alloc, Leaf::Name(*right)),
+    }
 }
 
 fn write_conditions(
