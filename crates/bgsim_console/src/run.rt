@@ -15,7 +15,7 @@ use std::alloc::{AllocError, Global};
 use std::sync::Wait;
 use std::thread::Threads;
 
-/// The most rooms that run at the same time. While it runs a room takes some 6.5 KB, however short its
+/// The most rooms that run at the same time. While it runs a room takes some 4 KB, however short its
 /// block is.
 const ROOMS_AT_ONCE: usize = 128;
 
