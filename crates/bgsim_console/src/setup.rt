@@ -11,7 +11,9 @@ use crate::report::{fault_text, write_refused};
 use crate::script::block_extent;
 use history_checker::{AddFault, Rooms};
 use protocol_lang::ParseFault;
-use room_spec::{BlockEnd, Spec, SpecFault, cut, find_end, read_block, read_body};
+use room_spec::{
+    BlockEnd, Protocols, Spec, SpecFault, cut, find_end, read_block, read_block_with, read_body_with,
+};
 use std::alloc::{AllocError, Global};
 use std::marker::Model;
 
@@ -57,14 +59,19 @@ impl Setup {
     }
 
     /// Takes the next block, which has these bytes.
-    fn take_block(self, alloc: Global, block: &[u8]) -> Result<Setup, IoFault>
+    fn take_block<'a>(
+        self,
+        alloc: Global,
+        block: &'a [u8],
+        protocols: &mut Protocols<'a>,
+    ) -> Result<Setup, IoFault>
         requires { self.line + length block.now < 2 ^ 64 }
         ensures block { IfOk result (λ setup. setup ≡ after_block self block.now) }
         ensures line { IfOk result (λ setup. setup.line ≤ self.line + length block.now) }
         ensures err { IfErr result (λ fault. fault ≡ Memory) }
     {
         let lines = count_lines(block);
-        let setup = match read_room(alloc, block)? {
+        let setup = match read_room_with(alloc, block, protocols)? {
             Ok((spec, _)) => self.open_room(alloc, spec)?,
             Err(fault) => self.refuse_fault(alloc, fault)?,
         };
@@ -72,7 +79,13 @@ impl Setup {
     }
 
     /// Takes the next block, of which is known where it ends.
-    fn take_ended(self, alloc: Global, block: &[u8], end: BlockEnd) -> Result<Setup, IoFault>
+    fn take_ended<'a>(
+        self,
+        alloc: Global,
+        block: &'a [u8],
+        end: BlockEnd,
+        protocols: &mut Protocols<'a>,
+    ) -> Result<Setup, IoFault>
         requires fits { self.line + length block.now < 2 ^ 64 }
         requires ended { IsEnded block.now end.body end.lines }
         requires within { (end.body ≤ length block.now) × (end.lines ≤ length block.now) }
@@ -80,7 +93,7 @@ impl Setup {
         ensures line { IfOk result (λ setup. setup.line ≤ self.line + length block.now) }
         ensures err { IfErr result (λ fault. fault ≡ Memory) }
     {
-        let setup = match read_lines(alloc, &block[..end.body])? {
+        let setup = match read_lines(alloc, &block[..end.body], protocols)? {
             Ok(spec) => self.open_room(alloc, spec)?,
             Err(fault) => self.refuse_fault(alloc, fault)?,
         };
@@ -146,12 +159,30 @@ pub fn read_room(
     }
 }
 
+/// The same for one of several blocks, which share protocols.
+fn read_room_with<'a>(
+    alloc: Global,
+    block: &'a [u8],
+    protocols: &mut Protocols<'a>,
+) -> Result<Result<(Spec, usize), SpecFault>, AllocError>
+    ensures { IfOk result (λ read. read ≡ block_in block.now) }
+{
+    match read_block_with(alloc, block, protocols) {
+        Err(SpecFault::BadProtocol(ParseFault::OutOfMemory)) => Err(AllocError),
+        read => Ok(read),
+    }
+}
+
 /// Reads the lines of a block that stand before its line `end`, unless memory is refused to its
 /// protocol.
-fn read_lines(alloc: Global, body: &[u8]) -> Result<Result<Spec, SpecFault>, AllocError>
+fn read_lines<'a>(
+    alloc: Global,
+    body: &'a [u8],
+    protocols: &mut Protocols<'a>,
+) -> Result<Result<Spec, SpecFault>, AllocError>
     ensures { IfOk result (λ read. read ≡ room_in body.now) }
 {
-    match read_body(alloc, body) {
+    match read_body_with(alloc, body, protocols) {
         Err(SpecFault::BadProtocol(ParseFault::OutOfMemory)) => Err(AllocError),
         read => Ok(read),
     }
@@ -166,6 +197,7 @@ pub fn read_blocks(alloc: Global, input: &[u8]) -> Result<(Setup, &[u8]), IoFaul
     ensures err { IfErr result (IsFaultOr (BeginsWithBlock input.now) (blocks_in input.now)) }
 {
     let mut setup = Setup::new(alloc);
+    let mut protocols = Protocols::new(alloc);
     let mut rest = input;
     loop {
         let (first, later) = cut(rest, b'\n');
@@ -179,7 +211,7 @@ pub fn read_blocks(alloc: Global, input: &[u8]) -> Result<(Setup, &[u8]), IoFaul
             });
         };
         let len = (end.body + 4).min(rest.len());
-        setup = setup.take_ended(alloc, &rest[..len], end)?;
+        setup = setup.take_ended(alloc, &rest[..len], end, &mut protocols)?;
         rest = &rest[len..];
     }
 }
@@ -193,10 +225,11 @@ pub fn read_all_blocks(alloc: Global, input: &[u8]) -> Result<Setup, IoFault>
     ensures err { IfErr result (λ fault. fault ≡ Memory) }
 {
     let mut setup = Setup::new(alloc);
+    let mut protocols = Protocols::new(alloc);
     let mut rest = input;
     while !rest.is_empty() {
         let extent = block_extent(rest);
-        setup = setup.take_block(alloc, &rest[..extent])?;
+        setup = setup.take_block(alloc, &rest[..extent], &mut protocols)?;
         rest = &rest[extent..];
     }
     Ok(setup)
