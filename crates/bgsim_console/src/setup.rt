@@ -12,7 +12,8 @@ use crate::script::block_extent;
 use history_checker::{AddFault, Rooms};
 use protocol_lang::ParseFault;
 use room_spec::{
-    BlockEnd, Protocols, Spec, SpecFault, cut, find_end, read_block, read_block_with, read_body_with,
+    BlockEnd, Protocols, Spec, SpecFault, cut, find_end, read_block, read_block_with,
+    read_body_with,
 };
 use std::alloc::{AllocError, Global};
 use std::marker::Model;
