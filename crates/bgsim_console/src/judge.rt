@@ -5,7 +5,7 @@ ghost use Rattle.bgsim_console.specs.Check.{IsFaultOr, MayLackMemory, IsOutput, 
 
 use crate::events::feed_events;
 use crate::fault::{IoFault, Outcome};
-use crate::report::verdict_line;
+use crate::report::write_verdict;
 use crate::setup::{Setup, read_blocks};
 use history_checker::{Rooms, Verdict};
 use std::alloc::{AllocError, Global};
@@ -30,11 +30,11 @@ pub fn judge(alloc: Global, input: &[u8]) -> Result<Answer, IoFault>
         line,
     } = setup;
     feed_events(&mut rooms, line, transcript)?;
-    Ok(answer_of(alloc, &rooms, refused)?)
+    Ok(answer_of(&rooms, refused)?)
 }
 
 /// Puts the rooms' verdicts behind the lines of the refused blocks.
-fn answer_of(alloc: Global, rooms: &Rooms, refused: String) -> Result<Answer, AllocError>
+fn answer_of(rooms: &Rooms, refused: String) -> Result<Answer, AllocError>
     requires { (fed : List FedEvent) × HasProcessed rooms.now fed }
     ensures { IfOk result (λ answer. (fed : List FedEvent) → HasProcessed rooms.now fed → IsOutput (specs_of rooms.now) (string_bytes refused) fed answer.outcome (string_bytes answer.output)) }
 {
@@ -45,8 +45,7 @@ fn answer_of(alloc: Global, rooms: &Rooms, refused: String) -> Result<Answer, Al
             unreachable!() // there is a room of each index below their number
         };
         all_well &= is_run(verdict);
-        let line = verdict_line(alloc, name, verdict)?;
-        output.push_str(line.as_str())?;
+        write_verdict(&mut output, name, verdict)?;
     }
     Ok(Answer {
         output,

@@ -50,12 +50,12 @@ pub fn write_refused(output: &mut String, line: u64, fault: &str) -> Result<(), 
     write!(output, "line {line} refused {fault}\n")
 }
 
-/// The line of a room's verdict.
-pub fn verdict_line(alloc: Global, name: &Name, verdict: Verdict) -> Result<String, AllocError>
-    ensures { IfOk result (λ text. string_bytes text ≡ verdict_line name.now verdict) }
+/// Writes the line of a room's verdict.
+pub fn write_verdict(output: &mut String, name: &Name, verdict: Verdict) -> Result<(), AllocError>
+    ensures { OnOk result (string_bytes output.new ≡ string_bytes output.old ++ verdict_line name.now verdict) }
 {
     match verdict {
-        Verdict::Run => format!(in alloc; "{name} is a run\n"),
-        Verdict::Broken(line) => format!(in alloc; "{name} is not a run: line {line}\n"),
+        Verdict::Run => write!(output, "{name} is a run\n"),
+        Verdict::Broken(line) => write!(output, "{name} is not a run: line {line}\n"),
     }
 }

@@ -23,9 +23,9 @@ loop-index-preserved c = λ fed processed.
     let rooms = specs_of c.args.rooms.now in
     let judged = room_judged (slice_get rooms c.loop-index.index) c.verdict.result c.in-Some-Some.verdict fed c.in-Some-Some.is-1 (c.verdict.ensures fed processed) in
     let name = name_there rooms c.loop-index.index judged.0 c.in-Some-Some.name.now judged.1 c.in-Some-Some.ensures in
-    one_more rooms (string_bytes c.args.refused) fed c.loop-index.index (string_bytes c.loop-index.output) c.loop-index.all_well judged.0 c.in-Some-Some.verdict (string_bytes c.push_str.new.self) _
+    one_more rooms (string_bytes c.args.refused) fed c.loop-index.index (string_bytes c.loop-index.output) c.loop-index.all_well judged.0 c.in-Some-Some.verdict (string_bytes c.write_verdict.new.output) _
     (c.loop-index.invariant fed processed) judged.1 judged.2
-    (c.in_ok-push_str.ensures.bytes ∙ ap (λ line. string_bytes c.loop-index.output ++ line) (c.as_str.ensures.value ∙ c.in_ok-line.ensures ∙ ap (λ n. verdict_line n c.in-Some-Some.verdict) name))
+    (c.in_ok-write_verdict.ensures ∙ ap (λ n. string_bytes c.loop-index.output ++ verdict_line n c.in-Some-Some.verdict) name)
     (ap (λ well. c.loop-index.all_well && well) c.is_run-all_well.ensures)
 
 pub returns : goal.returns
