@@ -1,8 +1,8 @@
 //! A script, entry by entry.
-ghost use Rattle.std.specs.Prelude.{◌≡◌, ◌≤◌, ◌<◌, ◌+◌, ◌^◌, ◌||◌, ◌++◌, ◌∷◌, [], true, false, List, Ok, IsOk, IfOk, IfErr, OnOk, is_some, length, string_bytes};
+ghost use Rattle.std.specs.Prelude.{◌≡◌, ◌≤◌, ◌<◌, ◌+◌, ◌^◌, ◌||◌, ◌++◌, ◌∷◌, [], true, false, List, Ok, IsOk, IfOk, IfErr, OnOk, decimal, is_some, length, string_bytes};
 ghost use Rattle.service_core.specs.declared.reply.Reply.{Reply as ReplyData};
 ghost use Rattle.service_core.specs.Runs.{is_want};
-ghost use Rattle.bgsim_console.specs.Check.{IsFaultOf, refused_line};
+ghost use Rattle.bgsim_console.specs.Check.{IsFaultOf, fault_text, refused_line};
 ghost use Rattle.bgsim_console.specs.Play.{AreDone, Done, HasPlayed, IsDone, PlaysOn, Replied, is_refusal};
 ghost use Rattle.bgsim_console.specs.ReplyTexts.{sim_in};
 ghost use Rattle.bgsim_console.specs.Script.{Entry, Open, command_in, entry_at, is_open, script_says};
@@ -10,9 +10,10 @@ ghost use Rattle.bgsim_console.specs.Script.{Entry, Open, command_in, entry_at, 
 use crate::fault::IoFault;
 use crate::lines::count_lines;
 use crate::reply::write_reply;
-use crate::report::{fault_text, write_refused};
+use crate::report::{write_refused, write_refused_code};
 use crate::script::{is_open, next_entry, read_command};
 use crate::setup::read_room;
+use room_spec::SpecFault;
 use service_core::{Command, Refusal, Reply, Service};
 use std::alloc::{AllocError, Global};
 
@@ -69,25 +70,32 @@ impl Player {
     {
         match read_room(alloc, block) {
             Ok(Ok((spec, _))) => self.apply(alloc, Command::Begin(spec)),
-            Ok(Err(fault)) => {
-                let text = fault_text(alloc, fault)?;
-                self.refuse(number, text.as_str())
-            }
-            Err(AllocError) => {
-                self.lacking = true;
-                self.refuse(number, "8")
-            }
+            Ok(Err(fault)) => self.refuse(number, fault),
+            Err(AllocError) => self.lack(number),
         }
     }
 
-    fn refuse(&mut self, number: u64, fault: &str) -> Result<(), AllocError>
-        ensures output { OnOk result (string_bytes self.new.output ≡ string_bytes self.old.output ++ refused_line number fault.now) }
+    /// Refuses a block for a fault of its own.
+    fn refuse(&mut self, number: u64, fault: SpecFault) -> Result<(), AllocError>
+        ensures output { OnOk result (string_bytes self.new.output ≡ string_bytes self.old.output ++ refused_line number (fault_text fault)) }
         ensures refused { self.new.refused ≡ true }
         ensures lacking { self.new.lacking ≡ self.old.lacking }
         ensures service { self.new.service ≡ self.old.service }
     {
         self.refused = true;
         write_refused(&mut self.output, number, fault)
+    }
+
+    /// Refuses a block for want of memory.
+    fn lack(&mut self, number: u64) -> Result<(), AllocError>
+        ensures output { OnOk result (string_bytes self.new.output ≡ string_bytes self.old.output ++ refused_line number (decimal 8)) }
+        ensures refused { self.new.refused ≡ true }
+        ensures lacking { self.new.lacking ≡ true }
+        ensures service { self.new.service ≡ self.old.service }
+    {
+        self.refused = true;
+        self.lacking = true;
+        write_refused_code(&mut self.output, number, Refusal::OutOfMemory.code())
     }
 
     fn apply(&mut self, alloc: Global, command: Command) -> Result<(), AllocError>

@@ -1,53 +1,60 @@
 //! The lines of the output.
-ghost use Rattle.std.specs.Prelude.{◌≡◌, ◌++◌, IfOk, OnOk, string_bytes};
+ghost use Rattle.std.specs.Prelude.{◌≡◌, ◌++◌, OnOk, codes, decimal, string_bytes};
 ghost use Rattle.protocol_lang.specs.Faults.{code_of};
 ghost use Rattle.protocol_lang.specs.Grammar.{place_of};
-ghost use Rattle.bgsim_console.specs.Check.{fault_text, protocol_text, refused_line, verdict_line};
+ghost use Rattle.bgsim_console.specs.Check.{fault_text, numbers_behind, protocol_text, refused_line, verdict_line};
 
 use history_checker::Verdict;
 use protocol_lang::ParseFault;
 use room_spec::{Name, SpecFault};
-use std::alloc::{AllocError, Global};
+use std::alloc::AllocError;
 use std::fmt::Write;
 
-/// The code of a block's fault, and the numbers behind it.
-pub fn fault_text(alloc: Global, fault: SpecFault) -> Result<String, AllocError>
-    ensures { IfOk result (λ text. string_bytes text ≡ fault_text fault) }
+/// Writes the line of a block that was refused for this fault, whose first line has this number.
+pub fn write_refused(output: &mut String, line: u64, fault: SpecFault) -> Result<(), AllocError>
+    ensures { OnOk result (string_bytes output.new ≡ string_bytes output.old ++ refused_line line (fault_text fault)) }
 {
     let code = fault.code();
+    write!(output, "line {line} refused {code}")?;
+    write_numbers(output, fault)?;
+    output.push_str("\n")
+}
+
+/// Writes the line of a block that was refused for a fault that its code alone tells, whose first line
+/// has this number.
+pub fn write_refused_code(output: &mut String, line: u64, code: u16) -> Result<(), AllocError>
+    ensures { OnOk result (string_bytes output.new ≡ string_bytes output.old ++ refused_line line (decimal code)) }
+{
+    write!(output, "line {line} refused {code}\n")
+}
+
+/// Writes the numbers behind the code of a block's fault: its line, or what is wrong with the protocol.
+fn write_numbers(output: &mut String, fault: SpecFault) -> Result<(), AllocError>
+    ensures { OnOk result (string_bytes output.new ≡ string_bytes output.old ++ numbers_behind fault) }
+{
     match fault {
         SpecFault::BadLine(line) | SpecFault::CrashLine(line) | SpecFault::Repeated(line) => {
-            format!(in alloc; "{code} {line}")
+            write!(output, " {line}")
         }
-        SpecFault::BadProtocol(fault) => {
-            let text = protocol_text(alloc, fault)?;
-            format!(in alloc; "{code} {text}")
-        }
+        SpecFault::BadProtocol(fault) => write_protocol_fault(output, fault),
         SpecFault::Truncated
         | SpecFault::BadName
         | SpecFault::Inputs
         | SpecFault::Simulators
         | SpecFault::Rounds
         | SpecFault::Turns
-        | SpecFault::TooWide => format!(in alloc; "{code}"),
+        | SpecFault::TooWide => Ok(()),
     }
 }
 
-fn protocol_text(alloc: Global, fault: ParseFault) -> Result<String, AllocError>
-    ensures { IfOk result (λ text. string_bytes text ≡ protocol_text (code_of fault) (place_of fault)) }
+fn write_protocol_fault(output: &mut String, fault: ParseFault) -> Result<(), AllocError>
+    ensures { OnOk result (string_bytes output.new ≡ string_bytes output.old ++ (codes " " ++ protocol_text (code_of fault) (place_of fault))) }
 {
     let code = fault.code();
-    let Some(place) = fault.place() else {
-        return format!(in alloc; "{code}");
-    };
-    format!(in alloc; "{code} {place}")
-}
-
-/// Writes the line of a refused block, whose first line has this number.
-pub fn write_refused(output: &mut String, line: u64, fault: &str) -> Result<(), AllocError>
-    ensures { OnOk result (string_bytes output.new ≡ string_bytes output.old ++ refused_line line fault.now) }
-{
-    write!(output, "line {line} refused {fault}\n")
+    match fault.place() {
+        Some(place) => write!(output, " {code} {place}"),
+        None => write!(output, " {code}"),
+    }
 }
 
 /// Writes the line of a room's verdict.

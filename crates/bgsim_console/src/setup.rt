@@ -7,7 +7,7 @@ ghost use Rattle.bgsim_console.specs.Check.{no_blocks, refuse, open_room, after_
 
 use crate::fault::IoFault;
 use crate::lines::count_lines;
-use crate::report::{fault_text, write_refused};
+use crate::report::{write_refused, write_refused_code};
 use crate::script::block_extent;
 use history_checker::{AddFault, Rooms};
 use protocol_lang::ParseFault;
@@ -74,7 +74,7 @@ impl Setup {
         let lines = count_lines(block);
         let setup = match read_room_with(alloc, block, protocols)? {
             Ok((spec, _)) => self.open_room(alloc, spec)?,
-            Err(fault) => self.refuse_fault(alloc, fault)?,
+            Err(fault) => self.refuse_fault(fault)?,
         };
         Ok(setup.pass_lines(lines))
     }
@@ -96,7 +96,7 @@ impl Setup {
     {
         let setup = match read_lines(alloc, &block[..end.body], protocols)? {
             Ok(spec) => self.open_room(alloc, spec)?,
-            Err(fault) => self.refuse_fault(alloc, fault)?,
+            Err(fault) => self.refuse_fault(fault)?,
         };
         Ok(setup.pass_lines(end.lines as u64))
     }
@@ -108,33 +108,25 @@ impl Setup {
         match self.rooms.add(alloc, spec) {
             Ok(()) => Ok(self),
             Err(AddFault::OutOfMemory) => Err(AllocError),
-            Err(AddFault::NameTaken) => self.refuse_code(alloc, AddFault::NameTaken.code()),
+            Err(AddFault::NameTaken) => self.refuse_code(AddFault::NameTaken.code()),
         }
     }
 
     /// Refuses a block for a fault of its own.
-    fn refuse_fault(self, alloc: Global, fault: SpecFault) -> Result<Setup, AllocError>
+    fn refuse_fault(mut self, fault: SpecFault) -> Result<Setup, AllocError>
         ensures refused { IfOk result (λ setup. setup ≡ refuse self (fault_text fault)) }
         ensures line { IfOk result (λ setup. setup.line ≡ self.line) }
     {
-        let text = fault_text(alloc, fault)?;
-        self.refuse(text.as_str())
+        write_refused(&mut self.refused, self.line, fault)?;
+        Ok(self)
     }
 
     /// Refuses a block for a fault that its code alone tells.
-    fn refuse_code(self, alloc: Global, code: u16) -> Result<Setup, AllocError>
+    fn refuse_code(mut self, code: u16) -> Result<Setup, AllocError>
         ensures refused { IfOk result (λ setup. setup ≡ refuse self (decimal code)) }
         ensures line { IfOk result (λ setup. setup.line ≡ self.line) }
     {
-        let text = format!(in alloc; "{code}")?;
-        self.refuse(text.as_str())
-    }
-
-    fn refuse(mut self, fault: &str) -> Result<Setup, AllocError>
-        ensures refused { IfOk result (λ setup. setup ≡ refuse self fault.now) }
-        ensures line { IfOk result (λ setup. setup.line ≡ self.line) }
-    {
-        write_refused(&mut self.refused, self.line, fault)?;
+        write_refused_code(&mut self.refused, self.line, code)?;
         Ok(self)
     }
 

@@ -1,11 +1,12 @@
-use Rattle.std.proofs.Common.{◌∙◌, ◌++◌, refl, sym, ap, string_bytes}
+use Rattle.std.proofs.Common.{◌∙◌, ◌++◌, refl, sym, ap, string_bytes, arith}
+use Rattle.std.proofs.lemmas.Fmt.{decimal_digit}
 use Rattle.bgsim_console.specs.Check.{refused_line}
 use Rattle.bgsim_console.specs.Play.{Faulty, Unread}
 use Rattle.bgsim_console.proofs.Playing.{or_no, or_yes, refused_one, where_ok}
 use Rattle.bgsim_console.proofs.play.Player.open.Goals as goal
 
-pub returns-in_ok-text-in-Ok-Err : goal.returns-in_ok-text-in-Ok-Err
-returns-in_ok-text-in-Ok-Err c =
+pub returns-in-Ok-Err : goal.returns-in-Ok-Err
+returns-in-Ok-Err c =
     let old = c.args.self.now in
     let done = Faulty c.args.number c.in-Ok-Err.fault in
     where_ok c.refuse.result _ _
@@ -13,8 +14,7 @@ returns-in_ok-text-in-Ok-Err c =
       done,
       (refl, sym (rw c.in-Ok-Err.field-0-is at c.in-Ok-Err.ensures)),
       refused_one done all old.service c.refuse.new.self.service (string_bytes old.output) (string_bytes c.refuse.new.self.output) old.refused c.refuse.new.self.refused old.lacking
-          c.refuse.new.self.lacking refl refl refl c.refuse.ensures.service (text ∙ ap (λ t. string_bytes old.output ++ refused_line c.args.number t) (c.as_str.ensures.value ∙ c.in_ok-text-in-Ok-Err.ensures)) c.refuse.ensures.refused
-          (c.refuse.ensures.lacking ∙ or_no old.lacking) played,
+          c.refuse.new.self.lacking refl refl refl c.refuse.ensures.service text c.refuse.ensures.refused (c.refuse.ensures.lacking ∙ or_no old.lacking) played,
     ))
     c.refuse.ensures.output
 
@@ -22,11 +22,11 @@ pub returns-in-Err : goal.returns-in-Err
 returns-in-Err c =
     let old = c.args.self.now in
     let done = Unread c.args.number in
-    where_ok c.refuse-in-Err.result _ _
+    where_ok c.lack.result _ _
     (λ text. λ all played. (
       done,
       refl,
-      refused_one done all old.service c.refuse-in-Err.new.self.service (string_bytes old.output) (string_bytes c.refuse-in-Err.new.self.output) old.refused c.refuse-in-Err.new.self.refused old.lacking
-          c.refuse-in-Err.new.self.lacking refl refl refl c.refuse-in-Err.ensures.service text c.refuse-in-Err.ensures.refused (c.refuse-in-Err.ensures.lacking ∙ or_yes old.lacking) played,
+      refused_one done all old.service c.lack.new.self.service (string_bytes old.output) (string_bytes c.lack.new.self.output) old.refused c.lack.new.self.refused old.lacking
+          c.lack.new.self.lacking refl refl refl c.lack.ensures.service (text ∙ ap (λ t. string_bytes old.output ++ refused_line c.args.number t) (decimal_digit 8 (omega arith))) c.lack.ensures.refused (c.lack.ensures.lacking ∙ or_yes old.lacking) played,
     ))
-    c.refuse-in-Err.ensures.output
+    c.lack.ensures.output
