@@ -44,3 +44,4 @@ pub mod Agreed
 pub mod Promises
 pub mod LowValues
 pub mod Lasting
+pub mod Repeating

@@ -1,5 +1,5 @@
 -- A room with its quiet counts, and what one call makes of it and answers.
-use Rattle.std.specs.Prelude.{ℕ, ◌*◌, ◌<◌, Bool, true, false, not, List, [], ◌∷◌, map, replicate, slice_index_or, slice_set, nat_le, if◌then◌else◌}
+use Rattle.std.specs.Prelude.{ℕ, zero, suc, ◌*◌, ◌<◌, Bool, true, false, not, List, [], ◌∷◌, map, replicate, slice_index_or, slice_set, nat_le, if◌then◌else◌}
 use Rattle.std.specs.List.{range_with_len}
 use Rattle.room_spec.specs.Rooms.{RoomSpec}
 use Rattle.room_spec.specs.Sizes.{sizes_in}
@@ -98,6 +98,11 @@ step_reply room i = if nat_le room.spec.simulators i then NoSimulator else if ha
 
 abbrev pub room_after_step : RoomState → ℕ → RoomState
 room_after_step room i = if nat_le room.spec.simulators i then room else if has_crashed room i then room else room_when (ready_at room i) room i
+
+-- after so many steps of one simulator
+abbrev pub room_after_steps : RoomState → ℕ → ℕ → RoomState
+room_after_steps room i zero = room
+room_after_steps room i (suc count) = room_after_steps (room_after_step room i) i count
 
 -- ---- a crash
 

@@ -1,6 +1,6 @@
 -- The fields of a room, as maps named by numbers, with no word, bit or index in them; the line that a simulator takes on
 -- them; and their replay over a list of calls, with its replies.
-use Rattle.std.specs.Prelude.{◌≡◌, ◌⊎◌, ℕ, ◌+◌, ◌<◌, Bool, true, false, not, List, [], ◌∷◌, length, map, Option, Some, None, nat_le, ◌==◌, if◌then◌else◌, ⊤}
+use Rattle.std.specs.Prelude.{◌≡◌, ◌⊎◌, ℕ, zero, suc, ◌+◌, ◌<◌, Bool, true, false, not, List, [], ◌∷◌, length, map, Option, Some, None, nat_le, ◌==◌, if◌then◌else◌, ⊤}
 use Rattle.std.specs.List.{range_with_len}
 use Rattle.room_spec.specs.Rooms.{RoomSpec}
 use Rattle.safe_agreement.specs.Levels.{has_level, left_level, resolved_of}
@@ -174,6 +174,10 @@ step_reply_in spec fields i =
 abbrev pub fields_after_step : RoomSpec → Fields → ℕ → Fields
 fields_after_step spec fields i =
     if nat_le spec.simulators i then fields else if fields.crashed i then fields else fields_when (ready_in spec fields i) spec fields i
+
+abbrev pub fields_after_steps : RoomSpec → Fields → ℕ → ℕ → Fields
+fields_after_steps spec fields i zero = fields
+fields_after_steps spec fields i (suc count) = fields_after_steps spec (fields_after_step spec fields i) i count
 
 abbrev pub crash_reply_in : RoomSpec → Fields → ℕ → CrashReply
 crash_reply_in spec fields i =

@@ -1,5 +1,5 @@
 //! A room.
-ghost use Rattle.std.specs.Prelude.{ℕ, ◌≡◌, ◌<◌, ◌≤◌, false, length, map, replicate, slice_index, IfErr, IfOk};
+ghost use Rattle.std.specs.Prelude.{ℕ, ◌≡◌, ◌≢◌, ◌<◌, ◌≤◌, false, length, map, replicate, slice_index, IfErr, IfOk};
 ghost use Rattle.std.specs.List.{range_with_len};
 ghost use Rattle.std.specs.Allocator.{alloc_error};
 ghost use Rattle.room_spec.specs.Rooms.{IsWithinLimits, processes};
@@ -11,11 +11,11 @@ ghost use Rattle.simulator.specs.Quiet.{HasNoWrite};
 ghost use Rattle.simulator.specs.Ranges.{IsMind};
 ghost use Rattle.simulator.specs.Sweeps.{opening_sweep};
 ghost use Rattle.room_core.specs.declared.reply.StepReply.TheVariants as replies;
-ghost use Rattle.room_core.specs.Rooms.{HasLine, IsAlive, IsOneInterleaving, IsRoom};
-ghost use Rattle.room_core.specs.Fields.{Fields, crash_reply_in, fields_after_crash, fields_after_settle, fields_after_step, opening_fields, step_reply_in};
+ghost use Rattle.room_core.specs.Rooms.{HasLine, IsAlive, IsOneInterleaving, IsRoom, IsShaped};
+ghost use Rattle.room_core.specs.Fields.{Fields, crash_reply_in, fields_after_crash, fields_after_settle, fields_after_step, fields_after_steps, opening_fields, step_reply_in};
 ghost use Rattle.room_core.specs.Agreements.{AgreementsStay};
 ghost use Rattle.room_core.specs.Reading.{AreFieldsOf, Reads};
-ghost use Rattle.room_core.specs.Calls.{CountsQuietTurns, crash_reply, configuration_of, has_crashed, marked, moved, opening_state, ready_at, room_after_crash, room_after_settle, room_after_step, room_kind, step_reply, sweep_after, sweep_at, with_sweep, woken};
+ghost use Rattle.room_core.specs.Calls.{CountsQuietTurns, crash_reply, configuration_of, has_crashed, marked, moved, opening_state, ready_at, room_after_crash, room_after_settle, room_after_step, room_after_steps, room_kind, step_reply, sweep_after, sweep_at, with_sweep, woken};
 ghost use Rattle.room_core.specs.Settled.{IsSettledFor};
 ghost use Rattle.room_core.specs.Settling.{each_in_order, ran_alone, turn_ended};
 
@@ -170,6 +170,27 @@ impl RoomCore {
         }
     }
 
+    /// Lets simulator `i` take atomic steps, up to `most` of them, as long as [`step`](RoomCore::step) would
+    /// answer `Stepped`. Answers how many it took. Whatever `step` would answer next is left to be asked for: at
+    /// `Idle` its quiet turns aren't counted anew.
+    pub fn steps(&mut self, i: usize, most: u64) -> u64
+        ensures room { self.new ≡ room_after_steps self.old i result }
+        ensures taken { (count : ℕ) → count < result → step_reply (room_after_steps self.old i count) i ≡ replies.Stepped }
+        ensures most { result ≤ most }
+        // It took all that it could.
+        ensures stopped { result < most → step_reply self.new i ≢ replies.Stepped }
+        // In its fields it is so many calls of the replay, each of which is answered so.
+        ensures fields { (fields : Fields) → AreFieldsOf self.old fields → AreFieldsOf self.new (fields_after_steps self.old.spec fields i result) }
+        ensures replies { (fields : Fields) (count : ℕ) → AreFieldsOf self.old fields → count < result → step_reply_in self.old.spec (fields_after_steps self.old.spec fields i count) i ≡ replies.Stepped }
+        // What was agreed on stays.
+        ensures agreement { (fields : Fields) → AreFieldsOf self.old fields → AgreementsStay self.old.spec fields (fields_after_steps self.old.spec fields i result) }
+    {
+        if i >= self.spec.m() || self.is_crashed(i) {
+            return 0;
+        }
+        self.run(i, most)
+    }
+
     /// Crashes simulator `i`: from now on it takes no step. No word and no mind changes.
     pub fn crash(&mut self, i: usize) -> CrashReply
         ensures reply { result ≡ crash_reply self.old i }
@@ -260,6 +281,24 @@ impl RoomCore {
         ensures { self.new ≡ moved self.old i }
     {
         advance(&mut self.sweeps[i], &self.spec, &mut self.words);
+    }
+
+    /// Lets simulator `i`, which hasn't crashed, take steps until it has taken `most` or isn't ready.
+    fn run(&mut self, i: usize, most: u64) -> u64
+        requires shape { IsShaped (configuration_of self.old) }
+        requires alive { IsAlive (configuration_of self.old) i }
+        ensures room { self.new ≡ room_after_steps self.old i result }
+        ensures taken { (count : ℕ) → count < result → step_reply (room_after_steps self.old i count) i ≡ replies.Stepped }
+        ensures most { result ≤ most }
+        ensures stopped { result < most → step_reply self.new i ≢ replies.Stepped }
+    {
+        for taken in 0..most {
+            if self.ready(i) != Ready::Step {
+                return taken;
+            }
+            self.advance(i);
+        }
+        most
     }
 
     fn mark(&mut self, i: usize)

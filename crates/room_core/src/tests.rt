@@ -152,6 +152,22 @@ fn nobody_left(rt: HostRuntime) -> Result<(), Fail> {
 }
 
 #[test]
+fn many_steps_at_once(rt: HostRuntime) -> Result<(), Fail> {
+    let mut room = room(&rt, PAIR)?;
+    assert_eq!(rt; room.steps(0, 0), 0);
+    assert_eq!(rt; room.steps(0, 5), 5);
+    assert_eq!(rt; room.steps(1, 100), 20);
+    // It is idle, and stays so until it is told.
+    assert_eq!(rt; room.steps(1, 100), 0);
+    assert_eq!(rt; room.step(1), StepReply::Idle);
+    assert_eq!(rt; room.steps(1, 100), 1);
+    assert_eq!(rt; room.crash(0), CrashReply::Crashed);
+    assert_eq!(rt; room.steps(0, 100), 0);
+    assert_eq!(rt; room.steps(2, 100), 0);
+    Ok(())
+}
+
+#[test]
 fn settled_after_an_open_turn(rt: HostRuntime) -> Result<(), Fail> {
     let mut room = room(&rt, PAIR)?;
     assert_eq!(rt; run(&mut room, 1, 5), (5, StepReply::Stepped));

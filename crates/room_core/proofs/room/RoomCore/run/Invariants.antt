@@ -1,0 +1,5 @@
+use Rattle.room_core.proofs.Repeating.{HasRun}
+use Rattle.room_core.proofs.room.RoomCore.run.Given as goal
+
+abbrev pub invariant-loop-taken : goal.invariant-loop-taken
+invariant-loop-taken l = HasRun l.initial.self l.i l.taken l.self
