@@ -86,11 +86,9 @@ fn steps(room: &mut RoomCore, i: usize, count: u16) -> (u16, StepReply)
     ensures fields { (fields : Fields) → AreFieldsOf room.old fields → IsSteppedTo (stepping room.old.spec fields i count) result room.new }
     ensures spec { room.new.spec ≡ room.old.spec }
 {
-    for taken in 0..count {
-        match room.step(i) {
-            StepReply::Stepped => {}
-            last => return (taken, last),
-        }
+    let taken = room.steps(i, u64::from(count)) as u16;
+    if taken == count {
+        return (count, StepReply::Stepped);
     }
-    (count, StepReply::Stepped)
+    (taken, room.step(i))
 }

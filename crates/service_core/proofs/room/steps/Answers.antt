@@ -1,14 +1,15 @@
-use Rattle.std.proofs.Common.{◌≡◌, ◌≢◌, ◌∙◌, ℕ, false, refl, sym, ap, subst, arith}
+use Rattle.std.proofs.Common.{◌≡◌, ◌≢◌, ◌∙◌, ℕ, ◌<◌, ◌≤◌, false, refl, sym, ap, subst, arith}
 use Rattle.room_spec.specs.Rooms.{RoomSpec}
 use Rattle.room_core.specs.declared.reply.StepReply.{StepReply}
 use Rattle.room_core.specs.declared.reply.StepReply.TheVariants as steps
 use Rattle.room_core.specs.Calls.{RoomState, Step}
-use Rattle.room_core.specs.Fields.{Fields, step_reply_in, fields_after_step}
+use Rattle.room_core.specs.Fields.{Fields, step_reply_in, fields_after_step, fields_after_steps}
 use Rattle.room_core.specs.Reading.{AreFieldsOf}
 use Rattle.room_core.proofs.FieldCalls.{same_spec}
+use Rattle.room_core.proofs.Repeating.{same_spec_steps}
 use Rattle.service_core.specs.Replies.{is_stepped}
 use Rattle.service_core.specs.Rooms.{IsSteppedTo}
-use Rattle.service_core.proofs.Stepping.{HasTaken, begins, goes_on, stops, ends}
+use Rattle.service_core.proofs.Stepping.{HasTaken, all_taken, stops, ends}
 use Rattle.service_core.proofs.room.steps.Goals as goal
 
 not_stepped : (reply : StepReply) → reply ≢ steps.Stepped → is_stepped reply ≡ false
@@ -24,40 +25,39 @@ stepped_as : (spec : RoomSpec) (room after : RoomState) (reply : StepReply) (i :
     → (fields : Fields) → AreFieldsOf room fields → (reply ≡ step_reply_in spec fields i) × AreFieldsOf after (fields_after_step spec fields i)
 stepped_as spec room after reply i same says fields are = subst (λ (s : RoomSpec). (reply ≡ step_reply_in s fields i) × AreFieldsOf after (fields_after_step s fields i)) same (says fields are)
 
-pub loop-taken-init : goal.loop-taken-init
-loop-taken-init c = record { spec = refl; so_far = λ fields are. begins c.args.room.now.spec fields c.args.i c.args.count c.args.room.now are }
+has_taken : (spec : RoomSpec) (fields : Fields) (i count taken : ℕ) (room : RoomState) → taken ≤ count → ((k : ℕ) → k < taken → step_reply_in spec (fields_after_steps spec fields i k) i ≡ steps.Stepped)
+    → AreFieldsOf room (fields_after_steps spec fields i taken) → HasTaken spec fields i count taken room
+has_taken spec fields i count taken room within each are = record { now = fields_after_steps spec fields i taken; are = are; is = all_taken spec fields i count taken within each }
 
-pub loop-taken-preserved : goal.loop-taken-preserved
-loop-taken-preserved c =
+pub returns-then-taken-count-clause-fields : goal.returns-then-taken-count-clause-fields
+returns-then-taken-count-clause-fields c = λ fields are.
     let spec = c.args.room.now.spec in
-    let room = c.loop-taken.room in
-    let same = c.loop-taken.invariant.spec in
-    record {
-      spec = ap (λ (r : RoomState). r.spec) c.step.ensures.room ∙ same_spec room (Step c.args.i) ∙ same;
-      so_far = λ fields are.
-          let so_far = c.loop-taken.invariant.so_far fields are in
-          let says = stepped_as spec room c.step.new.self c.step.result c.args.i same c.step.ensures.fields so_far.now so_far.are in
-          goes_on spec fields c.args.i c.args.count c.loop-taken.taken room c.step.new.self (omega arith) so_far (sym c.in-Stepped.is ∙ says.0) says.1;
-    }
+    let room = c.steps-taken.new.self in
+    let all : c.steps-taken.result ≡ c.args.count = omega arith in
+    let within : c.steps-taken.result ≤ c.args.count = omega arith in
+    let first = has_taken spec fields c.args.i c.args.count c.steps-taken.result room within (λ k less. c.steps-taken.ensures.replies fields k are less) (c.steps-taken.ensures.fields fields are) in
+    let so_far = subst (λ (n : ℕ). HasTaken spec fields c.args.i c.args.count n room) all first in
+    let is = ends spec fields c.args.i c.args.count room so_far in
+    subst (λ stepping. IsSteppedTo stepping (c.args.count, steps.Stepped) room) (sym is) (record { taken = refl; last = refl; fields = so_far.are })
 
-pub returns-in_default : goal.returns-in_default
-returns-in_default c =
-    let spec = c.args.room.now.spec in
-    let room = c.loop-taken.room in
-    let same = c.loop-taken.invariant.spec in
-    record {
-      fields = λ fields are.
-          let so_far = c.loop-taken.invariant.so_far fields are in
-          let says = stepped_as spec room c.step.new.self c.step.result c.args.i same c.step.ensures.fields so_far.now so_far.are in
-          let is = stops spec fields c.args.i c.args.count c.loop-taken.taken room c.step.result (omega arith) so_far says.0 (not_stepped c.step.result c.in_default.not-Stepped) in
-          subst (λ stepping. IsSteppedTo stepping (c.loop-taken.taken, c.step.result) c.step.new.self) (sym is) (record { taken = refl; last = refl; fields = says.1 });
-      spec = ap (λ (r : RoomState). r.spec) c.step.ensures.room ∙ same_spec room (Step c.args.i) ∙ same;
-    }
+pub returns-then-taken-count-clause-spec : goal.returns-then-taken-count-clause-spec
+returns-then-taken-count-clause-spec c = ap (λ (r : RoomState). r.spec) c.steps-taken.ensures.room ∙ same_spec_steps c.args.room.now c.args.i c.steps-taken.result
 
 pub returns-clause-fields : goal.returns-clause-fields
 returns-clause-fields c = λ fields are.
-    let room = c.loop-taken.room in
-    let all : c.loop-taken.taken ≡ c.args.count = omega arith in
-    let so_far = subst (λ (n : ℕ). HasTaken c.args.room.now.spec fields c.args.i c.args.count n room) all (c.loop-taken.invariant.so_far fields are) in
-    let is = ends c.args.room.now.spec fields c.args.i c.args.count room so_far in
-    subst (λ stepping. IsSteppedTo stepping (c.args.count, steps.Stepped) room) (sym is) (record { taken = refl; last = refl; fields = so_far.are })
+    let spec = c.args.room.now.spec in
+    let room = c.steps-taken.new.self in
+    let taken = c.steps-taken.result in
+    let same = ap (λ (r : RoomState). r.spec) c.steps-taken.ensures.room ∙ same_spec_steps c.args.room.now c.args.i taken in
+    let less : taken < c.args.count = omega arith in
+    let within : taken ≤ c.args.count = omega arith in
+    let so_far = has_taken spec fields c.args.i c.args.count taken room within (λ k fewer. c.steps-taken.ensures.replies fields k are fewer) (c.steps-taken.ensures.fields fields are) in
+    let says = stepped_as spec room c.step.new.self c.step.result c.args.i same c.step.ensures.fields so_far.now so_far.are in
+    let other = not_stepped c.step.result (λ is. c.steps-taken.ensures.stopped (omega arith) (sym c.step.ensures.reply ∙ is)) in
+    let is = stops spec fields c.args.i c.args.count taken room c.step.result less so_far says.0 other in
+    subst (λ stepping. IsSteppedTo stepping (taken, c.step.result) c.step.new.self) (sym is) (record { taken = refl; last = refl; fields = says.1 })
+
+pub returns-clause-spec : goal.returns-clause-spec
+returns-clause-spec c =
+    ap (λ (r : RoomState). r.spec) c.step.ensures.room ∙ same_spec c.steps-taken.new.self (Step c.args.i)
+    ∙ ap (λ (r : RoomState). r.spec) c.steps-taken.ensures.room ∙ same_spec_steps c.args.room.now c.args.i c.steps-taken.result
