@@ -16,9 +16,11 @@ ghost use Rattle.sim_memory.specs.Steps.{IsHolder, holder_of, merged_of, place_o
 pub mod laws;
 #[cfg(test)]
 mod tests;
+mod writes;
 
 use level_cells::field;
 use room_spec::Shape;
+pub use writes::{LastWrites, last_writes};
 
 /// The lowest bit of the field in which simulator `i` has its step number of process `p`. The field
 /// has `shape.bits` bits, and lies within a word.

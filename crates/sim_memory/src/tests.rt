@@ -61,6 +61,27 @@ fn any_word(rt: HostRuntime) {
 }
 
 #[test]
+fn all_processes(rt: HostRuntime) {
+    let shape = Shape {
+        n: 2,
+        m: 2,
+        bits: 2,
+        rounds: 2,
+    };
+    // Process 0 has 1 and 3, which reads as 2, and process 1 has 2 and 2.
+    let last = last_writes(&shape, 0b10_11_10_01);
+    assert_eq!(rt; (last.holders[0], last.rounds[0]), (1, 2));
+    assert_eq!(rt; (last.holders[1], last.rounds[1]), (0, 2));
+    assert_eq!(rt; (last.holders[2], last.rounds[2]), (0, 0));
+    // Simulator 1 has no step, and then simulator 0 has none.
+    let last = last_writes(&shape, 0b00_00_10_00);
+    assert_eq!(rt; (last.holders[0], last.rounds[0]), (0, 0));
+    assert_eq!(rt; (last.holders[1], last.rounds[1]), (0, 2));
+    let last = last_writes(&shape, 0b00_01_00_00);
+    assert_eq!(rt; (last.holders[0], last.rounds[0]), (1, 1));
+}
+
+#[test]
 fn many_simulators(rt: HostRuntime) {
     let shape = Shape {
         n: 2,

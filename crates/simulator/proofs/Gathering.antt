@@ -2,10 +2,6 @@
 use Rattle.std.proofs.Common.{◌≡◌, ◌≢◌, ℕ, zero, suc, ◌+◌, ◌-◌, ◌<◌, ◌≤◌, Bool, true, false, cond, eqb, List, [], ◌∷◌, ◌++◌, length, Option, None, refl, sym, ap, ◌∙◌, arith}
 use Rattle.std.proofs.lemmas.Bool.{eqb-false}
 use Rattle.std.proofs.lemmas.List.{length-append}
-use Rattle.room_spec.specs.Rooms.{RoomSpec, processes}
-use Rattle.room_spec.specs.Sizes.{Sizes, sizes_in}
-use Rattle.sim_memory.specs.Steps.{merged_of, step_in}
-use Rattle.simulator.specs.Moves.{entry_in}
 use Rattle.simulator.specs.Turns.{padded}
 
 -- Entries are only added, `more` at most; and where fewer are added, the row shows a write of the next process.
@@ -36,6 +32,7 @@ padded_on row n entries after less none is =
     let left : n - length entries ≡ suc (n - length after) = omega arith in
     (omega arith, ap (padded row (n - length after)) is ∙ padded_more row (n - length after) entries none ∙ sym (ap (λ (k : ℕ). padded row k entries) left))
 
--- by the numbers of a room
-pub padded_in : (spec : RoomSpec) (sizes : Sizes) (word : ℕ) (entries : List (Option ℕ)) → sizes ≡ sizes_in spec → padded (merged_of sizes.m (step_in sizes word)) (sizes.n - length entries) entries ≡ padded (entry_in spec word) (processes spec - length entries) entries
-padded_in spec sizes word entries same = ap (λ (s : Sizes). padded (merged_of s.m (step_in s word)) (s.n - length entries) entries) same
+-- nothing is added where the row shows a write of the next process
+pub padded_ends : (row : ℕ → ℕ) (more : ℕ) (entries : List (Option ℕ)) → 0 < more → eqb (row (length entries)) 0 ≡ false → entries ≡ padded row more entries
+padded_ends row zero entries some shown = absurd (omega arith)
+padded_ends row (suc more) entries some shown = sym (ap (λ b. cond b (padded row more (entries ++ None ∷ [])) entries) shown)

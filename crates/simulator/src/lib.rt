@@ -16,6 +16,7 @@ mod mind;
 mod next;
 mod operating;
 mod operation;
+mod shown;
 mod sweep;
 mod taking;
 #[cfg(test)]

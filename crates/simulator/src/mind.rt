@@ -12,6 +12,7 @@ ghost use Rattle.simulator.specs.Sweeps.{is_resting};
 use crate::goal::{Goal, first_goals, more_unfinished, unfinished_in};
 use crate::line::Line;
 use crate::operation::Move;
+use crate::shown::Shown;
 use crate::turn::Turn;
 use crate::words::{chosen_in, saw_two};
 use arrayvec::ArrayVec;
@@ -33,6 +34,7 @@ pub struct Mind {
     pub(crate) line: Line,
     pub(crate) snapshot: u64,
     pub(crate) entries: View,
+    pub(crate) shown: Shown,
 }
 
 impl Model for Mind {
@@ -62,6 +64,7 @@ impl Mind {
             line: Line::Rest,
             snapshot: 0,
             entries: View::new(),
+            shown: Shown::nothing(),
         }
     }
 
@@ -104,7 +107,7 @@ impl Mind {
             Line::Leave { .. } => self.go_on(Line::Ask),
             Line::Ask => self.ask(chosen_in(spec, answer)),
             Line::GetView { .. } => self.get_view(spec, answer),
-            Line::Values => self.get_value(spec, &spec.shape(), answer),
+            Line::Values => self.get_value(spec, answer),
             Line::Out { .. } => self.end(Turn::Useful, Goal::Done),
         }
     }
@@ -184,6 +187,7 @@ impl Default for Mind {
             line: Line::Rest,
             snapshot: 0,
             entries: View::new(),
+            shown: Shown::nothing(),
         }
     }
 }

@@ -13,7 +13,7 @@ use crate::goal::{Goal, next_process};
 use crate::line::Line;
 use crate::mind::Mind;
 use crate::operation::Move;
-use crate::words::{index_in, last_write};
+use crate::words::index_in;
 use level_cells::one_at;
 use room_spec::Spec;
 use sim_memory::place;
@@ -122,7 +122,7 @@ impl Mind {
         ensures { result ≡ moves.Load (value_index spec.now self.now (length self.now.entries)) }
     {
         let process = self.entries.len();
-        let (simulator, round) = last_write(spec, self.snapshot, process);
+        let (simulator, round) = self.shown.last_write(spec, self.snapshot, process);
         let value = Place::Value {
             simulator,
             process,

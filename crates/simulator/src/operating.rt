@@ -63,9 +63,8 @@ impl Mind {
                 self.get_view(spec, snapshot)
             }
             Line::Values => {
-                let shape = spec.shape();
                 let value = self.operate(spec, words, line);
-                self.get_value(spec, &shape, value)
+                self.get_value(spec, value)
             }
             Line::Out { .. } => {
                 self.operate(spec, words, line);

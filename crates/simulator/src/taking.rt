@@ -2,8 +2,6 @@
 ghost use Rattle.std.specs.Prelude.{◌≡◌, ◌+◌, ◌-◌, ◌<◌, ◌≤◌, [], ◌∷◌, ◌++◌, Some, length, min};
 ghost use Rattle.protocol_lang.specs.Numbers.{greatest};
 ghost use Rattle.room_spec.specs.Rooms.{processes};
-ghost use Rattle.room_spec.specs.Sizes.{sizes_in, sizes_of};
-ghost use Rattle.sim_memory.specs.Steps.{merged_of, step_in};
 ghost use Rattle.simulator.specs.Minds.{goal_at, next_process};
 ghost use Rattle.simulator.specs.Moves.{chosen_in, entry_in};
 ghost use Rattle.simulator.specs.Turns.{acted, after_write, asked, counted, ended, gathered, gathered_all, goes_on, got_value, got_view, opened, padded, snapped};
@@ -11,11 +9,11 @@ ghost use Rattle.simulator.specs.Turns.{acted, after_write, asked, counted, ende
 use crate::goal::{Goal, next_process};
 use crate::line::Line;
 use crate::mind::Mind;
+use crate::shown::Shown;
 use crate::turn::Turn;
 use crate::words::chosen_in;
 use protocol_lang::{Action, View, next};
-use room_spec::{Shape, Spec};
-use sim_memory::shows_none;
+use room_spec::Spec;
 
 impl Mind {
     pub(crate) fn count_step(&mut self)
@@ -100,12 +98,12 @@ impl Mind {
         ensures turn { result ≡ (got_view (entry_in spec.now snapshot) spec.now snapshot self.old).turn }
     {
         self.snapshot = snapshot;
+        self.shown = Shown::in_room(spec, snapshot);
         self.entries.clear();
-        self.gather(spec, &spec.shape())
+        self.gather(spec)
     }
 
-    pub(crate) fn get_value(&mut self, spec: &Spec, shape: &Shape, value: u64) -> Turn
-        requires sizes { sizes_of shape.now ≡ sizes_in spec.now }
+    pub(crate) fn get_value(&mut self, spec: &Spec, value: u64) -> Turn
         requires sweep { self.old.sweep < length self.old.goals }
         requires goals { length self.old.goals ≡ processes spec.now }
         requires entries { length self.old.entries < processes spec.now }
@@ -115,19 +113,18 @@ impl Mind {
     {
         let value = value.min(u64::from(u32::MAX)) as u32;
         self.entries.push(Some(value));
-        self.gather(spec, shape)
+        self.gather(spec)
     }
 
     /// Goes on to the next value that the snapshot shows, or after the last to what the process does.
-    fn gather(&mut self, spec: &Spec, shape: &Shape) -> Turn
-        requires sizes { sizes_of shape.now ≡ sizes_in spec.now }
+    fn gather(&mut self, spec: &Spec) -> Turn
         requires sweep { self.old.sweep < length self.old.goals }
         requires goals { length self.old.goals ≡ processes spec.now }
         requires entries { length self.old.entries ≤ processes spec.now }
         ensures mind { self.new ≡ (gathered (entry_in spec.now self.old.snapshot) spec.now self.old.entries self.old).mind }
         ensures turn { result ≡ (gathered (entry_in spec.now self.old.snapshot) spec.now self.old.entries self.old).turn }
     {
-        pad(&mut self.entries, shape, self.snapshot);
+        pad(&mut self.entries, &self.shown, spec, self.snapshot);
         if self.entries.len() < spec.n() {
             return self.go_on(Line::Values);
         }
@@ -184,11 +181,11 @@ fn after_write(spec: &Spec, round: u8, value: u32) -> Goal
 }
 
 /// Adds nothing for each next process of which the memory word shows no write.
-fn pad(entries: &mut View, shape: &Shape, word: u64)
-    requires { length entries.old.items ≤ shape.now.n }
-    ensures { entries.new.items ≡ padded (merged_of shape.now.m (step_in (sizes_of shape.now) word)) (shape.now.n - length entries.old.items) entries.old.items }
+fn pad(entries: &mut View, shown: &Shown, spec: &Spec, word: u64)
+    requires { length entries.old.items ≤ processes spec.now }
+    ensures { entries.new.items ≡ padded (entry_in spec.now word) (processes spec.now - length entries.old.items) entries.old.items }
 {
-    while entries.len() < shape.n && shows_none(shape, word, entries.len()) {
+    while entries.len() < spec.n() && shown.shows_none(spec, word, entries.len()) {
         entries.push(None);
     }
 }

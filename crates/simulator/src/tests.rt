@@ -3,6 +3,7 @@ ghost use Rattle.simulator.specs.Moves.{IsOperation};
 ghost use Rattle.simulator.specs.Ranges.{IsMind};
 
 use super::*;
+use crate::shown::Shown;
 use room_spec::{Spec, read_block};
 use std::alloc::Global;
 use std::process::Abort;
@@ -137,6 +138,29 @@ fn withdraws_beside_a_two(rt: HostRuntime) -> Result<(), Fail> {
         (mind.steps_taken(), mind.turns_taken(), mind.turn_steps()),
         (13, 2, 1)
     );
+    Ok(())
+}
+
+#[test]
+fn shown_of_another_word_or_room(rt: HostRuntime) -> Result<(), Fail> {
+    let spec = room_of(rt.alloc(), PAIR)?;
+    assert!(rt; spec.n() == 2);
+    let shown = Shown::in_room(&spec, 9);
+    assert_eq!(rt;
+        (shown.last_write(&spec, 9, 0), shown.last_write(&spec, 9, 1)),
+        ((0, 1), (1, 1))
+    );
+    assert_eq!(rt;
+        (shown.last_write(&spec, 6, 0), shown.last_write(&spec, 6, 1)),
+        ((1, 1), (0, 1))
+    );
+    assert_eq!(rt;
+        (shown.shows_none(&spec, 9, 0), shown.shows_none(&spec, 8, 0)),
+        (false, true)
+    );
+    let other = room_of(rt.alloc(), ONE)?;
+    assert!(rt; other.n() == 1);
+    assert_eq!(rt; shown.last_write(&other, 9, 0), (0, 1));
     Ok(())
 }
 

@@ -1,11 +1,10 @@
 //! The words of a room, by its spec: where they stand, and what is read of them.
-ghost use Rattle.std.specs.Prelude.{◌≡◌, ◌<◌, ◌≤◌};
-ghost use Rattle.room_spec.specs.Rooms.{processes};
+ghost use Rattle.std.specs.Prelude.{◌≡◌, ◌<◌};
 ghost use Rattle.room_spec.specs.Sizes.{sizes_in};
 ghost use Rattle.level_cells.specs.Fields.{levels_of};
 ghost use Rattle.safe_agreement.specs.Levels.{has_level};
 ghost use Rattle.view_table.specs.Places.{IsPlace, words_of};
-ghost use Rattle.simulator.specs.Moves.{chosen_in, holder_in, index_in, entry_in};
+ghost use Rattle.simulator.specs.Moves.{chosen_in, index_in};
 
 use level_cells::least_at;
 use room_spec::Spec;
@@ -17,18 +16,6 @@ pub(crate) fn index_in(spec: &Spec, place: Place) -> usize
     ensures within { result < words_of (sizes_in spec.now) }
 {
     index(&spec.shape(), place)
-}
-
-/// The last write of the process that a memory word shows: the simulator that has stored it, and
-/// the round.
-pub(crate) fn last_write(spec: &Spec, word: u64, process: usize) -> (usize, usize)
-    requires { process < processes spec.now }
-    ensures holder { result.0 ≡ holder_in spec.now word process }
-    ensures below { result.0 < spec.now.simulators }
-    ensures row { result.1 ≡ entry_in spec.now word process }
-    ensures range { result.1 ≤ spec.now.rounds }
-{
-    sim_memory::last_write(&spec.shape(), word, process)
 }
 
 /// Whether some level is 2, by a word of levels.

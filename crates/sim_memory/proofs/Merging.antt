@@ -1,0 +1,173 @@
+-- The last writes of all processes, one simulator after the other.
+use Rattle.std.proofs.Common.{◌≡◌, ◌≢◌, ◌⊎◌, ℕ, zero, suc, ◌+◌, ◌*◌, ◌/◌, ◌%◌, ◌^◌, ◌<◌, ◌≤◌, max, min, cond, ltb, Bool, true, false, inl, inr, List, map, get_or, set, length, replicate, refl, sym, ap, ◌∙◌, subst, arith, w8}
+use lib.Lanes.{zip2, sel_l, top}
+use mathlib.Core.Logic.{dite}
+use native.Mathlib.Decide.{ℕ_discrete}
+use Rattle.std.proofs.lemmas.Bool.{cases_lt, lt-ltb, le-ltb}
+use Rattle.std.proofs.lemmas.List.{get_or-replicate, get_or-set_same, get_or-set_other, length-set}
+use Rattle.std.proofs.Math.Nat.{zero-div, zero-mod}
+use Rattle.std.proofs.lemmas.Nat.{shr-shr}
+use Rattle.std.proofs.lemmas.Simd.{tops_compared, length-zip2, get_or-sel_l, get_or-zip2}
+use Rattle.room_spec.specs.Sizes.{Sizes}
+use Rattle.sim_memory.specs.Steps.{holder_of, merged_of, place_of, step_in}
+use Rattle.sim_memory.proofs.Rows.{merged_below}
+use Rattle.sim_memory.proofs.Greatest.{alone, holder_is, holder_kept, holder_merged, holder_of_is, holder_passed}
+
+-- ---- lanes
+
+-- a choice in each lane, by which of two is less
+pub selected : (a b yes no : List ℕ) (p : ℕ) → length a ≡ 16 → length b ≡ 16 → length yes ≡ 16 → length no ≡ 16 → p < 16 →
+    get_or (sel_l (map (top 7) (zip2 (λ x y. cond (ltb x y) 255 0) a b)) yes no) p 0 ≡ cond (ltb (get_or a p 0) (get_or b p 0)) (get_or yes p 0) (get_or no p 0)
+selected a b chosen other p long_a long_b long_chosen long_other within =
+    let long = length-zip2 ltb a b (omega arith) in
+    ap (λ ms. get_or (sel_l ms chosen other) p 0) (tops_compared w8 ltb a b)
+    ∙ get_or-sel_l (zip2 ltb a b) chosen other p 0 (omega arith) (omega arith) (omega arith)
+    ∙ ap (λ t. cond t (get_or chosen p 0) (get_or other p 0)) (get_or-zip2 ltb a b p 0 0 false (omega arith) (omega arith))
+
+pub greater_of : (a b : ℕ) → cond (ltb a b) b a ≡ max a b
+greater_of a b =
+    elim (cases_lt a b) as (λ _. cond (ltb a b) b a ≡ max a b) [
+      | inl less ↦ ap (λ t. cond t b a) (lt-ltb a b less) ∙ omega arith
+      | inr more ↦ ap (λ t. cond t b a) (le-ltb a b more) ∙ omega arith
+    ]
+
+lesser_of : (a b : ℕ) → cond (ltb a b) a b ≡ min a b
+lesser_of a b =
+    elim (cases_lt a b) as (λ _. cond (ltb a b) a b ≡ min a b) [
+      | inl less ↦ ap (λ t. cond t a b) (lt-ltb a b less) ∙ omega arith
+      | inr more ↦ ap (λ t. cond t a b) (le-ltb a b more) ∙ omega arith
+    ]
+
+pub lesser_in : (fields : List ℕ) (most p : ℕ) → length fields ≡ 16 → p < 16 →
+    get_or (sel_l (map (top 7) (zip2 (λ x y. cond (ltb x y) 255 0) fields (replicate 16 most))) fields (replicate 16 most)) p 0 ≡ min (get_or fields p 0) most
+lesser_in fields most p long within =
+    let same = get_or-replicate 16 p most 0 within in
+    selected fields (replicate 16 most) fields (replicate 16 most) p long refl long refl within
+    ∙ ap (λ x. cond (ltb (get_or fields p 0) x) (get_or fields p 0) x) same
+    ∙ lesser_of (get_or fields p 0) most
+
+-- ---- the fields of one simulator
+
+-- the lowest n fields of a word, and then 0
+pub record AreFields (word bits n : ℕ) (fields : List ℕ) : Type 0 where
+  pub long : length fields ≡ 16
+  pub own : (q : ℕ) → q < n → get_or fields q 0 ≡ word / 2 ^ (q * bits) % 2 ^ bits
+  pub behind : (q : ℕ) → n ≤ q → q < 16 → get_or fields q 0 ≡ 0
+
+pub no_fields : (word bits : ℕ) → AreFields word bits 0 (replicate 16 0)
+no_fields word bits = record {
+  long = refl;
+  own = λ q below. absurd (omega arith);
+  behind = λ q _ within. get_or-replicate 16 q 0 0 within;
+}
+
+pub next_rest : (word bits p rest : ℕ) → rest ≡ word / 2 ^ (p * bits) → rest / 2 ^ bits ≡ word / 2 ^ ((p + 1) * bits)
+next_rest word bits p rest is =
+    let more : p * bits + bits ≡ (p + 1) * bits = grind arith in
+    ap (λ x. x / 2 ^ bits) is ∙ shr-shr word (p * bits) bits ∙ ap (λ at. word / 2 ^ at) more
+
+pub one_more_field : (word bits p field : ℕ) (fields : List ℕ) → p < 16 → AreFields word bits p fields → field ≡ word / 2 ^ (p * bits) % 2 ^ bits → AreFields word bits (p + 1) (set fields p field)
+one_more_field word bits p field fields within so_far is = record {
+  long = length-set fields p field ∙ so_far.long;
+  own = λ q below.
+      dite (ℕ_discrete q p)
+      (λ (e : q ≡ p). ap (λ k. get_or (set fields p field) k 0) e ∙ get_or-set_same fields p field 0 (let long = so_far.long in omega arith) ∙ is ∙ ap (λ k. word / 2 ^ (k * bits) % 2 ^ bits) (sym e))
+      (λ (n : q ≢ p). get_or-set_other fields p q field 0 n ∙ so_far.own q (omega arith));
+  behind = λ q more q_within. get_or-set_other fields p q field 0 (λ (e : q ≡ p). absurd (omega arith)) ∙ so_far.behind q (omega arith) q_within;
+}
+
+-- ---- one simulator more
+
+merged_more : (m : ℕ) (steps : ℕ → ℕ → ℕ) (p : ℕ) → merged_of (suc m) steps p ≡ max (merged_of m steps p) (steps m p)
+merged_more m steps p = refl
+
+-- a first simulator, and one that has a greater number or none
+holder_more_by : (m : ℕ) (steps : ℕ → ℕ → ℕ) (p : ℕ) → 0 < m → (merged_of m steps p < steps m p) ⊎ (steps m p ≤ merged_of m steps p) → holder_of (suc m) steps p ≡ cond (ltb (merged_of m steps p) (steps m p)) m (holder_of m steps p)
+holder_more_by m steps p some (inl more) =
+    let is = holder_of_is m steps p some in
+    let merged = holder_merged m steps p _ is in
+    holder_is (suc m) steps p m (holder_passed m steps p _ is (omega arith)) ∙ sym (ap (λ t. cond t m (holder_of m steps p)) (lt-ltb _ _ more))
+holder_more_by m steps p some (inr no_more) =
+    let is = holder_of_is m steps p some in
+    let merged = holder_merged m steps p _ is in
+    holder_is (suc m) steps p _ (holder_kept m steps p _ is (omega arith)) ∙ sym (ap (λ t. cond t m (holder_of m steps p)) (le-ltb _ _ no_more))
+
+cond_same : (b : Bool) (x : ℕ) → cond b x x ≡ x
+cond_same true x = refl
+cond_same false x = refl
+
+pub holder_more_of : (m : ℕ) (steps : ℕ → ℕ → ℕ) (p : ℕ) → holder_of (suc m) steps p ≡ cond (ltb (merged_of m steps p) (steps m p)) m (holder_of m steps p)
+holder_more_of zero steps p = holder_is 1 steps p 0 (alone steps p) ∙ sym (cond_same _ 0)
+holder_more_of (suc m) steps p = holder_more_by (suc m) steps p (omega arith) (cases_lt _ _)
+
+-- ---- the last writes
+
+-- those of the first m simulators, and 0 behind the last process
+pub record AreLast (sizes : Sizes) (word m : ℕ) (holders rounds : List ℕ) : Type 0 where
+  pub holder : (p : ℕ) → p < sizes.n → get_or holders p 0 ≡ holder_of m (step_in sizes word) p
+  pub round : (p : ℕ) → p < sizes.n → get_or rounds p 0 ≡ merged_of m (step_in sizes word) p
+  pub behind : (p : ℕ) → sizes.n ≤ p → p < 16 → (get_or holders p 0 ≡ 0) × (get_or rounds p 0 ≡ 0)
+
+pub none_last : (sizes : Sizes) (word : ℕ) → sizes.n ≤ 16 → AreLast sizes word 0 (replicate 16 0) (replicate 16 0)
+none_last sizes word few = record {
+  holder = λ p below. get_or-replicate 16 p 0 0 (omega arith);
+  round = λ p below. get_or-replicate 16 p 0 0 (omega arith);
+  behind = λ p _ within. (get_or-replicate 16 p 0 0 within, get_or-replicate 16 p 0 0 within);
+}
+
+one_more : (i : ℕ) → suc i ≡ i + 1
+one_more i = omega arith
+
+field_above : (sizes : Sizes) (word i p : ℕ) → word / 2 ^ place_of sizes i 0 / 2 ^ (p * sizes.bits) ≡ word / 2 ^ place_of sizes i p
+field_above sizes word i p =
+    let above : place_of sizes i 0 + p * sizes.bits ≡ place_of sizes i p = grind arith in
+    shr-shr word (place_of sizes i 0) (p * sizes.bits) ∙ ap (λ at. word / 2 ^ at) above
+
+-- what one simulator's numbers are
+pub record AreSteps (sizes : Sizes) (word i : ℕ) (steps : List ℕ) : Type 0 where
+  pub own : (p : ℕ) → p < sizes.n → get_or steps p 0 ≡ step_in sizes word i p
+  pub behind : (p : ℕ) → sizes.n ≤ p → p < 16 → get_or steps p 0 ≡ 0
+
+pub steps_of : (sizes : Sizes) (word i row : ℕ) (steps : List ℕ) → row ≡ word / 2 ^ place_of sizes i 0 → ((p : ℕ) → p < sizes.n → get_or steps p 0 ≡ min (row / 2 ^ (p * sizes.bits) % 2 ^ sizes.bits) sizes.rounds) → ((p : ℕ) → sizes.n ≤ p → p < 16 → get_or steps p 0 ≡ 0) → AreSteps sizes word i steps
+steps_of sizes word i row steps is own behind = record {
+  own = λ p below. own p below ∙ ap (λ x. min (x % 2 ^ sizes.bits) sizes.rounds) (ap (λ x. x / 2 ^ (p * sizes.bits)) is ∙ field_above sizes word i p);
+  behind = behind;
+}
+
+pub last_more : (sizes : Sizes) (word i : ℕ) (holders rounds steps later_holders later_rounds : List ℕ) → sizes.n ≤ 16 → AreLast sizes word i holders rounds → AreSteps sizes word i steps →
+    ((p : ℕ) → p < 16 → get_or later_holders p 0 ≡ cond (ltb (get_or rounds p 0) (get_or steps p 0)) i (get_or holders p 0)) →
+    ((p : ℕ) → p < 16 → get_or later_rounds p 0 ≡ max (get_or rounds p 0) (get_or steps p 0)) →
+    AreLast sizes word (i + 1) later_holders later_rounds
+last_more sizes word i holders rounds steps later_holders later_rounds few last is holder round =
+    let later : AreLast sizes word (suc i) later_holders later_rounds = record {
+      holder = λ p below. holder p (omega arith) ∙ rw (last.round p below, last.holder p below, is.own p below) refl ∙ sym (holder_more_of i (step_in sizes word) p);
+      round = λ p below. round p (omega arith) ∙ rw (last.round p below, is.own p below) refl;
+      behind = λ p after within.
+          let none = last.behind p after within in
+          let no_step = is.behind p after within in
+          (holder p within ∙ rw (none.1, no_step, none.0) refl, let r = round p within in omega arith);
+    } in
+    subst (λ (m : ℕ). AreLast sizes word m later_holders later_rounds) (one_more i) later
+
+no_step : (sizes : Sizes) (row p step : ℕ) → row ≡ 0 → step ≡ 0 → step ≡ min (row / 2 ^ (p * sizes.bits) % 2 ^ sizes.bits) sizes.rounds
+no_step sizes row p step none is =
+    let field : row / 2 ^ (p * sizes.bits) % 2 ^ sizes.bits ≡ 0 = ap (λ x. x / 2 ^ (p * sizes.bits) % 2 ^ sizes.bits) none ∙ ap (λ x. x % 2 ^ sizes.bits) (zero-div (2 ^ (p * sizes.bits))) ∙ zero-mod (2 ^ sizes.bits) in
+    omega arith
+
+-- a simulator of which the word has no step has the last write of no process
+pub last_same : (sizes : Sizes) (word i row : ℕ) (holders rounds : List ℕ) → sizes.n ≤ 16 → AreLast sizes word i holders rounds → row ≡ word / 2 ^ place_of sizes i 0 → row ≡ 0 → AreLast sizes word (i + 1) holders rounds
+last_same sizes word i row holders rounds few last is none =
+    let zeros : List ℕ = replicate 16 0 in
+    let zero_at : (p : ℕ) → p < 16 → get_or zeros p 0 ≡ 0 = λ p below. get_or-replicate 16 p 0 0 below in
+    let steps = steps_of sizes word i row zeros is (λ p below. no_step sizes row p _ none (zero_at p (omega arith))) (λ p _ within. zero_at p within) in
+    last_more sizes word i holders rounds zeros holders rounds few last steps
+    (λ p within. sym (ap (λ b. cond b i (get_or holders p 0)) (le-ltb _ _ (let zero = zero_at p within in omega arith))))
+    (λ p within. let zero = zero_at p within in omega arith)
+
+pub last_in_range : (sizes : Sizes) (word : ℕ) (holders rounds : List ℕ) → 0 < sizes.m → AreLast sizes word sizes.m holders rounds → (p : ℕ) → p < sizes.n → (get_or holders p 0 < sizes.m) × (get_or rounds p 0 ≤ sizes.rounds)
+last_in_range sizes word holders rounds some last p below =
+    let is = last.holder p below in
+    let round = last.round p below in
+    let holds = (holder_of_is sizes.m (step_in sizes word) p some).below in
+    let most = merged_below sizes.m (step_in sizes word) p sizes.rounds (λ i _. omega arith) in
+    (omega arith, omega arith)
