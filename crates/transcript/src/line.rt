@@ -1,5 +1,5 @@
 //! Event lines.
-ghost use Rattle.std.specs.Prelude.{◌≡◌, [], ◌∷◌, ◌++◌, ◌≤◌, ℕ, List, length, map, string_bytes, IfOk};
+ghost use Rattle.std.specs.Prelude.{◌≡◌, [], ◌∷◌, ◌++◌, ◌≤◌, ℕ, List, decimal, length, map, string_bytes, IfOk};
 ghost use Rattle.std.specs.List.{count_by, join_with_byte};
 ghost use Rattle.std.specs.Result.{OnOk};
 ghost use Rattle.room_spec.specs.Texts.{is_space, fields_of};
@@ -10,10 +10,10 @@ ghost use Rattle.transcript.specs.Runs.{process_of};
 
 use crate::event::Event;
 use crate::fault::LineFault;
+use itoa::Buffer;
 use protocol_lang::{View, read_number};
 use room_spec::{MAX_PROCESSES, Name, cut_near};
 use std::alloc::{AllocError, Global};
-use std::fmt::Write;
 
 /// The longest event line, in bytes.
 const MAX_LINE: usize = 256;
@@ -177,14 +177,25 @@ pub fn append_event(text: &mut String, name: &Name, event: &Event) -> Result<(),
 fn append_named_event(text: &mut String, name: &str, event: &Event) -> Result<(), AllocError>
     ensures { OnOk result (string_bytes text.new ≡ string_bytes text.old ++ event_line name.now event.now) }
 {
+    text.push_str(name)?;
     match event {
-        Event::Write { p, v } => write!(text, "{name} {p} write {v}"),
+        Event::Write { p, v } => write_value(text, *p, " write", *v),
         Event::Snap { p, row } => {
-            write!(text, "{name} {p} snap")?;
+            write_number(text, u32::from(*p))?;
+            text.push_str(" snap")?;
             write_entries(text, row.as_slice())
         }
-        Event::Decide { p, v } => write!(text, "{name} {p} decide {v}"),
+        Event::Decide { p, v } => write_value(text, *p, " decide", *v),
     }
+}
+
+/// Writes a process and its value, each behind a space, and between them the word for what it did.
+fn write_value(text: &mut String, p: u8, word: &str, v: u32) -> Result<(), AllocError>
+    ensures { OnOk result (string_bytes text.new ≡ string_bytes text.old ++ 32 ∷ (decimal p ++ word.now ++ 32 ∷ decimal v)) }
+{
+    write_number(text, u32::from(p))?;
+    text.push_str(word)?;
+    write_number(text, v)
 }
 
 /// Writes the entries of a snapshot, each behind a space.
@@ -202,7 +213,15 @@ fn write_entry(line: &mut String, entry: Option<u32>) -> Result<(), AllocError>
     ensures { OnOk result (string_bytes line.new ≡ join_with_byte 32 (string_bytes line.old ∷ entry_text entry ∷ [])) }
 {
     match entry {
-        Some(value) => write!(line, " {value}"),
+        Some(value) => write_number(line, value),
         None => line.push_str(" ."),
     }
+}
+
+/// Writes a space and a number.
+fn write_number(line: &mut String, number: u32) -> Result<(), AllocError>
+    ensures { OnOk result (string_bytes line.new ≡ string_bytes line.old ++ 32 ∷ decimal number) }
+{
+    line.push_str(" ")?;
+    line.push_str(Buffer::new().format(number))
 }
