@@ -2,6 +2,7 @@ use crate::device::Device;
 use crate::engine::play_io;
 use crate::fault::{IoFault, Outcome};
 use crate::script_tests::named;
+use crate::tests::judge;
 use std::alloc::{AllocError, Global};
 use std::process::Abort;
 use std::test::*;
@@ -58,11 +59,9 @@ fn expect(
     script: &str,
     answer: Result<Outcome, IoFault>,
     output: &str,
-) -> Result<(), Fail> {
-    let (found, written) = played(alloc, script);
-    assert_eq!(rt; found, answer, "of {script}");
-    assert_eq!(rt; written.as_slice(), output.as_bytes(), "of {script}");
-    Ok(())
+) {
+    let ending = played(alloc, script);
+    judge(rt, &script, &ending, answer, output.as_bytes());
 }
 
 /// Opens the room of a block, and plays these lines.
@@ -74,7 +73,8 @@ fn expect_in(
     output: &str,
 ) -> Result<(), Fail> {
     let script = format!(in alloc; "open\n{block}{lines}")?;
-    expect(rt, alloc, script.as_str(), Ok(Outcome::AllWell), output)
+    expect(rt, alloc, script.as_str(), Ok(Outcome::AllWell), output);
+    Ok(())
 }
 
 /// A room of one process, lines to it, and all replies.
@@ -162,13 +162,21 @@ const OF_TWO: [(&str, &str, &str, &str); 9] = [
     ),
 ];
 
+/// Plays lines to a room of two processes, and has its report then.
+fn play_pair(
+    rt: &impl Abort,
+    alloc: Global,
+    (block, lines, replies, report): (&str, &str, &str, &str),
+) -> Result<(), Fail> {
+    let lines = format!(in alloc; "{lines}report pair\n")?;
+    let output = format!(in alloc; "pair opened\n{replies}{report}")?;
+    expect_in(rt, alloc, block, lines.as_str(), output.as_str())
+}
+
 #[test]
 fn two_processes(rt: HostRuntime) -> Result<(), Fail> {
-    let alloc = rt.alloc();
-    for (block, lines, replies, report) in OF_TWO {
-        let lines = format!(in alloc; "{lines}report pair\n")?;
-        let output = format!(in alloc; "pair opened\n{replies}{report}")?;
-        expect_in(&rt, alloc, block, lines.as_str(), output.as_str())?;
+    for row in OF_TWO {
+        play_pair(&rt, rt.alloc(), row)?;
     }
     Ok(())
 }
@@ -185,7 +193,7 @@ fn two_tenants(rt: HostRuntime) -> Result<(), Fail> {
         both.as_str(),
         Ok(Outcome::SomeRefused),
         "a opened\nb opened\na step 0 4 stepped\nb step 0 11 idle\na refused 41\nc refused 40\na step 0 7 idle\nb refused 42\nb closed\n",
-    )?;
+    );
     let alone = format!(in alloc; "open\n{A}step a 0 4\nopen\n{A}step a 0 100\n")?;
     expect(
         &rt,
@@ -193,14 +201,15 @@ fn two_tenants(rt: HostRuntime) -> Result<(), Fail> {
         alone.as_str(),
         Ok(Outcome::SomeRefused),
         "a opened\na step 0 4 stepped\na refused 41\na step 0 7 idle\n",
-    )?;
+    );
     expect(
         &rt,
         alloc,
         "step c 0 1\n",
         Ok(Outcome::SomeRefused),
         "c refused 40\n",
-    )
+    );
+    Ok(())
 }
 
 /// How often the rooms of 200 tenants are told this, those of even and of odd number, and what they
@@ -228,15 +237,21 @@ const OF_TENANTS: [(u8, [&str; 2], [&str; 2]); 5] = [
     ),
 ];
 
-/// The texts of all tenants, in order.
-fn of_tenants(alloc: Global, texts: [&str; 2]) -> Result<String, AllocError> {
-    let mut all = String::new(alloc);
-    for k in 0..200usize {
-        let name = format!(in alloc; "r{k}")?;
-        let own = named(alloc, texts[k % 2], name.as_str())?;
-        all.push_str(own.as_str())?;
+/// Puts the texts of all tenants, in order, so many times behind a text.
+fn push_texts(
+    alloc: Global,
+    all: &mut String,
+    times: u8,
+    texts: [&str; 2],
+) -> Result<(), AllocError> {
+    for _ in 0..times {
+        for k in 0..200usize {
+            let name = format!(in alloc; "r{k}")?;
+            let own = named(alloc, texts[k % 2], name.as_str())?;
+            all.push_str(own.as_str())?;
+        }
     }
-    Ok(all)
+    Ok(())
 }
 
 #[test]
@@ -245,12 +260,8 @@ fn two_hundred_tenants(rt: HostRuntime) -> Result<(), Fail> {
     let mut script = String::new(alloc);
     let mut output = String::new(alloc);
     for (times, lines, replies) in OF_TENANTS {
-        let lines = of_tenants(alloc, lines)?;
-        let replies = of_tenants(alloc, replies)?;
-        for _ in 0..times {
-            script.push_str(lines.as_str())?;
-            output.push_str(replies.as_str())?;
-        }
+        push_texts(alloc, &mut script, times, lines)?;
+        push_texts(alloc, &mut output, times, replies)?;
     }
     expect(
         &rt,
@@ -258,7 +269,8 @@ fn two_hundred_tenants(rt: HostRuntime) -> Result<(), Fail> {
         script.as_str(),
         Ok(Outcome::SomeRefused),
         output.as_str(),
-    )
+    );
+    Ok(())
 }
 
 #[test]
@@ -273,15 +285,16 @@ fn refused_blocks(rt: HostRuntime) -> Result<(), Fail> {
         script.as_str(),
         Ok(Outcome::SomeRefused),
         "line 2 refused 12\none opened\nline 17 refused 10\n",
-    )?;
-    expect(&rt, alloc, "", Ok(Outcome::AllWell), "")?;
+    );
+    expect(&rt, alloc, "", Ok(Outcome::AllWell), "");
     expect(
         &rt,
         alloc,
         "open",
         Ok(Outcome::SomeRefused),
         "line 2 refused 10\n",
-    )
+    );
+    Ok(())
 }
 
 /// Lines that ask for nothing.
@@ -311,18 +324,23 @@ const BAD_LINES: [&str; 23] = [
     "end",
 ];
 
+/// Plays a line that asks for nothing between two that do.
+fn play_bad_line(rt: &impl Abort, alloc: Global, line: &str) -> Result<(), Fail> {
+    let script = format!(in alloc; "open\n{ONE}step one 0 1\n{line}\nstep one 0 1\n")?;
+    expect(
+        rt,
+        alloc,
+        script.as_str(),
+        Err(IoFault::BadInput { line: 13, code: 60 }),
+        "",
+    );
+    Ok(())
+}
+
 #[test]
 fn bad_lines(rt: HostRuntime) -> Result<(), Fail> {
-    let alloc = rt.alloc();
     for line in BAD_LINES {
-        let script = format!(in alloc; "open\n{ONE}step one 0 1\n{line}\nstep one 0 1\n")?;
-        expect(
-            &rt,
-            alloc,
-            script.as_str(),
-            Err(IoFault::BadInput { line: 13, code: 60 }),
-            "",
-        )?;
+        play_bad_line(&rt, rt.alloc(), line)?;
     }
     Ok(())
 }

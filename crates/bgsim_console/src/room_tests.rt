@@ -4,7 +4,7 @@ ghost use Rattle.std.specs.Prelude.{◌<◌};
 
 use history_checker::check;
 use room_core::RoomCore;
-use room_spec::read_block;
+use room_spec::{Spec, read_block};
 use std::test::*;
 use transcript::Event;
 use ws_history::{ProcessState, Report, report};
@@ -76,14 +76,18 @@ fn wander(rt: &HostRuntime, text: &str, seed: u64, rare: u64) -> Result<(), Fail
 
 fn judge(rt: &HostRuntime, room: &RoomCore) -> Result<(), Fail> {
     let report = report(rt.alloc(), room)?;
-    if check(room.spec(), report.history.events()).is_err() {
+    judge_report(room.spec(), &report)
+}
+
+fn judge_report(spec: &Spec, report: &Report) -> Result<(), Fail> {
+    if check(spec, report.history.events()).is_err() {
         return Err(Fail::from("a history that is no run"));
     }
-    if held(&report) > report.crashed.len() {
+    if held(report) > report.crashed.len() {
         return Err(Fail::from("more held than crashed"));
     }
     for (j, state) in report.states.as_slice().iter().enumerate() {
-        if decision(&report, j) != decided(state) {
+        if decision(report, j) != decided(state) {
             return Err(Fail::from("a decision that the history has not"));
         }
     }

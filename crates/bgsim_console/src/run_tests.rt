@@ -2,7 +2,7 @@
 use crate::device::Device;
 use crate::engine::run_io;
 use crate::fault::{IoFault, Outcome};
-use crate::tests::Trickle;
+use crate::tests::{Trickle, judge};
 use scheduler::{FreeGate, RunFault};
 use std::alloc::{AllocError, Global};
 use std::sync::Wait;
@@ -14,6 +14,9 @@ const ONE: &str =
 
 const REPORT: &str =
     "one report\none process 0 decided 5\none crashed\none history 3\none 0 write 5\none 0 snap 5\none 0 decide 5\none end\n";
+
+const REPORT_BEHIND_REFUSED: &str =
+    "line 11 refused 41\none report\none process 0 decided 5\none crashed\none history 3\none 0 write 5\none 0 snap 5\none 0 decide 5\none end\n";
 
 const PAIR: &str = "bgsim 1\nroom pair\ninputs 7 3\nsimulators 2\nrounds 1\nturns 100\n";
 
@@ -39,28 +42,30 @@ fn ran<H: Threads + Wait + Sync>(
 
 #[test]
 fn one_room(rt: HostRuntime) {
-    let (found, written) = ran(&rt, rt.alloc(), ONE.as_bytes(), 16);
-    assert_eq!(rt; found, Ok(Outcome::AllWell));
-    assert_eq!(rt; written.as_slice(), REPORT.as_bytes());
+    let ending = ran(&rt, rt.alloc(), ONE.as_bytes(), 16);
+    judge(&rt, &ONE, &ending, Ok(Outcome::AllWell), REPORT.as_bytes());
 }
 
 #[test]
 fn name_taken(rt: HostRuntime) -> Result<(), Fail> {
     let twice = format!(in rt.alloc(); "{ONE}{ONE}")?;
-    let (found, written) = ran(&rt, rt.alloc(), twice.as_bytes(), 1);
-    assert_eq!(rt; found, Ok(Outcome::SomeRefused));
-    let behind = written
-        .as_slice()
-        .strip_prefix(b"line 11 refused 41\n".as_slice());
-    assert_eq!(rt; behind, Some(REPORT.as_bytes()));
+    let ending = ran(&rt, rt.alloc(), twice.as_bytes(), 1);
+    let answer = Ok(Outcome::SomeRefused);
+    judge(
+        &rt,
+        &"a room twice",
+        &ending,
+        answer,
+        REPORT_BEHIND_REFUSED.as_bytes(),
+    );
     Ok(())
 }
 
 #[test]
 fn fuse(rt: HostRuntime) {
-    let (found, written) = ran(&rt, rt.alloc(), PAIR_WITH_A_FUSE.as_bytes(), 1);
-    assert_eq!(rt; found, Ok(Outcome::AllWell));
-    assert_eq!(rt; written.as_slice(), HELD.as_bytes());
+    let ending = ran(&rt, rt.alloc(), PAIR_WITH_A_FUSE.as_bytes(), 1);
+    let answer = Ok(Outcome::AllWell);
+    judge(&rt, &PAIR_WITH_A_FUSE, &ending, answer, HELD.as_bytes());
 }
 
 #[test]
@@ -76,23 +81,27 @@ fn wrong_numbers_of_workers(rt: HostRuntime) {
 
 #[test]
 fn cut_block(rt: HostRuntime) {
-    let (found, written) = ran(&rt, rt.alloc(), PAIR.as_bytes(), 1);
-    assert_eq!(rt; found, Ok(Outcome::SomeRefused));
-    assert_eq!(rt; written.as_slice(), b"line 1 refused 10\n".as_slice());
+    let ending = ran(&rt, rt.alloc(), PAIR.as_bytes(), 1);
+    let answer = Ok(Outcome::SomeRefused);
+    judge(&rt, &PAIR, &ending, answer, b"line 1 refused 10\n");
+}
+
+/// What the first so many bytes of a block come to.
+fn of_first_bytes(count: usize) -> (Outcome, &'static str) {
+    match count {
+        0 => (Outcome::AllWell, ""),
+        1..100 => (Outcome::SomeRefused, "line 1 refused 10\n"),
+        _ => (Outcome::AllWell, REPORT),
+    }
 }
 
 #[test]
 fn first_bytes_of_a_block(rt: HostRuntime) {
     let block = ONE.as_bytes();
     for k in 0..block.len() + 1 {
-        let (found, written) = ran(&rt, rt.alloc(), &block[..k], 1);
-        let (answer, output) = match k {
-            0 => (Outcome::AllWell, ""),
-            1..100 => (Outcome::SomeRefused, "line 1 refused 10\n"),
-            _ => (Outcome::AllWell, REPORT),
-        };
-        assert_eq!(rt; found, Ok(answer), "of {k} bytes");
-        assert_eq!(rt; written.as_slice(), output.as_bytes(), "of {k} bytes");
+        let ending = ran(&rt, rt.alloc(), &block[..k], 1);
+        let (answer, output) = of_first_bytes(k);
+        judge(&rt, &k, &ending, Ok(answer), output.as_bytes());
     }
 }
 
@@ -126,9 +135,8 @@ fn rooms_in_parts(rt: HostRuntime) -> Result<(), Fail> {
 
 #[test]
 fn nothing_to_run(rt: HostRuntime) {
-    let (found, written) = ran(&rt, rt.alloc(), &[], 1);
-    assert_eq!(rt; found, Ok(Outcome::AllWell));
-    assert!(rt; written.is_empty());
+    let ending = ran(&rt, rt.alloc(), &[], 1);
+    judge(&rt, &"no rooms", &ending, Ok(Outcome::AllWell), &[]);
 }
 
 #[test]

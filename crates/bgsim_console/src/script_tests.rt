@@ -1,11 +1,11 @@
 //! Scripts over several rooms, each reply and each fault, and devices that fail in the middle.
 use crate::device::Device;
 use crate::engine::play_io;
-use crate::fault::IoFault;
+use crate::fault::{IoFault, Outcome};
 use crate::lines::count_lines;
 use crate::play_tests::played;
 use crate::room_tests::Random;
-use crate::tests::Trickle;
+use crate::tests::{Trickle, judge};
 use std::alloc::{AllocError, Global};
 use std::fmt::Write as _;
 use std::io;
@@ -72,23 +72,44 @@ fn lines_of(alloc: Global, replies: &[u8], name: &str) -> Result<Vec<u8>, AllocE
     Ok(lines)
 }
 
-/// Plays a random script over three rooms, and the lines of each room alone.
-fn play_apart(rt: &impl Abort, alloc: Global, seed: u64) -> Result<(), Fail> {
+/// The names of the rooms that random scripts are about.
+const NAMES: [&str; 3] = ["a", "b", "c"];
+
+/// A random script over three rooms, or the lines of it that are about the rooms of these names.
+fn random_script(alloc: Global, seed: u64, wanted: &[&str]) -> Result<String, AllocError> {
     let mut random = Random { state: seed };
     let mut script = String::new(alloc);
-    let mut parts = [String::new(alloc), String::new(alloc), String::new(alloc)];
-    let names = ["a", "b", "c"];
     for _ in 0..80 {
-        let room = random.below(3) as usize;
-        let line = random_line(alloc, &mut random, names[room])?;
-        script.push_str(line.as_str())?;
-        parts[room].push_str(line.as_str())?;
+        let name = NAMES[random.below(3) as usize];
+        let line = random_line(alloc, &mut random, name)?;
+        if wanted.contains(&name) {
+            script.push_str(line.as_str())?;
+        }
     }
+    Ok(script)
+}
+
+/// Plays the lines of one room alone: its replies are those that it has among all.
+fn play_alone(
+    rt: &impl Abort,
+    alloc: Global,
+    seed: u64,
+    name: &str,
+    together: &[u8],
+) -> Result<(), Fail> {
+    let own = lines_of(alloc, together, name)?;
+    let script = random_script(alloc, seed, &[name])?;
+    let alone = replies(alloc, script.as_str())?;
+    assert_eq!(rt; own.as_slice(), alone.as_slice(), "of {script}");
+    Ok(())
+}
+
+/// Plays a random script over three rooms, and the lines of each room alone.
+fn play_apart(rt: &impl Abort, alloc: Global, seed: u64) -> Result<(), Fail> {
+    let script = random_script(alloc, seed, &NAMES)?;
     let together = replies(alloc, script.as_str())?;
-    for room in 0..3 {
-        let alone = replies(alloc, parts[room].as_str())?;
-        let own = lines_of(alloc, &together, names[room])?;
-        assert_eq!(rt; own.as_slice(), alone.as_slice(), "of {script}");
+    for name in NAMES {
+        play_alone(rt, alloc, seed, name, &together)?;
     }
     Ok(())
 }
@@ -177,17 +198,29 @@ const REFUSED: [(&str, &str, &str, &str); 23] = [
     (TOP, NUMBERS, "protocol\nfirst min;\nend\n", "13 6 6"),
 ];
 
+/// Puts a block behind the script, where the next line has this number, and its fault behind the output.
+/// It gives the number of the next line then.
+fn push_refused(
+    alloc: Global,
+    script: &mut String,
+    output: &mut String,
+    line: u64,
+    (top, numbers, rest, fault): (&str, &str, &str, &str),
+) -> Result<u64, Fail> {
+    let lines = format!(in alloc; "open\n{top}{numbers}{rest}")?;
+    script.push_str(lines.as_str())?;
+    write!(output, "line {line} refused {fault}\n")?;
+    Ok(count_lines(lines.as_bytes()).saturating_add(line))
+}
+
 #[test]
 fn each_refused_block(rt: HostRuntime) -> Result<(), Fail> {
     let alloc = rt.alloc();
     let mut script = String::new(alloc);
     let mut output = String::new(alloc);
     let mut line: u64 = 2;
-    for (top, numbers, rest, fault) in REFUSED {
-        let lines = format!(in alloc; "open\n{top}{numbers}{rest}")?;
-        script.push_str(lines.as_str())?;
-        write!(output, "line {line} refused {fault}\n")?;
-        line = count_lines(lines.as_bytes()).saturating_add(line);
+    for row in REFUSED {
+        line = push_refused(alloc, &mut script, &mut output, line, row)?;
     }
     let found = replies(alloc, script.as_str())?;
     assert_eq!(rt; found.as_slice(), output.as_bytes());
@@ -240,23 +273,26 @@ fn failing_readers(rt: HostRuntime) -> Result<(), Fail> {
     Ok(())
 }
 
+/// What `play` answers where the writer has so much room, and what the writer took.
+fn filled(alloc: Global, script: &[u8], room: usize) -> (Result<Outcome, IoFault>, Vec<u8>) {
+    let mut reader = Device::new(script);
+    let mut inner = Filling {
+        taken: Vec::new(alloc),
+        room,
+    };
+    let mut writer = Device::new(&mut inner);
+    let found = play_io(alloc, &mut reader, &mut writer);
+    (found, inner.taken)
+}
+
 #[test]
 fn failing_writers(rt: HostRuntime) -> Result<(), Fail> {
     let alloc = rt.alloc();
     let script = failing_script(alloc)?;
     let output = replies(alloc, script.as_str())?;
     for room in 0..output.len() {
-        let mut reader = Device::new(script.as_bytes());
-        let mut inner = Filling {
-            taken: Vec::new(alloc),
-            room,
-        };
-        let mut writer = Device::new(&mut inner);
-        assert_eq!(rt;
-            play_io(alloc, &mut reader, &mut writer),
-            Err(IoFault::Write)
-        );
-        assert_eq!(rt; inner.taken.as_slice(), &output[..room]);
+        let ending = filled(alloc, script.as_bytes(), room);
+        judge(&rt, &room, &ending, Err(IoFault::Write), &output[..room]);
     }
     Ok(())
 }

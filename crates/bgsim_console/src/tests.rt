@@ -2,8 +2,29 @@ use super::*;
 use crate::device::DeviceFailed;
 use scheduler::RunFault;
 use std::alloc::{AllocError, Global};
+use std::fmt::Debug;
 use std::io::Write;
+use std::process::Abort;
 use std::test::*;
+
+/// Holds what the words ask for against these.
+fn expect_line(
+    rt: &impl Abort,
+    alloc: Global,
+    words: &[&str],
+    command: Mode,
+    file: Option<&str>,
+    workers: u8,
+) -> Result<(), Fail> {
+    let found: Line<'_> = line(alloc, words)?;
+    let asked = Line {
+        command,
+        file,
+        workers,
+    };
+    assert_eq!(rt; found, asked, "in {words:?}");
+    Ok(())
+}
 
 #[test]
 fn good_words(rt: HostRuntime) -> Result<(), Fail> {
@@ -47,10 +68,7 @@ fn good_words(rt: HostRuntime) -> Result<(), Fail> {
             Some("--script"),
         ),
     ] {
-        let found: Line<'_> = line(alloc, words)?;
-        assert_eq!(rt; found.command, mode, "in {words:?}");
-        assert_eq!(rt; found.file, file, "in {words:?}");
-        assert_eq!(rt; found.workers, 2, "in {words:?}");
+        expect_line(&rt, alloc, words, mode, file, 2)?;
     }
     Ok(())
 }
@@ -64,12 +82,15 @@ fn words_of_run(rt: HostRuntime) -> Result<(), Fail> {
         (["run", "F", "--workers=16"].as_slice(), Some("F"), 16),
         (["run", "--workers", "01"].as_slice(), None, 1),
     ] {
-        let found: Line<'_> = line(rt.alloc(), words)?;
-        assert_eq!(rt; found.command, Mode::Run, "in {words:?}");
-        assert_eq!(rt; found.file, file, "in {words:?}");
-        assert_eq!(rt; found.workers, workers, "in {words:?}");
+        expect_line(&rt, rt.alloc(), words, Mode::Run, file, workers)?;
     }
     Ok(())
+}
+
+/// Holds the kind of error that the words give against this.
+fn expect_refused(rt: &impl Abort, alloc: Global, words: &[&str], kind: ErrorKind) {
+    let found = line(alloc, words).err().map(|error| error.kind());
+    assert_eq!(rt; found, Some(kind), "in {words:?}");
 }
 
 #[test]
@@ -86,8 +107,7 @@ fn wrong_words_of_run(rt: HostRuntime) {
         (["run", "a", "b"].as_slice(), ErrorKind::UnknownArgument),
         (["run", "--help"].as_slice(), ErrorKind::DisplayHelp),
     ] {
-        let found = line(rt.alloc(), words).err().map(|error| error.kind());
-        assert_eq!(rt; found, Some(kind), "in {words:?}");
+        expect_refused(&rt, rt.alloc(), words, kind);
     }
 }
 
@@ -135,8 +155,7 @@ fn other_words(rt: HostRuntime) {
             ErrorKind::UnknownArgument,
         ),
     ] {
-        let found = line(alloc, words).err().map(|error| error.kind());
-        assert_eq!(rt; found, Some(kind), "in {words:?}");
+        expect_refused(&rt, alloc, words, kind);
     }
 }
 
@@ -173,29 +192,44 @@ impl Write for Flaky {
     }
 }
 
+/// Reads, and holds the answer and what the device remembers against these.
+fn read_four(
+    rt: &impl Abort,
+    device: &mut Device<Flaky>,
+    answer: Result<usize, DeviceFailed>,
+    remembered: (u64, bool),
+) {
+    assert_eq!(rt; device.read(&mut [0; 4]), answer);
+    assert_eq!(rt; (device.calls(), device.has_failed()), remembered);
+}
+
 #[test]
 fn reads_of_devices(rt: HostRuntime) {
     let mut device = Device::new(Flaky { calls: 0 });
-    let mut buffer = [0; 4];
     assert_eq!(rt; (device.calls(), device.has_failed()), (0, false));
-    assert_eq!(rt; device.read(&mut buffer), Ok(1));
-    assert_eq!(rt; (device.calls(), device.has_failed()), (1, false));
-    assert_eq!(rt; device.read(&mut buffer), Err(DeviceFailed));
-    assert_eq!(rt; (device.calls(), device.has_failed()), (2, true));
-    assert_eq!(rt; device.read(&mut buffer), Ok(0));
-    assert_eq!(rt; (device.calls(), device.has_failed()), (3, true));
+    read_four(&rt, &mut device, Ok(1), (1, false));
+    read_four(&rt, &mut device, Err(DeviceFailed), (2, true));
+    read_four(&rt, &mut device, Ok(0), (3, true));
+}
+
+/// Writes two bytes, and holds the answer and what the device remembers against these.
+fn write_two(
+    rt: &impl Abort,
+    device: &mut Device<Flaky>,
+    answer: Result<usize, DeviceFailed>,
+    remembered: (u64, bool),
+) {
+    assert_eq!(rt; device.write(b"ab"), answer);
+    assert_eq!(rt; (device.calls(), device.has_failed()), remembered);
 }
 
 #[test]
 fn writes_of_devices(rt: HostRuntime) {
     let mut device = Device::new(Flaky { calls: 0 });
-    assert_eq!(rt; device.write(b"ab"), Ok(1));
-    assert_eq!(rt; (device.calls(), device.has_failed()), (1, false));
-    assert_eq!(rt; device.write(b"ab"), Err(DeviceFailed));
-    assert_eq!(rt; (device.calls(), device.has_failed()), (2, true));
+    write_two(&rt, &mut device, Ok(1), (1, false));
+    write_two(&rt, &mut device, Err(DeviceFailed), (2, true));
     let mut device = Device::new(Flaky { calls: 2 });
-    assert_eq!(rt; device.write(b"ab"), Err(DeviceFailed));
-    assert_eq!(rt; (device.calls(), device.has_failed()), (1, true));
+    write_two(&rt, &mut device, Err(DeviceFailed), (1, true));
 }
 
 #[test]
@@ -216,6 +250,18 @@ fn statuses(rt: HostRuntime) {
     }
 }
 
+/// Holds what an engine answered and wrote against these.
+pub fn judge(
+    rt: &impl Abort,
+    case: &impl Debug,
+    ending: &(Result<Outcome, IoFault>, Vec<u8>),
+    answer: Result<Outcome, IoFault>,
+    output: &[u8],
+) {
+    assert_eq!(rt; ending.0, answer, "of {case:?}");
+    assert_eq!(rt; ending.1.as_slice(), output, "of {case:?}");
+}
+
 const PAIRM: &str =
     "bgsim 1\nroom pair\ninputs 7 3\nsimulators 2\nrounds 1\nturns 100\nprotocol\nfirst input;\nelse decide mine;\nend\n";
 
@@ -231,89 +277,120 @@ const STRANGER_CRASHED: &str =
 const ONE: &str =
     "bgsim 1\nroom one\ninputs 5\nsimulators 1\nrounds 1\nturns 10\nprotocol\nfirst input;\nelse decide mine;\nend\n";
 
-/// What `check` answers, and what it writes.
-fn checked(alloc: Global, input: &[u8]) -> (Result<Outcome, IoFault>, Vec<u8>) {
+/// What `check` answers and writes, and in how many writes.
+fn checked_in_writes(alloc: Global, input: &[u8]) -> ((Result<Outcome, IoFault>, Vec<u8>), u64) {
     let mut reader = Device::new(input);
     let mut written = Vec::new(alloc);
     let mut writer = Device::new(&mut written);
     let found = engine::check_io(alloc, &mut reader, &mut writer);
-    (found, written)
+    let writes = writer.calls();
+    ((found, written), writes)
+}
+
+/// What `check` answers, and what it writes.
+fn checked(alloc: Global, input: &[u8]) -> (Result<Outcome, IoFault>, Vec<u8>) {
+    checked_in_writes(alloc, input).0
+}
+
+/// Two blocks, what stands behind them, the answer, and the output.
+const ANSWERS: [(&str, &str, &str, Outcome, &str); 8] = [
+    (
+        PAIRM,
+        ONE,
+        "events\npair 0 write 7\none 0 write 5\npair 1 write 3\none 0 snap 5\npair 0 snap 7 3\npair 0 decide 7\none 0 decide 5\n",
+        Outcome::AllWell,
+        "pair is a run\none is a run\n",
+    ),
+    (
+        PAIRM,
+        ONE,
+        "events\npair 0 write 7\none 0 write 5\npair 0 snap 7 3\none 0 snap 5\npair 1 write 3\none 0 decide 5",
+        Outcome::SomeRefused,
+        "pair is not a run: line 24\none is a run\n",
+    ),
+    (
+        PAIRM,
+        ONE,
+        "events\none 1 write 5\n",
+        Outcome::SomeRefused,
+        "pair is a run\none is not a run: line 22\n",
+    ),
+    (
+        TWO,
+        "",
+        "events\ntwo 0 write 5\ntwo 0 snap 5\ntwo 0 write 6\ntwo 0 snap 6\ntwo 0 decide 6\n",
+        Outcome::AllWell,
+        "two is a run\n",
+    ),
+    (
+        TWO,
+        "",
+        "events\ntwo 0 write 5\ntwo 0 snap 5\ntwo 0 write 6\ntwo 0 snap 6\ntwo 0 decide 5\n",
+        Outcome::SomeRefused,
+        "two is not a run: line 17\n",
+    ),
+    (
+        TWICE_CRASHED,
+        STRANGER_CRASHED,
+        "events\n",
+        Outcome::SomeRefused,
+        "line 1 refused 20 8\nline 13 refused 19 7\n",
+    ),
+    (
+        ONE,
+        ONE,
+        "events",
+        Outcome::SomeRefused,
+        "line 11 refused 41\none is a run\n",
+    ),
+    (
+        "",
+        "",
+        "bgsim 2\nend\nevents\n",
+        Outcome::SomeRefused,
+        "line 1 refused 11 1\n",
+    ),
+];
+
+/// Checks the input of a row, and holds the answer and the output against the row's.
+fn expect_answer(
+    rt: &impl Abort,
+    alloc: Global,
+    (first, second, events, answer, output): (&str, &str, &str, Outcome, &str),
+) -> Result<(), Fail> {
+    let input = format!(in alloc; "{first}{second}{events}")?;
+    let ending = checked(alloc, input.as_bytes());
+    judge(rt, &events, &ending, Ok(answer), output.as_bytes());
+    Ok(())
 }
 
 #[test]
 fn answers(rt: HostRuntime) -> Result<(), Fail> {
-    let alloc = rt.alloc();
-    let bad = |line, code| Err(IoFault::BadInput { line, code });
-    for (first, second, events, answer, output) in [
-        (
-            PAIRM,
-            ONE,
-            "events\npair 0 write 7\none 0 write 5\npair 1 write 3\none 0 snap 5\npair 0 snap 7 3\npair 0 decide 7\none 0 decide 5\n",
-            Ok(Outcome::AllWell),
-            "pair is a run\none is a run\n",
-        ),
-        (
-            PAIRM,
-            ONE,
-            "events\npair 0 write 7\none 0 write 5\npair 0 snap 7 3\none 0 snap 5\npair 1 write 3\none 0 decide 5",
-            Ok(Outcome::SomeRefused),
-            "pair is not a run: line 24\none is a run\n",
-        ),
-        (
-            PAIRM,
-            ONE,
-            "events\none 1 write 5\n",
-            Ok(Outcome::SomeRefused),
-            "pair is a run\none is not a run: line 22\n",
-        ),
-        (
-            TWO,
-            "",
-            "events\ntwo 0 write 5\ntwo 0 snap 5\ntwo 0 write 6\ntwo 0 snap 6\ntwo 0 decide 6\n",
-            Ok(Outcome::AllWell),
-            "two is a run\n",
-        ),
-        (
-            TWO,
-            "",
-            "events\ntwo 0 write 5\ntwo 0 snap 5\ntwo 0 write 6\ntwo 0 snap 6\ntwo 0 decide 5\n",
-            Ok(Outcome::SomeRefused),
-            "two is not a run: line 17\n",
-        ),
-        (
-            TWICE_CRASHED,
-            STRANGER_CRASHED,
-            "events\n",
-            Ok(Outcome::SomeRefused),
-            "line 1 refused 20 8\nline 13 refused 19 7\n",
-        ),
-        (ONE, "", "events\none 0 wrote 5\n", bad(12, 31), ""),
-        (ONE, "", "events\none 16 write 5\n", bad(12, 32), ""),
-        (ONE, "", "events\none 0 write\n", bad(12, 33), ""),
-        (ONE, "", "events\nOne 0 write 5\n", bad(12, 30), ""),
-        (ONE, "", "events\ntwo 0 write 5\n", bad(12, 40), ""),
-        ("", "", "", bad(1, 61), ""),
-        (ONE, "", "", bad(11, 61), ""),
-        ("", "", "bgsim 1\nroom one\n", bad(3, 61), ""),
-        (
-            ONE,
-            ONE,
-            "events",
-            Ok(Outcome::SomeRefused),
-            "line 11 refused 41\none is a run\n",
-        ),
-        (
-            "",
-            "",
-            "bgsim 2\nend\nevents\n",
-            Ok(Outcome::SomeRefused),
-            "line 1 refused 11 1\n",
-        ),
-    ] {
-        let input = format!(in alloc; "{first}{second}{events}")?;
-        let (found, written) = checked(alloc, input.as_bytes());
-        assert_eq!(rt; found, answer, "of {events:?}");
-        assert_eq!(rt; written.as_slice(), output.as_bytes(), "of {events:?}");
+    for row in ANSWERS {
+        expect_answer(&rt, rt.alloc(), row)?;
+    }
+    Ok(())
+}
+
+/// A block, what stands behind it, and the line and the code of the input's fault.
+const BAD_INPUTS: [(&str, &str, u64, u16); 8] = [
+    (ONE, "events\none 0 wrote 5\n", 12, 31),
+    (ONE, "events\none 16 write 5\n", 12, 32),
+    (ONE, "events\none 0 write\n", 12, 33),
+    (ONE, "events\nOne 0 write 5\n", 12, 30),
+    (ONE, "events\ntwo 0 write 5\n", 12, 40),
+    ("", "", 1, 61),
+    (ONE, "", 11, 61),
+    ("", "bgsim 1\nroom one\n", 3, 61),
+];
+
+#[test]
+fn bad_inputs(rt: HostRuntime) -> Result<(), Fail> {
+    for (block, events, line, code) in BAD_INPUTS {
+        let input = format!(in rt.alloc(); "{block}{events}")?;
+        let ending = checked(rt.alloc(), input.as_bytes());
+        let answer = Err(IoFault::BadInput { line, code });
+        judge(&rt, &events, &ending, answer, &[]);
     }
     Ok(())
 }
@@ -496,6 +573,21 @@ impl Write for Counting {
     }
 }
 
+/// What `check` answers, whether its output was flushed by its own account, how many writes it made,
+/// and whether the writer was flushed after them.
+fn counted(
+    alloc: Global,
+    input: &str,
+    interrupted: bool,
+) -> (Result<Outcome, IoFault>, bool, (u8, bool)) {
+    let mut inner = Counting::new(interrupted);
+    let mut reader = Device::new(input.as_bytes());
+    let mut writer = Device::new(&mut inner);
+    let found = engine::check_io(alloc, &mut reader, &mut writer);
+    let is_flushed = writer.is_flushed();
+    (found, is_flushed, (inner.writes, inner.flushed))
+}
+
 #[test]
 fn calls_of_writers(rt: HostRuntime) -> Result<(), Fail> {
     let alloc = rt.alloc();
@@ -512,16 +604,8 @@ fn calls_of_writers(rt: HostRuntime) -> Result<(), Fail> {
             false,
         ),
     ] {
-        let mut inner = Counting::new(interrupted);
-        let mut reader = Device::new(input.as_bytes());
-        let mut writer = Device::new(&mut inner);
-        assert_eq!(rt; engine::check_io(alloc, &mut reader, &mut writer), answer);
-        assert_eq!(rt; writer.is_flushed(), flushed || writes == 0, "of {input:?}");
-        assert_eq!(rt;
-            (inner.writes, inner.flushed),
-            (writes, flushed),
-            "of {input:?}"
-        );
+        let wanted = (answer, flushed || writes == 0, (writes, flushed));
+        assert_eq!(rt; counted(alloc, input, interrupted), wanted, "of {input:?}");
     }
     Ok(())
 }
@@ -546,13 +630,10 @@ fn many_rooms(alloc: Global, count: u32) -> Result<(String, String), AllocError>
 fn many_rooms_in_one_write(rt: HostRuntime) -> Result<(), Fail> {
     let alloc = rt.alloc();
     let (input, output) = many_rooms(alloc, 1001)?;
-    let mut written = Vec::new(alloc);
-    let mut reader = Device::new(input.as_bytes());
-    let mut writer = Device::new(&mut written);
-    let found = engine::check_io(alloc, &mut reader, &mut writer);
-    assert_eq!(rt; found, Ok(Outcome::AllWell));
-    assert_eq!(rt; writer.calls(), 1);
-    assert_eq!(rt; written.as_slice(), output.as_bytes());
+    let (ending, writes) = checked_in_writes(alloc, input.as_bytes());
+    let answer = Ok(Outcome::AllWell);
+    judge(&rt, &"1001 rooms", &ending, answer, output.as_bytes());
+    assert_eq!(rt; writes, 1);
     Ok(())
 }
 
