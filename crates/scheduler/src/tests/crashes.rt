@@ -1,13 +1,13 @@
 //! What becomes of a room in which simulators crash after each number of steps.
-use super::driving::{driven, ended};
+use super::driving::driven;
 use super::orders::THREE;
-use super::threads::{judged, run};
-use super::{PAIR, settle};
+use super::threads::{judged_when_settled, run_judged};
+use super::{PAIR, tells};
 use crate::{Fuse, Stop};
 use room_core::RoomCore;
 use std::alloc::{AllocError, Global};
 use std::test::*;
-use transcript::write_event;
+use transcript::{Event, write_event};
 use ws_history::{ProcessState, Report};
 
 /// Whether the history has just these events.
@@ -22,25 +22,35 @@ fn is_history(
         return Ok(false);
     }
     for (event, line) in events.iter().zip(lines) {
-        let found = write_event(alloc, room.spec().name(), event)?;
-        if found.as_slice() != line.as_bytes() {
+        if !is_written(alloc, room, event, line)? {
             return Ok(false);
         }
     }
     Ok(true)
 }
 
-/// Simulator 0 of the pair crashes after so many steps, and then simulator 1 takes `others`.
-fn pair_with_crash(alloc: Global, steps: u64, others: u64) -> Result<RoomCore, Fail> {
-    let fuses = [Fuse::after(steps), Fuse::none()];
-    let (room, stops) = driven(alloc, PAIR, fuses.as_slice())?;
-    if stops.as_slice() != [Stop::Crashed, Stop::Idle].as_slice() {
-        return Err(Fail::from("one crashed"));
+fn is_written(
+    alloc: Global,
+    room: &RoomCore,
+    event: &Event,
+    line: &str,
+) -> Result<bool, AllocError> {
+    let found = write_event(alloc, room.spec().name(), event)?;
+    Ok(found.as_slice() == line.as_bytes())
+}
+
+/// Settles a room in which simulator 0 has crashed. It then has these states and this history.
+fn settles_to(
+    alloc: Global,
+    room: &mut RoomCore,
+    states: &[ProcessState],
+    lines: &[&str],
+) -> Result<(), Fail> {
+    let report = judged_when_settled(alloc, room)?;
+    if !tells(&report, states, &[0]) || !is_history(alloc, room, &report, lines)? {
+        return Err(Fail::from("these states, and this history"));
     }
-    if ended(&room, 0) != Some((steps, true)) || ended(&room, 1) != Some((others, false)) {
-        return Err(Fail::from("so many steps"));
-    }
-    Ok(room)
+    Ok(())
 }
 
 /// Lets simulator 0 of the pair crash after `first` to `last` steps. The other one then takes so many,
@@ -54,16 +64,12 @@ fn pair_comes_to(
     lines: &[&str],
 ) -> Result<(), Fail> {
     for steps in first..=last {
-        let mut room = pair_with_crash(alloc, steps, others)?;
-        let _ = judged(alloc, &room)?;
-        settle(&mut room);
-        let report = judged(alloc, &room)?;
-        if report.states.as_slice() != states || report.crashed.as_slice() != [0].as_slice() {
-            return Err(Fail::from("these states"));
-        }
-        if !is_history(alloc, &room, &report, lines)? {
-            return Err(Fail::from("this history"));
-        }
+        let drives = [
+            (Fuse::after(steps), Stop::Crashed),
+            (Fuse::none(), Stop::Idle),
+        ];
+        let mut room = driven(alloc, PAIR, &drives, &[steps, others])?;
+        settles_to(alloc, &mut room, states, lines)?;
     }
     Ok(())
 }
@@ -192,8 +198,6 @@ fn holder(first: u64, second: u64) -> Option<u8> {
 
 /// Of the room with one process and three simulators, the first two crash after so many steps.
 fn two_crash(alloc: Global, first: u64, second: u64) -> Result<RoomCore, Fail> {
-    let fuses = [Fuse::after(first), Fuse::after(second), Fuse::none()];
-    let (room, _) = driven(alloc, THREE, fuses.as_slice())?;
     let holds = holder(first, second).is_some();
     let last = if holds || (first == 11 && is_inside(second)) {
         8
@@ -201,22 +205,21 @@ fn two_crash(alloc: Global, first: u64, second: u64) -> Result<RoomCore, Fail> {
         11
     };
     // The second finds the process held, and has nothing to do before its fuse burns down.
-    let other = if is_inside(first) && second > 8 {
-        (8, false)
+    let (taken, stop) = if is_inside(first) && second > 8 {
+        (8, Stop::Idle)
     } else {
-        (second, true)
+        (second, Stop::Crashed)
     };
-    if ended(&room, 0) != Some((first, true)) || ended(&room, 1) != Some(other) {
-        return Err(Fail::from("two crashed"));
-    }
-    if ended(&room, 2) != Some((last, false)) {
-        return Err(Fail::from("so many steps"));
-    }
-    Ok(room)
+    let drives = [
+        (Fuse::after(first), Stop::Crashed),
+        (Fuse::after(second), stop),
+        (Fuse::none(), Stop::Idle),
+    ];
+    driven(alloc, THREE, &drives, &[first, taken, last])
 }
 
 /// Whether the process is held by this simulator, or has decided.
-fn is_right(report: &Report, holder: Option<u8>) -> bool {
+fn is_held_or_decided(report: &Report, holder: Option<u8>) -> bool {
     let (state, events) = match holder {
         Some(i) => (ProcessState::Held(i), 1),
         None => (ProcessState::Decided(5), 3),
@@ -226,10 +229,9 @@ fn is_right(report: &Report, holder: Option<u8>) -> bool {
 
 fn two_come_to(alloc: Global, first: u64, second: u64) -> Result<(), Fail> {
     let mut room = two_crash(alloc, first, second)?;
-    settle(&mut room);
-    let report = judged(alloc, &room)?;
+    let report = judged_when_settled(alloc, &mut room)?;
     let crashed = if is_inside(first) && second > 8 { 1 } else { 2 };
-    if report.crashed.len() != crashed || !is_right(&report, holder(first, second)) {
+    if report.crashed.len() != crashed || !is_held_or_decided(&report, holder(first, second)) {
         return Err(Fail::from("held or decided"));
     }
     Ok(())
@@ -250,10 +252,7 @@ fn two_of_three_threads_crash_at_each_step(rt: HostRuntime) -> Result<(), Fail> 
     for first in 0..=11 {
         for second in 0..=11 {
             let fuses = [Fuse::after(first), Fuse::after(second), Fuse::none()];
-            let mut room = run(&rt, rt.alloc(), THREE, fuses.as_slice())?;
-            let _ = judged(rt.alloc(), &room)?;
-            settle(&mut room);
-            let _ = judged(rt.alloc(), &room)?;
+            run_judged(&rt, rt.alloc(), THREE, fuses.as_slice())?;
         }
     }
     Ok(())

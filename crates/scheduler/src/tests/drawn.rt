@@ -1,10 +1,9 @@
 //! Many drawn rooms, of which some simulators crash, run by workers.
 use super::orders::are_same;
-use super::rooms::only;
+use super::rooms::run_one;
 use super::spec;
-use super::threads::{is_held, next};
+use super::threads::{is_right, next};
 use crate::{FreeGate, RoomResult, run_rooms};
-use history_checker::check;
 use room_core::RoomCore;
 use room_spec::Spec;
 use std::alloc::Global;
@@ -60,19 +59,6 @@ fn run_drawn<R: Threads + Wait + Sync>(
     }
 }
 
-/// Whether the history is a run of the room's protocol, and no more processes are held than simulators
-/// have crashed.
-fn is_true(room: &RoomResult) -> bool {
-    let held = room
-        .report
-        .states
-        .as_slice()
-        .iter()
-        .filter(|state| is_held(**state));
-    check(room.core.spec(), room.report.history.events()).is_ok()
-        && held.count() <= room.report.crashed.len()
-}
-
 /// Whether just those have crashed whose fuse has burnt down, each after as many steps.
 fn crashed_by_fuse(room: &RoomCore) -> bool {
     for i in 0..room.spec().m() {
@@ -91,9 +77,8 @@ fn crashed_by_fuse(room: &RoomCore) -> bool {
 /// Whether 200 rooms have come, each to what its own spec allows.
 fn are_true(results: &[RoomResult]) -> bool {
     results.len() == 200
-        && results
-            .iter()
-            .all(|room| is_true(room) && crashed_by_fuse(&room.core))
+        && results.iter().all(|room| is_right(room.core.spec(), &room.report)
+            && crashed_by_fuse(&room.core))
 }
 
 #[test]
@@ -118,9 +103,8 @@ fn are_as_alone<R: Threads + Wait + Sync>(
 ) -> Result<bool, Fail> {
     let mut state = SEED;
     for result in results {
-        let mut one = Vec::new(alloc);
-        one.push(spec(alloc, drawn_room(alloc, &mut state)?.as_str())?)?;
-        let alone = only(run_rooms(rt, alloc, one, 1, &FreeGate))?;
+        let text = drawn_room(alloc, &mut state)?;
+        let alone = run_one(rt, alloc, text.as_str(), 1, &FreeGate)?;
         if !are_same(&result.report, &alone) {
             return Ok(false);
         }

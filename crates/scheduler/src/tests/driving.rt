@@ -2,11 +2,11 @@
 ghost use Rattle.std.specs.Prelude.{◌≡◌};
 
 use super::orders::FULL;
-use super::threads::judged;
-use super::{PAIR, close, fresh, give, settle};
+use super::threads::judged_when_settled;
+use super::{PAIR, close, fresh, give};
 use crate::{FreeGate, Fuse, Gate, Stop, drive, turn};
 use room_core::RoomCore;
-use ruled_room::{Keeper, RuledRoom};
+use ruled_room::{Keeper, RuledRoom, Simulator};
 use std::alloc::Global;
 use std::sync::atomic::{AtomicU64, Ordering};
 use std::test::*;
@@ -28,58 +28,76 @@ fn drive_one<G: Gate>(
     Ok(stop)
 }
 
-/// Drives the first simulators alone, in order, each with its fuse, and tells why each has stopped.
-fn drive_each(
-    alloc: Global,
-    room: &RuledRoom,
-    keeper: &mut Keeper,
-    fuses: &[Fuse],
-) -> Result<Vec<Stop>, Fail>
+/// Drives the first simulators alone, in order, each with its fuse. Each stops for the reason beside it.
+fn drive_each(room: &RuledRoom, keeper: &mut Keeper, drives: &[(Fuse, Stop)]) -> Result<(), Fail>
     requires { keeper.old.room ≡ room.now }
     ensures { keeper.new.room ≡ keeper.old.room }
 {
-    let mut stops = Vec::new(alloc);
-    for (i, fuse) in fuses.iter().enumerate() {
-        let stop = drive_one(room, keeper, i, fuse, &FreeGate)?;
-        stops.push(stop)?;
+    for (i, (fuse, stop)) in drives.iter().enumerate() {
+        if drive_one(room, keeper, i, fuse, &FreeGate)? != *stop {
+            return Err(Fail::from("why it stops"));
+        }
     }
-    Ok(stops)
+    Ok(())
 }
 
-/// A room whose first simulators were driven alone, in order, each with its fuse, and why each has
-/// stopped.
+/// A room whose first simulators were driven alone, in order, each with its fuse. Each has stopped for
+/// the reason beside it, and the first of all have taken so many steps.
 pub(super) fn driven(
     alloc: Global,
     text: &str,
-    fuses: &[Fuse],
-) -> Result<(RoomCore, Vec<Stop>), Fail> {
-    let (room, mut keeper) = fresh(alloc, text)?;
-    let stops = drive_each(alloc, &room, &mut keeper, fuses)?;
-    Ok((close(alloc, room, keeper)?, stops))
+    drives: &[(Fuse, Stop)],
+    taken: &[u64],
+) -> Result<RoomCore, Fail> {
+    let room = closed(alloc, text, drives)?;
+    if !have_ended(&room, drives, taken) {
+        return Err(Fail::from("so many steps, and crashed"));
+    }
+    Ok(room)
 }
 
-/// How many steps a simulator has taken, and whether it has crashed.
-pub(super) fn ended(room: &RoomCore, i: usize) -> Option<(u64, bool)> {
-    if i < room.spec().m() {
-        Some((room.mind(i).steps_taken(), room.is_crashed(i)))
-    } else {
-        None
+fn closed(alloc: Global, text: &str, drives: &[(Fuse, Stop)]) -> Result<RoomCore, Fail> {
+    let (room, mut keeper) = fresh(alloc, text)?;
+    drive_each(&room, &mut keeper, drives)?;
+    close(alloc, room, keeper)
+}
+
+/// Whether the first simulators have taken so many steps, and just those have crashed that stopped so.
+fn have_ended(room: &RoomCore, drives: &[(Fuse, Stop)], taken: &[u64]) -> bool {
+    have_taken(room, taken) && have_crashed(room, drives)
+}
+
+/// Whether the first simulators have taken so many steps.
+pub(super) fn have_taken(room: &RoomCore, taken: &[u64]) -> bool {
+    for (i, steps) in taken.iter().enumerate() {
+        if i >= room.spec().m() || room.mind(i).steps_taken() != *steps {
+            return false;
+        }
     }
+    true
+}
+
+/// Whether just those have crashed that stopped so.
+fn have_crashed(room: &RoomCore, drives: &[(Fuse, Stop)]) -> bool {
+    for i in 0..room.spec().m() {
+        let crashed = i < drives.len() && drives[i].1 == Stop::Crashed;
+        if room.is_crashed(i) != crashed {
+            return false;
+        }
+    }
+    true
 }
 
 /// Lets simulator 0 of four crash after so many steps, and then drives the others.
 fn crash_after(alloc: Global, steps: u64) -> Result<(), Fail> {
-    let fuses = [Fuse::after(steps), Fuse::none(), Fuse::none(), Fuse::none()];
-    let (mut room, stops) = driven(alloc, FULL, fuses.as_slice())?;
-    if stops.as_slice() != [Stop::Crashed, Stop::Idle, Stop::Idle, Stop::Idle].as_slice() {
-        return Err(Fail::from("one crashed"));
-    }
-    if ended(&room, 0) != Some((steps, true)) {
-        return Err(Fail::from("so many steps"));
-    }
-    let _ = judged(alloc, &room)?;
-    settle(&mut room);
-    let _ = judged(alloc, &room)?;
+    let drives = [
+        (Fuse::after(steps), Stop::Crashed),
+        (Fuse::none(), Stop::Idle),
+        (Fuse::none(), Stop::Idle),
+        (Fuse::none(), Stop::Idle),
+    ];
+    let mut room = driven(alloc, FULL, &drives, &[steps])?;
+    judged_when_settled(alloc, &mut room)?;
     Ok(())
 }
 
@@ -93,44 +111,55 @@ fn a_crash_at_each_step_of_a_whole_word(rt: HostRuntime) -> Result<(), Fail> {
 
 #[test]
 fn a_fuse_that_is_too_long(rt: HostRuntime) -> Result<(), Fail> {
-    let (room, stops) = driven(rt.alloc(), FULL, [Fuse::after(381)].as_slice())?;
-    assert_eq!(rt; stops.as_slice(), [Stop::Idle].as_slice());
-    assert_eq!(rt; ended(&room, 0), Some((380, false)));
-    let (room, stops) = driven(rt.alloc(), PAIR, [Fuse::after(24)].as_slice())?;
-    assert_eq!(rt; stops.as_slice(), [Stop::Idle].as_slice());
-    assert_eq!(rt; ended(&room, 0), Some((23, false)));
+    driven(rt.alloc(), FULL, &[(Fuse::after(381), Stop::Idle)], &[380])?;
+    driven(rt.alloc(), PAIR, &[(Fuse::after(24), Stop::Idle)], &[23])?;
     Ok(())
+}
+
+/// How many turns a simulator has taken.
+fn turns_of(room: &RoomCore, i: usize) -> Option<u64> {
+    if i < room.spec().m() {
+        Some(room.mind(i).turns_taken())
+    } else {
+        None
+    }
 }
 
 #[test]
 fn no_fuse(rt: HostRuntime) -> Result<(), Fail> {
-    let (room, stops) = driven(rt.alloc(), PAIR, [Fuse::none()].as_slice())?;
-    assert_eq!(rt; stops.as_slice(), [Stop::Idle].as_slice());
-    assert_eq!(rt; ended(&room, 0), Some((23, false)));
-    assert_eq!(rt; ended(&room, 1), Some((0, false)));
-    assert!(rt; 0 < room.spec().m());
-    assert_eq!(rt; room.mind(0).turns_taken(), 2);
+    let room = driven(rt.alloc(), PAIR, &[(Fuse::none(), Stop::Idle)], &[23, 0])?;
+    assert_eq!(rt; turns_of(&room, 0), Some(2));
     Ok(())
+}
+
+/// Takes a turn with this fuse. Tells why the simulator has stopped, if it has, and how many steps it has taken by then.
+fn turn_taken(room: &RuledRoom, simulator: &mut Simulator, fuse: &Fuse) -> (Option<Stop>, u64)
+    requires { simulator.old.room ≡ room.now }
+    ensures { simulator.new.room ≡ simulator.old.room }
+{
+    let stop = turn(simulator, room, fuse);
+    (stop, simulator.mind().steps_taken())
 }
 
 #[test]
 fn one_turn_after_the_other(rt: HostRuntime) -> Result<(), Fail> {
     let (room, mut keeper) = fresh(rt.alloc(), PAIR)?;
     let mut simulator = give(&mut keeper, &room, 0)?;
-    assert_eq!(rt; turn(&mut simulator, &room, &Fuse::after(23)), None);
-    assert_eq!(rt; simulator.mind().steps_taken(), 11);
-    assert_eq!(rt; turn(&mut simulator, &room, &Fuse::after(23)), None);
-    assert_eq!(rt; simulator.mind().steps_taken(), 23);
+    let fuse = Fuse::after(23);
+    let found = [
+        turn_taken(&room, &mut simulator, &fuse),
+        turn_taken(&room, &mut simulator, &fuse),
+        turn_taken(&room, &mut simulator, &fuse),
+        turn_taken(&room, &mut simulator, &Fuse::none()),
+    ];
     // The fuse comes before what the step would find.
-    assert_eq!(rt;
-        turn(&mut simulator, &room, &Fuse::after(23)),
-        Some(Stop::Crashed)
-    );
-    assert_eq!(rt;
-        turn(&mut simulator, &room, &Fuse::none()),
-        Some(Stop::Idle)
-    );
-    assert_eq!(rt; simulator.mind().steps_taken(), 23);
+    let expected = [
+        (None, 11),
+        (None, 23),
+        (Some(Stop::Crashed), 23),
+        (Some(Stop::Idle), 23),
+    ];
+    assert_eq!(rt; found.as_slice(), expected.as_slice());
     Ok(())
 }
 

@@ -1,10 +1,10 @@
 //! Rooms that are stepped in one order, over shared words and over words of their own.
-ghost use Rattle.std.specs.Prelude.{◌≡◌};
+ghost use Rattle.std.specs.Prelude.{◌≡◌, IfOk};
 
-use super::{PAIR, close, fresh, give, settle, spec, steps, word_at};
+use super::{PAIR, close, fresh, give, settle, spec, steps, tells, word_at};
 use history_checker::check;
 use room_core::{RoomCore, StepReply};
-use ruled_room::{Gone, Keeper, RuledRoom, Stop};
+use ruled_room::{Gone, Keeper, RuledRoom, Simulator, Stop};
 use std::alloc::Global;
 use std::test::*;
 use view_table::words;
@@ -41,11 +41,27 @@ fn follow(room: &RuledRoom, keeper: &mut Keeper, order: &[Stretch]) -> Result<()
     ensures { keeper.new.room ≡ keeper.old.room }
 {
     for (i, most, stop) in order {
-        let mut simulator = give(keeper, room, *i)?;
-        steps(room, &mut simulator, *most);
-        keeper.take_back(room, simulator, *stop);
+        let simulator = give(keeper, room, *i)?;
+        step_home(room, keeper, simulator, *most, *stop);
     }
     Ok(())
+}
+
+/// Lets a simulator take up to `most` steps, and takes it back. Gives how many it took.
+fn step_home(
+    room: &RuledRoom,
+    keeper: &mut Keeper,
+    mut simulator: Simulator,
+    most: u64,
+    stop: Stop,
+) -> u64
+    requires keeper { keeper.old.room ≡ room.now }
+    requires simulator { simulator.room ≡ room.now }
+    ensures { keeper.new.room ≡ keeper.old.room }
+{
+    let taken = steps(room, &mut simulator, most);
+    keeper.take_back(room, simulator, stop);
+    taken
 }
 
 /// Follows an order over words of its own.
@@ -92,26 +108,55 @@ pub(super) fn are_same(one: &Report, other: &Report) -> bool {
 fn told(alloc: Global, text: &str, order: &[Stretch]) -> Result<Report, Fail> {
     let mut shared = shared(alloc, text, order)?;
     let mut alone = alone(alloc, text, order)?;
-    let found = same_report(alloc, &shared, &alone)?;
-    settle(&mut shared);
-    settle(&mut alone);
-    let _ = same_report(alloc, &shared, &alone)?;
-    match check(shared.spec(), found.history.events()) {
-        Ok(()) => Ok(found),
-        Err(_) => Err(Fail::from("a run")),
-    }
+    same_when_settled(alloc, &mut shared, &mut alone)
 }
 
+/// The report of two rooms that are the same, before they settle and after.
+fn same_when_settled(
+    alloc: Global,
+    shared: &mut RoomCore,
+    alone: &mut RoomCore,
+) -> Result<Report, Fail> {
+    let found = same_report(alloc, shared, alone)?;
+    settle(shared);
+    settle(alone);
+    same_report(alloc, shared, alone)?;
+    Ok(found)
+}
+
+/// The report of two rooms with the same words and the same report, where the history is a run.
 fn same_report(alloc: Global, shared: &RoomCore, alone: &RoomCore) -> Result<Report, Fail> {
     if !have_same_words(shared, alone) {
         return Err(Fail::from("the same words"));
     }
     let found = report(alloc, shared)?;
     let expected = report(alloc, alone)?;
-    if !are_same(&found, &expected) {
-        return Err(Fail::from("the same report"));
+    if !are_same(&found, &expected) || check(shared.spec(), found.history.events()).is_err() {
+        return Err(Fail::from("the same report, and a run"));
     }
     Ok(found)
+}
+
+/// Follows an order. It then has these states and crashes, and so many events.
+fn comes_to(
+    alloc: Global,
+    text: &str,
+    order: &[Stretch],
+    states: &[ProcessState],
+    crashed: &[u8],
+    events: usize,
+) -> Result<(), Fail> {
+    let report = told(alloc, text, order)?;
+    if !tells(&report, states, crashed) || report.history.events().len() != events {
+        return Err(Fail::from("this report"));
+    }
+    Ok(())
+}
+
+/// What the two simulators of the pair have loaded, once they have followed an order.
+fn loaded(alloc: Global, order: &[Stretch]) -> Result<(Option<u64>, Option<u64>), Fail> {
+    let room = shared(alloc, PAIR, order)?;
+    Ok((word_at(&room, 3), word_at(&room, 6)))
 }
 
 #[test]
@@ -124,171 +169,173 @@ fn three_steps_each(rt: HostRuntime) -> Result<(), Fail> {
             (0, 1, Stop::Idle),
             (1, 1, Stop::Idle),
         ];
-        let room = shared(rt.alloc(), PAIR, &order)?;
-        assert_eq!(rt; word_at(&room, 3), Some(zero));
-        assert_eq!(rt; word_at(&room, 6), Some(one));
+        assert_eq!(rt; loaded(rt.alloc(), &order)?, (Some(zero), Some(one)));
     }
     Ok(())
 }
 
 #[test]
 fn the_smallest_room(rt: HostRuntime) -> Result<(), Fail> {
-    let report = told(rt.alloc(), ONE, &[(0, 100, Stop::Idle)])?;
-    assert_eq!(rt;
-        report.states.as_slice(),
-        [ProcessState::Decided(5)].as_slice()
-    );
-    assert_eq!(rt; report.history.events().len(), 3);
-    Ok(())
+    comes_to(
+        rt.alloc(),
+        ONE,
+        &[(0, 100, Stop::Idle)],
+        &[ProcessState::Decided(5)],
+        &[],
+        3,
+    )
 }
 
 #[test]
 fn a_late_proposer(rt: HostRuntime) -> Result<(), Fail> {
-    let report = told(
+    comes_to(
         rt.alloc(),
         PAIR,
         &[(0, 100, Stop::Idle), (1, 100, Stop::Idle)],
-    )?;
-    assert_eq!(rt;
-        report.states.as_slice(),
-        [ProcessState::Decided(7), ProcessState::Decided(3)].as_slice()
-    );
-    assert_eq!(rt; report.history.events().len(), 6);
-    Ok(())
+        &[ProcessState::Decided(7), ProcessState::Decided(3)],
+        &[],
+        6,
+    )
 }
 
 #[test]
 fn a_half_done_agreement(rt: HostRuntime) -> Result<(), Fail> {
-    let report = told(
+    comes_to(
         rt.alloc(),
         PAIR,
         &[(0, 5, Stop::Crashed), (1, 100, Stop::Idle)],
-    )?;
-    assert_eq!(rt;
-        report.states.as_slice(),
-        [ProcessState::Held(0), ProcessState::Decided(3)].as_slice()
-    );
-    assert_eq!(rt; report.crashed.as_slice(), [0].as_slice());
-    assert_eq!(rt; report.history.events().len(), 4);
-    Ok(())
+        &[ProcessState::Held(0), ProcessState::Decided(3)],
+        &[0],
+        4,
+    )
 }
 
 #[test]
 fn one_step_before_the_window(rt: HostRuntime) -> Result<(), Fail> {
-    let report = told(
+    comes_to(
         rt.alloc(),
         PAIR,
         &[(0, 4, Stop::Crashed), (1, 100, Stop::Idle)],
-    )?;
-    assert_eq!(rt;
-        report.states.as_slice(),
-        [ProcessState::Decided(3), ProcessState::Decided(3)].as_slice()
-    );
-    assert_eq!(rt; report.history.events().len(), 6);
-    Ok(())
+        &[ProcessState::Decided(3), ProcessState::Decided(3)],
+        &[0],
+        6,
+    )
 }
 
 #[test]
 fn a_level_1_in_a_passed_agreement(rt: HostRuntime) -> Result<(), Fail> {
-    let order = [
-        (0, 4, Stop::Idle),
-        (1, 100, Stop::Idle),
-        (0, 1, Stop::Crashed),
-    ];
-    let report = told(rt.alloc(), PAIR, &order)?;
-    assert_eq!(rt;
-        report.states.as_slice(),
-        [ProcessState::Decided(3), ProcessState::Decided(3)].as_slice()
-    );
-    assert_eq!(rt; report.crashed.as_slice(), [0].as_slice());
-    Ok(())
+    comes_to(
+        rt.alloc(),
+        PAIR,
+        &[
+            (0, 4, Stop::Idle),
+            (1, 100, Stop::Idle),
+            (0, 1, Stop::Crashed),
+        ],
+        &[ProcessState::Decided(3), ProcessState::Decided(3)],
+        &[0],
+        6,
+    )
 }
 
 #[test]
 fn an_own_entry_too_large(rt: HostRuntime) -> Result<(), Fail> {
-    let order = [
-        (0, 2, Stop::Idle),
-        (1, 100, Stop::Idle),
-        (0, 100, Stop::Idle),
-    ];
-    let report = told(rt.alloc(), TWO, &order)?;
-    assert_eq!(rt;
-        report.states.as_slice(),
-        [ProcessState::Decided(6)].as_slice()
-    );
-    assert_eq!(rt; report.history.events().len(), 5);
-    Ok(())
+    comes_to(
+        rt.alloc(),
+        TWO,
+        &[
+            (0, 2, Stop::Idle),
+            (1, 100, Stop::Idle),
+            (0, 100, Stop::Idle),
+        ],
+        &[ProcessState::Decided(6)],
+        &[],
+        5,
+    )
 }
 
 #[test]
 fn two_crashes_in_one_agreement(rt: HostRuntime) -> Result<(), Fail> {
-    let order = [
-        (0, 5, Stop::Crashed),
-        (1, 5, Stop::Crashed),
-        (2, 100, Stop::Idle),
-    ];
-    let report = told(rt.alloc(), THREE, &order)?;
-    assert_eq!(rt;
-        report.states.as_slice(),
-        [ProcessState::Held(0)].as_slice()
-    );
-    assert_eq!(rt; report.crashed.as_slice(), [0, 1].as_slice());
-    assert_eq!(rt; report.history.events().len(), 1);
-    Ok(())
+    comes_to(
+        rt.alloc(),
+        THREE,
+        &[
+            (0, 5, Stop::Crashed),
+            (1, 5, Stop::Crashed),
+            (2, 100, Stop::Idle),
+        ],
+        &[ProcessState::Held(0)],
+        &[0, 1],
+        1,
+    )
 }
 
 #[test]
 fn a_whole_word(rt: HostRuntime) -> Result<(), Fail> {
-    let order = [
-        (0, 1000, Stop::Idle),
-        (1, 1000, Stop::Idle),
-        (2, 1000, Stop::Idle),
-        (3, 1000, Stop::Idle),
-    ];
-    let report = told(rt.alloc(), FULL, &order)?;
-    for state in report.states.as_slice() {
-        assert_eq!(rt; *state, ProcessState::Spent);
-    }
-    assert_eq!(rt; report.history.events().len(), 48);
-    Ok(())
+    comes_to(
+        rt.alloc(),
+        FULL,
+        &[
+            (0, 1000, Stop::Idle),
+            (1, 1000, Stop::Idle),
+            (2, 1000, Stop::Idle),
+            (3, 1000, Stop::Idle),
+        ],
+        &[ProcessState::Spent; 8],
+        &[],
+        48,
+    )
+}
+
+/// Whether a room has the same report before it settles and after.
+fn is_settled(alloc: Global, room: &mut RoomCore) -> Result<bool, Fail> {
+    let before = report(alloc, room)?;
+    settle(room);
+    let after = report(alloc, room)?;
+    Ok(are_same(&before, &after))
 }
 
 #[test]
 fn a_spent_process(rt: HostRuntime) -> Result<(), Fail> {
-    let before = told(rt.alloc(), WRITER, &[(0, 100, Stop::Idle)])?;
-    assert_eq!(rt; before.states.as_slice(), [ProcessState::Spent].as_slice());
-    assert_eq!(rt; before.history.events().len(), 2);
+    let order = [(0, 100, Stop::Idle)];
+    comes_to(rt.alloc(), WRITER, &order, &[ProcessState::Spent], &[], 2)?;
     // Settling finds nothing left to do.
-    let mut room = shared(rt.alloc(), WRITER, &[(0, 100, Stop::Idle)])?;
-    settle(&mut room);
-    let after = report(rt.alloc(), &room)?;
-    assert!(rt; are_same(&before, &after));
+    let mut room = shared(rt.alloc(), WRITER, &order)?;
+    assert!(rt; is_settled(rt.alloc(), &mut room)?);
     Ok(())
+}
+
+/// Tries to close a room of which simulator 1 is still out.
+fn stays_open(alloc: Global, room: RuledRoom, keeper: Keeper) -> Result<(RuledRoom, Keeper), Fail>
+    requires { keeper.room ≡ room }
+    ensures { IfOk result (λ r. (r.0 ≡ room) × (r.1.room ≡ r.0)) }
+{
+    match room.close(alloc, keeper) {
+        Err((room, keeper, gone)) => {
+            if gone != Gone::StillOut(1) {
+                return Err(Fail::from("simulator 1 still out"));
+            }
+            Ok((room, keeper))
+        }
+        Ok(_) => Err(Fail::from("still out")),
+    }
 }
 
 #[test]
 fn a_room_with_one_still_out(rt: HostRuntime) -> Result<(), Fail> {
     let (room, mut keeper) = fresh(rt.alloc(), PAIR)?;
-    let mut crashing = give(&mut keeper, &room, 0)?;
-    let mut other = give(&mut keeper, &room, 1)?;
-    assert_eq!(rt; steps(&room, &mut crashing, 5), 5);
-    keeper.take_back(&room, crashing, Stop::Crashed);
-    let (room, mut keeper) = match room.close(rt.alloc(), keeper) {
-        Err((room, keeper, gone)) => {
-            assert_eq!(rt; gone, Gone::StillOut(1));
-            (room, keeper)
-        }
-        Ok(_) => return Err(Fail::from("still out")),
-    };
+    let crashing = give(&mut keeper, &room, 0)?;
+    let other = give(&mut keeper, &room, 1)?;
+    assert_eq!(rt;
+        step_home(&room, &mut keeper, crashing, 5, Stop::Crashed),
+        5
+    );
+    let (room, mut keeper) = stays_open(rt.alloc(), room, keeper)?;
     assert!(rt; !keeper.holds(0));
-    assert_eq!(rt; steps(&room, &mut other, 100), 20);
-    keeper.take_back(&room, other, Stop::Idle);
+    assert_eq!(rt; step_home(&room, &mut keeper, other, 100, Stop::Idle), 20);
     let core = close(rt.alloc(), room, keeper)?;
     let report = report(rt.alloc(), &core)?;
-    assert_eq!(rt;
-        report.states.as_slice(),
-        [ProcessState::Held(0), ProcessState::Decided(3)].as_slice()
-    );
-    assert_eq!(rt; report.crashed.as_slice(), [0].as_slice());
+    let states = [ProcessState::Held(0), ProcessState::Decided(3)];
+    assert!(rt; tells(&report, &states, &[0]));
     Ok(())
 }

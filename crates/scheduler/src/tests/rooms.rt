@@ -1,12 +1,14 @@
 //! Rooms that workers run at the same time. Every schedule passes.
 use super::orders::ONE;
-use super::{PAIR, spec};
+use super::{PAIR, spec, tells};
 use crate::{FreeGate, Gate, RoomResult, RunFault, run_rooms};
 use room_spec::Spec;
 use std::alloc::Global;
+use std::sync::Wait;
 use std::sync::atomic::{AtomicU64, Ordering};
 use std::test::*;
 use std::thread;
+use std::thread::Threads;
 use transcript::Event;
 use ws_history::{ProcessState, Report};
 
@@ -130,7 +132,7 @@ fn is_fault(run: &Result<Vec<RoomResult>, RunFault>, fault: RunFault) -> bool {
 }
 
 /// The report of the only room.
-pub(super) fn only(results: Result<Vec<RoomResult>, RunFault>) -> Result<Report, Fail> {
+fn only(results: Result<Vec<RoomResult>, RunFault>) -> Result<Report, Fail> {
     let Ok(mut results) = results else {
         return Err(Fail::from("run"));
     };
@@ -143,6 +145,18 @@ pub(super) fn only(results: Result<Vec<RoomResult>, RunFault>) -> Result<Report,
     Ok(report)
 }
 
+/// The report of a room of this text that so many workers run.
+pub(super) fn run_one<R: Threads + Wait + Sync, G: Gate + Sync>(
+    rt: &R,
+    alloc: Global,
+    text: &str,
+    workers: u8,
+    gate: &G,
+) -> Result<Report, Fail> {
+    let specs = specs(alloc, text, 1)?;
+    only(run_rooms(rt, alloc, specs, workers, gate))
+}
+
 fn is_snap(event: &Event, process: u8, row: &[Option<u32>]) -> bool {
     match event {
         Event::Snap { p, row: found } => *p == process && found.as_slice() == row,
@@ -150,13 +164,23 @@ fn is_snap(event: &Event, process: u8, row: &[Option<u32>]) -> bool {
     }
 }
 
+/// Whether so many rooms are not run, for so many workers.
+fn is_refused<R: Threads + Wait + Sync>(
+    rt: &R,
+    alloc: Global,
+    count: u64,
+    workers: u8,
+) -> Result<bool, Fail> {
+    let specs = specs(alloc, PAIR, count)?;
+    let run = run_rooms(rt, alloc, specs, workers, &FreeGate);
+    Ok(is_fault(&run, RunFault::Workers))
+}
+
 #[test]
 fn bad_numbers_of_workers(rt: HostRuntime) -> Result<(), Fail> {
     for workers in [0, 17, 255] {
         for count in 0..2 {
-            let specs = specs(rt.alloc(), PAIR, count)?;
-            let run = run_rooms(&rt, rt.alloc(), specs, workers, &FreeGate);
-            assert!(rt; is_fault(&run, RunFault::Workers));
+            assert!(rt; is_refused(&rt, rt.alloc(), count, workers)?);
         }
     }
     Ok(())
@@ -193,34 +217,46 @@ fn has_first_first(events: &[Event]) -> bool {
         && events[5] == (Event::Decide { p: 1, v: 3 })
 }
 
+/// The report of the pair that two workers run, of which one waits for the other.
+fn run_held<R: Threads + Wait + Sync>(
+    rt: &R,
+    alloc: Global,
+    held: u8,
+    other: u8,
+) -> Result<Report, Fail> {
+    let gate = Holds::new(held, other);
+    let report = run_one(rt, alloc, PAIR, 2, &gate)?;
+    if gate.late.load(Ordering::SeqCst) != 0 {
+        return Err(Fail::from("the other in time"));
+    }
+    Ok(report)
+}
+
 #[test]
 fn the_second_worker_first(rt: HostRuntime) -> Result<(), Fail> {
-    let gate = Holds::new(0, 1);
-    let specs = specs(rt.alloc(), PAIR, 1)?;
-    let report = only(run_rooms(&rt, rt.alloc(), specs, 2, &gate))?;
-    assert_eq!(rt; gate.late.load(Ordering::SeqCst), 0);
-    assert_eq!(rt;
-        report.states.as_slice(),
-        [ProcessState::Decided(3), ProcessState::Decided(3)].as_slice()
-    );
-    assert!(rt; report.crashed.is_empty());
+    let report = run_held(&rt, rt.alloc(), 0, 1)?;
+    let states = [ProcessState::Decided(3), ProcessState::Decided(3)];
+    assert!(rt; tells(&report, &states, &[]));
     assert!(rt; has_second_first(report.history.events()));
     Ok(())
 }
 
 #[test]
 fn the_first_worker_first(rt: HostRuntime) -> Result<(), Fail> {
-    let gate = Holds::new(1, 0);
-    let specs = specs(rt.alloc(), PAIR, 1)?;
-    let report = only(run_rooms(&rt, rt.alloc(), specs, 2, &gate))?;
-    assert_eq!(rt; gate.late.load(Ordering::SeqCst), 0);
-    assert_eq!(rt;
-        report.states.as_slice(),
-        [ProcessState::Decided(7), ProcessState::Decided(3)].as_slice()
-    );
-    assert!(rt; report.crashed.is_empty());
+    let report = run_held(&rt, rt.alloc(), 1, 0)?;
+    let states = [ProcessState::Decided(7), ProcessState::Decided(3)];
+    assert!(rt; tells(&report, &states, &[]));
     assert!(rt; has_first_first(report.history.events()));
     Ok(())
+}
+
+/// Whether 16 rooms have come, each with its one process decided.
+fn are_sixteen(results: &[RoomResult]) -> bool {
+    results.len() == 16 && results.iter().all(|room| has_decided(&room.report))
+}
+
+fn has_decided(report: &Report) -> bool {
+    tells(report, &[ProcessState::Decided(5)], &[]) && report.history.events().len() == 3
 }
 
 #[test]
@@ -235,14 +271,7 @@ fn sixteen_workers_at_once(rt: HostRuntime) -> Result<(), Fail> {
         return Err(Fail::from("run"));
     };
     assert_eq!(rt; gate.late.load(Ordering::SeqCst), 0);
-    assert_eq!(rt; results.len(), 16);
-    for result in &results {
-        assert_eq!(rt;
-            result.report.states.as_slice(),
-            [ProcessState::Decided(5)].as_slice()
-        );
-        assert!(rt; result.report.history.events().len() == 3);
-    }
+    assert!(rt; are_sixteen(results.as_slice()));
     Ok(())
 }
 
@@ -273,13 +302,9 @@ fn a_half_done_agreement(rt: HostRuntime) -> Result<(), Fail> {
     let text =
         "bgsim 1\nroom pair\ninputs 7 3\nsimulators 2\nrounds 1\nturns 100\ncrash 0 after 5\nprotocol\nfirst input;\nelse decide min;\nend\n";
     // By one worker, simulator 0 crashes before simulator 1 begins.
-    let specs = specs(rt.alloc(), text, 1)?;
-    let report = only(run_rooms(&rt, rt.alloc(), specs, 1, &FreeGate))?;
-    assert_eq!(rt;
-        report.states.as_slice(),
-        [ProcessState::Held(0), ProcessState::Decided(3)].as_slice()
-    );
-    assert_eq!(rt; report.crashed.as_slice(), [0].as_slice());
+    let report = run_one(&rt, rt.alloc(), text, 1, &FreeGate)?;
+    let states = [ProcessState::Held(0), ProcessState::Decided(3)];
+    assert!(rt; tells(&report, &states, &[0]));
     assert!(rt; report.history.events().len() == 4);
     Ok(())
 }
@@ -288,8 +313,7 @@ fn a_half_done_agreement(rt: HostRuntime) -> Result<(), Fail> {
 fn a_crash_with_all_steps_taken(rt: HostRuntime) -> Result<(), Fail> {
     let text =
         "bgsim 1\nroom pair\ninputs 7 3\nsimulators 2\nrounds 1\nturns 100\ncrash 0 after 23\nprotocol\nfirst input;\nelse decide min;\nend\n";
-    let specs = specs(rt.alloc(), text, 1)?;
-    let report = only(run_rooms(&rt, rt.alloc(), specs, 1, &FreeGate))?;
+    let report = run_one(&rt, rt.alloc(), text, 1, &FreeGate)?;
     assert_eq!(rt; report.crashed.as_slice(), [0].as_slice());
     assert!(rt; has_first_first(report.history.events()));
     Ok(())

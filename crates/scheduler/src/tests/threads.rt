@@ -2,10 +2,12 @@
 ghost use Rattle.std.specs.Prelude.{◌≡◌, IfOk};
 ghost use Rattle.std.specs.List.{All};
 
-use super::{PAIR, WIDE, close, fresh, give, word_at};
+use super::driving::have_taken;
+use super::{PAIR, WIDE, close, fresh, give, settle, word_at};
 use crate::{FreeGate, Fuse, drive};
 use history_checker::check;
 use room_core::RoomCore;
+use room_spec::Spec;
 use ruled_room::{Keeper, RuledRoom, Simulator, Stop};
 use std::alloc::{AllocError, Global};
 use std::test::*;
@@ -85,44 +87,79 @@ fn take_all(room: &RuledRoom, keeper: &mut Keeper, mut all: Vec<Done>)
     }
 }
 
-/// A room whose first simulators are driven at the same time, each on a thread of its own and with its
-/// fuse.
-pub(super) fn run<R: Threads + Sync>(
+/// Drives the first simulators at the same time, each on a thread of its own and with its fuse.
+fn drive_all<R: Threads + Sync>(
+    rt: &R,
+    alloc: Global,
+    room: &RuledRoom,
+    keeper: &mut Keeper,
+    fuses: &[Fuse],
+) -> Result<(), Fail>
+    requires { keeper.old.room ≡ room.now }
+    ensures { keeper.new.room ≡ keeper.old.room }
+{
+    let jobs = give_all(alloc, room, keeper, fuses)?;
+    let all = work_all(rt, room, jobs)?;
+    take_all(room, keeper, all);
+    Ok(())
+}
+
+/// A room whose first simulators were driven at the same time.
+fn run<R: Threads + Sync>(
     rt: &R,
     alloc: Global,
     text: &str,
     fuses: &[Fuse],
 ) -> Result<RoomCore, Fail> {
     let (room, mut keeper) = fresh(alloc, text)?;
-    let jobs = give_all(alloc, &room, &mut keeper, fuses)?;
-    let all = work_all(rt, &room, jobs)?;
-    take_all(&room, &mut keeper, all);
+    drive_all(rt, alloc, &room, &mut keeper, fuses)?;
     close(alloc, room, keeper)
 }
 
-/// The report of a room, where its history is a run and no more processes are held than simulators
-/// have crashed.
-pub(super) fn judged(alloc: Global, room: &RoomCore) -> Result<Report, Fail> {
+/// The report of a room whose first simulators were driven at the same time, where it is right before
+/// the room settles and after.
+pub(super) fn run_judged<R: Threads + Sync>(
+    rt: &R,
+    alloc: Global,
+    text: &str,
+    fuses: &[Fuse],
+) -> Result<Report, Fail> {
+    let mut room = run(rt, alloc, text, fuses)?;
+    judged_when_settled(alloc, &mut room)
+}
+
+/// The report of a room, where it is right.
+fn judged(alloc: Global, room: &RoomCore) -> Result<Report, Fail> {
     let report = report(alloc, room)?;
-    if check(room.spec(), report.history.events()).is_err() {
-        return Err(Fail::from("a run"));
+    if !is_right(room.spec(), &report) {
+        return Err(Fail::from("a run with no more held than crashed"));
     }
+    Ok(report)
+}
+
+/// The report of a room once it has settled, where it is right before and after.
+pub(super) fn judged_when_settled(alloc: Global, room: &mut RoomCore) -> Result<Report, Fail> {
+    judged(alloc, room)?;
+    settle(room);
+    judged(alloc, room)
+}
+
+/// Whether the history is a run of the room's protocol, and no more processes are held than simulators
+/// have crashed.
+pub(super) fn is_right(spec: &Spec, report: &Report) -> bool {
     let held = report
         .states
         .as_slice()
         .iter()
         .filter(|state| is_held(**state));
-    if held.count() > report.crashed.len() {
-        return Err(Fail::from("no more held than crashed"));
-    }
-    Ok(report)
+    check(spec, report.history.events()).is_ok() && held.count() <= report.crashed.len()
 }
 
-pub(super) fn is_held(state: ProcessState) -> bool {
+fn is_held(state: ProcessState) -> bool {
     matches!(state, ProcessState::Held(_))
 }
 
-pub(super) fn is_decided(state: ProcessState) -> bool {
+fn is_decided(state: ProcessState) -> bool {
     matches!(state, ProcessState::Decided(_))
 }
 
@@ -135,50 +172,66 @@ pub(super) fn next(state: &mut u64) -> u64 {
     *state
 }
 
+/// What the two simulators of the pair have loaded, where each takes four steps on a thread.
+fn loaded<R: Threads + Sync>(rt: &R, alloc: Global) -> Result<(Option<u64>, Option<u64>), Fail> {
+    let room = run(rt, alloc, PAIR, [Fuse::after(4); 2].as_slice())?;
+    if !have_taken(&room, &[4, 4]) {
+        return Err(Fail::from("four steps each"));
+    }
+    Ok((word_at(&room, 3), word_at(&room, 6)))
+}
+
 #[test]
 fn three_steps_each(rt: HostRuntime) -> Result<(), Fail> {
     for _ in 0..200 {
         // The fourth step of each stores what it loaded with the third.
-        let room = run(&rt, rt.alloc(), PAIR, [Fuse::after(4); 2].as_slice())?;
-        let loaded = (word_at(&room, 3), word_at(&room, 6));
+        let loaded = loaded(&rt, rt.alloc())?;
         // Whoever loads last sees both.
         let first = (Some(1), Some(9));
         let second = (Some(9), Some(8));
         let both = (Some(9), Some(9));
         assert!(rt; loaded == first || loaded == second || loaded == both);
-        assert!(rt; room.spec().m() == 2);
-        assert_eq!(rt; room.mind(0).steps_taken(), 4);
-        assert_eq!(rt; room.mind(1).steps_taken(), 4);
     }
     Ok(())
+}
+
+/// Whether none has crashed and all have decided.
+fn have_all_decided(report: &Report) -> bool {
+    report.crashed.is_empty()
+        && report
+            .states
+            .as_slice()
+            .iter()
+            .all(|state| is_decided(*state))
 }
 
 #[test]
 fn a_thread_for_each(rt: HostRuntime) -> Result<(), Fail> {
     for _ in 0..200 {
-        let room = run(&rt, rt.alloc(), PAIR, [Fuse::none(); 2].as_slice())?;
-        let report = judged(rt.alloc(), &room)?;
-        assert!(rt; report.crashed.is_empty());
-        for state in report.states.as_slice() {
-            assert!(rt; is_decided(*state));
-        }
+        let report = run_judged(&rt, rt.alloc(), PAIR, [Fuse::none(); 2].as_slice())?;
+        assert!(rt; have_all_decided(&report));
     }
     Ok(())
+}
+
+/// Eight fuses, of which some burn down.
+fn drawn_fuses(state: &mut u64) -> [Fuse; 8] {
+    let mut fuses = [Fuse::none(); 8];
+    for fuse in &mut fuses {
+        let drawn = next(state);
+        if drawn % 3 == 0 {
+            *fuse = Fuse::after(drawn / 3 % 120);
+        }
+    }
+    fuses
 }
 
 #[test]
 fn eight_threads_of_which_some_crash(rt: HostRuntime) -> Result<(), Fail> {
     let mut state = 88172645463325252;
     for _ in 0..300 {
-        let mut fuses = [Fuse::none(); 8];
-        for fuse in &mut fuses {
-            let drawn = next(&mut state);
-            if drawn % 3 == 0 {
-                *fuse = Fuse::after(drawn / 3 % 120);
-            }
-        }
-        let room = run(&rt, rt.alloc(), WIDE, fuses.as_slice())?;
-        judged(rt.alloc(), &room)?;
+        let fuses = drawn_fuses(&mut state);
+        run_judged(&rt, rt.alloc(), WIDE, fuses.as_slice())?;
     }
     Ok(())
 }
