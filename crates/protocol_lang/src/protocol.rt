@@ -11,7 +11,7 @@ use std::alloc::Global;
 use std::marker::Model;
 
 /// A protocol. It is made by [`parse`] and [`parse_bytes`] alone.
-#[derive(Debug, Drop)]
+#[derive(Drop)]
 pub struct Protocol {
     pub(crate) tree: Tree,
 }

@@ -6,7 +6,7 @@ ghost use Rattle.protocol_lang.specs.Formulas.{source_of};
 ghost use Rattle.protocol_lang.specs.Meaning.{operated, compared};
 
 /// A word that stands for a value.
-#[derive(Clone, Copy, Debug, PartialEq, Eq)]
+#[derive(Clone, Copy)]
 pub enum Name {
     /// The process's input.
     Input,
@@ -53,7 +53,7 @@ impl Name {
 
 /// Where the value of a number or a name comes from: a name, in the order of [`Name`], or a number
 /// that is kept beside it. So it is found without a jump.
-#[derive(Clone, Copy, Debug, PartialEq, Eq)]
+#[derive(Clone, Copy)]
 pub enum Source {
     Input,
     Id,
@@ -67,7 +67,7 @@ pub enum Source {
 }
 
 /// A word that asks the view for something, by an expression in parentheses.
-#[derive(Clone, Copy, Debug, PartialEq, Eq)]
+#[derive(Clone, Copy)]
 pub enum Call {
     /// The entry of this number, or 0.
     Cell,
@@ -78,7 +78,7 @@ pub enum Call {
 }
 
 /// An operator on two values.
-#[derive(Clone, Copy, Debug, PartialEq, Eq)]
+#[derive(Clone, Copy)]
 pub enum Operator {
     /// Stops at 4294967295.
     Add,
@@ -115,7 +115,7 @@ impl Operator {
 }
 
 /// How a rule compares two values.
-#[derive(Clone, Copy, Debug, PartialEq, Eq)]
+#[derive(Clone, Copy)]
 pub enum Comparator {
     Equal,
     NotEqual,
@@ -142,7 +142,7 @@ impl Comparator {
 }
 
 /// What a rule does with its value.
-#[derive(Clone, Copy, Debug, PartialEq, Eq)]
+#[derive(Clone, Copy)]
 pub enum Kind {
     Write,
     Decide,
