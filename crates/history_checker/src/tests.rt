@@ -46,6 +46,23 @@ fn start_of(alloc: Global, run: &[&str], len: usize) -> Result<Vec<Event>, Fail>
     Ok(events)
 }
 
+/// Where the first events of a run, and then an odd one, first break their room.
+fn first_break(
+    alloc: Global,
+    block: &str,
+    run: &[&str],
+    len: usize,
+    odd: Option<&str>,
+) -> Result<Option<usize>, Fail> {
+    let spec = room_of(alloc, block)?;
+    let mut events = start_of(alloc, run, len)?;
+    if let Some(line) = odd {
+        let (_, event) = event_of(line)?;
+        events.push(event)?;
+    }
+    Ok(check(&spec, &events).err())
+}
+
 #[test]
 fn runs(rt: HostRuntime) -> Result<(), Fail> {
     for (block, run) in [
@@ -53,10 +70,9 @@ fn runs(rt: HostRuntime) -> Result<(), Fail> {
         (ONE, ONE_RUN.as_slice()),
         (WRITER, WRITER_RUN.as_slice()),
     ] {
-        let spec = room_of(rt.alloc(), block)?;
         for len in 0..7 {
-            let events = start_of(rt.alloc(), run, len)?;
-            assert_eq!(rt; check(&spec, &events), Ok(()), "of {len} in {block}");
+            let at = first_break(rt.alloc(), block, run, len, None)?;
+            assert_eq!(rt; at, None, "of {len} in {block}");
         }
     }
     Ok(())
@@ -84,11 +100,8 @@ fn first_breaks(rt: HostRuntime) -> Result<(), Fail> {
         (WRITER, WRITER_RUN.as_slice(), 3, "w 0 snap 5"),
         (WRITER, WRITER_RUN.as_slice(), 4, "w 0 write 6"),
     ] {
-        let spec = room_of(rt.alloc(), block)?;
-        let (_, event) = event_of(odd)?;
-        let mut events = start_of(rt.alloc(), run, at)?;
-        events.push(event)?;
-        assert_eq!(rt; check(&spec, &events), Err(at), "with {odd}");
+        let found = first_break(rt.alloc(), block, run, at, Some(odd))?;
+        assert_eq!(rt; found, Some(at), "with {odd}");
     }
     Ok(())
 }
@@ -99,6 +112,26 @@ fn two_rooms(alloc: Global) -> Result<Rooms, Fail> {
     rooms.add(alloc, room_of(alloc, PAIR)?)?;
     rooms.add(alloc, room_of(alloc, ONE)?)?;
     Ok(rooms)
+}
+
+/// Whether the two rooms have these verdicts, and there is no third.
+fn have_verdicts(rooms: &Rooms, pair: Verdict, one: Verdict) -> bool {
+    rooms.verdict(0) == Some(pair) && rooms.verdict(1) == Some(one) && rooms.verdict(2).is_none()
+}
+
+fn feed_one(rooms: &mut Rooms, line: &str, place: u64) -> Result<(), Fail> {
+    let (name, event) = event_of(line)?;
+    rooms.feed(&name, &event, place)?;
+    Ok(())
+}
+
+/// Whether the two rooms have these verdicts after lines from line 22 on.
+fn come_to(alloc: Global, lines: &[&str], pair: Verdict, one: Verdict) -> Result<bool, Fail> {
+    let mut rooms = two_rooms(alloc)?;
+    for (place, line) in (22..).zip(lines) {
+        feed_one(&mut rooms, line, place)?;
+    }
+    Ok(have_verdicts(&rooms, pair, one))
 }
 
 #[test]
@@ -150,61 +183,78 @@ fn mixed_rooms(rt: HostRuntime) -> Result<(), Fail> {
             Verdict::Broken(23),
         ),
     ] {
-        let mut rooms = two_rooms(rt.alloc())?;
-        for (place, line) in (22..).zip(lines) {
-            let (name, event) = event_of(line)?;
-            rooms.feed(&name, &event, place)?;
-        }
-        assert_eq!(rt; rooms.verdict(0), Some(pair));
-        assert_eq!(rt; rooms.verdict(1), Some(one));
-        assert_eq!(rt; rooms.verdict(2), None);
+        assert!(rt; come_to(rt.alloc(), lines, pair, one)?);
     }
     Ok(())
+}
+
+/// Whether two rooms refuse a third with the name of one, and an event of no room, and stay as they
+/// are.
+fn refuse(alloc: Global, rooms: &mut Rooms) -> Result<bool, Fail> {
+    let spec = room_of(alloc, PAIR)?;
+    let (name, event) = event_of("two 0 write 5")?;
+    let added = rooms.add(alloc, spec);
+    let fed = rooms.feed(&name, &event, 22);
+    Ok(
+        added == Err(AddFault::NameTaken)
+            && fed == Err(NoRoom)
+            && have_verdicts(rooms, Verdict::Run, Verdict::Run),
+    )
 }
 
 #[test]
 fn refusals(rt: HostRuntime) -> Result<(), Fail> {
     let mut rooms = two_rooms(rt.alloc())?;
-    assert_eq!(rt;
-        rooms.add(rt.alloc(), room_of(rt.alloc(), PAIR)?),
-        Err(AddFault::NameTaken)
-    );
-    let (name, event) = event_of("two 0 write 5")?;
-    assert_eq!(rt; rooms.feed(&name, &event, 22), Err(NoRoom));
-    assert_eq!(rt; rooms.verdict(1), Some(Verdict::Run));
-    assert_eq!(rt; rooms.verdict(2), None);
+    assert!(rt; refuse(rt.alloc(), &mut rooms)?);
     Ok(())
 }
 
 #[test]
 fn codes(rt: HostRuntime) {
-    assert_eq!(rt; AddFault::NameTaken.code(), 41);
-    assert_eq!(rt; AddFault::OutOfMemory.code(), 8);
-    assert_eq!(rt; NoRoom.code(), 40);
+    assert_eq!(rt;
+        (
+            AddFault::NameTaken.code(),
+            AddFault::OutOfMemory.code(),
+            NoRoom.code()
+        ),
+        (41, 8, 40)
+    );
 }
 
 #[test]
 fn messages(rt: HostRuntime) -> Result<(), Fail> {
-    let taken = format!(in rt.alloc(); "{}", AddFault::NameTaken)?;
-    let memory = format!(in rt.alloc(); "{}", AddFault::OutOfMemory)?;
-    let unknown = format!(in rt.alloc(); "{NoRoom}")?;
-    assert_eq!(rt; taken.as_str(), "a room has this name already");
-    assert_eq!(rt; memory.as_str(), "out of memory");
-    assert_eq!(rt; unknown.as_str(), "no room has this name");
+    let found = format!(in rt.alloc();
+        "{}; {}; {NoRoom}",
+        AddFault::NameTaken,
+        AddFault::OutOfMemory
+    )?;
+    assert_eq!(rt;
+        found.as_str(),
+        "a room has this name already; out of memory; no room has this name"
+    );
     Ok(())
+}
+
+fn add_numbered(alloc: Global, rooms: &mut Rooms, number: u64) -> Result<(), Fail> {
+    let block = format!(in alloc;
+        "bgsim 1\nroom room-{number}\ninputs 5\nsimulators 1\nrounds 1\nturns 10\nprotocol\nfirst input;else decide mine;\nend\n"
+    )?;
+    rooms.add(alloc, room_of(alloc, block.as_str())?)?;
+    Ok(())
+}
+
+/// The verdict of the last of 4097 rooms.
+fn last_verdict(alloc: Global) -> Result<Option<Verdict>, Fail> {
+    let mut rooms = Rooms::new(alloc);
+    for number in 0..4097 {
+        add_numbered(alloc, &mut rooms, number)?;
+    }
+    Ok(rooms.verdict(4096))
 }
 
 #[test]
 fn more_than_4096_rooms(rt: HostRuntime) -> Result<(), Fail> {
-    let alloc = rt.alloc();
-    let mut rooms = Rooms::new(alloc);
-    for number in 0..4097 {
-        let block = format!(in alloc;
-            "bgsim 1\nroom room-{number}\ninputs 5\nsimulators 1\nrounds 1\nturns 10\nprotocol\nfirst input;else decide mine;\nend\n"
-        )?;
-        rooms.add(alloc, room_of(alloc, block.as_str())?)?;
-    }
-    assert_eq!(rt; rooms.verdict(4096), Some(Verdict::Run));
+    assert!(rt; last_verdict(rt.alloc())? == Some(Verdict::Run));
     Ok(())
 }
 
@@ -225,68 +275,69 @@ const FOUR_RUN: [&str; 11] = [
     "four 3 decide 3",
 ];
 
-#[test]
-fn events_of_many_processes_are_told_by_their_bytes(rt: HostRuntime) -> Result<(), Fail> {
-    let mut rooms = Rooms::new(rt.alloc());
-    rooms
-        .add(rt.alloc(), room_of(rt.alloc(), FOUR)?)
-        .ok()
-        .ok_or("a new room")?;
-    for (number, line) in FOUR_RUN.iter().enumerate() {
-        let said = rooms.feed_said(line.as_bytes(), number as u64);
-        assert_eq!(rt; said, true, "{line}");
+const OTHER_LINES: [&str; 20] = [
+    "",
+    "four",
+    "four 0",
+    "four 0 snap . . . . ",
+    "four 0 snap  . . . .",
+    "four 0 snap",
+    "four 0 snap ",
+    "four 0 snaps . . . .",
+    "four 16 snap . . . .",
+    "four 00 snap . . . .",
+    "four 0 snap . . . . . . . . . . . . . . . . .",
+    "fours 0 snap . . . .",
+    "Four 0 snap . . . .",
+    "four 0 write",
+    "four 0 write ",
+    "four 0 write 07",
+    "four 0 write 7 3",
+    "four 0 write 4294967296",
+    "four 0 writes 7",
+    "four 0 decide 7 ",
+];
+
+/// The rooms of one block alone.
+fn only(alloc: Global, block: &str) -> Result<Rooms, Fail> {
+    let spec = room_of(alloc, block)?;
+    let mut rooms = Rooms::new(alloc);
+    rooms.add(alloc, spec)?;
+    Ok(rooms)
+}
+
+/// Whether all of these lines, the first with this number, are told by their bytes, or none of them.
+fn all_say(rooms: &mut Rooms, first: u64, lines: &[&str], said: bool) -> bool {
+    for (number, line) in (first..).zip(lines) {
+        if rooms.feed_said(line.as_bytes(), number) != said {
+            return false;
+        }
     }
-    assert_eq!(rt; rooms.verdict(0), Some(Verdict::Run));
-    Ok(())
+    true
+}
+
+/// Whether all of these lines, or none, are told by their bytes, and the room then has this verdict.
+fn tells(
+    alloc: Global,
+    block: &str,
+    first: u64,
+    lines: &[&str],
+    said: bool,
+    verdict: Verdict,
+) -> Result<bool, Fail> {
+    let mut rooms = only(alloc, block)?;
+    Ok(all_say(&mut rooms, first, lines, said) && rooms.verdict(0) == Some(verdict))
 }
 
 #[test]
-fn events_of_few_processes_are_told_by_their_bytes(rt: HostRuntime) -> Result<(), Fail> {
-    let mut rooms = Rooms::new(rt.alloc());
-    rooms
-        .add(rt.alloc(), room_of(rt.alloc(), PAIR)?)
-        .ok()
-        .ok_or("a new room")?;
-    for (number, line) in PAIR_RUN.iter().enumerate() {
-        let said = rooms.feed_said(line.as_bytes(), number as u64);
-        assert_eq!(rt; said, true, "{line}");
-    }
-    assert_eq!(rt; rooms.verdict(0), Some(Verdict::Run));
-    Ok(())
-}
-
-#[test]
-fn no_other_line_is_told_by_its_bytes(rt: HostRuntime) -> Result<(), Fail> {
-    let mut rooms = Rooms::new(rt.alloc());
-    rooms
-        .add(rt.alloc(), room_of(rt.alloc(), FOUR)?)
-        .ok()
-        .ok_or("a new room")?;
-    for line in [
-        "",
-        "four",
-        "four 0",
-        "four 0 snap . . . . ",
-        "four 0 snap  . . . .",
-        "four 0 snap",
-        "four 0 snap ",
-        "four 0 snaps . . . .",
-        "four 16 snap . . . .",
-        "four 00 snap . . . .",
-        "four 0 snap . . . . . . . . . . . . . . . . .",
-        "fours 0 snap . . . .",
-        "Four 0 snap . . . .",
-        "four 0 write",
-        "four 0 write ",
-        "four 0 write 07",
-        "four 0 write 7 3",
-        "four 0 write 4294967296",
-        "four 0 writes 7",
-        "four 0 decide 7 ",
+fn events_alone_are_told_by_their_bytes(rt: HostRuntime) -> Result<(), Fail> {
+    for (block, lines, said) in [
+        (FOUR, FOUR_RUN.as_slice(), true),
+        (PAIR, PAIR_RUN.as_slice(), true),
+        (FOUR, OTHER_LINES.as_slice(), false),
     ] {
-        assert_eq!(rt; rooms.feed_said(line.as_bytes(), 1), false, "{line}");
+        assert!(rt; tells(rt.alloc(), block, 0, lines, said, Verdict::Run)?);
     }
-    assert_eq!(rt; rooms.verdict(0), Some(Verdict::Run));
     Ok(())
 }
 
@@ -300,13 +351,8 @@ fn wrong_snapshots_are_told_too(rt: HostRuntime) -> Result<(), Fail> {
         // It shows the last writes of all, but its process has not written.
         "four 0 snap . . . .",
     ] {
-        let mut rooms = Rooms::new(rt.alloc());
-        rooms
-            .add(rt.alloc(), room_of(rt.alloc(), FOUR)?)
-            .ok()
-            .ok_or("a new room")?;
-        assert!(rt; rooms.feed_said(line.as_bytes(), 2), "{line}");
-        assert_eq!(rt; rooms.verdict(0), Some(Verdict::Broken(2)), "{line}");
+        let told = tells(rt.alloc(), FOUR, 2, &[line], true, Verdict::Broken(2))?;
+        assert!(rt; told, "{line}");
     }
     Ok(())
 }
