@@ -1,8 +1,9 @@
 use super::*;
 use protocol_lang::View;
-use room_core::{RoomCore, StepReply};
+use room_core::{CrashReply, RoomCore, StepReply};
 use room_spec::read_block;
-use std::alloc::Global;
+use std::alloc::{AllocError, Global};
+use std::fmt::Write;
 use std::test::*;
 use transcript::Event;
 
@@ -43,54 +44,113 @@ fn run(room: &mut RoomCore, i: usize, count: u64) -> u64 {
 }
 
 /// The lines of a report, without the room's name.
-fn lines(alloc: Global, report: &Report) -> Result<String, Fail> {
+fn lines(alloc: Global, report: &Report) -> Result<String, AllocError> {
     let mut text = String::new(alloc);
     for (j, state) in report.states.as_slice().iter().enumerate() {
-        let line = match state {
-            ProcessState::Decided(v) => format!(in alloc; "process {j} decided {v}\n")?,
-            ProcessState::Spent => format!(in alloc; "process {j} spent\n")?,
-            ProcessState::Held(i) => format!(in alloc; "process {j} held {i}\n")?,
-            ProcessState::Going => format!(in alloc; "process {j} going\n")?,
-        };
-        text.push_str(line.as_str())?;
+        push_state(&mut text, j, *state)?;
     }
     text.push_str("crashed")?;
     for i in report.crashed.as_slice() {
-        let word = format!(in alloc; " {i}")?;
-        text.push_str(word.as_str())?;
+        write!(text, " {i}")?;
     }
-    let count = format!(in alloc; "\nhistory {}\n", report.history.events().len())?;
-    text.push_str(count.as_str())?;
+    let count = report.history.events().len();
+    write!(text, "\nhistory {count}\n")?;
     for event in report.history.events() {
-        let line = match event {
-            Event::Write { p, v } => format!(in alloc; "{p} write {v}\n")?,
-            Event::Snap { p, row } => {
-                let row = row_text(alloc, row)?;
-                format!(in alloc; "{p} snap{row}\n")?
-            }
-            Event::Decide { p, v } => format!(in alloc; "{p} decide {v}\n")?,
-        };
-        text.push_str(line.as_str())?;
+        push_event(&mut text, event)?;
     }
     Ok(text)
 }
 
-fn row_text(alloc: Global, row: &View) -> Result<String, Fail> {
-    let mut text = String::new(alloc);
-    for entry in row.as_slice() {
-        let word = match entry {
-            Some(v) => format!(in alloc; " {v}")?,
-            None => String::from_str(alloc, " .")?,
-        };
-        text.push_str(word.as_str())?;
+fn push_state(text: &mut String, j: usize, state: ProcessState) -> Result<(), AllocError> {
+    match state {
+        ProcessState::Decided(v) => write!(text, "process {j} decided {v}\n"),
+        ProcessState::Spent => write!(text, "process {j} spent\n"),
+        ProcessState::Held(i) => write!(text, "process {j} held {i}\n"),
+        ProcessState::Going => write!(text, "process {j} going\n"),
     }
-    Ok(text)
+}
+
+fn push_event(text: &mut String, event: &Event) -> Result<(), AllocError> {
+    match event {
+        Event::Write { p, v } => write!(text, "{p} write {v}\n"),
+        Event::Snap { p, row } => {
+            write!(text, "{p} snap")?;
+            push_row(text, row)?;
+            text.push_str("\n")
+        }
+        Event::Decide { p, v } => write!(text, "{p} decide {v}\n"),
+    }
+}
+
+fn push_row(text: &mut String, row: &View) -> Result<(), AllocError> {
+    for entry in row.as_slice() {
+        match entry {
+            Some(v) => write!(text, " {v}")?,
+            None => text.push_str(" .")?,
+        }
+    }
+    Ok(())
 }
 
 /// The lines of the room's report.
 fn told(rt: &HostRuntime, room: &RoomCore) -> Result<String, Fail> {
     let report = report(rt.alloc(), room)?;
-    lines(rt.alloc(), &report)
+    Ok(lines(rt.alloc(), &report)?)
+}
+
+/// What is done to a room, and what comes of it.
+#[derive(Clone, Copy)]
+enum Act {
+    /// A simulator may take so many steps, and takes so many.
+    Step(usize, u64, u64),
+    Crash(usize),
+    /// The room is reported in these lines.
+    Report(&'static str),
+    /// The room is reported in lines that begin and end so.
+    ReportBetween(&'static str, &'static str),
+}
+
+fn comes(rt: &HostRuntime, room: &mut RoomCore, act: &Act) -> Result<bool, Fail> {
+    match act {
+        Act::Step(i, most, taken) => Ok(run(room, *i, *most) == *taken),
+        Act::Crash(i) => Ok(room.crash(*i) == CrashReply::Crashed),
+        Act::Report(lines) => reports(rt, room, lines),
+        Act::ReportBetween(first, last) => reports_between(rt, room, first, last),
+    }
+}
+
+fn reports(rt: &HostRuntime, room: &RoomCore, lines: &str) -> Result<bool, Fail> {
+    let told = told(rt, room)?;
+    Ok(told.as_str() == lines)
+}
+
+fn reports_between(
+    rt: &HostRuntime,
+    room: &RoomCore,
+    first: &str,
+    last: &str,
+) -> Result<bool, Fail> {
+    let told = told(rt, room)?;
+    Ok(told.starts_with(first) && told.ends_with(last))
+}
+
+/// Does all this to a new room of the block. Fails with the place of the first act of which something
+/// else comes.
+fn act_out(rt: &HostRuntime, block: &str, acts: &[Act]) -> Result<(), Fail> {
+    let mut room = room(rt, block)?;
+    match first_other(rt, &mut room, acts)? {
+        None => Ok(()),
+        Some(place) => Err(Fail::from(("something else came of act", place))),
+    }
+}
+
+fn first_other(rt: &HostRuntime, room: &mut RoomCore, acts: &[Act]) -> Result<Option<usize>, Fail> {
+    for (place, act) in acts.iter().enumerate() {
+        if !comes(rt, room, act)? {
+            return Ok(Some(place));
+        }
+    }
+    Ok(None)
 }
 
 const ONE_REPORT: &str =
@@ -111,123 +171,119 @@ const HELD_REPORT: &str =
 const TWO_REPORT: &str =
     "process 0 decided 6\ncrashed\nhistory 5\n0 write 5\n0 snap 5\n0 write 6\n0 snap 6\n0 decide 6\n";
 
+const ALL_SPENT: &str =
+    "process 0 spent\nprocess 1 spent\nprocess 2 spent\nprocess 3 spent\nprocess 4 spent\nprocess 5 spent\nprocess 6 spent\nprocess 7 spent\ncrashed\nhistory 48\n";
+
 #[test]
 fn the_smallest_room(rt: HostRuntime) -> Result<(), Fail> {
-    let mut room = room(&rt, ONE)?;
-    assert_eq!(rt; run(&mut room, 0, 100), 11);
-    assert_eq!(rt; told(&rt, &room)?.as_str(), ONE_REPORT);
-    Ok(())
+    act_out(&rt, ONE, &[Act::Step(0, 100, 11), Act::Report(ONE_REPORT)])
 }
 
 #[test]
 fn views_in_order_and_a_late_proposer(rt: HostRuntime) -> Result<(), Fail> {
-    let mut room = room(&rt, PAIR)?;
-    assert_eq!(rt; run(&mut room, 0, 100), 23);
-    assert_eq!(rt; told(&rt, &room)?.as_str(), PAIR_REPORT);
-    assert_eq!(rt; run(&mut room, 1, 100), 23);
-    assert_eq!(rt; told(&rt, &room)?.as_str(), PAIR_REPORT);
-    Ok(())
+    let acts = [
+        Act::Step(0, 100, 23),
+        Act::Report(PAIR_REPORT),
+        Act::Step(1, 100, 23),
+        Act::Report(PAIR_REPORT),
+    ];
+    act_out(&rt, PAIR, &acts)
 }
 
 #[test]
 fn the_later_process_first(rt: HostRuntime) -> Result<(), Fail> {
-    let mut room = room(&rt, PAIR)?;
-    assert_eq!(rt; run(&mut room, 1, 100), 23);
-    assert_eq!(rt; told(&rt, &room)?.as_str(), TURNED_REPORT);
-    Ok(())
+    act_out(
+        &rt,
+        PAIR,
+        &[Act::Step(1, 100, 23), Act::Report(TURNED_REPORT)],
+    )
 }
 
 #[test]
 fn a_half_done_agreement(rt: HostRuntime) -> Result<(), Fail> {
-    let mut room = room(&rt, PAIR)?;
-    assert_eq!(rt; run(&mut room, 0, 5), 5);
-    let _ = room.crash(0);
-    assert_eq!(rt; run(&mut room, 1, 100), 20);
-    assert_eq!(rt; told(&rt, &room)?.as_str(), HELD_REPORT);
-    Ok(())
+    let acts = [
+        Act::Step(0, 5, 5),
+        Act::Crash(0),
+        Act::Step(1, 100, 20),
+        Act::Report(HELD_REPORT),
+    ];
+    act_out(&rt, PAIR, &acts)
 }
 
 #[test]
 fn one_step_before_the_window(rt: HostRuntime) -> Result<(), Fail> {
-    let mut room = room(&rt, PAIR)?;
-    assert_eq!(rt; run(&mut room, 0, 4), 4);
-    let _ = room.crash(0);
-    assert_eq!(rt; run(&mut room, 1, 100), 24);
-    assert_eq!(rt; told(&rt, &room)?.as_str(), LATE_REPORT);
-    Ok(())
+    let acts = [
+        Act::Step(0, 4, 4),
+        Act::Crash(0),
+        Act::Step(1, 100, 24),
+        Act::Report(LATE_REPORT),
+    ];
+    act_out(&rt, PAIR, &acts)
 }
 
 #[test]
 fn a_level_1_in_a_passed_agreement(rt: HostRuntime) -> Result<(), Fail> {
-    let mut room = room(&rt, PAIR)?;
-    assert_eq!(rt; run(&mut room, 0, 4), 4);
-    assert_eq!(rt; run(&mut room, 1, 100), 24);
-    assert_eq!(rt; run(&mut room, 0, 1), 1);
-    let _ = room.crash(0);
-    assert_eq!(rt; told(&rt, &room)?.as_str(), LATE_REPORT);
-    Ok(())
+    let acts = [
+        Act::Step(0, 4, 4),
+        Act::Step(1, 100, 24),
+        Act::Step(0, 1, 1),
+        Act::Crash(0),
+        Act::Report(LATE_REPORT),
+    ];
+    act_out(&rt, PAIR, &acts)
 }
 
 #[test]
 fn an_own_entry_too_large(rt: HostRuntime) -> Result<(), Fail> {
-    let mut room = room(&rt, TWO)?;
-    assert_eq!(rt; run(&mut room, 0, 2), 2);
-    assert_eq!(rt; run(&mut room, 1, 100), 21);
-    assert_eq!(rt; run(&mut room, 0, 100), 19);
-    assert_eq!(rt; told(&rt, &room)?.as_str(), TWO_REPORT);
-    Ok(())
+    let acts = [
+        Act::Step(0, 2, 2),
+        Act::Step(1, 100, 21),
+        Act::Step(0, 100, 19),
+        Act::Report(TWO_REPORT),
+    ];
+    act_out(&rt, TWO, &acts)
 }
 
 #[test]
 fn two_crashes_in_one_agreement(rt: HostRuntime) -> Result<(), Fail> {
-    let mut room = room(&rt, THREE)?;
-    for i in 0..2 {
-        assert_eq!(rt; run(&mut room, i, 5), 5);
-        let _ = room.crash(i);
-    }
-    assert_eq!(rt; run(&mut room, 2, 100), 8);
-    assert_eq!(rt;
-        told(&rt, &room)?.as_str(),
-        "process 0 held 0\ncrashed 0 1\nhistory 1\n0 write 5\n"
-    );
-    Ok(())
+    let acts = [
+        Act::Step(0, 5, 5),
+        Act::Crash(0),
+        Act::Step(1, 5, 5),
+        Act::Crash(1),
+        Act::Step(2, 100, 8),
+        Act::Report("process 0 held 0\ncrashed 0 1\nhistory 1\n0 write 5\n"),
+    ];
+    act_out(&rt, THREE, &acts)
 }
 
 #[test]
 fn a_whole_word(rt: HostRuntime) -> Result<(), Fail> {
-    let mut room = room(&rt, FULL)?;
-    for i in 0..4 {
-        assert_eq!(rt; run(&mut room, i, 1000), 380);
-    }
-    let report = report(rt.alloc(), &room)?;
-    for state in report.states.as_slice() {
-        assert_eq!(rt; *state, ProcessState::Spent);
-    }
-    assert_eq!(rt; report.history.events().len(), 48);
-    let text = lines(rt.alloc(), &report)?;
-    assert!(rt; text.as_str().ends_with("7 snap 1 2 3 4 5 6 7 8\n"));
-    Ok(())
+    let acts = [
+        Act::Step(0, 1000, 380),
+        Act::Step(1, 1000, 380),
+        Act::Step(2, 1000, 380),
+        Act::Step(3, 1000, 380),
+        Act::ReportBetween(ALL_SPENT, "7 snap 1 2 3 4 5 6 7 8\n"),
+    ];
+    act_out(&rt, FULL, &acts)
 }
 
 #[test]
 fn a_spent_process(rt: HostRuntime) -> Result<(), Fail> {
-    let mut room = room(&rt, WRITER)?;
-    assert_eq!(rt; run(&mut room, 0, 100), 10);
-    assert_eq!(rt;
-        told(&rt, &room)?.as_str(),
-        "process 0 spent\ncrashed\nhistory 2\n0 write 5\n0 snap 5\n"
-    );
-    Ok(())
+    let acts = [
+        Act::Step(0, 100, 10),
+        Act::Report("process 0 spent\ncrashed\nhistory 2\n0 write 5\n0 snap 5\n"),
+    ];
+    act_out(&rt, WRITER, &acts)
 }
 
 #[test]
 fn nobody_left(rt: HostRuntime) -> Result<(), Fail> {
-    let mut room = room(&rt, PAIR)?;
-    let _ = room.crash(0);
-    let _ = room.crash(1);
-    assert_eq!(rt;
-        told(&rt, &room)?.as_str(),
-        "process 0 going\nprocess 1 going\ncrashed 0 1\nhistory 0\n"
-    );
-    Ok(())
+    let acts = [
+        Act::Crash(0),
+        Act::Crash(1),
+        Act::Report("process 0 going\nprocess 1 going\ncrashed 0 1\nhistory 0\n"),
+    ];
+    act_out(&rt, PAIR, &acts)
 }
