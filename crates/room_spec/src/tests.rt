@@ -9,42 +9,45 @@ const ONE: &str =
 const WIDEST: &str =
     "bgsim 1\nroom a-32_letters_long_0123456789abcd\ninputs 4294967295 1 2 3 4 5 6 7 8 9 10 11 12 13 14 0\nsimulators 1\nrounds 15\nturns 65535\nprotocol\nfirst n;else write max;\nend";
 
+/// The room of the block at the start of a text, and the block's length.
+fn room_in(alloc: Global, text: &str) -> Result<(Spec, usize), Fail> {
+    let read = read_block(alloc, text.as_bytes()).ok().ok_or("a block")?;
+    Ok(read)
+}
+
+/// Whether a room is that of `ONE`.
+fn is_one(room: &Spec) -> bool {
+    let shape = room.shape();
+    room.name().as_str() == "one"
+        && (room.n(), room.m(), room.rounds(), room.turns()) == (1, 1, 1, 10)
+        && (shape.n, shape.m, shape.bits, shape.rounds) == (1, 1, 1, 1)
+        && room.input(0) == 5
+        && first(room.protocol(), 5, 0, 1) == 5
+}
+
 #[test]
 fn rooms(rt: HostRuntime) -> Result<(), Fail> {
-    let (room, len) = read_block(rt.alloc(), ONE.as_bytes())
-        .ok()
-        .ok_or("a block")?;
-    assert_eq!(rt; len, 101);
-    assert_eq!(rt; room.name().as_str(), "one");
-    assert_eq!(rt;
-        (room.n(), room.m(), room.rounds(), room.turns()),
-        (1, 1, 1, 10)
-    );
-    let shape = room.shape();
-    assert_eq!(rt; (shape.n, shape.m, shape.bits, shape.rounds), (1, 1, 1, 1));
-    assert_eq!(rt; room.input(0), 5);
-    assert_eq!(rt; first(room.protocol(), 5, 0, 1), 5);
+    let (room, len) = room_in(rt.alloc(), ONE)?;
+    assert!(rt; len == 101 && is_one(&room));
     Ok(())
+}
+
+/// Whether a room is that of `WIDEST`.
+fn is_widest(room: &Spec) -> bool {
+    if room.n() != 16 {
+        return false;
+    }
+    let shape = room.shape();
+    room.name().as_str() == "a-32_letters_long_0123456789abcd"
+        && (shape.n, shape.m, shape.bits, shape.rounds) == (16, 1, 4, 15)
+        && room.turns() == 65535
+        && (room.input(0), room.input(9), room.input(15)) == (4294967295, 9, 0)
 }
 
 #[test]
 fn widest_room(rt: HostRuntime) -> Result<(), Fail> {
-    let (room, len) = read_block(rt.alloc(), WIDEST.as_bytes())
-        .ok()
-        .ok_or("a block")?;
-    assert_eq!(rt; len, WIDEST.len());
-    assert_eq!(rt; room.name().as_str(), "a-32_letters_long_0123456789abcd");
-    let shape = room.shape();
-    assert_eq!(rt;
-        (shape.n, shape.m, shape.bits, shape.rounds),
-        (16, 1, 4, 15)
-    );
-    assert_eq!(rt; room.turns(), 65535);
-    assert!(rt; room.n() == 16);
-    assert_eq!(rt;
-        (room.input(0), room.input(9), room.input(15)),
-        (4294967295, 9, 0)
-    );
+    let (room, len) = room_in(rt.alloc(), WIDEST)?;
+    assert!(rt; len == WIDEST.len() && is_widest(&room));
     Ok(())
 }
 
@@ -67,17 +70,19 @@ fn ends_of_blocks(rt: HostRuntime) {
     assert_eq!(rt; block_len(&bytes[..99]), None);
 }
 
+/// How many bytes of a text are read as a block.
+fn len_read(alloc: Global, text: &[u8]) -> Option<usize> {
+    let (_, len) = read_block(alloc, text).ok()?;
+    Some(len)
+}
+
 #[test]
 fn what_is_behind_a_block_is_left(rt: HostRuntime) -> Result<(), Fail> {
     let twice = format!(in rt.alloc(); "{ONE}{ONE}")?;
-    let (_, len) = read_block(rt.alloc(), twice.as_bytes())
-        .ok()
-        .ok_or("a block")?;
-    assert_eq!(rt; len, 101);
-    let (_, len) = read_block(rt.alloc(), &ONE.as_bytes()[..100])
-        .ok()
-        .ok_or("a block")?;
-    assert_eq!(rt; len, 100);
+    let text = twice.as_bytes();
+    for (end, len) in [(202, 101), (100, 100)] {
+        assert_eq!(rt; len_read(rt.alloc(), &text[..end]), Some(len));
+    }
     Ok(())
 }
 
@@ -87,23 +92,36 @@ fn first_write<'a>(alloc: Global, block: &'a [u8], protocols: &mut Protocols<'a>
     Some(first(room.protocol(), 5, 0, 1) as usize)
 }
 
-#[test]
-fn protocols_of_several_blocks(rt: HostRuntime) -> Result<(), Fail> {
-    let mut blocks = Vec::new(rt.alloc());
+/// The blocks of ten rooms, whose processes write 0 to 9 first.
+fn ten_blocks(alloc: Global) -> Result<Vec<String>, Fail> {
+    let mut blocks = Vec::new(alloc);
     for value in 0..10 {
-        let block = format!(in rt.alloc();
+        let block = format!(in alloc;
             "bgsim 1\nroom one\ninputs 5\nsimulators 1\nrounds 1\nturns 10\nprotocol\nfirst {value};else decide mine;\nend\n"
         )?;
         blocks.push(block)?;
     }
+    Ok(blocks)
+}
+
+/// Whether each block, read twice in a row, has its number as first write.
+fn are_numbered<'a>(alloc: Global, blocks: &'a [String], protocols: &mut Protocols<'a>) -> bool {
+    for (value, block) in blocks.iter().enumerate() {
+        for _ in 0..2 {
+            if first_write(alloc, block.as_bytes(), protocols) != Some(value) {
+                return false;
+            }
+        }
+    }
+    true
+}
+
+#[test]
+fn protocols_of_several_blocks(rt: HostRuntime) -> Result<(), Fail> {
+    let blocks = ten_blocks(rt.alloc())?;
     let mut protocols = Protocols::new(rt.alloc());
     for _ in 0..2 {
-        for (value, block) in blocks.iter().enumerate() {
-            let read = first_write(rt.alloc(), block.as_bytes(), &mut protocols);
-            assert_eq!(rt; read, Some(value));
-            let again = first_write(rt.alloc(), block.as_bytes(), &mut protocols);
-            assert_eq!(rt; again, Some(value));
-        }
+        assert!(rt; are_numbered(rt.alloc(), blocks.as_slice(), &mut protocols));
     }
     Ok(())
 }
@@ -112,13 +130,19 @@ fn protocols_of_several_blocks(rt: HostRuntime) -> Result<(), Fail> {
 fn bodies_of_blocks(rt: HostRuntime) -> Result<(), Fail> {
     let body = ONE.strip_suffix("end\n").ok_or("a block")?;
     let room = read_body(rt.alloc(), body.as_bytes()).ok().ok_or("a room")?;
-    assert_eq!(rt; room.name().as_str(), "one");
-    assert_eq!(rt; room.fuse(0), None);
+    assert!(rt; room.name().as_str() == "one" && room.fuse(0).is_none());
     Ok(())
 }
 
-fn fault_of(alloc: Global, text: &str) -> Option<SpecFault> {
-    read_block(alloc, text.as_bytes()).err()
+/// Whether a text is no block for this fault.
+fn has_fault(alloc: Global, text: &[u8], fault: SpecFault) -> bool {
+    matches!(read_block(alloc, text), Err(found) if found == fault)
+}
+
+/// Whether a block with these lines behind those of its front is none for this fault.
+fn have_fault(alloc: Global, front: &str, lines: &str, fault: SpecFault) -> Result<bool, Fail> {
+    let text = format!(in alloc; "bgsim 1\nroom one\n{front}{lines}\nend\n")?;
+    Ok(has_fault(alloc, text.as_bytes(), fault))
 }
 
 #[test]
@@ -144,7 +168,7 @@ fn faults_of_the_head(rt: HostRuntime) {
             SpecFault::BadName,
         ),
     ] {
-        assert_eq!(rt; fault_of(rt.alloc(), text), Some(fault), "in {text}");
+        assert!(rt; has_fault(rt.alloc(), text.as_bytes(), fault), "in {text}");
     }
 }
 
@@ -176,12 +200,8 @@ fn faults_of_inputs(rt: HostRuntime) -> Result<(), Fail> {
             SpecFault::BadLine(3),
         ),
     ] {
-        let text = format!(in rt.alloc(); "bgsim 1\nroom one\n{inputs}\nend\n")?;
-        assert_eq!(rt;
-            fault_of(rt.alloc(), text.as_str()),
-            Some(fault),
-            "at {inputs}"
-        );
+        let found = have_fault(rt.alloc(), "", inputs, fault)?;
+        assert!(rt; found, "at {inputs}");
     }
     Ok(())
 }
@@ -217,14 +237,8 @@ fn faults_of_numbers(rt: HostRuntime) -> Result<(), Fail> {
             SpecFault::BadLine(7),
         ),
     ] {
-        let text = format!(in rt.alloc();
-            "bgsim 1\nroom one\ninputs 1 2 3 4 5 6 7 8 9\n{lines}\nend\n"
-        )?;
-        assert_eq!(rt;
-            fault_of(rt.alloc(), text.as_str()),
-            Some(fault),
-            "at {lines}"
-        );
+        let found = have_fault(rt.alloc(), "inputs 1 2 3 4 5 6 7 8 9\n", lines, fault)?;
+        assert!(rt; found, "at {lines}");
     }
     Ok(())
 }
@@ -232,74 +246,65 @@ fn faults_of_numbers(rt: HostRuntime) -> Result<(), Fail> {
 #[test]
 fn faults_of_protocols(rt: HostRuntime) -> Result<(), Fail> {
     for (text, fault) in [
-        ("first input;\n", ParseFault::Unexpected(13)),
-        ("first min;\nelse decide 1;\n", ParseFault::ViewInFirst(6)),
+        ("first input;", ParseFault::Unexpected(13)),
+        ("first min;\nelse decide 1;", ParseFault::ViewInFirst(6)),
         (
-            "\nfirst 1;\n\nelse decide 2; \nelse\n",
+            "\nfirst 1;\n\nelse decide 2; \nelse",
             ParseFault::Unexpected(27),
         ),
     ] {
-        let text = format!(in rt.alloc();
-            "bgsim 1\nroom one\ninputs 5\nsimulators 1\nrounds 1\nturns 10\nprotocol\n{text}end\n"
-        )?;
-        assert_eq!(rt;
-            fault_of(rt.alloc(), text.as_str()),
-            Some(SpecFault::BadProtocol(fault))
-        );
+        let fault = SpecFault::BadProtocol(fault);
+        let front = "inputs 5\nsimulators 1\nrounds 1\nturns 10\nprotocol\n";
+        assert!(rt; have_fault(rt.alloc(), front, text, fault)?, "at {text}");
     }
-    assert_eq!(rt;
-        read_block(
-            rt.alloc(),
-            b"bgsim 1\nroom one\ninputs 5\nsimulators 1\nrounds 1\nturns 10\nprotocol\nfirst in\xFF\nend"
-        )
-        .err(),
-        Some(SpecFault::BadProtocol(ParseFault::BadToken(6)))
-    );
+    let text =
+        b"bgsim 1\nroom one\ninputs 5\nsimulators 1\nrounds 1\nturns 10\nprotocol\nfirst in\xFF\nend";
+    let fault = SpecFault::BadProtocol(ParseFault::BadToken(6));
+    assert!(rt; has_fault(rt.alloc(), text, fault));
     Ok(())
+}
+
+const ALL: &str =
+    "bgsim 1\nroom all\ninputs 5\nsimulators 8\nrounds 1\nturns 10\ncrash 7 after 4294967295\ncrash 0 after 0\ncrash 3 after 5\ncrash 1 after 10\ncrash 2 after 6\ncrash 6 after 1\ncrash 4 after 7\ncrash 5 after 8\nprotocol\nfirst input;\nelse decide mine;\nend\n";
+
+const TWO: &str =
+    "bgsim 1\nroom two\ninputs 5\nsimulators 2\nrounds 1\nturns 10\ncrash 1 after 3\nprotocol\nfirst input;\nelse decide mine;\nend\n";
+
+/// Whether a room has one fuse for each of these, and no simulators besides.
+fn has_fuses(room: &Spec, fuses: &[Option<u32>]) -> bool {
+    for (simulator, fuse) in fuses.iter().enumerate() {
+        if simulator >= room.m() || room.fuse(simulator) != *fuse {
+            return false;
+        }
+    }
+    room.m() == fuses.len()
+}
+
+/// Whether the whole of a text is the block of a room with these fuses.
+fn burn(alloc: Global, text: &str, fuses: &[Option<u32>]) -> Result<bool, Fail> {
+    let (room, len) = room_in(alloc, text)?;
+    Ok(len == text.len() && has_fuses(&room, fuses))
 }
 
 #[test]
 fn fuses(rt: HostRuntime) -> Result<(), Fail> {
-    let text =
-        "bgsim 1\nroom all\ninputs 5\nsimulators 8\nrounds 1\nturns 10\ncrash 7 after 4294967295\ncrash 0 after 0\ncrash 3 after 5\ncrash 1 after 10\ncrash 2 after 6\ncrash 6 after 1\ncrash 4 after 7\ncrash 5 after 8\nprotocol\nfirst input;\nelse decide mine;\nend\n";
-    let (room, len) = read_block(rt.alloc(), text.as_bytes())
-        .ok()
-        .ok_or("a block")?;
-    assert_eq!(rt; len, text.len());
-    for (simulator, steps) in [
-        (0, 0),
-        (1, 10),
-        (2, 6),
-        (3, 5),
-        (4, 7),
-        (5, 8),
-        (6, 1),
-        (7, 4294967295),
+    let all = [
+        Some(0),
+        Some(10),
+        Some(6),
+        Some(5),
+        Some(7),
+        Some(8),
+        Some(1),
+        Some(4294967295),
+    ];
+    for (text, fuses) in [
+        (ALL, all.as_slice()),
+        (TWO, [None, Some(3)].as_slice()),
+        (ONE, [None].as_slice()),
     ] {
-        assert_eq!(rt; room.m(), 8);
-        if simulator < room.m() {
-            assert_eq!(rt; room.fuse(simulator), Some(steps), "of {simulator}");
-        }
+        assert!(rt; burn(rt.alloc(), text, fuses)?, "in {text}");
     }
-    Ok(())
-}
-
-#[test]
-fn rooms_with_one_fuse_or_none(rt: HostRuntime) -> Result<(), Fail> {
-    let text =
-        "bgsim 1\nroom two\ninputs 5\nsimulators 2\nrounds 1\nturns 10\ncrash 1 after 3\nprotocol\nfirst input;\nelse decide mine;\nend\n";
-    let (room, len) = read_block(rt.alloc(), text.as_bytes())
-        .ok()
-        .ok_or("a block")?;
-    assert_eq!(rt; len, text.len());
-    if room.m() == 2 {
-        assert_eq!(rt; (room.fuse(0), room.fuse(1)), (None, Some(3)));
-    }
-    assert_eq!(rt; room.m(), 2);
-    let (room, _) = read_block(rt.alloc(), ONE.as_bytes())
-        .ok()
-        .ok_or("a block")?;
-    assert_eq!(rt; room.fuse(0), None);
     Ok(())
 }
 
@@ -355,14 +360,13 @@ fn faults_of_crash_lines(rt: HostRuntime) -> Result<(), Fail> {
             SpecFault::BadProtocol(ParseFault::BadToken(0)),
         ),
     ] {
-        let text = format!(in rt.alloc();
-            "bgsim 1\nroom one\ninputs 5\nsimulators 2\nrounds 1\nturns 10\n{lines}\nend\n"
+        let found = have_fault(
+            rt.alloc(),
+            "inputs 5\nsimulators 2\nrounds 1\nturns 10\n",
+            lines,
+            fault,
         )?;
-        assert_eq!(rt;
-            fault_of(rt.alloc(), text.as_str()),
-            Some(fault),
-            "at {lines}"
-        );
+        assert!(rt; found, "at {lines}");
     }
     Ok(())
 }
@@ -421,6 +425,12 @@ fn codes_of_faults(rt: HostRuntime) {
     }
 }
 
+/// Whether a fault has this message.
+fn says(alloc: Global, fault: SpecFault, text: &str) -> Result<bool, Fail> {
+    let found = format!(in alloc; "{fault}")?;
+    Ok(found.as_str() == text)
+}
+
 #[test]
 fn messages(rt: HostRuntime) -> Result<(), Fail> {
     for (fault, text) in [
@@ -451,8 +461,7 @@ fn messages(rt: HostRuntime) -> Result<(), Fail> {
             "line 8 is a second crash of its simulator",
         ),
     ] {
-        let found = format!(in rt.alloc(); "{fault}")?;
-        assert_eq!(rt; found.as_str(), text);
+        assert!(rt; says(rt.alloc(), fault, text)?, "{text}");
     }
     Ok(())
 }
