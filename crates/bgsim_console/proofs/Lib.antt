@@ -9,7 +9,6 @@ pub mod ReplyTexts
 pub mod Scripts
 pub mod Playing
 pub mod Streams
-pub mod Endings
 pub mod Feeding
 pub mod RunTexts
 pub mod Verdicts

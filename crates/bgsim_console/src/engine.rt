@@ -9,9 +9,9 @@ ghost use Rattle.bgsim_console.specs.Ends.{is_read_failed, is_write_failed, fail
 use crate::device::Device;
 use crate::fault::{IoFault, Outcome};
 use crate::input::read_input;
-use crate::judge::{judge, outcome_if};
+use crate::judge::judge;
 use crate::output::write_output;
-use crate::play::{judge_script, play_script};
+use crate::play::play;
 use crate::run::run_blocks;
 use scheduler::Gate;
 use std::alloc::Global;
@@ -77,13 +77,9 @@ pub fn play_io<R: Read, W: Write>(
     ensures once { IfSome (R.remaining reader.old.inner) (λ input. reader.new.calls ≤ reader.old.calls + length input + 1) }
 {
     let script = read_input(alloc, reader)?;
-    judge_script(&script)?;
-    let played = play_script(alloc, &script)?;
+    let played = play(alloc, &script)?;
     write_output(writer, played.output.as_bytes())?;
-    if played.lacking {
-        return Err(IoFault::Memory);
-    }
-    Ok(outcome_if(!played.refused))
+    played.ending
 }
 
 /// Runs the rooms of the blocks that the reader gives, by workers on threads of their own, and writes

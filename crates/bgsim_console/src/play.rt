@@ -1,13 +1,14 @@
 //! A script, entry by entry.
-ghost use Rattle.std.specs.Prelude.{◌≡◌, ◌≤◌, ◌<◌, ◌+◌, ◌^◌, ◌||◌, ◌++◌, ◌∷◌, [], true, false, List, Ok, IsOk, IfOk, IfErr, OnOk, decimal, is_some, length, string_bytes};
+ghost use Rattle.std.specs.Prelude.{◌≡◌, ◌≤◌, ◌<◌, ⊤, ◌+◌, ◌^◌, ◌||◌, ◌++◌, ◌∷◌, [], true, false, List, Ok, IsOk, IfOk, IfErr, OnOk, decimal, is_some, length, string_bytes};
 ghost use Rattle.service_core.specs.declared.reply.Reply.{Reply as ReplyData};
 ghost use Rattle.service_core.specs.Runs.{is_want};
-ghost use Rattle.bgsim_console.specs.Check.{IsFaultOf, fault_text, refused_line};
-ghost use Rattle.bgsim_console.specs.Play.{AreDone, Done, HasPlayed, IsDone, PlaysOn, Replied, is_refusal};
+ghost use Rattle.bgsim_console.specs.Check.{IsFaultOf, IsFaultOr, fault_text, refused_line};
+ghost use Rattle.bgsim_console.specs.Play.{AreDone, Done, HasPlayed, IsDone, IsPlayFor, PlaysOn, Replied, ending_if, is_refusal};
 ghost use Rattle.bgsim_console.specs.ReplyTexts.{sim_in};
 ghost use Rattle.bgsim_console.specs.Script.{Entry, Open, command_in, entry_at, is_open, script_says};
 
-use crate::fault::IoFault;
+use crate::fault::{IoFault, Outcome};
+use crate::judge::outcome_if;
 use crate::lines::count_lines;
 use crate::reply::write_reply;
 use crate::report::{write_refused, write_refused_code};
@@ -20,16 +21,34 @@ use std::alloc::{AllocError, Global};
 /// The code of a line that asks for nothing.
 const BAD_COMMAND: u16 = 60;
 
+/// The text that a script leads to, and the end that goes with it.
+#[derive(Drop)]
+pub struct Played {
+    pub output: String,
+    pub ending: Result<Outcome, IoFault>,
+}
+
+/// Judges a script, and does what it asks for where it has no fault.
+pub fn play(alloc: Global, script: &[u8]) -> Result<Played, IoFault>
+    requires { length script.now ≤ 16777216 }
+    ensures text { IfOk result (λ played. IsPlayFor script.now played.ending (string_bytes played.output)) }
+    ensures err { IfErr result (IsFaultOr ⊤ (script_says script.now)) }
+{
+    judge_script(script)?;
+    let player = play_script(alloc, script)?;
+    Ok(player.ended())
+}
+
 /// A service, and what has come of a script's entries so far.
 #[derive(Drop)]
-pub struct Player {
+struct Player {
     service: Service,
     /// The lines of the replies and of the refused blocks.
-    pub output: String,
+    output: String,
     /// Whether a block or a command was refused.
-    pub refused: bool,
+    refused: bool,
     /// Whether one was refused for want of memory.
-    pub lacking: bool,
+    lacking: bool,
 }
 
 impl Player {
@@ -98,6 +117,22 @@ impl Player {
         write_refused_code(&mut self.output, number, Refusal::OutOfMemory.code())
     }
 
+    /// What it has come to. The service is let go.
+    fn ended(self) -> Played
+        ensures output { string_bytes result.output ≡ string_bytes self.output }
+        ensures ending { result.ending ≡ ending_if self.lacking self.refused }
+    {
+        let ending = if self.lacking {
+            Err(IoFault::Memory)
+        } else {
+            Ok(outcome_if(!self.refused))
+        };
+        Played {
+            output: self.output,
+            ending,
+        }
+    }
+
     fn apply(&mut self, alloc: Global, command: Command) -> Result<(), AllocError>
         ensures { OnOk result ((reply : ReplyData) × ((all : List Done) → HasPlayed all self.old.service (string_bytes self.old.output) self.old.refused self.old.lacking → HasPlayed (all ++ Replied command reply ∷ []) self.new.service (string_bytes self.new.output) self.new.refused self.new.lacking)) }
     {
@@ -133,7 +168,7 @@ fn is_want(reply: &Reply) -> bool
 }
 
 /// Judges each line of a script.
-pub fn judge_script(script: &[u8]) -> Result<(), IoFault>
+fn judge_script(script: &[u8]) -> Result<(), IoFault>
     requires { length script.now ≤ 16777216 }
     ensures good { OnOk result (IsOk (script_says script.now)) }
     ensures err { IfErr result (IsFaultOf (script_says script.now)) }
@@ -160,7 +195,7 @@ fn is_good(line: &[u8]) -> bool
 }
 
 /// Does what a script asks for, which has no fault.
-pub fn play_script(alloc: Global, script: &[u8]) -> Result<Player, AllocError>
+fn play_script(alloc: Global, script: &[u8]) -> Result<Player, AllocError>
     requires good { IsOk (script_says script.now) }
     requires short { length script.now ≤ 16777216 }
     ensures { IfOk result (λ player. (entries : List Entry) × (all : List Done) × (script_says script.now ≡ Ok entries) × AreDone entries all × HasPlayed all player.service (string_bytes player.output) player.refused player.lacking) }
