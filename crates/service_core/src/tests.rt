@@ -1,5 +1,6 @@
 use super::*;
-use room_core::CrashReply;
+use indexmap::IndexMap;
+use room_core::{CrashReply, RoomCore, StepReply};
 use room_spec::{Name, Spec, read_block};
 use std::alloc::Global;
 use std::test::*;
@@ -59,11 +60,22 @@ fn commands(alloc: Global, rest: &str, rows: &[(&str, Ask)]) -> Result<Vec<Comma
     Ok(commands)
 }
 
+/// The kind of a reply to a step.
+fn step_kind(last: StepReply) -> &'static str {
+    match last {
+        StepReply::Stepped => "step Stepped",
+        StepReply::Idle => "step Idle",
+        StepReply::OutOfTurns => "step OutOfTurns",
+        StepReply::Crashed => "step Crashed",
+        StepReply::NoSimulator => "step NoSimulator",
+    }
+}
+
 /// The kind of a reply, as scripts print it.
 fn kind(reply: &Reply) -> &'static str {
     match reply {
         Reply::Begun => "opened",
-        Reply::Steps { .. } => "step",
+        Reply::Steps { last, .. } => step_kind(*last),
         Reply::Crash(CrashReply::Crashed) => "crashed",
         Reply::Crash(CrashReply::AlreadyCrashed) => "already",
         Reply::Crash(CrashReply::NoSimulator) => "nobody",
@@ -74,36 +86,46 @@ fn kind(reply: &Reply) -> &'static str {
     }
 }
 
-/// A reply in a word or two, as scripts print it.
-fn words(alloc: Global, reply: &Reply) -> Result<String, Fail> {
-    let kind = kind(reply);
-    Ok(match reply {
-        Reply::Steps { taken, last } => format!(in alloc; "{kind} {taken} {last:?}")?,
-        Reply::Report(report) => format!(in alloc; "{kind} {}", report.history.events().len())?,
-        Reply::Refused(refusal) => format!(in alloc; "{kind} {}", refusal.code())?,
-        _ => String::from_str(alloc, kind)?,
-    })
-}
-
-fn answers(alloc: Global, replies: &[Reply]) -> Result<String, Fail> {
-    let mut text = String::new(alloc);
-    for reply in replies {
-        text.push_str(words(alloc, reply)?.as_str())?;
-        text.push_str("; ")?;
+/// The number in a reply: of steps, of a report's events, or of a refusal.
+fn number(reply: &Reply) -> u64 {
+    match reply {
+        Reply::Steps { taken, .. } => *taken as u64,
+        Reply::Report(report) => report.history.events().len() as u64,
+        Reply::Refused(refusal) => refusal.code() as u64,
+        _ => 0,
     }
-    Ok(text)
 }
 
-/// The replies of a service of its own.
-fn told(alloc: Global, rest: &str, rows: &[(&str, Ask)]) -> Result<String, Fail> {
+/// The kind of a reply and the number in it.
+type Told = (&'static str, u64);
+
+fn told(reply: &Reply) -> Told {
+    (kind(reply), number(reply))
+}
+
+fn all_told(replies: &[Reply], wanted: &[Told]) -> bool {
+    for (reply, wanted) in replies.iter().zip(wanted) {
+        if told(reply) != *wanted {
+            return false;
+        }
+    }
+    replies.len() == wanted.len()
+}
+
+/// Whether a service of its own replies so.
+fn replies_so(
+    alloc: Global,
+    rest: &str,
+    rows: &[(&str, Ask)],
+    wanted: &[Told],
+) -> Result<bool, Fail> {
     let commands = commands(alloc, rest, rows)?;
     let replies = Service::run(alloc, commands)?;
-    answers(alloc, replies.as_slice())
+    Ok(all_told(replies.as_slice(), wanted))
 }
 
-fn applied(alloc: Global, service: &mut Service, command: Command) -> Result<String, Fail> {
-    let reply = service.apply(alloc, command);
-    words(alloc, &reply)
+fn applied(alloc: Global, service: &mut Service, command: Command) -> Told {
+    told(&service.apply(alloc, command))
 }
 
 /// Gives a service a command, to which it replies so.
@@ -113,11 +135,10 @@ fn serve_one(
     rest: &str,
     room: &str,
     ask: Ask,
-    reply: &str,
+    wanted: Told,
 ) -> Result<(), Fail> {
     let command = asked(alloc, rest, room, ask)?;
-    let found = applied(alloc, service, command)?;
-    if found.as_str() != reply {
+    if applied(alloc, service, command) != wanted {
         return Err(Fail::from("this reply"));
     }
     Ok(())
@@ -128,43 +149,60 @@ fn serve(
     alloc: Global,
     service: &mut Service,
     rest: &str,
-    rows: &[(&str, Ask, &str)],
+    rows: &[(&str, Ask, Told)],
 ) -> Result<(), Fail> {
-    for (room, ask, reply) in rows {
-        serve_one(alloc, service, rest, room, *ask, reply)?;
+    for (room, ask, wanted) in rows {
+        serve_one(alloc, service, rest, room, *ask, *wanted)?;
     }
     Ok(())
 }
 
+const TWO_ROOMS: [(&str, Ask); 10] = [
+    ("a", Ask::Begin),
+    ("b", Ask::Begin),
+    ("a", Ask::Step(0, 4)),
+    ("b", Ask::Step(0, 100)),
+    ("a", Ask::Begin),
+    ("c", Ask::Step(0, 1)),
+    ("a", Ask::Step(0, 100)),
+    ("b", Ask::Step(1, 1)),
+    ("b", Ask::Close),
+    ("b", Ask::Report),
+];
+
+const REPLIES: [Told; 10] = [
+    ("opened", 0),
+    ("opened", 0),
+    ("step Stepped", 4),
+    ("step Idle", 11),
+    ("refused", 41),
+    ("refused", 40),
+    ("step Idle", 7),
+    ("refused", 42),
+    ("closed", 0),
+    ("refused", 40),
+];
+
 #[test]
 fn two_rooms_and_nothing_between_them(rt: HostRuntime) -> Result<(), Fail> {
-    let rows = [
-        ("a", Ask::Begin),
-        ("b", Ask::Begin),
-        ("a", Ask::Step(0, 4)),
-        ("b", Ask::Step(0, 100)),
-        ("a", Ask::Begin),
-        ("c", Ask::Step(0, 1)),
-        ("a", Ask::Step(0, 100)),
-        ("b", Ask::Step(1, 1)),
-        ("b", Ask::Close),
-        ("b", Ask::Report),
-    ];
-    assert_eq!(rt;
-        told(rt.alloc(), ONE, &rows)?.as_str(),
-        "opened; opened; step 4 Stepped; step 11 Idle; refused 41; refused 40; step 7 Idle; refused 42; closed; refused 40; "
-    );
+    assert!(rt; replies_so(rt.alloc(), ONE, &TWO_ROOMS, &REPLIES)?);
     Ok(())
 }
 
+const FIRST_FAULTS: [(&str, Ask, Told); 3] = [
+    ("one", Ask::Crash(255), ("refused", 40)),
+    ("one", Ask::Begin, ("opened", 0)),
+    ("one", Ask::Crash(255), ("refused", 42)),
+];
+
 #[test]
 fn no_room_before_no_simulator(rt: HostRuntime) -> Result<(), Fail> {
-    let rows = [
-        ("one", Ask::Crash(255), "refused 40"),
-        ("one", Ask::Begin, "opened"),
-        ("one", Ask::Crash(255), "refused 42"),
-    ];
-    serve(rt.alloc(), &mut Service::new(rt.alloc()), ONE, &rows)
+    serve(
+        rt.alloc(),
+        &mut Service::new(rt.alloc()),
+        ONE,
+        &FIRST_FAULTS,
+    )
 }
 
 /// The report of the room of this name.
@@ -175,6 +213,18 @@ fn reported(alloc: Global, service: &mut Service, room: &str) -> Result<Report, 
     }
 }
 
+/// The report of the room of this name, by a service that was given commands, each with its reply.
+fn report_after(
+    alloc: Global,
+    rest: &str,
+    rows: &[(&str, Ask, Told)],
+    room: &str,
+) -> Result<Report, Fail> {
+    let mut service = Service::new(alloc);
+    serve(alloc, &mut service, rest, rows)?;
+    reported(alloc, &mut service, room)
+}
+
 /// Whether simulator 0 of the pair has crashed inside its first agreement.
 fn is_half_done(report: &Report) -> bool {
     report.states.as_slice() == [ProcessState::Held(0), ProcessState::Decided(3)].as_slice()
@@ -182,20 +232,18 @@ fn is_half_done(report: &Report) -> bool {
         && report.history.events().len() == 4
 }
 
+const A_CRASH: [(&str, Ask, Told); 6] = [
+    ("pair", Ask::Begin, ("opened", 0)),
+    ("pair", Ask::Step(0, 5), ("step Stepped", 5)),
+    ("pair", Ask::Crash(0), ("crashed", 0)),
+    ("pair", Ask::Crash(0), ("already", 0)),
+    ("pair", Ask::Step(0, 1), ("step Crashed", 0)),
+    ("pair", Ask::Settle, ("settled", 0)),
+];
+
 #[test]
 fn a_crash_inside_an_agreement_and_settling(rt: HostRuntime) -> Result<(), Fail> {
-    let rows = [
-        ("pair", Ask::Begin, "opened"),
-        ("pair", Ask::Step(0, 5), "step 5 Stepped"),
-        ("pair", Ask::Crash(0), "crashed"),
-        ("pair", Ask::Crash(0), "already"),
-        ("pair", Ask::Step(0, 1), "step 0 Crashed"),
-        ("pair", Ask::Settle, "settled"),
-    ];
-    let mut service = Service::new(rt.alloc());
-    serve(rt.alloc(), &mut service, PAIR, &rows)?;
-    let report = reported(rt.alloc(), &mut service, "pair")?;
-    assert!(rt; is_half_done(&report));
+    assert!(rt; is_half_done(&report_after(rt.alloc(), PAIR, &A_CRASH, "pair")?));
     Ok(())
 }
 
@@ -205,43 +253,55 @@ fn serve_numbered(
     service: &mut Service,
     number: u64,
     ask: Ask,
-    reply: &str,
+    wanted: Told,
 ) -> Result<(), Fail> {
     let room = format!(in alloc; "r{number}")?;
-    serve_one(alloc, service, ONE, room.as_str(), ask, reply)
+    serve_one(alloc, service, ONE, room.as_str(), ask, wanted)
 }
 
 /// Gives a service a command to each of 200 rooms, to which it replies so.
-fn serve_each(alloc: Global, service: &mut Service, ask: Ask, reply: &str) -> Result<(), Fail> {
+fn serve_each(alloc: Global, service: &mut Service, ask: Ask, wanted: Told) -> Result<(), Fail> {
     for number in 0..200 {
-        serve_numbered(alloc, service, number, ask, reply)?;
+        serve_numbered(alloc, service, number, ask, wanted)?;
     }
     Ok(())
 }
 
 /// Lets 200 rooms begin and take all their steps, and closes those with an odd number.
 fn fill(alloc: Global, service: &mut Service) -> Result<(), Fail> {
-    serve_each(alloc, service, Ask::Begin, "opened")?;
+    serve_each(alloc, service, Ask::Begin, ("opened", 0))?;
     for _ in 0..11 {
-        serve_each(alloc, service, Ask::Step(0, 1), "step 1 Stepped")?;
+        serve_each(alloc, service, Ask::Step(0, 1), ("step Stepped", 1))?;
     }
     for number in 0..200 {
         if number % 2 == 1 {
-            serve_numbered(alloc, service, number, Ask::Close, "closed")?;
+            serve_numbered(alloc, service, number, Ask::Close, ("closed", 0))?;
         }
     }
     Ok(())
 }
 
+/// The rooms that are left once 200 have begun and those with an odd number are closed.
+fn left_rooms(alloc: Global) -> Result<IndexMap<Name, RoomCore>, Fail> {
+    let mut service = Service::new(alloc);
+    fill(alloc, &mut service)?;
+    Ok(service.into_rooms())
+}
+
+/// Whether a room of this name is among the rooms.
+fn has_room(rooms: &IndexMap<Name, RoomCore>, room: &str) -> Option<bool> {
+    let name = Name::read(room.as_bytes())?;
+    Some(rooms.contains_key(&name))
+}
+
+fn are_half(rooms: &IndexMap<Name, RoomCore>) -> bool {
+    rooms.len() == 100
+        && has_room(rooms, "r42") == Some(true)
+        && has_room(rooms, "r43") == Some(false)
+}
+
 #[test]
 fn rooms_that_are_left(rt: HostRuntime) -> Result<(), Fail> {
-    let even = name("r42")?;
-    let odd = name("r43")?;
-    let mut service = Service::new(rt.alloc());
-    fill(rt.alloc(), &mut service)?;
-    let rooms = service.into_rooms();
-    assert_eq!(rt; rooms.len(), 100);
-    assert!(rt; rooms.contains_key(&even));
-    assert!(rt; !rooms.contains_key(&odd));
+    assert!(rt; are_half(&left_rooms(rt.alloc())?));
     Ok(())
 }

@@ -10,6 +10,7 @@ use std::alloc::Global;
 use std::sync::Wait;
 use std::test::*;
 use std::thread::Threads;
+use ws_history::Report;
 
 const SEED: u64 = 88172645463325252;
 
@@ -95,6 +96,26 @@ fn by_five_workers_and_sixteen(rt: HostRuntime) -> Result<(), Fail> {
     Ok(())
 }
 
+/// The report of the next drawn room, which one worker runs alone.
+fn run_next<R: Threads + Wait + Sync>(
+    rt: &R,
+    alloc: Global,
+    state: &mut u64,
+) -> Result<Report, Fail> {
+    let text = drawn_room(alloc, state)?;
+    run_one(rt, alloc, text.as_str(), 1, &FreeGate)
+}
+
+fn is_as_alone<R: Threads + Wait + Sync>(
+    rt: &R,
+    alloc: Global,
+    state: &mut u64,
+    report: &Report,
+) -> Result<bool, Fail> {
+    let alone = run_next(rt, alloc, state)?;
+    Ok(are_same(report, &alone))
+}
+
 /// Whether one worker brings each room to the report that it has alone.
 fn are_as_alone<R: Threads + Wait + Sync>(
     rt: &R,
@@ -103,9 +124,7 @@ fn are_as_alone<R: Threads + Wait + Sync>(
 ) -> Result<bool, Fail> {
     let mut state = SEED;
     for result in results {
-        let text = drawn_room(alloc, &mut state)?;
-        let alone = run_one(rt, alloc, text.as_str(), 1, &FreeGate)?;
-        if !are_same(&result.report, &alone) {
+        if !is_as_alone(rt, alloc, &mut state, &result.report)? {
             return Ok(false);
         }
     }

@@ -132,34 +132,53 @@ fn no_fuse(rt: HostRuntime) -> Result<(), Fail> {
     Ok(())
 }
 
-/// Takes a turn with this fuse. Tells why the simulator has stopped, if it has, and how many steps it has taken by then.
-fn turn_taken(room: &RuledRoom, simulator: &mut Simulator, fuse: &Fuse) -> (Option<Stop>, u64)
+/// Takes a turn with this fuse. Tells whether the simulator then stops so, and has taken so many steps.
+fn turn_comes(
+    room: &RuledRoom,
+    simulator: &mut Simulator,
+    fuse: &Fuse,
+    stop: Option<Stop>,
+    taken: u64,
+) -> bool
     requires { simulator.old.room ≡ room.now }
     ensures { simulator.new.room ≡ simulator.old.room }
 {
-    let stop = turn(simulator, room, fuse);
-    (stop, simulator.mind().steps_taken())
+    turn(simulator, room, fuse) == stop && simulator.mind().steps_taken() == taken
+}
+
+/// A fuse, why the simulator stops in a turn with it, if it does, and how many steps it has taken by then.
+type TurnRow = (Fuse, Option<Stop>, u64);
+
+/// Takes turn after turn. Tells whether each ends so.
+fn turns_come(room: &RuledRoom, simulator: &mut Simulator, turns: &[TurnRow]) -> bool
+    requires { simulator.old.room ≡ room.now }
+    ensures { simulator.new.room ≡ simulator.old.room }
+{
+    for (fuse, stop, taken) in turns {
+        if !turn_comes(room, simulator, fuse, *stop, *taken) {
+            return false;
+        }
+    }
+    true
+}
+
+/// Whether the turns of simulator 0 of the pair end so.
+fn turns_of_pair(alloc: Global, turns: &[TurnRow]) -> Result<bool, Fail> {
+    let (room, mut keeper) = fresh(alloc, PAIR)?;
+    let mut simulator = give(&mut keeper, &room, 0)?;
+    Ok(turns_come(&room, &mut simulator, turns))
 }
 
 #[test]
 fn one_turn_after_the_other(rt: HostRuntime) -> Result<(), Fail> {
-    let (room, mut keeper) = fresh(rt.alloc(), PAIR)?;
-    let mut simulator = give(&mut keeper, &room, 0)?;
-    let fuse = Fuse::after(23);
-    let found = [
-        turn_taken(&room, &mut simulator, &fuse),
-        turn_taken(&room, &mut simulator, &fuse),
-        turn_taken(&room, &mut simulator, &fuse),
-        turn_taken(&room, &mut simulator, &Fuse::none()),
+    let turns = [
+        (Fuse::after(23), None, 11),
+        (Fuse::after(23), None, 23),
+        // The fuse comes before what the step would find.
+        (Fuse::after(23), Some(Stop::Crashed), 23),
+        (Fuse::none(), Some(Stop::Idle), 23),
     ];
-    // The fuse comes before what the step would find.
-    let expected = [
-        (None, 11),
-        (None, 23),
-        (Some(Stop::Crashed), 23),
-        (Some(Stop::Idle), 23),
-    ];
-    assert_eq!(rt; found.as_slice(), expected.as_slice());
+    assert!(rt; turns_of_pair(rt.alloc(), turns.as_slice())?);
     Ok(())
 }
 
@@ -170,6 +189,20 @@ struct Visits {
     wrong: AtomicU64,
 }
 
+impl Visits {
+    fn new() -> Visits {
+        Visits {
+            next: AtomicU64::new(0),
+            wrong: AtomicU64::new(0),
+        }
+    }
+
+    /// Whether simulator 1 has made so many visits, each counted from 0, and no other came.
+    fn are(&self, count: u64) -> bool {
+        self.next.load(Ordering::SeqCst) == count && self.wrong.load(Ordering::SeqCst) == 0
+    }
+}
+
 impl Gate for Visits {
     fn pass(&self, worker: u8, visit: u64) {
         if worker != 1 || self.next.fetch_add(1, Ordering::SeqCst) != visit {
@@ -178,16 +211,16 @@ impl Gate for Visits {
     }
 }
 
+/// Why simulator 1 of the pair stops, driven alone with no fuse.
+fn second_driven<G: Gate>(alloc: Global, gate: &G) -> Result<Stop, Fail> {
+    let (room, mut keeper) = fresh(alloc, PAIR)?;
+    drive_one(&room, &mut keeper, 1, &Fuse::none(), gate)
+}
+
 #[test]
 fn the_gate_is_passed_before_each_turn(rt: HostRuntime) -> Result<(), Fail> {
-    let (room, mut keeper) = fresh(rt.alloc(), PAIR)?;
-    let gate = Visits {
-        next: AtomicU64::new(0),
-        wrong: AtomicU64::new(0),
-    };
-    let stop = drive_one(&room, &mut keeper, 1, &Fuse::none(), &gate)?;
-    assert_eq!(rt; stop, Stop::Idle);
-    assert_eq!(rt; gate.next.load(Ordering::SeqCst), 3);
-    assert_eq!(rt; gate.wrong.load(Ordering::SeqCst), 0);
+    let gate = Visits::new();
+    let stop = second_driven(rt.alloc(), &gate)?;
+    assert!(rt; stop == Stop::Idle && gate.are(3));
     Ok(())
 }

@@ -305,14 +305,29 @@ fn a_spent_process(rt: HostRuntime) -> Result<(), Fail> {
     Ok(())
 }
 
-/// Tries to close a room of which simulator 1 is still out.
+/// Lets simulator 0 crash after five steps, and takes it back. Gives simulator 1, which is then still
+/// out.
+fn first_home(room: &RuledRoom, keeper: &mut Keeper) -> Result<Simulator, Fail>
+    requires { keeper.old.room ≡ room.now }
+    ensures keeper { keeper.new.room ≡ keeper.old.room }
+    ensures simulator { IfOk result (λ simulator. simulator.room ≡ room.now) }
+{
+    let crashing = give(keeper, room, 0)?;
+    let other = give(keeper, room, 1)?;
+    if step_home(room, keeper, crashing, 5, Stop::Crashed) != 5 {
+        return Err(Fail::from("five steps"));
+    }
+    Ok(other)
+}
+
+/// Tries to close a room of which simulator 1 is still out, and simulator 0 has crashed.
 fn stays_open(alloc: Global, room: RuledRoom, keeper: Keeper) -> Result<(RuledRoom, Keeper), Fail>
     requires { keeper.room ≡ room }
     ensures { IfOk result (λ r. (r.0 ≡ room) × (r.1.room ≡ r.0)) }
 {
     match room.close(alloc, keeper) {
         Err((room, keeper, gone)) => {
-            if gone != Gone::StillOut(1) {
+            if gone != Gone::StillOut(1) || keeper.holds(0) {
                 return Err(Fail::from("simulator 1 still out"));
             }
             Ok((room, keeper))
@@ -321,20 +336,34 @@ fn stays_open(alloc: Global, room: RuledRoom, keeper: Keeper) -> Result<(RuledRo
     }
 }
 
+/// Lets simulator 1 take twenty steps, once the room did not close without it, and closes it then.
+fn closed_late(
+    alloc: Global,
+    room: RuledRoom,
+    keeper: Keeper,
+    other: Simulator,
+) -> Result<RoomCore, Fail>
+    requires keeper { keeper.room ≡ room }
+    requires other { other.room ≡ room }
+{
+    let (room, mut keeper) = stays_open(alloc, room, keeper)?;
+    if step_home(&room, &mut keeper, other, 100, Stop::Idle) != 20 {
+        return Err(Fail::from("twenty steps"));
+    }
+    close(alloc, room, keeper)
+}
+
+/// The report of the pair, which does not close before simulator 1 is back.
+fn told_late(alloc: Global) -> Result<Report, Fail> {
+    let (room, mut keeper) = fresh(alloc, PAIR)?;
+    let other = first_home(&room, &mut keeper)?;
+    let core = closed_late(alloc, room, keeper, other)?;
+    Ok(report(alloc, &core)?)
+}
+
 #[test]
 fn a_room_with_one_still_out(rt: HostRuntime) -> Result<(), Fail> {
-    let (room, mut keeper) = fresh(rt.alloc(), PAIR)?;
-    let crashing = give(&mut keeper, &room, 0)?;
-    let other = give(&mut keeper, &room, 1)?;
-    assert_eq!(rt;
-        step_home(&room, &mut keeper, crashing, 5, Stop::Crashed),
-        5
-    );
-    let (room, mut keeper) = stays_open(rt.alloc(), room, keeper)?;
-    assert!(rt; !keeper.holds(0));
-    assert_eq!(rt; step_home(&room, &mut keeper, other, 100, Stop::Idle), 20);
-    let core = close(rt.alloc(), room, keeper)?;
-    let report = report(rt.alloc(), &core)?;
+    let report = told_late(rt.alloc())?;
     let states = [ProcessState::Held(0), ProcessState::Decided(3)];
     assert!(rt; tells(&report, &states, &[0]));
     Ok(())
