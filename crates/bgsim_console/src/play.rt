@@ -1,5 +1,5 @@
 //! A script, entry by entry.
-ghost use Rattle.std.specs.Prelude.{◌≡◌, ◌≤◌, ◌<◌, ⊤, ◌+◌, ◌^◌, ◌||◌, ◌++◌, ◌∷◌, [], true, false, List, Ok, IsOk, IfOk, IfErr, OnOk, decimal, is_some, length, string_bytes};
+ghost use Rattle.std.specs.Prelude.{◌≡◌, ◌≤◌, ◌<◌, ◌+◌, ◌^◌, ◌||◌, ◌++◌, ◌∷◌, [], true, false, List, Ok, IsOk, IfOk, IfErr, OnOk, decimal, is_some, length, string_bytes};
 ghost use Rattle.service_core.specs.declared.reply.Reply.{Reply as ReplyData};
 ghost use Rattle.service_core.specs.Runs.{is_want};
 ghost use Rattle.bgsim_console.specs.Check.{IsFaultOf, IsFaultOr, fault_text, refused_line};
@@ -32,7 +32,8 @@ pub struct Played {
 pub fn play(alloc: Global, script: &[u8]) -> Result<Played, IoFault>
     requires { length script.now ≤ 16777216 }
     ensures text { IfOk result (λ played. IsPlayFor script.now played.ending (string_bytes played.output)) }
-    ensures err { IfErr result (IsFaultOr ⊤ (script_says script.now)) }
+    // Want of memory hides no bad line.
+    ensures err { IfErr result (IsFaultOr (IsOk (script_says script.now)) (script_says script.now)) }
 {
     judge_script(script)?;
     let player = play_script(alloc, script)?;

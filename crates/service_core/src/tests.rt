@@ -89,9 +89,9 @@ fn kind(reply: &Reply) -> &'static str {
 /// The number in a reply: of steps, of a report's events, or of a refusal.
 fn number(reply: &Reply) -> u64 {
     match reply {
-        Reply::Steps { taken, .. } => *taken as u64,
+        Reply::Steps { taken, .. } => u64::from(*taken),
         Reply::Report(report) => report.history.events().len() as u64,
-        Reply::Refused(refusal) => refusal.code() as u64,
+        Reply::Refused(refusal) => u64::from(refusal.code()),
         _ => 0,
     }
 }
