@@ -1,3 +1,4 @@
+use Rattle.std.proofs.Common.{rules}
 use Rattle.scheduler.proofs.Ending.{each_ended, nobody_out}
 use Rattle.scheduler.proofs.rooms.finish.Goals as goal
 
@@ -13,6 +14,6 @@ returns c =
       same = core.0;
       run = c.in-Ok.ensures.run;
       each = each_ended c.args.room c.args.keeper c.in-Ok.core c.requires.room c.requires.kept core.0 core.1 core.2;
-      settled = c.settle.ensures.room;
+      settled = search rules;
       reported = record { fields = c.in_ok-report.ensures.fields; run = c.in_ok-report.ensures.run; held = c.in_ok-report.ensures.held };
     }
