@@ -47,6 +47,8 @@ impl Fuse {
 }
 
 impl Default for Fuse {
+    ghost is_default = { λ fuse. fuse ≡ None };
+
     fn default() -> Fuse {
         Fuse::none()
     }
