@@ -1,4 +1,4 @@
-use Rattle.std.proofs.Common.{◌≡◌, ◌+◌, true, false, length, sym, arith}
+use Rattle.std.proofs.Common.{◌≡◌, ◌+◌, true, false, length, sym, arith, rules}
 use Rattle.std.specs.Option.{option_copied}
 use Rattle.room_spec.specs.Blocks.{is_end, body_len}
 use Rattle.room_spec.proofs.Blocks.{found_here, found_nowhere, goes_on, counted_here, counted_nowhere, counted_on}
@@ -34,3 +34,6 @@ loop-later-preserved c =
       so_far = goes_on (length c.args.text.now) c.loop-later.rest.now c.cut.result.0.now c.in_ok-rest.rest.now (body_len c.args.text.now) (rw c.in_ok-rest.was at c.cut.ensures.pieces) is shorter c.loop-later.invariant.within c.loop-later.invariant.so_far;
       counted = counted_on c.loop-later.lines c.loop-later.rest.now c.cut.result.0.now c.in_ok-rest.rest.now _ (rw c.in_ok-rest.was at c.cut.ensures.pieces) is c.loop-later.invariant.counted;
     }
+
+pub loop-later-init : goal.loop-later-init
+loop-later-init c = search rules

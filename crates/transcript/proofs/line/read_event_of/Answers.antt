@@ -1,4 +1,4 @@
-use Rattle.std.proofs.Common.{refl}
+use Rattle.std.proofs.Common.{refl, rules}
 use Rattle.std.proofs.lemmas.Result.{err_from_is_err_and}
 use Rattle.transcript.proofs.Rows.{event_some}
 use Rattle.transcript.proofs.line.read_event_of.Goals as goal
@@ -13,3 +13,6 @@ pub returns-in_ok-p-in_default-Some : goal.returns-in_ok-p-in_default-Some
 returns-in_ok-p-in_default-Some c =
     let pieces = rw c.in_default-Some.is-1 at c.cut_near.ensures.pieces in
     rw (pieces, event_some c.args.process.now c.cut_near.result.0.now c.in_default-Some.values.now, ← c.in_ok-p-in_default-Some.ensures.value) (rw c.in_default-Some.values-is at c.read_deed.ensures)
+
+pub returns-in_default-None : goal.returns-in_default-None
+returns-in_default-None c = search rules

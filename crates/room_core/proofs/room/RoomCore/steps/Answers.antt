@@ -1,4 +1,4 @@
-use Rattle.std.proofs.Common.{subst}
+use Rattle.std.proofs.Common.{subst, rules}
 use Rattle.room_spec.specs.Rooms.{IsWithinLimits}
 use Rattle.room_core.specs.Calls.{RoomState}
 use Rattle.room_core.proofs.Repeating.{agreements_stay_after, fields_after, reply_after}
@@ -23,3 +23,6 @@ pub returns-clause-agreement : goal.returns-clause-agreement
 returns-clause-agreement c = λ fields are.
     let limits = subst (λ (r : RoomState). IsWithinLimits r.spec) c.self.view_is c.self.invariant.is_room.shape.limits in
     agreements_stay_after c.args.self.now fields c.args.i c.run.result limits are
+
+pub returns-clause-stopped : goal.returns-clause-stopped
+returns-clause-stopped c = search rules

@@ -1,0 +1,5 @@
+use Rattle.std.proofs.Common.{rules}
+use Rattle.protocol_lang.proofs.meaning.first.Goals as goal
+
+pub returns : goal.returns
+returns c = search rules
