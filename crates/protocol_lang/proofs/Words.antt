@@ -1,12 +1,10 @@
 -- Words and symbols, and how they are spelled.
 use Rattle.std.proofs.Common.{◌≡◌, ℕ, Bool, true, false, eqb, List, [], ◌∷◌, ◌++◌, length, take, drop, Some, refl, inl, inr}
 use Rattle.std.specs.List.{list_all, find}
-use Rattle.std.specs.Option.{option_or}
 use Rattle.std.specs.Str.{bytes_eq}
 use Rattle.std.proofs.lemmas.Bool.{cases_Bool, eqb-true}
-use Rattle.std.proofs.lemmas.List.Folds.{find-append}
 use Rattle.std.proofs.lemmas.Slice.Eq.{bytes_eq-Decides}
-use Rattle.protocol_lang.specs.Tokens.{is_letter, word_spelling, keywords, operands, words, word_of, keyword_of, operand_of, symbol_spelling, all_symbols, symbol_of}
+use Rattle.protocol_lang.specs.Tokens.{is_letter, word_spelling, words, word_of, symbol_spelling, all_symbols, symbol_of}
 use Rattle.protocol_lang.specs.Grammar.{goes_on, EndsBefore}
 use Rattle.protocol_lang.specs.declared.token.Word.{Word}
 use Rattle.protocol_lang.specs.declared.token.Word.TheVariants.{First}
@@ -21,9 +19,6 @@ find_holds test (y ∷ xs) x e =
       | inl holds ↦ let first = rw holds at e in let same : y ≡ x = cc in rw (← same) holds
       | inr fails ↦ find_holds test xs x (rw fails at e)
     ]
-
-pub word_of_either : (letters : List ℕ) → word_of letters ≡ option_or (keyword_of letters) (operand_of letters)
-word_of_either letters = find-append (λ word. bytes_eq letters (word_spelling word)) keywords operands
 
 pub word_spelled : (letters : List ℕ) (word : Word) → word_of letters ≡ Some word → letters ≡ word_spelling word
 word_spelled letters word e = (bytes_eq-Decides letters (word_spelling word)).0 (find_holds (λ w. bytes_eq letters (word_spelling w)) words word e)

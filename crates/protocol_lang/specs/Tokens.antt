@@ -61,12 +61,6 @@ spelled_among some letters = find (λ word. bytes_eq letters (word_spelling word
 abbrev pub word_of : List ℕ → Option Word
 word_of letters = spelled_among words letters
 
-abbrev pub keyword_of : List ℕ → Option Word
-keyword_of letters = spelled_among keywords letters
-
-abbrev pub operand_of : List ℕ → Option Word
-operand_of letters = spelled_among operands letters
-
 abbrev pub symbol_spelling : Symbol → List ℕ
 symbol_spelling symbols.Semicolon = codes ";"
 symbol_spelling symbols.Open = codes "("

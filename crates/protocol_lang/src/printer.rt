@@ -2,7 +2,7 @@
 ghost use Rattle.std.specs.Prelude.{◌≡◌, ◌≤◌, ◌∷◌, ◌++◌, [], ℕ, List, true, false, IfOk, OnOk, Ok, length, map, string_bytes};
 ghost use Rattle.std.specs.List.{flat_map};
 ghost use Rattle.protocol_lang.specs.Stacks.{pushed, below_top};
-ghost use Rattle.protocol_lang.specs.Tokens.{word_spelling, symbol_spelling};
+ghost use Rattle.protocol_lang.specs.Tokens.{symbol_spelling};
 ghost use Rattle.protocol_lang.specs.Formulas.{most_waiting, last_of, hold, stepped, made_by, leaf_tree, leaf_made};
 ghost use Rattle.protocol_lang.specs.Comparisons.{comparison_of};
 ghost use Rattle.protocol_lang.specs.Grammar.{word_for, call_word, operator_symbol, comparator_symbol, kind_word, enclosed_tokens, expression_tokens, comparison_tokens, conditions_tokens, action_rule_tokens, rule_tokens, tree_tokens, IsText};
@@ -503,32 +503,6 @@ impl Token {
             }
             Token::Symbol(symbol) => text.push_str(symbol.spelling()),
             Token::End => Ok(()),
-        }
-    }
-}
-
-impl Word {
-    fn spelling(self) -> &'static str
-        ensures { result.now ≡ word_spelling self }
-    {
-        match self {
-            Word::First => "first",
-            Word::When => "when",
-            Word::And => "and",
-            Word::Write => "write",
-            Word::Decide => "decide",
-            Word::Else => "else",
-            Word::Input => "input",
-            Word::Id => "id",
-            Word::N => "n",
-            Word::Round => "round",
-            Word::Mine => "mine",
-            Word::Count => "count",
-            Word::Min => "min",
-            Word::Max => "max",
-            Word::Cell => "cell",
-            Word::Seen => "seen",
-            Word::Equal => "equal",
         }
     }
 }

@@ -1,6 +1,6 @@
 //! The tokens of the language.
 ghost use Rattle.std.specs.Prelude.{◌≡◌, ◌≤◌, length, IfSome};
-ghost use Rattle.protocol_lang.specs.Tokens.{is_end, word_of, keyword_of, operand_of, symbol_of, symbol_spelling, name_of, call_of, operator_of, comparator_of, kind_of};
+ghost use Rattle.protocol_lang.specs.Tokens.{is_end, word_spelling, word_of, symbol_of, symbol_spelling, name_of, call_of, operator_of, comparator_of, kind_of};
 
 use crate::tree::{Call, Comparator, Kind, Name, Operator};
 
@@ -55,50 +55,60 @@ pub enum Token {
     End,
 }
 
+/// Every word.
+const WORDS: [Word; 17] = [
+    Word::First,
+    Word::When,
+    Word::And,
+    Word::Write,
+    Word::Decide,
+    Word::Else,
+    Word::Input,
+    Word::Id,
+    Word::N,
+    Word::Round,
+    Word::Mine,
+    Word::Count,
+    Word::Min,
+    Word::Max,
+    Word::Cell,
+    Word::Seen,
+    Word::Equal,
+];
+
 impl Word {
     /// The word that these letters spell.
-    #[tactic(auto, using(crate::proofs::Words::word_of_either))]
     pub(crate) fn spelled(letters: &[u8]) -> Option<Word>
         ensures { result ≡ word_of letters.now }
     {
-        match Word::keyword(letters) {
-            Some(word) => Some(word),
-            None => Word::operand(letters),
-        }
+        WORDS
+            .iter()
+            .copied()
+            .find(|word| letters == word.spelling().as_bytes())
     }
 
-    /// The word of a protocol's rules that these letters spell.
-    fn keyword(letters: &[u8]) -> Option<Word>
-        ensures { result ≡ keyword_of letters.now }
+    /// How the word is spelled.
+    pub(crate) fn spelling(self) -> &'static str
+        ensures { result.now ≡ word_spelling self }
     {
-        match letters {
-            b"first" => Some(Word::First),
-            b"when" => Some(Word::When),
-            b"and" => Some(Word::And),
-            b"write" => Some(Word::Write),
-            b"decide" => Some(Word::Decide),
-            b"else" => Some(Word::Else),
-            _ => None,
-        }
-    }
-
-    /// The word of an expression that these letters spell.
-    fn operand(letters: &[u8]) -> Option<Word>
-        ensures { result ≡ operand_of letters.now }
-    {
-        match letters {
-            b"input" => Some(Word::Input),
-            b"id" => Some(Word::Id),
-            b"n" => Some(Word::N),
-            b"round" => Some(Word::Round),
-            b"mine" => Some(Word::Mine),
-            b"count" => Some(Word::Count),
-            b"min" => Some(Word::Min),
-            b"max" => Some(Word::Max),
-            b"cell" => Some(Word::Cell),
-            b"seen" => Some(Word::Seen),
-            b"equal" => Some(Word::Equal),
-            _ => None,
+        match self {
+            Word::First => "first",
+            Word::When => "when",
+            Word::And => "and",
+            Word::Write => "write",
+            Word::Decide => "decide",
+            Word::Else => "else",
+            Word::Input => "input",
+            Word::Id => "id",
+            Word::N => "n",
+            Word::Round => "round",
+            Word::Mine => "mine",
+            Word::Count => "count",
+            Word::Min => "min",
+            Word::Max => "max",
+            Word::Cell => "cell",
+            Word::Seen => "seen",
+            Word::Equal => "equal",
         }
     }
 }
