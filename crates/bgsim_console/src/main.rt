@@ -17,8 +17,6 @@ mod laws;
 mod lines;
 mod output;
 mod play;
-#[cfg(test)]
-mod play_tests;
 mod reply;
 mod report;
 #[cfg(test)]

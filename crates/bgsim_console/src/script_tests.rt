@@ -1,23 +1,23 @@
-//! Scripts over several rooms, each reply and each fault, and devices that fail in the middle.
+//! Random scripts over several rooms, and devices that fail in the middle.
 use crate::device::Device;
 use crate::engine::play_io;
 use crate::fault::{IoFault, Outcome};
-use crate::lines::count_lines;
-use crate::play_tests::played;
 use crate::room_tests::Random;
-use crate::tests::{Trickle, judge};
+use crate::tests::{ONE, Trickle, judge};
 use std::alloc::{AllocError, Global};
-use std::fmt::Write as _;
 use std::io;
 use std::io::Write;
 use std::process::Abort;
 use std::test::*;
 
-const TOP: &str = "bgsim 1\nroom one\n";
-
-const NUMBERS: &str = "inputs 5\nsimulators 1\nrounds 1\nturns 10\n";
-
-const PROTOCOL: &str = "protocol\nfirst input;\nelse decide mine;\nend\n";
+/// What `play` answers, and what it writes.
+fn played(alloc: Global, script: &str) -> (Result<Outcome, IoFault>, Vec<u8>) {
+    let mut reader = Device::new(script.as_bytes());
+    let mut written = Vec::new(alloc);
+    let mut writer = Device::new(&mut written);
+    let found = play_io(alloc, &mut reader, &mut writer);
+    (found, written)
+}
 
 /// The replies to a script that can be played.
 fn replies(alloc: Global, script: &str) -> Result<Vec<u8>, Fail> {
@@ -28,7 +28,7 @@ fn replies(alloc: Global, script: &str) -> Result<Vec<u8>, Fail> {
 }
 
 /// The text with a name in place of each `@`.
-pub fn named(alloc: Global, text: &str, name: &str) -> Result<String, AllocError> {
+fn named(alloc: Global, text: &str, name: &str) -> Result<String, AllocError> {
     let mut named = String::new(alloc);
     for part in text.chars() {
         if part == '@' {
@@ -122,111 +122,6 @@ fn random_scripts(rt: HostRuntime) -> Result<(), Fail> {
     Ok(())
 }
 
-/// Each command to a room that isn't there, to one of two processes, and to one that is closed.
-const EACH_COMMAND: &str =
-    "step @ 0 1\ncrash @ 0\nsettle @\nreport @\nclose @\nopen\nbgsim 1\nroom @\ninputs 7 3\nsimulators 2\nrounds 1\nturns 1\nprotocol\nfirst input;\nelse decide mine;\nend\nopen\nbgsim 1\nroom @\ninputs 7 3\nsimulators 2\nrounds 1\nturns 1\nprotocol\nfirst input;\nelse decide mine;\nend\nstep @ 0 3\nstep @ 0 99\nstep @ 2 1\ncrash @ 1\ncrash @ 1\nstep @ 1 1\ncrash @ 255\nsettle @\nreport @\nclose @\nclose @\n";
-
-const EACH_REPLY: &str =
-    "@ refused 40\n@ refused 40\n@ refused 40\n@ refused 40\n@ refused 40\n@ opened\n@ refused 41\n@ step 0 3 stepped\n@ step 0 8 out of turns\n@ refused 42\n@ crash 1 crashed\n@ crash 1 already\n@ step 1 0 crashed\n@ refused 42\n@ settled\n@ report\n@ process 0 decided 7\n@ process 1 going\n@ crashed 1\n@ history 3\n@ 0 write 7\n@ 0 snap 7 .\n@ 0 decide 7\n@ end\n@ closed\n@ refused 40\n";
-
-#[test]
-fn each_reply(rt: HostRuntime) -> Result<(), Fail> {
-    let alloc = rt.alloc();
-    for name in ["x", "y-2"] {
-        let script = named(alloc, EACH_COMMAND, name)?;
-        let output = named(alloc, EACH_REPLY, name)?;
-        let found = replies(alloc, script.as_str())?;
-        assert_eq!(rt; found.as_slice(), output.as_bytes());
-    }
-    Ok(())
-}
-
-/// The head of a block, its numbers, the rest, and its fault with the numbers behind it.
-const REFUSED: [(&str, &str, &str, &str); 23] = [
-    ("bgsim 2\n", "", PROTOCOL, "11 1"),
-    ("bgsim 1 \n", NUMBERS, PROTOCOL, "11 1"),
-    ("bgsim 1\nroom One\n", NUMBERS, PROTOCOL, "12"),
-    ("bgsim 1\nroom \n", NUMBERS, PROTOCOL, "12"),
-    (TOP, "inputs \n", PROTOCOL, "11 3"),
-    (TOP, "inputs 05\n", PROTOCOL, "11 3"),
-    (TOP, "inputs\n", PROTOCOL, "14"),
-    (TOP, "inputs 1 4294967296\n", PROTOCOL, "14"),
-    (TOP, "inputs 1\nsimulators 0\n", PROTOCOL, "15"),
-    (TOP, "inputs 1\nsimulators 9\n", PROTOCOL, "15"),
-    (TOP, "inputs 1\nsimulators 1\nrounds 0\n", PROTOCOL, "16"),
-    (TOP, "inputs 1\nsimulators 1\nrounds 16\n", PROTOCOL, "16"),
-    (
-        TOP,
-        "inputs 1 1 1\nsimulators 8\nrounds 4\n",
-        PROTOCOL,
-        "18",
-    ),
-    (
-        TOP,
-        "inputs 1 1 1\nsimulators 6\nrounds 8\n",
-        PROTOCOL,
-        "18",
-    ),
-    (
-        TOP,
-        "inputs 1\nsimulators 1\nrounds 1\nturns 0\n",
-        PROTOCOL,
-        "17",
-    ),
-    (
-        TOP,
-        "inputs 1\nsimulators 1\nrounds 1\nturns 65536\n",
-        PROTOCOL,
-        "17",
-    ),
-    (TOP, NUMBERS, "crash 1 after 3\nend\n", "19 7"),
-    (TOP, NUMBERS, "crash 0 after\nend\n", "19 7"),
-    (
-        TOP,
-        NUMBERS,
-        "crash 0 after 1\ncrash 0 after 2\nend\n",
-        "20 8",
-    ),
-    (
-        TOP,
-        NUMBERS,
-        "crash 0 after 1\ncrash 0 after 1\nend\n",
-        "20 8",
-    ),
-    (TOP, NUMBERS, "protocol\nend\n", "13 3 0"),
-    (TOP, NUMBERS, "protocol\nfirst 05;\nend\n", "13 2 6"),
-    (TOP, NUMBERS, "protocol\nfirst min;\nend\n", "13 6 6"),
-];
-
-/// Puts a block behind the script, where the next line has this number, and its fault behind the output.
-/// It gives the number of the next line then.
-fn push_refused(
-    alloc: Global,
-    script: &mut String,
-    output: &mut String,
-    line: u64,
-    (top, numbers, rest, fault): (&str, &str, &str, &str),
-) -> Result<u64, Fail> {
-    let lines = format!(in alloc; "open\n{top}{numbers}{rest}")?;
-    script.push_str(lines.as_str())?;
-    write!(output, "line {line} refused {fault}\n")?;
-    Ok(count_lines(lines.as_bytes()).saturating_add(line))
-}
-
-#[test]
-fn each_refused_block(rt: HostRuntime) -> Result<(), Fail> {
-    let alloc = rt.alloc();
-    let mut script = String::new(alloc);
-    let mut output = String::new(alloc);
-    let mut line: u64 = 2;
-    for row in REFUSED {
-        line = push_refused(alloc, &mut script, &mut output, line, row)?;
-    }
-    let found = replies(alloc, script.as_str())?;
-    assert_eq!(rt; found.as_slice(), output.as_bytes());
-    Ok(())
-}
-
 /// It takes one byte a call, and fails once it has taken so many.
 #[derive(Drop)]
 struct Filling {
@@ -253,7 +148,7 @@ impl Write for Filling {
 
 /// A script with a block, a bad block and a report.
 fn failing_script(alloc: Global) -> Result<String, AllocError> {
-    format!(in alloc; "open\n{TOP}{NUMBERS}{PROTOCOL}step one 0 4\nopen\nend\nreport one\n")
+    format!(in alloc; "open\n{ONE}step one 0 4\nopen\nend\nreport one\n")
 }
 
 #[test]

@@ -7,69 +7,21 @@ use std::io::Write;
 use std::process::Abort;
 use std::test::*;
 
-/// Holds what the words ask for against these.
+/// Holds what the words ask for, a run, against these.
 fn expect_line(
     rt: &impl Abort,
     alloc: Global,
     words: &[&str],
-    command: Mode,
     file: Option<&str>,
     workers: u8,
 ) -> Result<(), Fail> {
     let found: Line<'_> = line(alloc, words)?;
     let asked = Line {
-        command,
+        command: Mode::Run,
         file,
         workers,
     };
     assert_eq!(rt; found, asked, "in {words:?}");
-    Ok(())
-}
-
-#[test]
-fn good_words(rt: HostRuntime) -> Result<(), Fail> {
-    let alloc = rt.alloc();
-    for (words, mode, file) in [
-        ([].as_slice(), Mode::Check, None),
-        (["check"].as_slice(), Mode::Check, None),
-        (
-            ["check", "rooms.txt"].as_slice(),
-            Mode::Check,
-            Some("rooms.txt"),
-        ),
-        (["check", "check"].as_slice(), Mode::Check, Some("check")),
-        (["check", "play"].as_slice(), Mode::Check, Some("play")),
-        (["check", "help"].as_slice(), Mode::Check, Some("help")),
-        (["check", "-"].as_slice(), Mode::Check, Some("-")),
-        (["check", ""].as_slice(), Mode::Check, Some("")),
-        (["check", "--"].as_slice(), Mode::Check, None),
-        (
-            ["check", "--", "--rooms"].as_slice(),
-            Mode::Check,
-            Some("--rooms"),
-        ),
-        (
-            ["check", "rooms.txt", "--"].as_slice(),
-            Mode::Check,
-            Some("rooms.txt"),
-        ),
-        (["play"].as_slice(), Mode::Play, None),
-        (
-            ["play", "script.txt"].as_slice(),
-            Mode::Play,
-            Some("script.txt"),
-        ),
-        (["play", "check"].as_slice(), Mode::Play, Some("check")),
-        (["play", "-"].as_slice(), Mode::Play, Some("-")),
-        (["play", "--"].as_slice(), Mode::Play, None),
-        (
-            ["play", "--", "--script"].as_slice(),
-            Mode::Play,
-            Some("--script"),
-        ),
-    ] {
-        expect_line(&rt, alloc, words, mode, file, 2)?;
-    }
     Ok(())
 }
 
@@ -82,81 +34,9 @@ fn words_of_run(rt: HostRuntime) -> Result<(), Fail> {
         (["run", "F", "--workers=16"].as_slice(), Some("F"), 16),
         (["run", "--workers", "01"].as_slice(), None, 1),
     ] {
-        expect_line(&rt, rt.alloc(), words, Mode::Run, file, workers)?;
+        expect_line(&rt, rt.alloc(), words, file, workers)?;
     }
     Ok(())
-}
-
-/// Holds the kind of error that the words give against this.
-fn expect_refused(rt: &impl Abort, alloc: Global, words: &[&str], kind: ErrorKind) {
-    let found = line(alloc, words).err().map(|error| error.kind());
-    assert_eq!(rt; found, Some(kind), "in {words:?}");
-}
-
-#[test]
-fn wrong_words_of_run(rt: HostRuntime) {
-    for (words, kind) in [
-        (
-            ["run", "--workers", "0"].as_slice(),
-            ErrorKind::ValueValidation,
-        ),
-        (
-            ["run", "--workers", "17"].as_slice(),
-            ErrorKind::ValueValidation,
-        ),
-        (["run", "a", "b"].as_slice(), ErrorKind::UnknownArgument),
-        (["run", "--help"].as_slice(), ErrorKind::DisplayHelp),
-    ] {
-        expect_refused(&rt, rt.alloc(), words, kind);
-    }
-}
-
-#[test]
-fn other_words(rt: HostRuntime) {
-    let alloc = rt.alloc();
-    for (words, kind) in [
-        (["--help"].as_slice(), ErrorKind::DisplayHelp),
-        (["-h"].as_slice(), ErrorKind::DisplayHelp),
-        (["check", "--help"].as_slice(), ErrorKind::DisplayHelp),
-        (["play", "--help"].as_slice(), ErrorKind::DisplayHelp),
-        (["--version"].as_slice(), ErrorKind::DisplayVersion),
-        (["-V"].as_slice(), ErrorKind::DisplayVersion),
-        (["help"].as_slice(), ErrorKind::InvalidSubcommand),
-        (["Play"].as_slice(), ErrorKind::InvalidSubcommand),
-        (["step"].as_slice(), ErrorKind::InvalidSubcommand),
-        (["Run"].as_slice(), ErrorKind::InvalidSubcommand),
-        (["rooms.txt"].as_slice(), ErrorKind::InvalidSubcommand),
-        (["Check"].as_slice(), ErrorKind::InvalidSubcommand),
-        ([""].as_slice(), ErrorKind::InvalidSubcommand),
-        (["--"].as_slice(), ErrorKind::MissingSubcommand),
-        (["--", "check"].as_slice(), ErrorKind::UnknownArgument),
-        (["--", "play"].as_slice(), ErrorKind::UnknownArgument),
-        (["play", "--version"].as_slice(), ErrorKind::UnknownArgument),
-        (
-            ["play", "--workers", "2"].as_slice(),
-            ErrorKind::UnknownArgument,
-        ),
-        (["play", "a", "b"].as_slice(), ErrorKind::UnknownArgument),
-        (
-            ["check", "--version"].as_slice(),
-            ErrorKind::UnknownArgument,
-        ),
-        (
-            ["check", "--workers", "2"].as_slice(),
-            ErrorKind::UnknownArgument,
-        ),
-        (
-            ["--workers", "2", "check"].as_slice(),
-            ErrorKind::UnknownArgument,
-        ),
-        (["check", "a", "b"].as_slice(), ErrorKind::UnknownArgument),
-        (
-            ["check", "a", "--", "b"].as_slice(),
-            ErrorKind::UnknownArgument,
-        ),
-    ] {
-        expect_refused(&rt, alloc, words, kind);
-    }
 }
 
 /// It fails its second call and gives or takes no bytes from the third on.
@@ -232,24 +112,6 @@ fn writes_of_devices(rt: HostRuntime) {
     write_two(&rt, &mut device, Err(DeviceFailed), (1, true));
 }
 
-#[test]
-fn statuses(rt: HostRuntime) {
-    assert_eq!(rt; Outcome::AllWell.status(), 0);
-    assert_eq!(rt; Outcome::SomeRefused.status(), 1);
-    for (fault, status) in [
-        (IoFault::Read, 2),
-        (IoFault::Write, 2),
-        (IoFault::TooLong, 2),
-        (IoFault::BadInput { line: 7, code: 61 }, 2),
-        (IoFault::Run(RunFault::Workers), 2),
-        (IoFault::Run(RunFault::Spawn), 2),
-        (IoFault::Run(RunFault::OutOfMemory), 3),
-        (IoFault::Memory, 3),
-    ] {
-        assert_eq!(rt; fault.status(), status, "of {fault}");
-    }
-}
-
 /// Holds what an engine answered and wrote against these.
 pub fn judge(
     rt: &impl Abort,
@@ -262,19 +124,7 @@ pub fn judge(
     assert_eq!(rt; ending.1.as_slice(), output, "of {case:?}");
 }
 
-const PAIRM: &str =
-    "bgsim 1\nroom pair\ninputs 7 3\nsimulators 2\nrounds 1\nturns 100\nprotocol\nfirst input;\nelse decide mine;\nend\n";
-
-const TWO: &str =
-    "bgsim 1\nroom two\ninputs 5\nsimulators 2\nrounds 2\nturns 10\nprotocol\nfirst input;\nwhen round < 2 write mine + 1;\nelse decide max;\nend\n";
-
-const TWICE_CRASHED: &str =
-    "bgsim 1\nroom one\ninputs 5\nsimulators 1\nrounds 1\nturns 10\ncrash 0 after 3\ncrash 0 after 4\nprotocol\nfirst input;\nelse decide mine;\nend\n";
-
-const STRANGER_CRASHED: &str =
-    "bgsim 1\nroom one\ninputs 5\nsimulators 1\nrounds 1\nturns 10\ncrash 1 after 3\nprotocol\nfirst input;\nelse decide mine;\nend\n";
-
-const ONE: &str =
+pub const ONE: &str =
     "bgsim 1\nroom one\ninputs 5\nsimulators 1\nrounds 1\nturns 10\nprotocol\nfirst input;\nelse decide mine;\nend\n";
 
 /// What `check` answers and writes, and in how many writes.
@@ -290,109 +140,6 @@ fn checked_in_writes(alloc: Global, input: &[u8]) -> ((Result<Outcome, IoFault>,
 /// What `check` answers, and what it writes.
 fn checked(alloc: Global, input: &[u8]) -> (Result<Outcome, IoFault>, Vec<u8>) {
     checked_in_writes(alloc, input).0
-}
-
-/// Two blocks, what stands behind them, the answer, and the output.
-const ANSWERS: [(&str, &str, &str, Outcome, &str); 8] = [
-    (
-        PAIRM,
-        ONE,
-        "events\npair 0 write 7\none 0 write 5\npair 1 write 3\none 0 snap 5\npair 0 snap 7 3\npair 0 decide 7\none 0 decide 5\n",
-        Outcome::AllWell,
-        "pair is a run\none is a run\n",
-    ),
-    (
-        PAIRM,
-        ONE,
-        "events\npair 0 write 7\none 0 write 5\npair 0 snap 7 3\none 0 snap 5\npair 1 write 3\none 0 decide 5",
-        Outcome::SomeRefused,
-        "pair is not a run: line 24\none is a run\n",
-    ),
-    (
-        PAIRM,
-        ONE,
-        "events\none 1 write 5\n",
-        Outcome::SomeRefused,
-        "pair is a run\none is not a run: line 22\n",
-    ),
-    (
-        TWO,
-        "",
-        "events\ntwo 0 write 5\ntwo 0 snap 5\ntwo 0 write 6\ntwo 0 snap 6\ntwo 0 decide 6\n",
-        Outcome::AllWell,
-        "two is a run\n",
-    ),
-    (
-        TWO,
-        "",
-        "events\ntwo 0 write 5\ntwo 0 snap 5\ntwo 0 write 6\ntwo 0 snap 6\ntwo 0 decide 5\n",
-        Outcome::SomeRefused,
-        "two is not a run: line 17\n",
-    ),
-    (
-        TWICE_CRASHED,
-        STRANGER_CRASHED,
-        "events\n",
-        Outcome::SomeRefused,
-        "line 1 refused 20 8\nline 13 refused 19 7\n",
-    ),
-    (
-        ONE,
-        ONE,
-        "events",
-        Outcome::SomeRefused,
-        "line 11 refused 41\none is a run\n",
-    ),
-    (
-        "",
-        "",
-        "bgsim 2\nend\nevents\n",
-        Outcome::SomeRefused,
-        "line 1 refused 11 1\n",
-    ),
-];
-
-/// Checks the input of a row, and holds the answer and the output against the row's.
-fn expect_answer(
-    rt: &impl Abort,
-    alloc: Global,
-    (first, second, events, answer, output): (&str, &str, &str, Outcome, &str),
-) -> Result<(), Fail> {
-    let input = format!(in alloc; "{first}{second}{events}")?;
-    let ending = checked(alloc, input.as_bytes());
-    judge(rt, &events, &ending, Ok(answer), output.as_bytes());
-    Ok(())
-}
-
-#[test]
-fn answers(rt: HostRuntime) -> Result<(), Fail> {
-    for row in ANSWERS {
-        expect_answer(&rt, rt.alloc(), row)?;
-    }
-    Ok(())
-}
-
-/// A block, what stands behind it, and the line and the code of the input's fault.
-const BAD_INPUTS: [(&str, &str, u64, u16); 8] = [
-    (ONE, "events\none 0 wrote 5\n", 12, 31),
-    (ONE, "events\none 16 write 5\n", 12, 32),
-    (ONE, "events\none 0 write\n", 12, 33),
-    (ONE, "events\nOne 0 write 5\n", 12, 30),
-    (ONE, "events\ntwo 0 write 5\n", 12, 40),
-    ("", "", 1, 61),
-    (ONE, "", 11, 61),
-    ("", "bgsim 1\nroom one\n", 3, 61),
-];
-
-#[test]
-fn bad_inputs(rt: HostRuntime) -> Result<(), Fail> {
-    for (block, events, line, code) in BAD_INPUTS {
-        let input = format!(in rt.alloc(); "{block}{events}")?;
-        let ending = checked(rt.alloc(), input.as_bytes());
-        let answer = Err(IoFault::BadInput { line, code });
-        judge(&rt, &events, &ending, answer, &[]);
-    }
-    Ok(())
 }
 
 #[test]
@@ -651,20 +398,17 @@ fn more_than_1000_small_reads(rt: HostRuntime) -> Result<(), Fail> {
     Ok(())
 }
 
+/// The faults that no case of the folder `program` can bring about.
 #[test]
-fn messages(rt: HostRuntime) -> Result<(), Fail> {
-    for (fault, text) in [
-        (IoFault::Read, "read failed"),
-        (IoFault::Write, "write failed"),
-        (IoFault::TooLong, "input too long"),
-        (IoFault::BadInput { line: 7, code: 61 }, "line 7: fault 61"),
-        (IoFault::Run(RunFault::Workers), "bad number of workers"),
-        (IoFault::Run(RunFault::Spawn), "cannot start a worker"),
-        (IoFault::Run(RunFault::OutOfMemory), "out of memory"),
-        (IoFault::Memory, "out of memory"),
+fn faults_of_a_run(rt: HostRuntime) -> Result<(), Fail> {
+    for (fault, text, status) in [
+        (RunFault::Workers, "bad number of workers", 2),
+        (RunFault::OutOfMemory, "out of memory", 3),
     ] {
+        let fault = IoFault::Run(fault);
         let found = format!(in rt.alloc(); "{fault}")?;
         assert_eq!(rt; found.as_str(), text);
+        assert_eq!(rt; fault.status(), status, "of {text}");
     }
     Ok(())
 }
