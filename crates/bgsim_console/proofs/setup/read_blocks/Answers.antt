@@ -4,7 +4,7 @@ use Rattle.std.specs.Prelude.{codes}
 use Rattle.std.specs.Str.{bytes_eq}
 use Rattle.bgsim_console.proofs.BlockEnds.{block_found, ended, few_ended, positive_len}
 use Rattle.bgsim_console.proofs.Blocks.{within_text, behind, line_bound, shorter_behind, step_blocks, begins, refused_block}
-use Rattle.bgsim_console.specs.Check.{blocks_in}
+use Rattle.bgsim_console.specs.Check.{blocks_in, blocks_from}
 use Rattle.std.proofs.lemmas.Result.{err_from_is_err_and}
 use Rattle.bgsim_console.proofs.setup.read_blocks.Goals as goal
 
@@ -52,3 +52,7 @@ take_ended-requires-clause-within c =
     let few = few_ended (take c.min-len.result rest) c.in-Some.end.body c.in-Some.end.lines block in
     let long = length-take-le c.min-len.result rest (omega (arith, c.min-len.ensures)) in
     (omega (arith, long, c.min-len.ensures, c.in-Some.ensures.within), few)
+
+pub returns-in_default-clause-err : goal.returns-in_default-clause-err
+unfolding blocks_from
+returns-in_default-clause-err c = search rules

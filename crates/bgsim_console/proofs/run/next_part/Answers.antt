@@ -1,0 +1,6 @@
+use Rattle.std.proofs.Common.{arith}
+use Rattle.std.proofs.lemmas.Grind.{common_steps}
+use Rattle.bgsim_console.proofs.run.next_part.Goals as goal
+
+pub returns-then-len-eq-ROOMS_AT_ONCE-clause-part : goal.returns-then-len-eq-ROOMS_AT_ONCE-clause-part
+returns-then-len-eq-ROOMS_AT_ONCE-clause-part c = grind (arith, common_steps)
