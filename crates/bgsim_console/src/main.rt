@@ -11,12 +11,16 @@ mod device;
 mod engine;
 mod events;
 mod fault;
+#[cfg(test)]
+mod feeding_tests;
 mod input;
 mod judge;
 mod laws;
 mod lines;
 mod output;
 mod play;
+#[cfg(test)]
+mod protocol_tests;
 mod reply;
 mod report;
 #[cfg(test)]
@@ -30,6 +34,8 @@ mod script_tests;
 mod setup;
 #[cfg(test)]
 mod tests;
+#[cfg(test)]
+mod text_tests;
 
 use clap::error::ErrorKind;
 use command_line::{Line, Mode, line};

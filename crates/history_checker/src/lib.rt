@@ -10,6 +10,3 @@ mod told;
 
 pub use history::check;
 pub use rooms::{AddFault, NoRoom, Rooms, Specs, Verdict};
-
-#[cfg(test)]
-mod tests;

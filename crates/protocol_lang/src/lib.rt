@@ -22,8 +22,3 @@ pub use meaning::{Action, MAX_PROCESSES, View, first, next};
 pub use number::read_number;
 pub use printer::print;
 pub use protocol::{Protocol, parse, parse_bytes};
-
-#[cfg(test)]
-mod printing_tests;
-#[cfg(test)]
-mod tests;

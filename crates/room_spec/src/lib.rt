@@ -17,6 +17,3 @@ pub use name::Name;
 pub use protocols::Protocols;
 pub use spec::{MAX_PROCESSES, MAX_SIMULATORS, Shape, Spec};
 pub use text::{cut, cut_near};
-
-#[cfg(test)]
-mod tests;

@@ -5,8 +5,6 @@ mod event;
 mod fault;
 pub mod laws;
 mod line;
-#[cfg(test)]
-mod tests;
 
 pub use event::Event;
 pub use fault::LineFault;

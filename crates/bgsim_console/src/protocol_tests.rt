@@ -1,6 +1,7 @@
+//! Printed protocols, and what no input can show of how protocols are read and what they mean.
 ghost use Rattle.std.specs.Prelude.{◌<◌};
 
-use super::*;
+use protocol_lang::{Action, ParseFault, View, next, parse, print, read_number};
 use std::alloc::{AllocError, Global};
 use std::test::*;
 
@@ -200,5 +201,108 @@ fn most_rules(rt: HostRuntime) -> Result<(), Fail> {
     text.push_str("else write1;")?;
     let printed = reprinted(alloc, &text)?;
     assert_eq!(rt; printed.as_str(), text.as_str());
+    Ok(())
+}
+
+/// `head`, and then `part` so many times, and then `tail`.
+fn repeated(
+    rt: &HostRuntime,
+    head: &str,
+    part: &str,
+    count: usize,
+    tail: &str,
+) -> Result<String, Fail> {
+    let mut text = String::from_str(rt.alloc(), head)?;
+    for _ in 0..count {
+        text.push_str(part)?;
+    }
+    text.push_str(tail)?;
+    Ok(text)
+}
+
+fn view_of(entries: [Option<u32>; 3]) -> View {
+    let mut view = View::new();
+    for entry in entries {
+        let _ = view.try_push(entry);
+    }
+    view
+}
+
+#[test]
+fn values_in_views(rt: HostRuntime) -> Result<(), Fail> {
+    let nothing = view_of([None, None, None]);
+    let some = view_of([None, Some(8), Some(6)]);
+    for (expression, of_nothing, of_some) in [
+        ("min", 0, 6),
+        ("max", 0, 8),
+        ("count", 0, 2),
+        ("mine", 0, 8),
+        ("n", 3, 3),
+        ("id", 1, 1),
+        ("input", 5, 5),
+        ("round", 4, 4),
+        ("cell(0)", 0, 0),
+        ("cell(2)", 0, 6),
+        ("cell(3)", 0, 0),
+        ("seen(0)", 0, 0),
+        ("seen(1)", 0, 1),
+        ("seen(4294967295)", 0, 0),
+        ("equal(8)", 0, 1),
+        ("equal(0)", 0, 0),
+        ("cell(cell(n - 1) - 5)", 0, 8),
+    ] {
+        let text = repeated(&rt, "first 1;else write ", expression, 1, ";")?;
+        let protocol = parse(rt.alloc(), &text)?;
+        assert_eq!(rt;
+            next(&protocol, 5, 1, 4, &nothing),
+            Action::Write(of_nothing),
+            "{expression} of nothing"
+        );
+        assert_eq!(rt;
+            next(&protocol, 5, 1, 4, &some),
+            Action::Write(of_some),
+            "{expression}"
+        );
+    }
+    Ok(())
+}
+
+#[test]
+fn numbers(rt: HostRuntime) {
+    assert_eq!(rt; read_number(b"0"), Some(0));
+    assert_eq!(rt; read_number(b"4294967296"), Some(4294967296));
+    assert_eq!(rt; read_number(b"99999999999999999999"), Some(4294967296));
+    assert_eq!(rt; read_number(b"007"), None);
+    assert_eq!(rt; read_number(b"1a"), None);
+    assert_eq!(rt; read_number(b""), None);
+}
+
+/// The code of the fault that no text has by itself.
+#[test]
+fn code_of_refused_memory(rt: HostRuntime) {
+    assert_eq!(rt; ParseFault::OutOfMemory.code(), 8);
+}
+
+#[test]
+fn messages(rt: HostRuntime) -> Result<(), Fail> {
+    for (fault, text) in [
+        (ParseFault::TooLong, "the protocol has more than 4096 bytes"),
+        (ParseFault::BadToken(7), "no token at byte 7"),
+        (ParseFault::Unexpected(7), "unexpected token at byte 7"),
+        (
+            ParseFault::TooDeep(7),
+            "more than 32 open parentheses at byte 7",
+        ),
+        (ParseFault::TooManyRules, "more than 32 rules"),
+        (
+            ParseFault::ViewInFirst(7),
+            "the first value can't read the view, at byte 7",
+        ),
+        (ParseFault::NumberTooLarge(7), "number too large at byte 7"),
+        (ParseFault::OutOfMemory, "out of memory"),
+    ] {
+        let found = format!(in rt.alloc(); "{fault}")?;
+        assert_eq!(rt; found.as_str(), text);
+    }
     Ok(())
 }

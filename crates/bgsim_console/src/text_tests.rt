@@ -1,0 +1,103 @@
+//! What no input shows of room blocks and event lines: calls that the program doesn't make, and messages.
+use crate::tests::ONE;
+use protocol_lang::{ParseFault, View};
+use room_spec::{Name, SpecFault, read_body};
+use std::alloc::Global;
+use std::test::*;
+use transcript::{Event, LineFault, append_event, read_line, write_event};
+
+#[test]
+fn bodies_of_blocks(rt: HostRuntime) -> Result<(), Fail> {
+    let body = ONE.strip_suffix("end\n").ok_or("a block")?;
+    let room = read_body(rt.alloc(), body.as_bytes()).ok().ok_or("a room")?;
+    assert!(rt; room.name().as_str() == "one" && room.fuse(0).is_none());
+    Ok(())
+}
+
+#[test]
+fn name_with_a_line_end(rt: HostRuntime) {
+    assert!(rt; Name::read(b"a\n").is_none());
+}
+
+/// Whether a fault has this message.
+fn says(alloc: Global, fault: SpecFault, text: &str) -> Result<bool, Fail> {
+    let found = format!(in alloc; "{fault}")?;
+    Ok(found.as_str() == text)
+}
+
+#[test]
+fn messages_of_block_faults(rt: HostRuntime) -> Result<(), Fail> {
+    for (fault, text) in [
+        (SpecFault::Truncated, "the room block has no line `end`"),
+        (
+            SpecFault::BadLine(3),
+            "line 3 hasn't the form that it should have",
+        ),
+        (SpecFault::BadName, "bad name of a room"),
+        (
+            SpecFault::BadProtocol(ParseFault::TooManyRules),
+            "bad protocol: more than 32 rules",
+        ),
+        (SpecFault::Inputs, "not 1 to 16 inputs up to 4294967295"),
+        (SpecFault::Simulators, "not 1 to 8 simulators"),
+        (SpecFault::Rounds, "not 1 to 15 rounds"),
+        (SpecFault::Turns, "not 1 to 65535 turns"),
+        (
+            SpecFault::TooWide,
+            "simulators, processes and rounds need more than 64 bits",
+        ),
+        (
+            SpecFault::CrashLine(7),
+            "line 7 is no crash of a simulator after up to 4294967295 steps",
+        ),
+        (
+            SpecFault::Repeated(8),
+            "line 8 is a second crash of its simulator",
+        ),
+    ] {
+        assert!(rt; says(rt.alloc(), fault, text)?, "{text}");
+    }
+    Ok(())
+}
+
+#[test]
+fn written_lines(rt: HostRuntime) -> Result<(), Fail> {
+    for line in [
+        "one 0 write 5",
+        "one 0 snap 5",
+        "pair 1 snap . 4294967295",
+        "abcdefghijklmnopqrstuvwxyz_-0123 15 snap . . . . . . . . . . . . . . . .",
+        "0-_z 15 decide 4294967295",
+    ] {
+        let (name, event) = read_line(line.as_bytes()).ok().ok_or("no event")?;
+        let written = write_event(rt.alloc(), &name, &event)?;
+        assert_eq!(rt; written.as_slice(), line.as_bytes());
+    }
+    let name = Name::read(b"one").ok_or("no name")?;
+    let mut row = View::new();
+    row.push(Some(5));
+    let written = write_event(rt.alloc(), &name, &Event::Snap { p: 0, row })?;
+    assert_eq!(rt; written.as_slice(), b"one 0 snap 5".as_slice());
+    let mut text = String::from_str(rt.alloc(), "one 0 write 5\n")?;
+    append_event(&mut text, &name, &Event::Write { p: 15, v: 6 })?;
+    assert_eq!(rt; text.as_str(), "one 0 write 5\none 15 write 6");
+    Ok(())
+}
+
+#[test]
+fn messages_of_line_faults(rt: HostRuntime) -> Result<(), Fail> {
+    for (fault, text) in [
+        (LineFault::BadName, "bad name of a room"),
+        (
+            LineFault::BadWord,
+            "not one of the words `write`, `snap` and `decide`",
+        ),
+        (LineFault::BadNumber, "bad number"),
+        (LineFault::BadLength, "too few or too many fields"),
+        (LineFault::TooLong, "the line has more than 256 bytes"),
+    ] {
+        let found = format!(in rt.alloc(); "{fault}")?;
+        assert_eq!(rt; found.as_str(), text);
+    }
+    Ok(())
+}
