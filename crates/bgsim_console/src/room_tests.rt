@@ -1,12 +1,15 @@
 //! Rooms under random schedules with crashes: whatever came before, the history is a run, and no
-//! more processes are held than simulators have crashed.
+//! more processes are held than simulators have crashed. And the words of all rooms whose step numbers
+//! fill a word.
 ghost use Rattle.std.specs.Prelude.{◌<◌};
 
 use history_checker::check;
 use room_core::RoomCore;
-use room_spec::{Spec, read_block};
+use room_spec::{Shape, Spec, read_block};
+use std::process::Abort;
 use std::test::*;
 use transcript::Event;
+use view_table::{Place, index, words};
 use ws_history::{ProcessState, Report, report};
 
 const ONE: &str =
@@ -131,5 +134,85 @@ fn random_schedules(rt: HostRuntime) -> Result<(), Fail> {
             wander(&rt, text, seed * 1000037, 12)?;
         }
     }
+    Ok(())
+}
+
+/// The shape of a room of so many processes, simulators and rounds, if there is one.
+fn shape_of(rt: &HostRuntime, n: usize, m: usize, rounds: usize) -> Result<Option<Shape>, Fail> {
+    let mut inputs = String::from_str(rt.alloc(), "inputs")?;
+    for _ in 0..n {
+        inputs.push_str(" 0")?;
+    }
+    let text = format!(in rt.alloc();
+        "bgsim 1\nroom a\n{inputs}\nsimulators {m}\nrounds {rounds}\nturns 1\nprotocol\nfirst input;else decide min;\nend\n"
+    )?;
+    match read_block(rt.alloc(), text.as_bytes()) {
+        Ok((spec, _)) => Ok(Some(spec.shape())),
+        Err(_) => Ok(None),
+    }
+}
+
+/// Goes over all places in the order of their indexes, and gives the index after the last.
+fn after_all_places(rt: &impl Abort, shape: &Shape) -> usize {
+    let mut next: usize = 0;
+    assert_eq!(rt; index(shape, Place::Steps), next);
+    next = 1;
+    for process in 0..shape.n {
+        for round in 1..shape.rounds + 1 {
+            assert_eq!(rt; index(shape, Place::Levels { process, round }), next);
+            next = next.wrapping_add(1);
+        }
+    }
+    for simulator in 0..shape.m {
+        for process in 0..shape.n {
+            for round in 1..shape.rounds + 1 {
+                let place = Place::View {
+                    simulator,
+                    process,
+                    round,
+                };
+                assert_eq!(rt; index(shape, place), next);
+                next = next.wrapping_add(1);
+            }
+        }
+    }
+    for simulator in 0..shape.m {
+        for process in 0..shape.n {
+            for round in 1..shape.rounds + 1 {
+                let place = Place::Value {
+                    simulator,
+                    process,
+                    round,
+                };
+                assert_eq!(rt; index(shape, place), next);
+                next = next.wrapping_add(1);
+            }
+        }
+    }
+    for simulator in 0..shape.m {
+        for process in 0..shape.n {
+            assert_eq!(rt; index(shape, Place::Out { simulator, process }), next);
+            next = next.wrapping_add(1);
+        }
+    }
+    next
+}
+
+#[test]
+fn rooms_that_fill_the_word_of_steps(rt: HostRuntime) -> Result<(), Fail> {
+    let mut rooms: u64 = 0;
+    for n in 1..17 {
+        for m in 1..9 {
+            for rounds in 1..16 {
+                if let Some(shape) = shape_of(&rt, n, m, rounds)? {
+                    if shape.m * shape.n * shape.bits == 64 {
+                        rooms = rooms.wrapping_add(1);
+                        assert_eq!(rt; after_all_places(&rt, &shape), words(&shape));
+                    }
+                }
+            }
+        }
+    }
+    assert_eq!(rt; rooms, 40);
     Ok(())
 }

@@ -7,6 +7,3 @@ pub mod laws;
 
 pub use agreement::{least_at, levels};
 pub use bits::{added, field, one_at, taken};
-
-#[cfg(test)]
-mod tests;

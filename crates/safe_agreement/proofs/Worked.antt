@@ -7,11 +7,23 @@ use Rattle.safe_agreement.specs.Phases.{Change, Enters, Looks, Leaves, phase_lev
 inside : (resolved_of (2 ∷ 1 ∷ []) ≡ None) × (leave_of (2 ∷ 1 ∷ []) ≡ 0)
 inside = (refl, refl)
 
-second : resolved_of (0 ∷ 2 ∷ []) ≡ Some 1
-second = refl
+second : (resolved_of (0 ∷ 2 ∷ []) ≡ Some 1) × (leave_of (0 ∷ 2 ∷ []) ≡ 0)
+second = (refl, refl)
 
 both : resolved_of (2 ∷ 2 ∷ []) ≡ Some 0
 both = refl
+
+both_inside : leave_of (1 ∷ 1 ∷ []) ≡ 2
+both_inside = refl
+
+one_inside : resolved_of (0 ∷ 1 ∷ []) ≡ None
+one_inside = refl
+
+withdrawn_of_eight : leave_of (0 ∷ 1 ∷ 0 ∷ 2 ∷ 0 ∷ 0 ∷ 0 ∷ 1 ∷ []) ≡ 0
+withdrawn_of_eight = refl
+
+least_of_eight : resolved_of (0 ∷ 0 ∷ 0 ∷ 0 ∷ 0 ∷ 2 ∷ 0 ∷ 2 ∷ []) ≡ Some 5
+least_of_eight = refl
 
 nobody : (resolved_of (0 ∷ 0 ∷ []) ≡ None) × (leave_of (0 ∷ 0 ∷ []) ≡ 2)
 nobody = (refl, refl)

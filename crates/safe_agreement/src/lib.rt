@@ -10,8 +10,6 @@ ghost use Rattle.std.specs.Prelude.{◌≡◌, ◌==◌, IfNone, IfSome, positio
 ghost use Rattle.safe_agreement.specs.Levels.{IsClean, IsResolvedTo, leave_of, resolved_of};
 
 pub mod laws;
-#[cfg(test)]
-mod tests;
 
 /// The level to which a simulator goes when it leaves an agreement, by the levels that it saw when
 /// it looked, one for each simulator, each 0 to 2: 0 where some level was 2, and else 2 (the end of a

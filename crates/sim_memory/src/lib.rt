@@ -14,8 +14,6 @@ ghost use Rattle.room_spec.specs.Sizes.{sizes_of};
 ghost use Rattle.sim_memory.specs.Steps.{IsHolder, holder_of, merged_of, place_of, step_in};
 
 pub mod laws;
-#[cfg(test)]
-mod tests;
 mod writes;
 
 use level_cells::field;

@@ -50,6 +50,10 @@ two_by_two_words : words_of two_by_two ≡ 15
 unfolding two_by_two words_of
 two_by_two_words = refl
 
+two_by_two_last : index_of two_by_two (Out 1 1) ≡ 14
+unfolding two_by_two index_of
+two_by_two_last = refl
+
 -- the most words of any room: 16 processes, one simulator, 15 rounds
 longest : Sizes
 longest = record {
@@ -79,3 +83,7 @@ full = record {
 full_words : words_of full ≡ 249
 unfolding full words_of
 full_words = refl
+
+full_last : index_of full (Out 3 7) ≡ 248
+unfolding full index_of
+full_last = refl

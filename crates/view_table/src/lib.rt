@@ -5,6 +5,3 @@ pub mod laws;
 mod place;
 
 pub use place::{Place, index, words};
-
-#[cfg(test)]
-mod tests;
