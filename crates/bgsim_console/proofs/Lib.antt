@@ -3,6 +3,7 @@ pub mod BlockEnds
 pub mod Commands
 pub mod LineLists
 pub mod Naming
+pub mod Subcommands
 pub mod Numbering
 pub mod Taken
 pub mod ReplyTexts

@@ -4,7 +4,7 @@ ghost use Rattle.clap.specs.Kinds.{FailsBy};
 ghost use Rattle.clap.specs.Values.{kind_of};
 ghost use Rattle.clap.specs.declared.error.kind.ErrorKind.TheVariants.{OutOfMemory};
 ghost use Rattle.clap.specs.declared.builder.command.Command.TheViews.{out-Command};
-ghost use Rattle.clap.specs.Words.{app_of, fault_of, first_value, found_of, subcommand_of, subcommand_rows_of};
+ghost use Rattle.clap.specs.Words.{app_of, fault_of, first_value, found_of, subcommand_of, subcommand_rows_of, with_subcommand};
 ghost use Rattle.bgsim_console.specs.CommandLine.{bgsim_app, file_among, file_app, mode_among, plain_app, run_app, word_of, words_fault, workers_among, IsAsked, IsPlainly, IsWorkers};
 ghost use Rattle.bgsim_console.specs.declared.command_line.words.Mode.{Mode as ModeData};
 ghost use Rattle.bgsim_console.specs.declared.command_line.words.Mode.TheVariants as ModeVariants;
@@ -12,7 +12,7 @@ ghost use Rattle.bgsim_console.specs.declared.command_line.words.Mode.TheVariant
 mod words;
 
 use clap::{Arg, ArgMatches, Command, Error, value_parser};
-use std::alloc::Global;
+use std::alloc::{AllocError, Global};
 use std::convert::AsStr;
 use words::{DEFAULT_WORKERS, workers_in};
 pub use words::{Line, Mode};
@@ -24,30 +24,22 @@ fn file_command<'a>(
     about: &'a str,
     usage: &'a str,
     file: &'a str,
-) -> Result<Command<'a>, Error>
+) -> Result<Command<'a>, AllocError>
     ensures app { IfOk result (λ command. app_of command ≡ file_app word.entry.now) }
     ensures local { IfOk result (λ command. (out-Command command).has_globals ≡ false) }
-    ensures err { IfErr result (λ error. kind_of error ≡ OutOfMemory) }
 {
     let file = Arg::new(alloc, "FILE").help(file);
-    let command = Command::new(alloc, word)
+    Command::new(alloc, word)
         .about(about)
         .override_usage(usage)
-        .arg(file)?;
-    Ok(command)
+        .arg(file)
 }
 
 /// The subcommand `run`, which takes a file and a number of workers.
-fn run_command<'a>(alloc: Global) -> Result<Command<'a>, Error>
+fn run_command<'a>(alloc: Global) -> Result<Command<'a>, AllocError>
     ensures app { IfOk result (λ command. app_of command ≡ run_app) }
     ensures local { IfOk result (λ command. (out-Command command).has_globals ≡ false) }
-    ensures err { IfErr result (λ error. kind_of error ≡ OutOfMemory) }
 {
-    let workers = Arg::new(alloc, "workers")
-        .long("workers")
-        .value_name("W")
-        .value_parser(value_parser!(u8).range(1..=16))
-        .help("How many threads run the rooms, 1 to 16; without it, 2");
     let run = file_command(
         alloc,
         "run",
@@ -55,14 +47,18 @@ fn run_command<'a>(alloc: Global) -> Result<Command<'a>, Error>
         "bgsim run [--workers W] [FILE]",
         "The rooms; without it, standard input is read",
     )?;
-    Ok(run.arg(workers)?)
+    let workers = Arg::new(alloc, "workers")
+        .long("workers")
+        .value_name("W")
+        .value_parser(value_parser!(u8).range(1..=16))
+        .help("How many threads run the rooms, 1 to 16; without it, 2");
+    run.arg(workers)
 }
 
 /// The subcommand `check`.
-fn check_command<'a>(alloc: Global) -> Result<Command<'a>, Error>
+fn check_command<'a>(alloc: Global) -> Result<Command<'a>, AllocError>
     ensures app { IfOk result (λ command. app_of command ≡ file_app (word_of ModeVariants.Check)) }
     ensures local { IfOk result (λ command. (out-Command command).has_globals ≡ false) }
-    ensures err { IfErr result (λ error. kind_of error ≡ OutOfMemory) }
 {
     file_command(
         alloc,
@@ -74,10 +70,9 @@ fn check_command<'a>(alloc: Global) -> Result<Command<'a>, Error>
 }
 
 /// The subcommand `play`.
-fn play_command<'a>(alloc: Global) -> Result<Command<'a>, Error>
+fn play_command<'a>(alloc: Global) -> Result<Command<'a>, AllocError>
     ensures app { IfOk result (λ command. app_of command ≡ file_app (word_of ModeVariants.Play)) }
     ensures local { IfOk result (λ command. (out-Command command).has_globals ≡ false) }
-    ensures err { IfErr result (λ error. kind_of error ≡ OutOfMemory) }
 {
     file_command(
         alloc,
@@ -104,17 +99,22 @@ fn plain_command<'a>(alloc: Global) -> Command<'a>
         .subcommand_required(true)
 }
 
-fn command<'a>(alloc: Global) -> Result<Command<'a>, Error>
-    ensures app { IfOk result (λ command. app_of command ≡ bgsim_app) }
-    ensures err { IfErr result (λ error. kind_of error ≡ OutOfMemory) }
+/// The command with one more subcommand, where there is one.
+fn with_subcommand<'a>(
+    command: Command<'a>,
+    subcommand: Result<Command<'a>, AllocError>,
+) -> Result<Command<'a>, AllocError>
+    ensures { IfOk result (λ whole. IsOkAnd subcommand.entry (λ part. (out-Command part).has_globals ≡ false → app_of whole ≡ with_subcommand (app_of command.entry) (app_of part).top)) }
 {
-    let check = check_command(alloc)?;
-    let with_check = plain_command(alloc).subcommand(check)?;
-    let play = play_command(alloc)?;
-    let with_play = with_check.subcommand(play)?;
-    let run = run_command(alloc)?;
-    let with_run = with_play.subcommand(run)?;
-    Ok(with_run)
+    command.subcommand(subcommand?)
+}
+
+fn command<'a>(alloc: Global) -> Result<Command<'a>, AllocError>
+    ensures { IfOk result (λ command. app_of command ≡ bgsim_app) }
+{
+    let with_check = with_subcommand(plain_command(alloc), check_command(alloc))?;
+    let with_play = with_subcommand(with_check, play_command(alloc))?;
+    with_subcommand(with_play, run_command(alloc))
 }
 
 /// What `clap` finds in the words.
