@@ -398,6 +398,12 @@ fn more_than_1000_small_reads(rt: HostRuntime) -> Result<(), Fail> {
     Ok(())
 }
 
+/// Whether a fault has this message.
+fn says(alloc: Global, fault: IoFault, text: &str) -> Result<bool, Fail> {
+    let found = format!(in alloc; "{fault}")?;
+    Ok(found.as_str() == text)
+}
+
 /// The faults that no case of the folder `program` can bring about.
 #[test]
 fn faults_of_a_run(rt: HostRuntime) -> Result<(), Fail> {
@@ -406,8 +412,7 @@ fn faults_of_a_run(rt: HostRuntime) -> Result<(), Fail> {
         (RunFault::OutOfMemory, "out of memory", 3),
     ] {
         let fault = IoFault::Run(fault);
-        let found = format!(in rt.alloc(); "{fault}")?;
-        assert_eq!(rt; found.as_str(), text);
+        assert!(rt; says(rt.alloc(), fault, text)?, "{text}");
         assert_eq!(rt; fault.status(), status, "of {text}");
     }
     Ok(())

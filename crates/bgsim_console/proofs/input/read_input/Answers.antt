@@ -1,4 +1,5 @@
-use Rattle.std.proofs.Common.{rules}
+use Rattle.std.proofs.Common.{rules, arith}
+use Rattle.std.proofs.lemmas.Grind.{common_steps}
 use Rattle.bgsim_console.proofs.input.read_input.Goals as goal
 
 pub returns-clause-whole : goal.returns-clause-whole
@@ -9,3 +10,12 @@ returns-clause-reads c = search rules
 
 pub returns-clause-once : goal.returns-clause-once
 returns-clause-once c = search rules
+
+pub loop-text-preserved : goal.loop-text-preserved
+loop-text-preserved c = grind (arith, common_steps)
+
+pub returns-in_err-read_piece-clause-whole : goal.returns-in_err-read_piece-clause-whole
+returns-in_err-read_piece-clause-whole c = grind (arith, common_steps)
+
+pub returns-in_err-read_piece-clause-once : goal.returns-in_err-read_piece-clause-once
+returns-in_err-read_piece-clause-once c = grind (arith, common_steps)

@@ -1,4 +1,5 @@
 use Rattle.std.proofs.Common.{◌≡◌, ◌∙◌, arith, inr, false, rules, subst, sym, take, length, refl}
+use Rattle.std.proofs.lemmas.Grind.{common_steps}
 use Rattle.std.proofs.lemmas.List.{length-take-le}
 use Rattle.std.specs.Prelude.{codes}
 use Rattle.std.specs.Str.{bytes_eq}
@@ -56,3 +57,12 @@ take_ended-requires-clause-within c =
 pub returns-in_default-clause-err : goal.returns-in_default-clause-err
 unfolding blocks_from
 returns-in_default-clause-err c = search rules
+
+pub loop-rest-init : goal.loop-rest-init
+loop-rest-init c = grind (arith, common_steps)
+
+pub returns-then-eq-clause-fits : goal.returns-then-eq-clause-fits
+returns-then-eq-clause-fits c = grind (arith, common_steps)
+
+pub take_ended-requires-clause-fits : goal.take_ended-requires-clause-fits
+take_ended-requires-clause-fits c = grind (arith, common_steps)
