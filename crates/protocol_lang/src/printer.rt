@@ -247,6 +247,52 @@ impl Pieces {
             None => Piece::number(alloc, 0),
         }
     }
+
+    /// The piece on top of these after a step, where this one was on top before it.
+    fn stepped(&mut self, alloc: Global, top: Piece, step: Step) -> Result<Piece, AllocError>
+        ensures top { IfOk result (λ piece. piece ≡ (stepped pieces (hold top self.old) step).top) }
+        ensures below { OnOk result (self.new ≡ (stepped pieces (hold top self.old) step).below) }
+    {
+        match step {
+            Step::Number(number) => {
+                self.push(top)?;
+                Piece::number(alloc, number)
+            }
+            Step::Name(name) => {
+                self.push(top)?;
+                Piece::name(alloc, name)
+            }
+            Step::Call(call) => Piece::call(alloc, call, top),
+            Step::CallNumber(call, number) => {
+                self.push(top)?;
+                let argument = Piece::number(alloc, number)?;
+                Piece::call(alloc, call, argument)
+            }
+            Step::CallName(call, name) => {
+                self.push(top)?;
+                let argument = Piece::name(alloc, name)?;
+                Piece::call(alloc, call, argument)
+            }
+            Step::Operate(operator) => {
+                let left = self.pop(alloc)?;
+                Piece::operate(operator, left, top)
+            }
+            Step::OperateNumber(operator, number) => {
+                let right = Piece::number(alloc, number)?;
+                Piece::operate(operator, top, right)
+            }
+            Step::OperateName(operator, name) => {
+                let right = Piece::name(alloc, name)?;
+                Piece::operate(operator, top, right)
+            }
+            Step::OperateLeaves(operator, left, right) => {
+                self.push(top)?;
+                let left = Piece::leaf(alloc, left)?;
+                let right = Piece::leaf(alloc, right)?;
+                Piece::operate(operator, left, right)
+            }
+        }
+    }
 }
 
 /// The last piece by itself, and those below it.
@@ -280,47 +326,8 @@ impl Held {
     fn take(self, alloc: Global, step: Step) -> Result<Held, AllocError>
         ensures { IfOk result (λ held. held ≡ stepped pieces self step) }
     {
-        let top = self.top;
-        let mut below = self.below;
-        let top = match step {
-            Step::Number(number) => {
-                below.push(top)?;
-                Piece::number(alloc, number)?
-            }
-            Step::Name(name) => {
-                below.push(top)?;
-                Piece::name(alloc, name)?
-            }
-            Step::Call(call) => Piece::call(alloc, call, top)?,
-            Step::CallNumber(call, number) => {
-                below.push(top)?;
-                let argument = Piece::number(alloc, number)?;
-                Piece::call(alloc, call, argument)?
-            }
-            Step::CallName(call, name) => {
-                below.push(top)?;
-                let argument = Piece::name(alloc, name)?;
-                Piece::call(alloc, call, argument)?
-            }
-            Step::Operate(operator) => {
-                let left = below.pop(alloc)?;
-                Piece::operate(operator, left, top)?
-            }
-            Step::OperateNumber(operator, number) => {
-                let right = Piece::number(alloc, number)?;
-                Piece::operate(operator, top, right)?
-            }
-            Step::OperateName(operator, name) => {
-                let right = Piece::name(alloc, name)?;
-                Piece::operate(operator, top, right)?
-            }
-            Step::OperateLeaves(operator, left, right) => {
-                below.push(top)?;
-                let left = Piece::leaf(alloc, left)?;
-                let right = Piece::leaf(alloc, right)?;
-                Piece::operate(operator, left, right)?
-            }
-        };
+        let Held { top, mut below } = self;
+        let top = below.stepped(alloc, top, step)?;
         Ok(Held { top, below })
     }
 }
