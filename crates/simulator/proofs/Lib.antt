@@ -9,3 +9,4 @@ pub mod Counting
 pub mod Bounding
 pub mod Spending
 mod Worked
+mod WorkedTurns

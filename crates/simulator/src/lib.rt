@@ -19,8 +19,6 @@ mod operation;
 mod shown;
 mod sweep;
 mod taking;
-#[cfg(test)]
-mod tests;
 mod turn;
 mod words;
 

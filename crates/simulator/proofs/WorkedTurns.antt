@@ -1,0 +1,174 @@
+-- Whole turns worked by hand: the moves of a simulator, each with its answer, and where it stands then.
+use Rattle.std.proofs.Common.{◌≡◌, ℕ, List, [], ◌∷◌, ◌++◌, take, drop, refl}
+use Rattle.std.specs.Prelude.{codes}
+use Rattle.protocol_lang.specs.Trees.{Expression, Number, Named}
+use Rattle.protocol_lang.specs.declared.tree.Kind.{Kind}
+use Rattle.protocol_lang.specs.declared.tree.Kind.TheVariants.{Decide, Write}
+use Rattle.protocol_lang.specs.declared.tree.Name.TheVariants.{Input, Mine, Min, Count}
+use Rattle.room_spec.specs.Rooms.{RoomSpec}
+use Rattle.simulator.specs.declared.operation.Move.{Move}
+use Rattle.simulator.specs.declared.operation.Move.TheVariants.{Load, Store, Add, Sub, Finished, OutOfTurns}
+use Rattle.simulator.specs.declared.sweep.Ready.TheVariants.{Step, Idle, OutOfTurns as WithoutTurns}
+use Rattle.simulator.specs.declared.sweep.Ready.{Ready}
+use Rattle.simulator.specs.Minds.{MindState, opening_mind, unfinished_in}
+use Rattle.simulator.specs.Moves.{move_of, taken, entry_in, holder_in}
+use Rattle.simulator.specs.Sweeps.{SweepState, opening_sweep, quiet_after, ready_of}
+use Rattle.view_table.specs.Places.{index_of}
+
+-- a room of one round, with the protocol `first input; else ..;`
+abbrev room_of : List ℕ → ℕ → ℕ → Kind → Expression → RoomSpec
+room_of inputs simulators turns kind value = record {
+  name = codes "a";
+  inputs = inputs;
+  simulators = simulators;
+  rounds = 1;
+  turns = turns;
+  fuses = [];
+  protocol = record { first = Named Input; rules = []; last = record { kind = kind; value = value } };
+}
+
+abbrev one : RoomSpec
+one = room_of (5 ∷ []) 1 10 Decide (Named Mine)
+
+abbrev pair : RoomSpec
+pair = room_of (7 ∷ 3 ∷ []) 2 100 Decide (Named Min)
+
+-- the moves of a mind whose steps are answered so, and the one that comes next
+abbrev moves_from : RoomSpec → MindState → List ℕ → List Move
+moves_from spec mind [] = move_of spec mind ∷ []
+moves_from spec mind (answer ∷ later) = move_of spec mind ∷ moves_from spec (taken spec mind answer).mind later
+
+abbrev moves : RoomSpec → ℕ → List ℕ → List Move
+moves spec i answers = moves_from spec (opening_mind spec i) answers
+
+abbrev mind_from : RoomSpec → MindState → List ℕ → MindState
+mind_from spec mind [] = mind
+mind_from spec mind (answer ∷ later) = mind_from spec (taken spec mind answer).mind later
+
+abbrev mind_after : RoomSpec → ℕ → List ℕ → MindState
+mind_after spec i answers = mind_from spec (opening_mind spec i) answers
+
+-- steps and turns taken, steps of the open turn, and processes unfinished
+abbrev counts : MindState → List ℕ
+counts mind = mind.steps ∷ mind.turns ∷ mind.turn_steps ∷ unfinished_in mind.goals ∷ []
+
+-- ---- one process and one simulator
+
+abbrev one_answers : List ℕ
+one_answers = 0 ∷ 0 ∷ 1 ∷ 0 ∷ 0 ∷ 1 ∷ 0 ∷ 2 ∷ 1 ∷ 5 ∷ 0 ∷ []
+
+smallest_room : moves one 0 one_answers
+    ≡ Store 3 5 ∷ Add 0 1 ∷ Load 0 ∷ Store 2 1 ∷ Add 1 1 ∷ Load 1 ∷ Add 1 1 ∷ Load 1 ∷ Load 2 ∷ Load 3 ∷ Store 4 6 ∷ Finished ∷ []
+unfolding index_of
+smallest_room = refl
+
+smallest_counts : (counts (mind_after one 0 []) ≡ 0 ∷ 0 ∷ 0 ∷ 1 ∷ []) × (counts (mind_after one 0 (take 10 one_answers)) ≡ 10 ∷ 1 ∷ 10 ∷ 1 ∷ []) × (counts (mind_after one 0 one_answers) ≡ 11 ∷ 1 ∷ 0 ∷ 0 ∷ [])
+smallest_counts = (refl, refl, refl)
+
+-- a process that asks for a write more than it has rounds is spent
+is_spent : moves (room_of (5 ∷ []) 1 10 Write (Number 6)) 0 (take 10 one_answers)
+    ≡ Store 3 5 ∷ Add 0 1 ∷ Load 0 ∷ Store 2 1 ∷ Add 1 1 ∷ Load 1 ∷ Add 1 1 ∷ Load 1 ∷ Load 2 ∷ Load 3 ∷ Finished ∷ []
+unfolding index_of
+is_spent = refl
+
+spent_counts : counts (mind_after (room_of (5 ∷ []) 1 10 Write (Number 6)) 0 (take 10 one_answers)) ≡ 10 ∷ 1 ∷ 0 ∷ 0 ∷ []
+spent_counts = refl
+
+-- the last three moves, where the view and then the value are loaded so
+abbrev ending : Expression → List ℕ → List Move
+ending value answers = drop 8 (moves (room_of (5 ∷ []) 1 10 Decide value) 0 (take 8 one_answers ++ answers))
+
+decides : (ending (Number 4294967295) (1 ∷ 5 ∷ 0 ∷ []) ≡ Load 2 ∷ Load 3 ∷ Store 4 4294967296 ∷ Finished ∷ []) × (ending (Number 0) (1 ∷ 0 ∷ 0 ∷ []) ≡ Load 2 ∷ Load 3 ∷ Store 4 1 ∷ Finished ∷ [])
+unfolding index_of
+decides = (refl, refl)
+
+-- numbers above the greatest value, and bits that no row has, are read as well
+reads_any_number : (ending (Named Mine) (1 ∷ 4294967295 ∷ 0 ∷ []) ≡ Load 2 ∷ Load 3 ∷ Store 4 4294967296 ∷ Finished ∷ []) × (ending (Named Mine) (1 ∷ 18446744073709551615 ∷ 0 ∷ []) ≡ Load 2 ∷ Load 3 ∷ Store 4 4294967296 ∷ Finished ∷ []) × (ending (Named Mine) (18446744073709551615 ∷ 6 ∷ 0 ∷ []) ≡ Load 2 ∷ Load 3 ∷ Store 4 7 ∷ Finished ∷ [])
+unfolding index_of
+reads_any_number = (refl, refl, refl)
+
+sees_nothing_in_a_view_of_0 : ending (Named Count) (0 ∷ 0 ∷ []) ≡ Load 2 ∷ Store 4 1 ∷ Finished ∷ []
+unfolding index_of
+sees_nothing_in_a_view_of_0 = refl
+
+-- ---- two processes and two simulators
+
+-- whoever comes second proposes both writes
+views_in_either_order : (moves pair 0 (0 ∷ 0 ∷ 1 ∷ []) ≡ Store 7 7 ∷ Add 0 1 ∷ Load 0 ∷ Store 3 1 ∷ []) × (moves pair 1 (0 ∷ 0 ∷ 9 ∷ []) ≡ Store 10 3 ∷ Add 0 8 ∷ Load 0 ∷ Store 6 9 ∷ []) × (moves pair 0 (0 ∷ 0 ∷ 9 ∷ []) ≡ Store 7 7 ∷ Add 0 1 ∷ Load 0 ∷ Store 3 9 ∷ []) × (moves pair 1 (0 ∷ 0 ∷ 8 ∷ []) ≡ Store 10 3 ∷ Add 0 8 ∷ Load 0 ∷ Store 6 8 ∷ [])
+unfolding index_of
+views_in_either_order = (refl, refl, refl, refl)
+
+view_counts : counts (mind_after pair 1 (0 ∷ 0 ∷ 9 ∷ [])) ≡ 3 ∷ 1 ∷ 3 ∷ 2 ∷ []
+view_counts = refl
+
+abbrev beside_a_two : List ℕ
+beside_a_two = 0 ∷ 0 ∷ 12 ∷ 0 ∷ 0 ∷ 6 ∷ 0 ∷ 2 ∷ 13 ∷ 7 ∷ 3 ∷ 0 ∷ 0 ∷ []
+
+-- simulator 0's proposal stands already, so simulator 1 takes back its level
+withdraws_beside_a_two : moves pair 1 beside_a_two
+    ≡ Store 10 3 ∷ Add 0 8 ∷ Load 0 ∷ Store 6 12 ∷ Add 2 4 ∷ Load 2 ∷ Sub 2 4 ∷ Load 2 ∷ Load 4 ∷ Load 7 ∷ Load 10 ∷ Store 14 4 ∷ Store 9 7 ∷ Add 0 4 ∷ []
+unfolding index_of
+withdraws_beside_a_two = refl
+
+counts_beside_a_two : counts (mind_after pair 1 beside_a_two) ≡ 13 ∷ 2 ∷ 1 ∷ 1 ∷ []
+counts_beside_a_two = refl
+
+-- who has stored the last write of a process that a word shows, and which write that is
+last_writes : (holder_in pair 9 0 ≡ 0) × (entry_in pair 9 0 ≡ 1) × (holder_in pair 9 1 ≡ 1) × (entry_in pair 9 1 ≡ 1) × (holder_in pair 6 0 ≡ 1) × (entry_in pair 6 0 ≡ 1) × (holder_in pair 6 1 ≡ 0) × (entry_in pair 6 1 ≡ 1) × (entry_in pair 8 0 ≡ 0)
+last_writes = (refl, refl, refl, refl, refl, refl, refl, refl, refl)
+
+-- ---- three processes, one simulator, seven turns
+
+abbrev three : RoomSpec
+three = room_of (5 ∷ 6 ∷ 7 ∷ []) 1 7 Decide (Named Mine)
+
+abbrev round_answers : List ℕ
+round_answers = 0 ∷ 0 ∷ 0 ∷ 0 ∷ 0 ∷ 0 ∷ 0 ∷ 0 ∷ 0 ∷ 0 ∷ 0 ∷ 0 ∷ 0 ∷ 0 ∷ 0 ∷ 0 ∷ 0 ∷ 0 ∷ 0 ∷ 0 ∷ 0 ∷ 0 ∷ 0 ∷ 0 ∷ 0 ∷ 2 ∷ 7 ∷ 5 ∷ 6 ∷ 7 ∷ 0 ∷ 1 ∷ 0 ∷ []
+
+goes_round : moves three 0 round_answers
+    ≡ Store 7 5 ∷ Add 0 1 ∷ Load 0 ∷ Store 4 0 ∷ Add 1 1 ∷ Load 1 ∷ Add 1 1 ∷ Load 1
+    ∷ Store 8 6 ∷ Add 0 2 ∷ Load 0 ∷ Store 5 0 ∷ Add 2 1 ∷ Load 2 ∷ Add 2 1 ∷ Load 2
+    ∷ Store 9 7 ∷ Add 0 4 ∷ Load 0 ∷ Store 6 0 ∷ Add 3 1 ∷ Load 3 ∷ Add 3 1 ∷ Load 3
+    ∷ Load 1
+    ∷ Load 2 ∷ Load 5 ∷ Load 7 ∷ Load 8 ∷ Load 9 ∷ Store 11 7
+    ∷ Load 3
+    ∷ Load 1
+    ∷ OutOfTurns ∷ []
+unfolding index_of
+goes_round = refl
+
+round_counts : (counts (mind_after three 0 (take 8 round_answers)) ≡ 8 ∷ 1 ∷ 0 ∷ 3 ∷ []) × (counts (mind_after three 0 (take 26 round_answers)) ≡ 26 ∷ 5 ∷ 1 ∷ 3 ∷ []) × (counts (mind_after three 0 round_answers) ≡ 33 ∷ 7 ∷ 0 ∷ 2 ∷ [])
+round_counts = (refl, refl, refl)
+
+-- ---- sweeps
+
+-- the quiet count after steps that are answered so
+abbrev quiet_from : RoomSpec → SweepState → List ℕ → SweepState
+quiet_from spec sweep [] = sweep
+quiet_from spec sweep (answer ∷ later) = quiet_from spec (record { mind = (taken spec sweep.mind answer).mind; quiet = quiet_after (taken spec sweep.mind answer).turn sweep.quiet }) later
+
+abbrev sweep_after : RoomSpec → List ℕ → SweepState
+sweep_after spec answers = quiet_from spec (opening_sweep spec 0) answers
+
+abbrev ready_as : RoomSpec → SweepState → Ready
+ready_as spec sweep = ready_of spec sweep.mind sweep.quiet
+
+abbrev woken : SweepState → SweepState
+woken sweep = record { mind = sweep.mind; quiet = 0 }
+
+abbrev two_turns : RoomSpec
+two_turns = room_of (5 ∷ []) 1 2 Decide (Named Mine)
+
+-- It is in its turn until it asks, in vain the first time: then it is idle, and with the count anew it asks once more.
+ready_in_order : (ready_as two_turns (sweep_after two_turns (take 1 one_answers)) ≡ Step) × (ready_as two_turns (sweep_after two_turns (take 7 one_answers)) ≡ Step) × (ready_as two_turns (sweep_after two_turns (take 7 one_answers ++ 1 ∷ [])) ≡ Idle) × (ready_as two_turns (woken (sweep_after two_turns (take 7 one_answers ++ 1 ∷ []))) ≡ Step)
+ready_in_order = (refl, refl, refl, refl)
+
+-- idle comes before out of turns
+without_turns : (ready_as two_turns (quiet_from two_turns (woken (sweep_after two_turns (take 7 one_answers ++ 1 ∷ []))) (1 ∷ [])) ≡ Idle) × (ready_as two_turns (woken (sweep_after two_turns (take 7 one_answers ++ 1 ∷ 1 ∷ []))) ≡ WithoutTurns)
+without_turns = (refl, refl)
+
+abbrev one_turn : RoomSpec
+one_turn = room_of (5 ∷ []) 1 1 Decide (Named Mine)
+
+idle_with_nothing_left : (ready_as one_turn (sweep_after one_turn one_answers) ≡ Idle) × (ready_as one_turn (woken (sweep_after one_turn one_answers)) ≡ Idle)
+idle_with_nothing_left = (refl, refl)
