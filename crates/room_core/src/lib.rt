@@ -12,6 +12,3 @@ mod room;
 
 pub use reply::{CrashReply, StepReply};
 pub use room::RoomCore;
-
-#[cfg(test)]
-mod tests;

@@ -330,7 +330,7 @@ fn advance(sweep: &mut Sweep, spec: &Spec, words: &mut [u64])
 }
 
 /// So many words that are 0, which is all that a room takes memory for.
-pub(crate) fn zeros(alloc: Global, count: usize) -> Result<Vec<u64>, AllocError>
+fn zeros(alloc: Global, count: usize) -> Result<Vec<u64>, AllocError>
     ensures { IfOk result (λ words. words.items ≡ replicate count 0) }
 {
     Ok(vec![in alloc; 0; count]?)
