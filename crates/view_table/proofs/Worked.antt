@@ -1,6 +1,8 @@
 -- The places of rooms that were worked by hand.
-use Rattle.std.proofs.Common.{◌≡◌, refl}
+use Rattle.std.proofs.Common.{◌≡◌, ℕ, ◌++◌, List, [], ◌∷◌, length, map, refl}
+use Rattle.std.specs.List.{flat_map, range_with_len}
 use Rattle.room_spec.specs.Sizes.{Sizes}
+use Rattle.view_table.specs.declared.place.Place.{Place}
 use Rattle.view_table.specs.declared.place.Place.TheVariants.{Steps, Levels, View, Value, Out}
 use Rattle.view_table.specs.Places.{index_of, words_of}
 
@@ -87,3 +89,37 @@ full_words = refl
 full_last : index_of full (Out 3 7) ≡ 248
 unfolding full index_of
 full_last = refl
+
+-- ---- the places in the order of their words
+
+abbrev in_order : Sizes → List Place
+in_order sizes =
+    let simulators = range_with_len 0 sizes.m in
+    let processes = range_with_len 0 sizes.n in
+    let rounds = range_with_len 1 sizes.rounds in
+    Steps ∷ (flat_map (λ j. map (Levels j) rounds) processes ++ (flat_map (λ i. flat_map (λ j. map (View i j) rounds) processes) simulators ++ (flat_map (λ i. flat_map (λ j. map (Value i j) rounds) processes) simulators ++ flat_map (λ i. map (Out i) processes) simulators)))
+
+abbrev indexes : Sizes → List ℕ
+indexes sizes = map (index_of sizes) (in_order sizes)
+
+abbrev all_words : Sizes → List ℕ
+all_words sizes = range_with_len 0 (words_of sizes)
+
+longest_in_order : indexes longest ≡ all_words longest
+unfolding longest index_of words_of
+longest_in_order = refl
+
+-- so many processes and simulators, with as many rounds from `first` on
+abbrev sized : ℕ → ℕ → ℕ → ℕ → ℕ → List Sizes
+sized n m bits first count = map (λ rounds. record { n = n; m = m; bits = bits; rounds = rounds }) (range_with_len first count)
+
+-- the 40 rooms whose step numbers fill a word
+abbrev full_words_of_steps : List Sizes
+full_words_of_steps = flat_map (λ some. some) (sized 8 8 1 1 1 ∷ sized 16 4 1 1 1 ∷ sized 4 8 2 2 2 ∷ sized 8 4 2 2 2 ∷ sized 16 2 2 2 2 ∷ sized 2 8 4 8 8 ∷ sized 4 4 4 8 8 ∷ sized 8 2 4 8 8 ∷ sized 16 1 4 8 8 ∷ [])
+
+full_words_are_forty : length full_words_of_steps ≡ 40
+full_words_are_forty = refl
+
+full_words_in_order : map indexes full_words_of_steps ≡ map all_words full_words_of_steps
+unfolding index_of words_of
+full_words_in_order = refl
