@@ -21,6 +21,7 @@ pub mod Reasons
 pub mod Following
 pub mod Causes
 pub mod WorkedPrinting
+pub mod WorkedMeaning
 pub mod Shortest
 pub mod Printed
 pub mod Pieces

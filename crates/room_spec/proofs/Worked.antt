@@ -1,5 +1,5 @@
 -- The definitions on blocks that were worked by hand.
-use Rattle.std.proofs.Common.{◌≡◌, ℕ, List, [], ◌∷◌, ◌++◌, take, Some, Ok, Err, refl, arith}
+use Rattle.std.proofs.Common.{◌≡◌, ℕ, List, [], ◌∷◌, ◌++◌, take, false, Some, Ok, Err, refl, arith}
 use Rattle.std.specs.Prelude.{codes}
 use Rattle.std.specs.Fmt.{digits}
 use Rattle.std.proofs.lemmas.Bool.{ltb-true}
@@ -8,6 +8,7 @@ use Rattle.protocol_lang.specs.declared.tree.Name.TheVariants as names
 use Rattle.protocol_lang.specs.declared.tree.Kind.TheVariants as kinds
 use Rattle.protocol_lang.specs.Trees.{Named}
 use Rattle.protocol_lang.specs.declared.fault.ParseFault.TheVariants.{Unexpected}
+use Rattle.room_spec.specs.Names.{is_name}
 use Rattle.room_spec.specs.Rooms.{RoomSpec}
 use Rattle.room_spec.specs.Blocks.{body_len, block_len, fuses_from, room_in, block_in}
 use Rattle.room_spec.specs.Grammar.{line_end, block_text, IsHead, Begin, IsReason}
@@ -136,3 +137,6 @@ end_has_no_form = λ form. absurd (let never = form.1.1 in cc)
 second_of_one : IsReason (Repeated 8) (record room_one { fuses = (0, 3) ∷ [] }) (codes "bgsim 1" ∷ codes "room one" ∷ codes "inputs 5" ∷ codes "simulators 1" ∷ codes "rounds 1" ∷ codes "turns 10" ∷ codes "crash 0 after 3" ∷ []) (codes "crash 0 after 4")
 unfolding digits
 second_of_one = ((0, 4), (refl, omega arith, refl), (codes "bgsim 1" ∷ codes "room one" ∷ codes "inputs 5" ∷ codes "simulators 1" ∷ codes "rounds 1" ∷ codes "turns 10" ∷ [], 3, [], refl))
+
+no_name_with_a_line_end : is_name (codes "a\n") ≡ false
+no_name_with_a_line_end = refl
