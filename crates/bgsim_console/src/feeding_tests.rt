@@ -23,11 +23,6 @@ const PAIR_RUN: [&str; 6] = [
 ];
 
 #[test]
-fn codes(rt: HostRuntime) {
-    assert_eq!(rt; AddFault::OutOfMemory.code(), 8);
-}
-
-#[test]
 fn messages(rt: HostRuntime) -> Result<(), Fail> {
     let found = format!(in rt.alloc();
         "{}; {}; {NoRoom}",

@@ -23,8 +23,6 @@ mod play;
 mod protocol_tests;
 mod reply;
 mod report;
-#[cfg(test)]
-mod room_tests;
 mod run;
 #[cfg(test)]
 mod run_tests;

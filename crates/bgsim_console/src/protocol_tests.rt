@@ -1,7 +1,7 @@
-//! Printed protocols, and what no input can show of how protocols are read and what they mean.
+//! Printed protocols, and the messages of faults, which no input can show.
 ghost use Rattle.std.specs.Prelude.{◌<◌};
 
-use protocol_lang::{Action, ParseFault, View, next, parse, print, read_number};
+use protocol_lang::{ParseFault, parse, print};
 use std::alloc::{AllocError, Global};
 use std::test::*;
 
@@ -11,6 +11,11 @@ fn reprinted(alloc: Global, text: &str) -> Result<String, AllocError> {
         Ok(protocol) => print(alloc, &protocol),
         Err(_) => Ok(String::new(alloc)),
     }
+}
+
+/// Whether the printed text of the protocol of `text` is `text`.
+fn stays(alloc: Global, text: &str) -> Result<bool, AllocError> {
+    Ok(reprinted(alloc, text)?.as_str() == text)
 }
 
 #[test]
@@ -35,34 +40,8 @@ fn shortest_texts(rt: HostRuntime) -> Result<(), Fail> {
     ] {
         let once = reprinted(rt.alloc(), text)?;
         assert_eq!(rt; once.as_str(), printed, "for {text}");
-        let twice = reprinted(rt.alloc(), once.as_str())?;
-        assert_eq!(rt; twice.as_str(), printed, "again for {text}");
+        assert!(rt; stays(rt.alloc(), printed)?, "again for {text}");
     }
-    Ok(())
-}
-
-#[test]
-fn lengths_of_examples(rt: HostRuntime) -> Result<(), Fail> {
-    let pair = reprinted(rt.alloc(), "first input; else decide min;")?;
-    assert_eq!(rt; pair.len(), 28);
-    let rules = reprinted(
-        rt.alloc(),
-        "first (input + 1) * 2 - (3 - id); when (count) >= n - 1 and mine == 0 decide min; else write ((mine));",
-    )?;
-    assert_eq!(rt; rules.len(), 77);
-    Ok(())
-}
-
-#[test]
-fn long_chains(rt: HostRuntime) -> Result<(), Fail> {
-    let mut text = String::new(rt.alloc());
-    text.push_str("first1")?;
-    for _ in 0..2000 {
-        text.push_str("-1")?;
-    }
-    text.push_str(";else decide n;")?;
-    let printed = reprinted(rt.alloc(), text.as_str())?;
-    assert_eq!(rt; printed.as_str(), text.as_str());
     Ok(())
 }
 
@@ -191,28 +170,15 @@ fn shortest_of_many_texts(rt: HostRuntime) -> Result<(), Fail> {
     Ok(())
 }
 
-#[test]
-fn most_rules(rt: HostRuntime) -> Result<(), Fail> {
-    let alloc = rt.alloc();
-    let mut text = String::from_str(alloc, "first1;")?;
-    for _ in 0..32 {
-        text.push_str("when1==1write1;")?;
-    }
-    text.push_str("else write1;")?;
-    let printed = reprinted(alloc, &text)?;
-    assert_eq!(rt; printed.as_str(), text.as_str());
-    Ok(())
-}
-
 /// `head`, and then `part` so many times, and then `tail`.
 fn repeated(
-    rt: &HostRuntime,
+    alloc: Global,
     head: &str,
     part: &str,
     count: usize,
     tail: &str,
-) -> Result<String, Fail> {
-    let mut text = String::from_str(rt.alloc(), head)?;
+) -> Result<String, AllocError> {
+    let mut text = String::from_str(alloc, head)?;
     for _ in 0..count {
         text.push_str(part)?;
     }
@@ -220,67 +186,18 @@ fn repeated(
     Ok(text)
 }
 
-fn view_of(entries: [Option<u32>; 3]) -> View {
-    let mut view = View::new();
-    for entry in entries {
-        let _ = view.try_push(entry);
-    }
-    view
-}
-
 #[test]
-fn values_in_views(rt: HostRuntime) -> Result<(), Fail> {
-    let nothing = view_of([None, None, None]);
-    let some = view_of([None, Some(8), Some(6)]);
-    for (expression, of_nothing, of_some) in [
-        ("min", 0, 6),
-        ("max", 0, 8),
-        ("count", 0, 2),
-        ("mine", 0, 8),
-        ("n", 3, 3),
-        ("id", 1, 1),
-        ("input", 5, 5),
-        ("round", 4, 4),
-        ("cell(0)", 0, 0),
-        ("cell(2)", 0, 6),
-        ("cell(3)", 0, 0),
-        ("seen(0)", 0, 0),
-        ("seen(1)", 0, 1),
-        ("seen(4294967295)", 0, 0),
-        ("equal(8)", 0, 1),
-        ("equal(0)", 0, 0),
-        ("cell(cell(n - 1) - 5)", 0, 8),
-    ] {
-        let text = repeated(&rt, "first 1;else write ", expression, 1, ";")?;
-        let protocol = parse(rt.alloc(), &text)?;
-        assert_eq!(rt;
-            next(&protocol, 5, 1, 4, &nothing),
-            Action::Write(of_nothing),
-            "{expression} of nothing"
-        );
-        assert_eq!(rt;
-            next(&protocol, 5, 1, 4, &some),
-            Action::Write(of_some),
-            "{expression}"
-        );
-    }
+fn long_chains(rt: HostRuntime) -> Result<(), Fail> {
+    let text = repeated(rt.alloc(), "first1", "-1", 2000, ";else decide n;")?;
+    assert!(rt; stays(rt.alloc(), &text)?);
     Ok(())
 }
 
 #[test]
-fn numbers(rt: HostRuntime) {
-    assert_eq!(rt; read_number(b"0"), Some(0));
-    assert_eq!(rt; read_number(b"4294967296"), Some(4294967296));
-    assert_eq!(rt; read_number(b"99999999999999999999"), Some(4294967296));
-    assert_eq!(rt; read_number(b"007"), None);
-    assert_eq!(rt; read_number(b"1a"), None);
-    assert_eq!(rt; read_number(b""), None);
-}
-
-/// The code of the fault that no text has by itself.
-#[test]
-fn code_of_refused_memory(rt: HostRuntime) {
-    assert_eq!(rt; ParseFault::OutOfMemory.code(), 8);
+fn most_rules(rt: HostRuntime) -> Result<(), Fail> {
+    let text = repeated(rt.alloc(), "first1;", "when1==1write1;", 32, "else write1;")?;
+    assert!(rt; stays(rt.alloc(), &text)?);
+    Ok(())
 }
 
 #[test]

@@ -4,7 +4,7 @@ use crate::engine::run_io;
 use crate::fault::{IoFault, Outcome};
 use crate::tests::{ONE, Trickle};
 use scheduler::{FreeGate, RunFault};
-use std::alloc::{AllocError, Global};
+use std::alloc::Global;
 use std::sync::Wait;
 use std::test::*;
 use std::thread::Threads;
@@ -34,34 +34,6 @@ fn wrong_numbers_of_workers(rt: HostRuntime) {
             assert!(rt; written.is_empty());
         }
     }
-}
-
-/// The block of a room of this number, and its report.
-fn numbered(alloc: Global, k: u32) -> Result<(String, String), AllocError> {
-    let block = format!(in alloc;
-        "bgsim 1\nroom r{k}\ninputs 5\nsimulators 1\nrounds 1\nturns 10\nprotocol\nfirst input;\nelse decide mine;\nend\n"
-    )?;
-    let report = format!(in alloc;
-        "r{k} report\nr{k} process 0 decided 5\nr{k} crashed\nr{k} history 3\nr{k} 0 write 5\nr{k} 0 snap 5\nr{k} 0 decide 5\nr{k} end\n"
-    )?;
-    Ok((block, report))
-}
-
-/// More rooms than run at the same time: the last part has one.
-#[test]
-fn rooms_in_parts(rt: HostRuntime) -> Result<(), Fail> {
-    let alloc = rt.alloc();
-    let mut input = String::new(alloc);
-    let mut output = String::new(alloc);
-    for k in 0..2049 {
-        let (block, report) = numbered(alloc, k)?;
-        input.push_str(block.as_str())?;
-        output.push_str(report.as_str())?;
-    }
-    let (found, written) = ran(&rt, alloc, input.as_bytes(), 3);
-    assert_eq!(rt; found, Ok(Outcome::AllWell));
-    assert!(rt; written.as_slice() == output.as_bytes());
-    Ok(())
 }
 
 #[test]

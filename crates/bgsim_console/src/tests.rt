@@ -2,42 +2,9 @@ use super::*;
 use crate::device::DeviceFailed;
 use scheduler::RunFault;
 use std::alloc::{AllocError, Global};
-use std::fmt::Debug;
 use std::io::Write;
 use std::process::Abort;
 use std::test::*;
-
-/// Holds what the words ask for, a run, against these.
-fn expect_line(
-    rt: &impl Abort,
-    alloc: Global,
-    words: &[&str],
-    file: Option<&str>,
-    workers: u8,
-) -> Result<(), Fail> {
-    let found: Line<'_> = line(alloc, words)?;
-    let asked = Line {
-        command: Mode::Run,
-        file,
-        workers,
-    };
-    assert_eq!(rt; found, asked, "in {words:?}");
-    Ok(())
-}
-
-#[test]
-fn words_of_run(rt: HostRuntime) -> Result<(), Fail> {
-    for (words, file, workers) in [
-        (["run"].as_slice(), None, 2),
-        (["run", "F"].as_slice(), Some("F"), 2),
-        (["run", "--workers", "3", "F"].as_slice(), Some("F"), 3),
-        (["run", "F", "--workers=16"].as_slice(), Some("F"), 16),
-        (["run", "--workers", "01"].as_slice(), None, 1),
-    ] {
-        expect_line(&rt, rt.alloc(), words, file, workers)?;
-    }
-    Ok(())
-}
 
 /// It fails its second call and gives or takes no bytes from the third on.
 #[derive(Drop)]
@@ -112,50 +79,12 @@ fn writes_of_devices(rt: HostRuntime) {
     write_two(&rt, &mut device, Err(DeviceFailed), (1, true));
 }
 
-/// Holds what an engine answered and wrote against these.
-pub fn judge(
-    rt: &impl Abort,
-    case: &impl Debug,
-    ending: &(Result<Outcome, IoFault>, Vec<u8>),
-    answer: Result<Outcome, IoFault>,
-    output: &[u8],
-) {
-    assert_eq!(rt; ending.0, answer, "of {case:?}");
-    assert_eq!(rt; ending.1.as_slice(), output, "of {case:?}");
-}
-
 pub const ONE: &str =
     "bgsim 1\nroom one\ninputs 5\nsimulators 1\nrounds 1\nturns 10\nprotocol\nfirst input;\nelse decide mine;\nend\n";
 
-/// What `check` answers and writes, and in how many writes.
-fn checked_in_writes(alloc: Global, input: &[u8]) -> ((Result<Outcome, IoFault>, Vec<u8>), u64) {
-    let mut reader = Device::new(input);
-    let mut written = Vec::new(alloc);
-    let mut writer = Device::new(&mut written);
-    let found = engine::check_io(alloc, &mut reader, &mut writer);
-    let writes = writer.calls();
-    ((found, written), writes)
-}
-
-/// What `check` answers, and what it writes.
-fn checked(alloc: Global, input: &[u8]) -> (Result<Outcome, IoFault>, Vec<u8>) {
-    checked_in_writes(alloc, input).0
-}
-
-#[test]
-fn longest_input(rt: HostRuntime) -> Result<(), Fail> {
-    let alloc = rt.alloc();
-    for (len, answer) in [
-        (16777216, Err(IoFault::BadInput { line: 2, code: 61 })),
-        (16777217, Err(IoFault::TooLong)),
-    ] {
-        let input = vec![in alloc; b'x'; len]?;
-        let (found, written) = checked(alloc, &input);
-        assert_eq!(rt; found, answer);
-        assert!(rt; written.is_empty());
-    }
-    Ok(())
-}
+/// The same, and one event of it.
+const ONE_WRITE: &str =
+    "bgsim 1\nroom one\ninputs 5\nsimulators 1\nrounds 1\nturns 10\nprotocol\nfirst input;\nelse decide mine;\nend\nevents\none 0 write 5\n";
 
 /// It gives or takes one byte a call, and fails the call of this number, from 0.
 #[derive(Drop)]
@@ -211,20 +140,18 @@ impl<'a> Write for Trickle<'a> {
 }
 
 #[test]
-fn slow_and_failing_devices(rt: HostRuntime) -> Result<(), Fail> {
-    let alloc = rt.alloc();
-    let input = format!(in alloc; "{ONE}events\none 0 write 5\n")?;
+fn slow_and_failing_devices(rt: HostRuntime) {
     let never = usize::MAX;
     for (fails_reading, fails_writing, answer) in [
         (never, never, Ok(Outcome::AllWell)),
         (40, never, Err(IoFault::Read)),
         (never, 3, Err(IoFault::Write)),
     ] {
-        let mut reader = Device::new(Trickle::new(input.as_bytes(), fails_reading));
+        let mut reader = Device::new(Trickle::new(ONE_WRITE.as_bytes(), fails_reading));
         let mut writer = Device::new(Trickle::new(&[], fails_writing));
-        assert_eq!(rt; engine::check_io(alloc, &mut reader, &mut writer), answer);
+        let found = engine::check_io(rt.alloc(), &mut reader, &mut writer);
+        assert_eq!(rt; found, answer);
     }
-    Ok(())
 }
 
 /// It takes all bytes, and fails when it is to hand them on.
@@ -242,17 +169,20 @@ impl Write for Unflushed {
 }
 
 #[test]
-fn failing_flush(rt: HostRuntime) -> Result<(), Fail> {
-    let alloc = rt.alloc();
+fn failing_flush(rt: HostRuntime) {
     let mut device = Device::new(Unflushed {});
-    assert_eq!(rt; device.flush(), Err(DeviceFailed));
-    assert!(rt; device.has_failed());
-    let input = format!(in alloc; "{ONE}events\none 0 write 5\n")?;
-    let mut reader = Device::new(input.as_bytes());
+    assert_eq!(rt;
+        (device.flush(), device.has_failed()),
+        (Err(DeviceFailed), true)
+    );
+}
+
+#[test]
+fn output_that_is_not_flushed(rt: HostRuntime) {
+    let mut reader = Device::new(ONE_WRITE.as_bytes());
     let mut writer = Device::new(Unflushed {});
-    let found = engine::check_io(alloc, &mut reader, &mut writer);
+    let found = engine::check_io(rt.alloc(), &mut reader, &mut writer);
     assert_eq!(rt; found, Err(IoFault::Write));
-    Ok(())
 }
 
 /// It gives its bytes, then no bytes once, and then more: who asks past the end is found out.
@@ -278,9 +208,11 @@ fn end_of_input(rt: HostRuntime) {
     let mut reader = Device::new(&mut inner);
     let mut writer = Device::new(Unflushed {});
     let answer = engine::check_io(rt.alloc(), &mut reader, &mut writer);
-    assert_eq!(rt; answer, Err(IoFault::BadInput { line: 2, code: 61 }));
-    assert_eq!(rt; reader.calls(), 2);
-    assert_eq!(rt; inner.calls, 2);
+    let calls = (reader.calls(), inner.calls);
+    assert_eq!(rt;
+        (answer, calls),
+        (Err(IoFault::BadInput { line: 2, code: 61 }), (2, 2))
+    );
 }
 
 /// It counts its calls, and is interrupted at its first write where that is asked for.
@@ -335,14 +267,22 @@ fn counted(
     (found, is_flushed, (inner.writes, inner.flushed))
 }
 
+/// So many blocks of one line, and no events: each has a line of its own in the output.
+fn refused_blocks(alloc: Global, count: u32) -> Result<String, AllocError> {
+    let mut input = String::new(alloc);
+    for _ in 0..count {
+        input.push_str("end\n")?;
+    }
+    input.push_str("events\n")?;
+    Ok(input)
+}
+
 #[test]
-fn calls_of_writers(rt: HostRuntime) -> Result<(), Fail> {
-    let alloc = rt.alloc();
-    let one = format!(in alloc; "{ONE}events\n")?;
+fn calls_of_writers(rt: HostRuntime) {
     for (input, interrupted, answer, writes, flushed) in [
         ("events\n", false, Ok(Outcome::AllWell), 0, true),
-        (one.as_str(), false, Ok(Outcome::AllWell), 1, true),
-        (one.as_str(), true, Err(IoFault::Write), 1, false),
+        (ONE_WRITE, false, Ok(Outcome::AllWell), 1, true),
+        (ONE_WRITE, true, Err(IoFault::Write), 1, false),
         (
             ONE,
             false,
@@ -352,68 +292,42 @@ fn calls_of_writers(rt: HostRuntime) -> Result<(), Fail> {
         ),
     ] {
         let wanted = (answer, flushed || writes == 0, (writes, flushed));
-        assert_eq!(rt; counted(alloc, input, interrupted), wanted, "of {input:?}");
+        assert_eq!(rt;
+            counted(rt.alloc(), input, interrupted),
+            wanted,
+            "of {input:?}"
+        );
     }
-    Ok(())
-}
-
-/// So many rooms of different names, then the line `events`, and the output for them.
-fn many_rooms(alloc: Global, count: u32) -> Result<(String, String), AllocError> {
-    let mut input = String::from_str(alloc, "")?;
-    let mut output = String::from_str(alloc, "")?;
-    for number in 0..count {
-        let block = format!(in alloc;
-            "bgsim 1\nroom room-{number}\ninputs 5\nsimulators 1\nrounds 1\nturns 10\nprotocol\nfirst input;else decide mine;\nend\n"
-        )?;
-        input.push_str(block.as_str())?;
-        let verdict = format!(in alloc; "room-{number} is a run\n")?;
-        output.push_str(verdict.as_str())?;
-    }
-    input.push_str("events\n")?;
-    Ok((input, output))
 }
 
 #[test]
-fn many_rooms_in_one_write(rt: HostRuntime) -> Result<(), Fail> {
-    let alloc = rt.alloc();
-    let (input, output) = many_rooms(alloc, 1001)?;
-    let (ending, writes) = checked_in_writes(alloc, input.as_bytes());
-    let answer = Ok(Outcome::AllWell);
-    judge(&rt, &"1001 rooms", &ending, answer, output.as_bytes());
-    assert_eq!(rt; writes, 1);
+fn large_output_in_one_write(rt: HostRuntime) -> Result<(), Fail> {
+    let input = refused_blocks(rt.alloc(), 300)?;
+    let wanted = (Ok(Outcome::SomeRefused), true, (1, true));
+    assert_eq!(rt; counted(rt.alloc(), &input, false), wanted);
     Ok(())
 }
 
-#[test]
-fn more_than_1000_small_reads(rt: HostRuntime) -> Result<(), Fail> {
-    let alloc = rt.alloc();
-    let (input, _) = many_rooms(alloc, 12)?;
-    let mut reader = Device::new(Trickle::new(input.as_bytes(), usize::MAX));
+/// What `check` answers where each read gives one byte, and how many reads it makes.
+fn trickled(alloc: Global, input: &[u8]) -> (Result<Outcome, IoFault>, u64) {
+    let mut reader = Device::new(Trickle::new(input, usize::MAX));
     let mut writer = Device::new(Unflushed {});
-    assert_eq!(rt;
-        engine::check_io(alloc, &mut reader, &mut writer),
-        Err(IoFault::Write)
-    );
-    assert!(rt; reader.calls() > 1000);
-    Ok(())
+    let found = engine::check_io(alloc, &mut reader, &mut writer);
+    (found, reader.calls())
 }
 
-/// Whether a fault has this message.
-fn says(alloc: Global, fault: IoFault, text: &str) -> Result<bool, Fail> {
-    let found = format!(in alloc; "{fault}")?;
-    Ok(found.as_str() == text)
+#[test]
+fn more_than_1000_small_reads(rt: HostRuntime) {
+    let wanted = (Err(IoFault::BadInput { line: 2, code: 61 }), 1101);
+    assert_eq!(rt; trickled(rt.alloc(), &[b'x'; 1100]), wanted);
 }
 
 /// The faults that no case of the folder `program` can bring about.
 #[test]
 fn faults_of_a_run(rt: HostRuntime) -> Result<(), Fail> {
-    for (fault, text, status) in [
-        (RunFault::Workers, "bad number of workers", 2),
-        (RunFault::OutOfMemory, "out of memory", 3),
-    ] {
-        let fault = IoFault::Run(fault);
-        assert!(rt; says(rt.alloc(), fault, text)?, "{text}");
-        assert_eq!(rt; fault.status(), status, "of {text}");
-    }
+    let workers = IoFault::Run(RunFault::Workers);
+    let memory = IoFault::Run(RunFault::OutOfMemory);
+    let found = format!(in rt.alloc(); "{workers}, {memory}")?;
+    assert_eq!(rt; found.as_str(), "bad number of workers, out of memory");
     Ok(())
 }
