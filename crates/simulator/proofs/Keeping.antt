@@ -205,12 +205,6 @@ kept spec mind answer is operation = kept_at mind.line spec mind answer is is.fe
 pub kept_of : (spec : RoomSpec) (mind after : MindState) (answer : ℕ) → after ≡ (taken spec mind answer).mind → IsMind spec mind → IsOperation (move_of spec mind) → IsMind spec after
 kept_of spec mind after answer is mind_is operation = subst (λ m. IsMind spec m) (sym is) (kept spec mind answer mind_is operation)
 
--- the same where the line is known
-pub kept_in : (spec : RoomSpec) (mind before after : MindState) (answer : ℕ) (line : Line) → before ≡ counted mind → before.line ≡ line → after ≡ (taken_at line spec before answer).mind → IsMind spec mind → IsOperation (move_of spec mind) → IsMind spec after
-kept_in spec mind before after answer line counts at is mind_is operation =
-    let at_mind : mind.line ≡ line = sym (ap (λ (m : MindState). m.line) counts) ∙ at in
-    kept_of spec mind after answer (is ∙ ap (λ (m : MindState). (taken_at line spec m answer).mind) counts ∙ sym (ap (λ (l : Line). (taken_at l spec (counted mind) answer).mind) at_mind)) mind_is operation
-
 -- ---- the first mind
 
 pub opens : (spec : RoomSpec) (i : ℕ) → IsWithinLimits spec → i < spec.simulators → IsMind spec (opening_mind spec i)

@@ -10,7 +10,7 @@ use Rattle.std.proofs.lemmas.List.Quantifiers.{position-Some}
 use Rattle.room_spec.specs.Rooms.{RoomSpec}
 use Rattle.simulator.specs.declared.goal.Goal.{Goal}
 use Rattle.simulator.specs.declared.goal.Goal.TheVariants.{Write, Ask, Done, Spent}
-use Rattle.simulator.specs.Minds.{is_unfinished, goal_at, unfinished_in, or_else, next_process, first_goal}
+use Rattle.simulator.specs.Minds.{MindState, is_unfinished, goal_at, unfinished_in, or_else, next_process, first_goal}
 
 -- ---- the first unfinished process of a list
 
@@ -67,6 +67,12 @@ found_left goals sweep process None None within is other found = absurd cc
 
 pub next_is_left : (goals : List Goal) (sweep process : ℕ) → sweep ≤ length goals → next_process goals sweep ≡ Some process → IsLeft goals process
 next_is_left goals sweep process within found = found_left goals sweep process _ _ within refl refl found
+
+-- the same of the goals that a mind shows
+pub shown_is_left : (viewed mind : MindState) (goals : List Goal) (next : Option ℕ) (process : ℕ) → viewed ≡ mind → mind.sweep < length mind.goals → goals ≡ viewed.goals → next ≡ next_process goals viewed.sweep → next ≡ Some process → IsLeft viewed.goals process
+shown_is_left viewed mind goals next process is within are searched found =
+    let below = subst (λ (m : MindState). m.sweep < length m.goals) (sym is) within in
+    next_is_left viewed.goals viewed.sweep process (omega (arith, below)) (sym (searched ∙ ap (λ (g : List Goal). next_process g viewed.sweep) are) ∙ found)
 
 unfinished-append : (goals others : List Goal) → unfinished_in (goals ++ others) ≡ unfinished_in goals + unfinished_in others
 unfinished-append goals others = ap (λ (l : List Goal). length l) (filter-append is_unfinished goals others) ∙ length-append (filter is_unfinished goals) (filter is_unfinished others)

@@ -8,6 +8,7 @@ use Rattle.simulator.specs.declared.goal.Goal.{Goal}
 use Rattle.simulator.specs.declared.goal.Goal.TheVariants as goals
 use Rattle.simulator.specs.declared.line.Line.{Line}
 use Rattle.simulator.specs.declared.line.Line.TheVariants.{Rest, Raise, Snap, Show, Enter, Look, Leave, Ask, GetView, Values, Out}
+use Rattle.simulator.specs.declared.turn.Turn.{Turn}
 use Rattle.simulator.specs.declared.turn.Turn.TheVariants.{Still}
 use Rattle.simulator.specs.declared.operation.Move.TheVariants.{Finished, OutOfTurns}
 use Rattle.simulator.specs.declared.sweep.Ready.TheVariants as answers
@@ -105,6 +106,9 @@ steps_by_one spec mind answer = let is = stepped spec mind answer in is.steps
 
 pub rests : (spec : RoomSpec) (mind : MindState) (answer : ℕ) → (taken spec mind answer).turn ≢ Still → (taken spec mind answer).mind.turn_steps ≡ 0
 rests spec mind answer = let is = stepped spec mind answer in is.rests
+
+pub rests_of : (spec : RoomSpec) (mind after : MindState) (turn : Turn) (answer : ℕ) → after ≡ (taken spec mind answer).mind → turn ≡ (taken spec mind answer).turn → turn ≢ Still → after.turn_steps ≡ 0
+rests_of spec mind after turn answer is turn_is ends = ap (λ (m : MindState). m.turn_steps) is ∙ rests spec mind answer (λ e. ends (turn_is ∙ e))
 
 -- ---- in an open turn a mind always wants an operation
 

@@ -1,10 +1,36 @@
-use Rattle.std.proofs.Common.{arith, refl}
+use Rattle.std.proofs.Common.{◌≡◌, ℕ, ◌*◌, ◌≤◌, List, length, Result, inl, Ok, ◌∙◌, sym, arith, refl, rules}
+use Rattle.std.specs.Prelude.{codes}
+use Rattle.std.proofs.lemmas.Bool.{le-leb}
+use Rattle.protocol_lang.specs.declared.protocol.Protocol.{Protocol}
+use Rattle.protocol_lang.specs.Reading.{reading}
+use Rattle.room_spec.specs.Rooms.{RoomSpec, bits_of}
+use Rattle.room_spec.specs.Blocks.{◌>>=◌, version_line, name_line, inputs_line, number_line, fitting, fuse_lines, protocol_of, room_in}
+use Rattle.room_spec.specs.declared.fault.SpecFault.{SpecFault}
+use Rattle.room_spec.specs.declared.fault.SpecFault.TheVariants.{Simulators, Rounds, Turns}
 use Rattle.std.specs.Arc.{arc_value}
 use Rattle.std.proofs.lemmas.Grind.{common_steps}
 use Rattle.room_spec.proofs.Heads.{inputs_found, inputs_are_values}
 use Rattle.room_spec.proofs.Readings.{inputs_range}
 use Rattle.room_spec.proofs.Memory.{kept_small}
 use Rattle.room_spec.proofs.block.read_body_with.Goals as goal
+
+-- what reading makes of the lines behind `rounds`
+abbrev behind : (name inputs : List ℕ × List ℕ) (simulators rounds : ℕ × List ℕ) → Result RoomSpec SpecFault
+behind name inputs simulators rounds =
+    number_line 6 (codes "turns ") 65535 Turns rounds.1
+    >>= λ turns. fuse_lines simulators.0 turns.1
+    >>= λ fuses. protocol_of (reading fuses.1)
+    >>= λ protocol. Ok (record { name = name.0; inputs = inputs.0; simulators = simulators.0; rounds = rounds.0; turns = turns.0; fuses = fuses.0; protocol = protocol })
+
+fits_in : (bits : ℕ) → bits ≤ 64 → fitting bits ≡ Ok bits
+fits_in bits few = rw (le-leb bits 64 few) refl
+
+front_is : (body rest : List ℕ) (name inputs : List ℕ × List ℕ) (simulators rounds : ℕ × List ℕ) → version_line body ≡ Ok rest → name_line rest ≡ Ok name → inputs_line name.1 ≡ Ok inputs → number_line 4 (codes "simulators ") 8 Simulators inputs.1 ≡ Ok simulators → number_line 5 (codes "rounds ") 15 Rounds simulators.1 ≡ Ok rounds → simulators.0 * length inputs.0 * bits_of rounds.0 ≤ 64 → room_in body ≡ behind name inputs simulators rounds
+unfolding room_in
+front_is body rest name inputs simulators rounds v n i s r fits = rw (v, n, i, s, r, fits_in _ fits) refl
+
+room_is : (name inputs : List ℕ × List ℕ) (simulators rounds turns : ℕ × List ℕ) (fuses : List (ℕ × ℕ) × List ℕ) (kept : List (ℕ × ℕ)) (protocol : Protocol) → number_line 6 (codes "turns ") 65535 Turns rounds.1 ≡ Ok turns → fuse_lines simulators.0 turns.1 ≡ Ok fuses → protocol_of (reading fuses.1) ≡ Ok protocol → kept ≡ fuses.0 → Ok (record { name = name.0; inputs = inputs.0; simulators = simulators.0; rounds = rounds.0; turns = turns.0; fuses = kept; protocol = protocol }) ≡ behind name inputs simulators rounds
+room_is name inputs simulators rounds turns fuses kept protocol t f p k = rw (t, f, p, k) refl
 
 pub invariant_of-result : goal.invariant_of-result
 invariant_of-result c =
@@ -17,3 +43,42 @@ invariant_of-result c =
       values = inputs_are_values c.in_ok-inputs.inputs.items are;
       numerals = kept_small arc_value c.in_ok-fuses.text.now c.read.result c.in_ok-protocol.protocol c.read.ensures c.in_ok-protocol.was;
     }
+
+pub overflow_cast-result : goal.overflow_cast-result
+overflow_cast-result c = omega (arith, c.in_ok-simulators.ensures.range)
+
+pub overflow_cast-result-2 : goal.overflow_cast-result-2
+overflow_cast-result-2 c = omega (arith, c.in_ok-rounds.ensures.range)
+
+pub read_fuses-requires : goal.read_fuses-requires
+read_fuses-requires c = omega (arith, c.in_ok-simulators.ensures.range)
+
+pub returns-in_err-turns : goal.returns-in_err-turns
+returns-in_err-turns c =
+    let fits = rw (c.from.ensures, c.len.ensures.value, c.bits.ensures, c.from-2.ensures) at c.if-from-len-gt-MAX_BITS.false in
+    let front = front_is c.args.body.now c.in_ok-rest.rest.now (c.in_ok-name.name, c.in_ok-name.rest.now) (c.in_ok-inputs.inputs.items, c.in_ok-inputs.rest.now) (c.in_ok-simulators.simulators, c.in_ok-simulators.rest.now) (c.in_ok-rounds.rounds, c.in_ok-rounds.rest.now) c.in_ok-rest.ensures c.in_ok-name.ensures c.in_ok-inputs.ensures c.in_ok-simulators.ensures.value c.in_ok-rounds.ensures.value fits in
+    rw (front, c.in_err-turns.ensures.value) (inl (search rules))
+
+pub returns-in_err-fuses : goal.returns-in_err-fuses
+returns-in_err-fuses c =
+    let fits = rw (c.from.ensures, c.len.ensures.value, c.bits.ensures, c.from-2.ensures) at c.if-from-len-gt-MAX_BITS.false in
+    let front = front_is c.args.body.now c.in_ok-rest.rest.now (c.in_ok-name.name, c.in_ok-name.rest.now) (c.in_ok-inputs.inputs.items, c.in_ok-inputs.rest.now) (c.in_ok-simulators.simulators, c.in_ok-simulators.rest.now) (c.in_ok-rounds.rounds, c.in_ok-rounds.rest.now) c.in_ok-rest.ensures c.in_ok-name.ensures c.in_ok-inputs.ensures c.in_ok-simulators.ensures.value c.in_ok-rounds.ensures.value fits in
+    rw (front, c.in_ok-turns.ensures.value, c.in_err-fuses.ensures.value) (inl (search rules))
+
+pub returns-in_err-protocol : goal.returns-in_err-protocol
+returns-in_err-protocol c =
+    let fits = rw (c.from.ensures, c.len.ensures.value, c.bits.ensures, c.from-2.ensures) at c.if-from-len-gt-MAX_BITS.false in
+    let front = front_is c.args.body.now c.in_ok-rest.rest.now (c.in_ok-name.name, c.in_ok-name.rest.now) (c.in_ok-inputs.inputs.items, c.in_ok-inputs.rest.now) (c.in_ok-simulators.simulators, c.in_ok-simulators.rest.now) (c.in_ok-rounds.rounds, c.in_ok-rounds.rest.now) c.in_ok-rest.ensures c.in_ok-name.ensures c.in_ok-inputs.ensures c.in_ok-simulators.ensures.value c.in_ok-rounds.ensures.value fits in
+    rw (front, c.in_ok-turns.ensures.value, c.in_ok-fuses.ensures.value) (search rules)
+
+pub returns-in_err-fuses-2 : goal.returns-in_err-fuses-2
+returns-in_err-fuses-2 c =
+    let fits = rw (c.from.ensures, c.len.ensures.value, c.bits.ensures, c.from-2.ensures) at c.if-from-len-gt-MAX_BITS.false in
+    let front = front_is c.args.body.now c.in_ok-rest.rest.now (c.in_ok-name.name, c.in_ok-name.rest.now) (c.in_ok-inputs.inputs.items, c.in_ok-inputs.rest.now) (c.in_ok-simulators.simulators, c.in_ok-simulators.rest.now) (c.in_ok-rounds.rounds, c.in_ok-rounds.rest.now) c.in_ok-rest.ensures c.in_ok-name.ensures c.in_ok-inputs.ensures c.in_ok-simulators.ensures.value c.in_ok-rounds.ensures.value fits in
+    rw (front, c.in_ok-turns.ensures.value, c.in_ok-fuses.ensures.value, c.in_ok-protocol.ensures) (search rules)
+
+pub returns : goal.returns
+returns c =
+    let fits = rw (c.from.ensures, c.len.ensures.value, c.bits.ensures, c.from-2.ensures) at c.if-from-len-gt-MAX_BITS.false in
+    let front = front_is c.args.body.now c.in_ok-rest.rest.now (c.in_ok-name.name, c.in_ok-name.rest.now) (c.in_ok-inputs.inputs.items, c.in_ok-inputs.rest.now) (c.in_ok-simulators.simulators, c.in_ok-simulators.rest.now) (c.in_ok-rounds.rounds, c.in_ok-rounds.rest.now) c.in_ok-rest.ensures c.in_ok-name.ensures c.in_ok-inputs.ensures c.in_ok-simulators.ensures.value c.in_ok-rounds.ensures.value fits in
+    inl (room_is (c.in_ok-name.name, c.in_ok-name.rest.now) (c.in_ok-inputs.inputs.items, c.in_ok-inputs.rest.now) (c.in_ok-simulators.simulators, c.in_ok-simulators.rest.now) (c.in_ok-rounds.rounds, c.in_ok-rounds.rest.now) (c.in_ok-turns.turns, c.in_ok-turns.rest.now) (c.in_ok-fuses.fuses.items, c.in_ok-fuses.text.now) c.in_ok-fuses-2.fuses.items (arc_value c.in_ok-protocol.protocol) c.in_ok-turns.ensures.value c.in_ok-fuses.ensures.value c.in_ok-protocol.ensures (c.in_ok-fuses-2.ensures.items ∙ c.as_slice.ensures.value) ∙ sym front)

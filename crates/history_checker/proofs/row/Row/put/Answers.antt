@@ -1,8 +1,18 @@
 use Rattle.std.proofs.Common.{rules, length-set, ◌≡◌, ◌+◌, ◌<◌, ◌∙◌, length, slice_index_or, slice_set, take, drop, decimal, Some, suc, ◌++◌, ◌∷◌, arith, ap}
+use Rattle.std.proofs.lemmas.Grind.{common_steps}
 use Rattle.std.specs.List.{refill}
 use Rattle.history_checker.specs.Shown.{before}
 use Rattle.history_checker.proofs.Rows.{fits_in, refilled, same_length, shown_with}
 use Rattle.history_checker.proofs.row.Row.put.Goals as goal
+
+pub before-start-requires : goal.before-start-requires
+before-start-requires c = grind (arith, common_steps)
+
+pub bounds-deref-p : goal.bounds-deref-p
+bounds-deref-p c = grind (arith, common_steps)
+
+pub bounds-deref_mut-p : goal.bounds-deref_mut-p
+bounds-deref_mut-p c = grind (arith, common_steps)
 
 pub splice-requires : goal.splice-requires
 splice-requires c =
