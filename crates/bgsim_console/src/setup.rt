@@ -1,5 +1,5 @@
 //! What the blocks of an input say.
-ghost use Rattle.std.specs.Prelude.{◌≡◌, ◌+◌, ◌<◌, ◌^◌, ◌≤◌, [], Ok, IfOk, IfErr, length, string_bytes, codes, decimal};
+ghost use Rattle.std.specs.Prelude.{◌≡◌, ◌+◌, ◌<◌, ◌^◌, ◌≤◌, [], Ok, IfOk, IfErr, OnOk, length, string_bytes, codes, decimal};
 ghost use Rattle.bgsim_console.specs.declared.fault.IoFault.TheVariants.{Memory};
 ghost use Rattle.room_spec.specs.Blocks.{block_in, room_in};
 ghost use Rattle.bgsim_console.specs.Run.{all_blocks};
@@ -61,81 +61,79 @@ impl Setup {
 
     /// Takes the next block, which has these bytes.
     fn take_block<'a>(
-        self,
+        &mut self,
         alloc: Global,
         block: &'a [u8],
         protocols: &mut Protocols<'a>,
-    ) -> Result<Setup, IoFault>
-        requires { self.line + length block.now < 2 ^ 64 }
-        ensures block { IfOk result (λ setup. setup ≡ after_block self block.now) }
-        ensures line { IfOk result (λ setup. setup.line ≤ self.line + length block.now) }
+    ) -> Result<(), IoFault>
+        requires { self.old.line + length block.now < 2 ^ 64 }
+        ensures block { OnOk result (self.new ≡ after_block self.old block.now) }
+        ensures line { OnOk result (self.new.line ≤ self.old.line + length block.now) }
         ensures err { IfErr result (λ fault. fault ≡ Memory) }
     {
-        let lines = count_lines(block);
-        let setup = match read_room_with(alloc, block, protocols)? {
+        match read_room_with(alloc, block, protocols)? {
             Ok((spec, _)) => self.open_room(alloc, spec)?,
             Err(fault) => self.refuse_fault(fault)?,
-        };
-        Ok(setup.pass_lines(lines))
+        }
+        self.pass_lines(count_lines(block));
+        Ok(())
     }
 
     /// Takes the next block, of which is known where it ends.
     fn take_ended<'a>(
-        self,
+        &mut self,
         alloc: Global,
         block: &'a [u8],
         end: BlockEnd,
         protocols: &mut Protocols<'a>,
-    ) -> Result<Setup, IoFault>
-        requires fits { self.line + length block.now < 2 ^ 64 }
+    ) -> Result<(), IoFault>
+        requires fits { self.old.line + length block.now < 2 ^ 64 }
         requires ended { IsEnded block.now end.body end.lines }
         requires within { (end.body ≤ length block.now) × (end.lines ≤ length block.now) }
-        ensures block { IfOk result (λ setup. setup ≡ after_block self block.now) }
-        ensures line { IfOk result (λ setup. setup.line ≤ self.line + length block.now) }
+        ensures block { OnOk result (self.new ≡ after_block self.old block.now) }
+        ensures line { OnOk result (self.new.line ≤ self.old.line + length block.now) }
         ensures err { IfErr result (λ fault. fault ≡ Memory) }
     {
-        let setup = match read_lines(alloc, &block[..end.body], protocols)? {
+        match read_lines(alloc, &block[..end.body], protocols)? {
             Ok(spec) => self.open_room(alloc, spec)?,
             Err(fault) => self.refuse_fault(fault)?,
-        };
-        Ok(setup.pass_lines(end.lines as u64))
+        }
+        self.pass_lines(end.lines as u64);
+        Ok(())
     }
 
-    fn open_room(mut self, alloc: Global, spec: Spec) -> Result<Setup, AllocError>
-        ensures room { IfOk result (λ setup. setup ≡ open_room self spec) }
-        ensures line { IfOk result (λ setup. setup.line ≡ self.line) }
+    fn open_room(&mut self, alloc: Global, spec: Spec) -> Result<(), AllocError>
+        ensures room { OnOk result (self.new ≡ open_room self.old spec) }
+        ensures line { OnOk result (self.new.line ≡ self.old.line) }
     {
         match self.rooms.add(alloc, spec) {
-            Ok(()) => Ok(self),
+            Ok(()) => Ok(()),
             Err(AddFault::OutOfMemory) => Err(AllocError),
             Err(AddFault::NameTaken) => self.refuse_code(AddFault::NameTaken.code()),
         }
     }
 
     /// Refuses a block for a fault of its own.
-    fn refuse_fault(mut self, fault: SpecFault) -> Result<Setup, AllocError>
-        ensures refused { IfOk result (λ setup. setup ≡ refuse self (fault_text fault)) }
-        ensures line { IfOk result (λ setup. setup.line ≡ self.line) }
+    fn refuse_fault(&mut self, fault: SpecFault) -> Result<(), AllocError>
+        ensures refused { OnOk result (self.new ≡ refuse self.old (fault_text fault)) }
+        ensures line { OnOk result (self.new.line ≡ self.old.line) }
     {
-        write_refused(&mut self.refused, self.line, fault)?;
-        Ok(self)
+        write_refused(&mut self.refused, self.line, fault)
     }
 
     /// Refuses a block for a fault that its code alone tells.
-    fn refuse_code(mut self, code: u16) -> Result<Setup, AllocError>
-        ensures refused { IfOk result (λ setup. setup ≡ refuse self (decimal code)) }
-        ensures line { IfOk result (λ setup. setup.line ≡ self.line) }
+    fn refuse_code(&mut self, code: u16) -> Result<(), AllocError>
+        ensures refused { OnOk result (self.new ≡ refuse self.old (decimal code)) }
+        ensures line { OnOk result (self.new.line ≡ self.old.line) }
     {
-        write_refused_code(&mut self.refused, self.line, code)?;
-        Ok(self)
+        write_refused_code(&mut self.refused, self.line, code)
     }
 
-    fn pass_lines(mut self, count: u64) -> Setup
-        requires { self.line + count < 2 ^ 64 }
-        ensures { result ≡ pass_lines count self }
+    fn pass_lines(&mut self, count: u64)
+        requires { self.old.line + count < 2 ^ 64 }
+        ensures { self.new ≡ pass_lines count self.old }
     {
         self.line += count;
-        self
     }
 }
 
@@ -195,7 +193,8 @@ pub fn read_blocks(alloc: Global, input: &[u8]) -> Result<(Setup, &[u8]), IoFaul
     loop {
         let (first, later) = cut(rest, b'\n');
         if first == b"events".as_slice() {
-            return Ok((setup.pass_lines(1), later.unwrap_or(&[])));
+            setup.pass_lines(1);
+            return Ok((setup, later.unwrap_or(&[])));
         }
         let Some(end) = find_end(rest) else {
             return Err(IoFault::BadInput {
@@ -204,7 +203,7 @@ pub fn read_blocks(alloc: Global, input: &[u8]) -> Result<(Setup, &[u8]), IoFaul
             });
         };
         let len = (end.body + 4).min(rest.len());
-        setup = setup.take_ended(alloc, &rest[..len], end, &mut protocols)?;
+        setup.take_ended(alloc, &rest[..len], end, &mut protocols)?;
         rest = &rest[len..];
     }
 }
@@ -222,7 +221,7 @@ pub fn read_all_blocks(alloc: Global, input: &[u8]) -> Result<Setup, IoFault>
     let mut rest = input;
     while !rest.is_empty() {
         let extent = block_extent(rest);
-        setup = setup.take_block(alloc, &rest[..extent], &mut protocols)?;
+        setup.take_block(alloc, &rest[..extent], &mut protocols)?;
         rest = &rest[extent..];
     }
     Ok(setup)

@@ -1,4 +1,4 @@
-use Rattle.std.proofs.Common.{◌+◌, ◌<◌, ◌^◌, length, sym, subst}
+use Rattle.std.proofs.Common.{◌+◌, ◌<◌, ◌^◌, length, sym, subst, arith, rules}
 use Rattle.std.proofs.lemmas.Result.{err_from_is_err_and}
 use Rattle.bgsim_console.specs.Check.{Setup, blocks_in}
 use Rattle.bgsim_console.proofs.Blocks.{blocks_fault}
@@ -6,7 +6,11 @@ use Rattle.bgsim_console.proofs.judge.judge.Goals as goal
 
 pub feed_events-requires-clause-fits : goal.feed_events-requires-clause-fits
 feed_events-requires-clause-fits c =
-    subst (λ (setup : Setup). setup.line + length c.in_ok-setup.transcript.now < 2 ^ 64) (sym c.setup.view_is) c.in_ok-setup.ensures.fits
+    let fits = subst (λ (setup : Setup). setup.line + length c.in_ok-setup.transcript.now < 2 ^ 64) (sym c.setup.view_is) c.in_ok-setup.ensures.fits in
+    omega (arith, fits)
+
+pub returns-clause-output : goal.returns-clause-output
+returns-clause-output c = search rules
 
 pub returns-in_err-setup-clause-err : goal.returns-in_err-setup-clause-err
 returns-in_err-setup-clause-err c =

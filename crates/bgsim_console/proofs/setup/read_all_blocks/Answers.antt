@@ -19,11 +19,11 @@ loop-rest-preserved c =
     let value = c.block_extent-extent.ensures.value in
     let some = bytes_left (length rest) c.is_empty.result c.is_empty.ensures c.loop-rest-test.true in
     let positive = subst (λ (n : ℕ). 0 < n) (sym value) (some_extent rest some) in
-    let next = step_all inv.0 c.loop-rest.setup c.in_ok-setup.setup rest _ extent inv.1 some value positive within c.in_ok-setup.ensures.block (behind rest extent _ refl) in (
+    let next = step_all inv.0 c.loop-rest.setup c.take_block.new.self rest _ extent inv.1 some value positive within c.in_ok-take_block.ensures.block (behind rest extent _ refl) in (
       next.0,
       next.1,
       inv.2 ∙ next.2,
-      line_bound rest extent _ c.loop-rest.setup.line c.in_ok-setup.setup.line (length c.args.input.now) refl within c.in_ok-setup.ensures.line inv.3,
+      line_bound rest extent _ c.loop-rest.setup.line c.take_block.new.self.line (length c.args.input.now) refl within c.in_ok-take_block.ensures.line inv.3,
     )
 
 pub returns-clause-read : goal.returns-clause-read

@@ -25,22 +25,22 @@ loop-rest-preserved c =
     let some = positive_len rest c.in-Some.end.body len c.in-Some.ensures.body c.min-len.ensures in
     let within = within_text rest len (sym found) in
     let other = subst (λ line. bytes_eq line (codes "events") ≡ false) c.cut.ensures.before (search rules) in
-    let next = step_blocks inv.0 c.loop-rest.setup c.in_ok-setup.setup rest _ len inv.1 some within other found c.in_ok-setup.ensures.block (behind rest len _ refl) in (
+    let next = step_blocks inv.0 c.loop-rest.setup c.take_ended.new.self rest _ len inv.1 some within other found c.in_ok-take_ended.ensures.block (behind rest len _ refl) in (
       next.0,
       next.1,
       inv.2 ∙ next.2,
-      line_bound rest len _ c.loop-rest.setup.line c.in_ok-setup.setup.line (length c.args.input.now) refl within c.in_ok-setup.ensures.line inv.3,
+      line_bound rest len _ c.loop-rest.setup.line c.take_ended.new.self.line (length c.args.input.now) refl within c.in_ok-take_ended.ensures.line inv.3,
       inr (begins c.args.input.now rest len inv.4 other found),
     )
 
-pub returns-in_err-setup-clause-err : goal.returns-in_err-setup-clause-err
-returns-in_err-setup-clause-err c =
+pub returns-in_err-take_ended-clause-err : goal.returns-in_err-take_ended-clause-err
+returns-in_err-take_ended-clause-err c =
     let rest = c.loop-rest.rest.now in
     let len = c.min-len.result in
     let found = block_found rest c.in-Some.end.body len c.in-Some.ensures.body c.min-len.ensures in
     let other = subst (λ line. bytes_eq line (codes "events") ≡ false) c.cut.ensures.before (search rules) in
     let p = err_from_is_err_and c.from_residual.result c.from_residual.ensures.1 in
-    rw (p.1, p.2) (refused_block _ (blocks_in c.args.input.now) c.in_err-setup.field-0.0 c.in_err-setup.ensures.err (begins c.args.input.now rest len c.loop-rest.invariant.4 other found))
+    rw (p.1, p.2) (refused_block _ (blocks_in c.args.input.now) c.in_err-take_ended.field-0.0 c.in_err-take_ended.ensures.err (begins c.args.input.now rest len c.loop-rest.invariant.4 other found))
 
 pub take_ended-requires-clause-ended : goal.take_ended-requires-clause-ended
 take_ended-requires-clause-ended c =

@@ -1,7 +1,6 @@
 use Rattle.std.proofs.Common.{Err, [], refl, ap, decimal, ◌∙◌}
-use Rattle.std.proofs.lemmas.Result.{IfOk-weaker}
-use Rattle.bgsim_console.specs.Check.{Setup}
 use Rattle.bgsim_console.proofs.Blocks.{refused_name, taken_code, unfed_still}
+use Rattle.bgsim_console.proofs.Playing.{where_ok}
 use Rattle.bgsim_console.proofs.setup.Setup.open_room.Goals as goal
 
 pub invariant_of-self : goal.invariant_of-self
@@ -9,8 +8,8 @@ invariant_of-self c = c.in-Ok.ensures.processed [] refl c.self.invariant
 
 pub returns-in-Err-NameTaken-clause-room : goal.returns-in-Err-NameTaken-clause-room
 returns-in-Err-NameTaken-clause-room c =
-    IfOk-weaker c.refuse_code.result _ _
-    (λ (setup : Setup) is. refused_name c.self.inside.rooms c.add.new.self _ c.self.inside.line c.args.self c.args.spec setup _ c.self.view_is c.in-Err-NameTaken.ensures.err (c.in-Err-NameTaken.ensures.taken.0 (ap Err c.in-Err-NameTaken.field-0-is)) (ap decimal c.code.ensures ∙ taken_code) is)
+    where_ok c.refuse_code.result _ _
+    (λ is. refused_name c.self.inside.rooms c.add.new.self _ c.self.inside.line c.args.self.now c.args.spec c.refuse_code.new.self _ c.self.view_is c.in-Err-NameTaken.ensures.err (c.in-Err-NameTaken.ensures.taken.0 (ap Err c.in-Err-NameTaken.field-0-is)) (ap decimal c.code.ensures ∙ taken_code) is)
     c.refuse_code.ensures.refused
 
 pub invariant_of-self-in-Err-NameTaken : goal.invariant_of-self-in-Err-NameTaken
