@@ -6,6 +6,38 @@ use std::io::Write;
 use std::process::Abort;
 use std::test::*;
 
+/// Holds what the words ask for, a run, against these.
+fn expect_line(
+    rt: &impl Abort,
+    alloc: Global,
+    words: &[&str],
+    file: Option<&str>,
+    workers: u8,
+) -> Result<(), Fail> {
+    let found: Line<'_> = line(alloc, words)?;
+    let asked = Line {
+        command: Mode::Run,
+        file,
+        workers,
+    };
+    assert_eq!(rt; found, asked, "in {words:?}");
+    Ok(())
+}
+
+#[test]
+fn words_of_run(rt: HostRuntime) -> Result<(), Fail> {
+    for (words, file, workers) in [
+        (["run"].as_slice(), None, 2),
+        (["run", "F"].as_slice(), Some("F"), 2),
+        (["run", "--workers", "3", "F"].as_slice(), Some("F"), 3),
+        (["run", "F", "--workers=16"].as_slice(), Some("F"), 16),
+        (["run", "--workers", "01"].as_slice(), None, 1),
+    ] {
+        expect_line(&rt, rt.alloc(), words, file, workers)?;
+    }
+    Ok(())
+}
+
 /// It fails its second call and gives or takes no bytes from the third on.
 #[derive(Drop)]
 struct Flaky {
