@@ -22,7 +22,10 @@ pub mod Following
 pub mod Causes
 pub mod WorkedPrinting
 pub mod WorkedMeaning
+pub mod WorkedThresholds
 pub mod Shortest
 pub mod Printed
 pub mod Pieces
 pub mod Limits
+pub mod Outlined
+pub mod Thresholds

@@ -12,3 +12,5 @@ pub mod Named
 pub mod Reading
 pub mod Grammar
 pub mod Printing
+pub mod Outlines
+pub mod Thresholds
