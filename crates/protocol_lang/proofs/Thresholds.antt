@@ -1,11 +1,9 @@
 -- The protocol by which a process waits for all but f: which trees are it, and what it asks for.
-use Rattle.std.proofs.Common.{◌≡◌, ◌↔◌, ℕ, ◌-◌, ◌<◌, ◌≤◌, min, Bool, true, false, cond, leb, List, [], ◌∷◌, length, get_or, Option, Some, refl, sym, ap, ◌∙◌, subst, arith, inl, inr}
-use Rattle.std.specs.Prelude.{unwrap_or}
-use Rattle.std.specs.List.{reduce}
+use Rattle.std.proofs.Common.{◌≡◌, ◌↔◌, ℕ, ◌-◌, ◌<◌, ◌≤◌, Bool, true, false, cond, leb, List, [], ◌∷◌, length, get_or, Option, Some, refl, sym, ap, ◌∙◌, arith, inl, inr}
 use Rattle.std.proofs.lemmas.Bool.{cases_Bool, leb-true, leb-false}
 use Rattle.protocol_lang.specs.Meaning.{entry, present, next_action}
 use Rattle.protocol_lang.specs.declared.meaning.Action.TheVariants as actions
-use Rattle.protocol_lang.specs.Trees.{Expression, Named, ComparisonOf, ActionRuleOf, RuleOf, Tree, TreeOf}
+use Rattle.protocol_lang.specs.Trees.{Expression, Named, ComparisonOf, ActionRuleOf, RuleOf, Tree}
 use Rattle.protocol_lang.specs.declared.tree.Name.TheVariants as names
 use Rattle.protocol_lang.specs.Thresholds.{least_of, decides_least, sees_all_but, waits_for_all_but, writes_own}
 

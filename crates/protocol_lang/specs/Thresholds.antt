@@ -2,7 +2,7 @@
 use Rattle.std.specs.Prelude.{ℕ, min, List, [], ◌∷◌, Option, unwrap_or}
 use Rattle.std.specs.List.{reduce}
 use Rattle.protocol_lang.specs.Meaning.{present}
-use Rattle.protocol_lang.specs.Trees.{Expression, Number, Named, Operating, ComparisonOf, ActionRuleOf, RuleOf, Tree}
+use Rattle.protocol_lang.specs.Trees.{Expression, Number, Named, Operating, ComparisonOf, ActionRuleOf, Tree}
 use Rattle.protocol_lang.specs.declared.tree.Name.TheVariants as names
 use Rattle.protocol_lang.specs.declared.tree.Operator.TheVariants as operators
 use Rattle.protocol_lang.specs.declared.tree.Comparator.TheVariants as comparators

@@ -1,4 +1,4 @@
-use Rattle.std.proofs.Common.{◌≡◌, ◌↔◌, ℕ, ◌<◌, ◌≤◌, List, [], ◌∷◌, length, get_or, Option, Some, sym, ap, ◌∙◌, subst}
+use Rattle.std.proofs.Common.{◌≡◌, ◌↔◌, ℕ, List, Some, ◌∙◌, subst}
 use Rattle.protocol_lang.specs.Trees.{Expression, RuleOf, Tree}
 use Rattle.protocol_lang.specs.Thresholds.{waits_for_all_but}
 use Rattle.protocol_lang.proofs.Thresholds.{one_rule}
