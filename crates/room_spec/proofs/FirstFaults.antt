@@ -53,7 +53,8 @@ plain_small = record { first = refl; rules = refl; last = refl }
 limits_of : (room : RoomSpec) → IsHead room → width_of room room.rounds ≤ 64 → HasSmallNumerals room.protocol → IsWithinLimits room
 limits_of room head fits small = record {
   name = head.name;
-  shape = record { n_range = inputs_range room.inputs head.inputs; m_range = head.simulators; rounds_range = head.rounds; width = refl; memory = fits };
+  shape = record { n_range = inputs_range room.inputs head.inputs; m_range = head.simulators; rounds_range = head.rounds; width = refl; memory = omega (arith, fits) };
+  width = fits;
   turns = head.turns;
   fuses = head.fuses;
   values = inputs_are_values room.inputs head.inputs;

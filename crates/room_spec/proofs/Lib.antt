@@ -14,3 +14,4 @@ pub mod Memory
 pub mod Values
 pub mod Worked
 pub mod Places
+pub mod MemoryWords

@@ -1,13 +1,16 @@
 -- What holds of a block that was read, or of its fault, where memory may have been refused.
-use Rattle.std.proofs.Common.{◌≡◌, ℕ, ◌+◌, min, List, length, take, Option, Some, None, Result, Ok, Err, refl, sym, ◌∙◌, subst, inl, inr}
+use Rattle.std.proofs.Common.{arith, ◌≡◌, ℕ, ◌+◌, ◌<◌, ◌≤◌, min, List, length, take, Option, Some, None, Result, Ok, Err, refl, sym, ap, ◌∙◌, subst, inl, inr}
 use Rattle.std.specs.Prelude.{IfOk, IfErr}
-use Rattle.protocol_lang.specs.Reading.{reading}
+use Rattle.protocol_lang.specs.Reading.{reading, IsReading, MayLackMemory}
+use Rattle.protocol_lang.specs.Trees.{Tree}
 use Rattle.protocol_lang.specs.Limits.{HasSmallNumerals}
 use Rattle.protocol_lang.specs.declared.protocol.Protocol.{Protocol}
-use Rattle.protocol_lang.specs.declared.fault.ParseFault.TheVariants.{OutOfMemory}
+use Rattle.protocol_lang.specs.declared.fault.ParseFault.{ParseFault}
+use Rattle.protocol_lang.specs.declared.fault.ParseFault.TheVariants.{OutOfMemory, TooLong}
+use Rattle.protocol_lang.proofs.Causes.{first_fault}
 use Rattle.protocol_lang.proofs.Limits.{small_if_read}
 use Rattle.room_spec.specs.Rooms.{RoomSpec}
-use Rattle.room_spec.specs.Blocks.{body_len, protocol_of, room_in, room_before, block_in, GivesOrMemory, OrMemory, UnlessMemory, out_of_memory}
+use Rattle.room_spec.specs.Blocks.{◌>>=◌, body_len, protocol_of, room_in, room_before, block_in, GivesOrMemory, IsHeadRight, OrMemory, UnlessMemory, out_of_memory}
 use Rattle.room_spec.specs.Grammar.{IsBlock, IsLocal, IsOfText, IsFirstFault}
 use Rattle.room_spec.specs.declared.fault.SpecFault.{SpecFault}
 use Rattle.room_spec.specs.declared.fault.SpecFault.TheVariants.{BadProtocol}
@@ -62,3 +65,31 @@ first_or text (Err fault) (inr e) = let same : fault ≡ out_of_memory = (let is
 pub kept_small : {X : Type 0} (view : X → Protocol) (text : List ℕ) (kept : Result X SpecFault) (x : X) → GivesOrMemory view kept (protocol_of (reading text)) → kept ≡ Ok x → HasSmallNumerals (view x)
 kept_small view text (Ok y) x gives e = let same : y ≡ x = cc in subst (λ z. HasSmallNumerals (view z)) same (small_if_read text (view y) (protocol_read (reading text) (view y) gives))
 kept_small view text (Err fault) x gives e = absurd cc
+
+-- ---- memory is asked for by a text that isn't too long
+
+module _ (text : List ℕ) (short : length text ≤ 4096) where
+  head_by : (read : Result Tree ParseFault) → reading text ≡ read → IsHeadRight (protocol_of read)
+  head_by (Ok tree) is = tt
+  head_by (Err TooLong) is = let long : 4096 < length text = first_fault text (Err TooLong) is in absurd (omega (arith, long, short))
+  head_by (Err fault) is = tt
+
+pub head_right : (text : List ℕ) → MayLackMemory text → IsHeadRight (protocol_of (reading text))
+head_right text lacks = head_by text lacks.short (reading text) refl
+
+-- what was read of the protocol's text, or why memory was refused to it
+pub parsed_or : (text : List ℕ) (fault : ParseFault) → IsReading text (Err fault) → OrMemory {A = Protocol} (Err (BadProtocol fault)) (protocol_of (reading text))
+parsed_or text OutOfMemory lacks = inr (refl, head_right text lacks)
+parsed_or text fault is = inl (sym (ap protocol_of is))
+
+still_right : (A B : Type 0) (fault : SpecFault) → IsHeadRight {A = A} (Err fault) → IsHeadRight {A = B} (Err fault)
+still_right A B (BadProtocol TooLong) right = absurd right
+still_right A B (BadProtocol fault) right = tt
+still_right A B fault right = absurd right
+
+-- what was refused to the protocol was refused to its block
+pub refused_on : {A B : Type 0} (fault : SpecFault) (wanted : Result A SpecFault) (next : A → B) → OrMemory {A = A} (Err fault) wanted → OrMemory {A = B} (Err fault) (wanted >>= λ x. Ok (next x))
+refused_on fault (Ok x) next (inl is) = absurd cc
+refused_on fault (Ok x) next (inr is) = inr ((let same : fault ≡ out_of_memory = (let e = is.0 in cc) in ap Err same), tt)
+refused_on fault (Err other) next (inl is) = inl (let same : fault ≡ other = cc in ap Err same)
+refused_on {A = A} {B = B} fault (Err other) next (inr is) = inr ((let same : fault ≡ out_of_memory = (let e = is.0 in cc) in ap Err same), still_right A B other is.1)

@@ -277,7 +277,7 @@ inputs_range values are =
     let tests = and_parts (nat_le 1 (length values)) (nat_le (length values) 16) (and_parts _ (list_all is_value values) are).0 in
     (leb-true 1 (length values) tests.0, leb-true (length values) 16 tests.1)
 
-found_inputs : (name : List ℕ) (text : List ℕ) (lines : List (List ℕ)) (room : RoomSpec) → text ≡ text_of lines → are_lines lines ≡ true → from_inputs name text ≡ Ok room → Found name room.inputs room.simulators room.rounds room.turns lines (inputs_on room) room × ((1 ≤ room.turns) × (room.turns ≤ 65535)) × IsShape (length room.inputs) room.simulators (bits_of room.rounds) room.rounds × (list_all is_value room.inputs ≡ true) × Keeps room.simulators room
+found_inputs : (name : List ℕ) (text : List ℕ) (lines : List (List ℕ)) (room : RoomSpec) → text ≡ text_of lines → are_lines lines ≡ true → from_inputs name text ≡ Ok room → Found name room.inputs room.simulators room.rounds room.turns lines (inputs_on room) room × ((1 ≤ room.turns) × (room.turns ≤ 65535)) × IsShape (length room.inputs) room.simulators (bits_of room.rounds) room.rounds × (room.simulators * length room.inputs * bits_of room.rounds ≤ 64) × (list_all is_value room.inputs ≡ true) × Keeps room.simulators room
 found_inputs name text lines room is all read =
     let line = bind_ok (inputs_line text) (λ inputs. from_simulators name inputs.0 inputs.1) room read in
     let says = inputs_found text line.0 line.1 in
@@ -288,7 +288,8 @@ found_inputs name text lines room is all read =
       subst (λ (inputs : List ℕ). Found name inputs room.simulators room.rounds room.turns lines (inputs_on room) room) (sym found.inputs_is)
           (longer name line.0.0 room.simulators room.rounds room.turns lines taken.more (simulators_on room) (join_with_byte 32 (codes "inputs" ∷ map decimal line.0.0)) (join_with_byte 32 (codes "inputs" ∷ map decimal room.inputs)) room taken.parts (ap (λ (values : List ℕ). join_with_byte 32 (codes "inputs" ∷ map decimal values)) (sym found.inputs_is)) found),
       both.1,
-      record { n_range = inputs_range room.inputs are; m_range = both.4; rounds_range = both.3; width = refl; memory = both.2 },
+      record { n_range = inputs_range room.inputs are; m_range = both.4; rounds_range = both.3; width = refl; memory = omega (arith, both.2) },
+      both.2,
       inputs_are_values room.inputs are,
       both.5,
     )
@@ -302,8 +303,8 @@ found_name text lines room is all read =
     let found = both.0 in (
       subst (λ (name : List ℕ). Found name room.inputs room.simulators room.rounds room.turns lines (name_on room) room) (sym found.name_is)
           (longer line.0.0 room.inputs room.simulators room.rounds room.turns lines taken.more (inputs_on room) (codes "room " ++ line.0.0) (codes "room " ++ room.name) room taken.parts (ap (λ (name : List ℕ). codes "room " ++ name) (sym found.name_is)) found),
-      record { name = subst (λ (name : List ℕ). is_name name ≡ true) (sym found.name_is) says.2; shape = both.2; turns = both.1; fuses = both.4.fuses; values = both.3; numerals = small_if_read (text_of found.more) room.protocol found.protocol },
-      both.4,
+      record { name = subst (λ (name : List ℕ). is_name name ≡ true) (sym found.name_is) says.2; shape = both.2; width = both.3; turns = both.1; fuses = both.5.fuses; values = both.4; numerals = small_if_read (text_of found.more) room.protocol found.protocol },
+      both.5,
     )
 
 room_found : (lines : List (List ℕ)) (room : RoomSpec) → are_lines lines ≡ true → room_in (text_of lines) ≡ Ok room → AreRoom lines room
@@ -433,7 +434,7 @@ inputs_are values range all = and_from _ (list_all is_value values) (and_from (n
 
 pub room_again : (room : RoomSpec) (more : List (List ℕ)) → IsWithinLimits room → list_all (λ fuse. is_value fuse.1) room.fuses ≡ true → reading (text_of more) ≡ Ok room.protocol → room_in (text_of (head_lines room ++ more)) ≡ Ok room
 room_again room more limits fuses protocol =
-    let memory : room.simulators * length room.inputs * bits_of room.rounds ≤ 64 = limits.shape.memory in
+    let memory : room.simulators * length room.inputs * bits_of room.rounds ≤ 64 = limits.width in
     steps room (text_of (head_lines room ++ more)) (text_of (name_on room ++ more)) (text_of (inputs_on room ++ more)) (text_of (simulators_on room ++ more)) (text_of (rounds_on room ++ more)) (text_of (turns_on room ++ more)) (text_of (fuses_on room ++ more)) (text_of more)
     (version_text (name_on room ++ more))
     (name_text room.name (inputs_on room ++ more) limits.name)

@@ -7,7 +7,7 @@ use Rattle.protocol_lang.specs.Numbers.{number_of}
 use Rattle.protocol_lang.specs.Reading.{reading}
 use Rattle.protocol_lang.specs.declared.protocol.Protocol.{Protocol}
 use Rattle.protocol_lang.specs.declared.fault.ParseFault.{ParseFault}
-use Rattle.protocol_lang.specs.declared.fault.ParseFault.TheVariants.{OutOfMemory}
+use Rattle.protocol_lang.specs.declared.fault.ParseFault.TheVariants.{OutOfMemory, TooLong}
 use Rattle.room_spec.specs.Names.{is_name}
 use Rattle.room_spec.specs.Rooms.{RoomSpec, bits_of, is_value}
 use Rattle.room_spec.specs.Texts.{first_line, later_lines, lines_of, fields_of}
@@ -171,17 +171,18 @@ abbrev pub Gives : {X Y : Type 0} → (X → Y) → Result X SpecFault → Resul
 Gives view (Ok x) read = read ≡ Ok (view x)
 Gives view (Err fault) read = read ≡ Err fault
 
--- memory was refused to the protocol or the room
+-- memory was refused to the protocol
 abbrev pub out_of_memory : SpecFault
 out_of_memory = BadProtocol OutOfMemory
 
--- no line before the protocol's text has a fault
+-- no line before the protocol's text has a fault, and that text isn't too long: only then is memory asked for
 abbrev pub IsHeadRight : {A : Type 0} → Result A SpecFault → Type 0
 IsHeadRight (Ok read) = Unit {0}
+IsHeadRight (Err (BadProtocol TooLong)) = ⊥
 IsHeadRight (Err (BadProtocol fault)) = Unit {0}
 IsHeadRight (Err fault) = ⊥
 
--- what a function returned is this, or memory was refused behind the head, whose lines are right
+-- what a function returned is this, or memory was refused to the protocol
 abbrev pub OrMemory : {A : Type 0} → Result A SpecFault → Result A SpecFault → Type 0
 OrMemory result wanted = (result ≡ wanted) ⊎ ((result ≡ Err out_of_memory) × IsHeadRight wanted)
 

@@ -5,3 +5,4 @@ pub mod Texts
 pub mod Faults
 pub mod Blocks
 pub mod Grammar
+pub mod Shapes

@@ -1,10 +1,11 @@
 -- What a room is told when it is made, and how large it may be.
-use Rattle.std.specs.Prelude.{◌≡◌, ℕ, ◌*◌, ◌≤◌, Bool, true, List, length, map, Option, nat_eq, nat_le, nat_lt, ◌==◌, if◌then◌else◌}
+use Rattle.std.specs.Prelude.{◌≡◌, ℕ, ◌*◌, ◌<◌, ◌≤◌, Bool, true, List, length, map, Option, nat_eq, nat_le, nat_lt, ◌==◌, if◌then◌else◌}
 use Rattle.std.specs.List.{IsDistinct, find, list_all}
 use Rattle.std.specs.Option.{option_map}
 use Rattle.protocol_lang.specs.Numbers.{greatest}
 use Rattle.protocol_lang.specs.Limits.{HasSmallNumerals}
 use Rattle.protocol_lang.specs.declared.protocol.Protocol.{Protocol}
+use Rattle.protocol_lang.specs.Thresholds.{waits_for_all_but}
 use Rattle.room_spec.specs.Names.{is_name}
 
 -- The room's name, the input of each process, the number of simulators, how often a process may write, how
@@ -36,7 +37,7 @@ pub record IsShape (n m bits rounds : ℕ) : Type 0 where
   pub m_range : (1 ≤ m) × (m ≤ 8)
   pub rounds_range : (1 ≤ rounds) × (rounds ≤ 15)
   pub width : bits ≡ bits_of rounds
-  pub memory : m * n * bits ≤ 64
+  pub memory : m * n * bits ≤ 256
 
 -- each fuse is that of a simulator, and of no two the same
 pub record AreFuses (fuses : List (ℕ × ℕ)) (m : ℕ) : Type 0 where
@@ -50,7 +51,15 @@ is_value number = nat_le number greatest
 pub record IsWithinLimits (spec : RoomSpec) : Type 0 where
   pub name : is_name spec.name ≡ true
   pub shape : IsShape (length spec.inputs) spec.simulators (bits_of spec.rounds) spec.rounds
+  -- all step numbers stand in one word
+  pub width : spec.simulators * length spec.inputs * bits_of spec.rounds ≤ 64
   pub turns : (1 ≤ spec.turns) × (spec.turns ≤ 65535)
   pub fuses : AreFuses spec.fuses spec.simulators
   pub values : list_all is_value spec.inputs ≡ true
   pub numerals : HasSmallNumerals spec.protocol
+
+-- By its protocol each process waits until it sees all but f of the room's processes, and then decides the least value; at least one is
+-- left to wait for. No run decides more than f + 1 different values (Chaudhuri 1993).
+pub record IsCertified (spec : RoomSpec) (f : ℕ) : Type 0 where
+  pub protocol : spec.protocol ≡ waits_for_all_but f
+  pub fewer : f < processes spec

@@ -7,16 +7,18 @@ ghost use Rattle.room_spec.specs.Rooms.{RoomSpec, AreFuses};
 ghost use Rattle.room_spec.specs.Texts.{lines_of, first_line, later_lines, fields_of};
 ghost use Rattle.room_spec.specs.declared.fault.SpecFault.TheVariants.{BadLine};
 ghost use Rattle.room_spec.specs.Grammar.{EndsAt, IsBlock, IsLocal, IsOfText, IsFirstFault};
-ghost use Rattle.room_spec.specs.Blocks.{body_len, is_end, block_len, value_after, version_line, named, name_line, numbers_of, inputs_of, in_range, inputs_line, up_to, number_line, fuse_in, of_simulator, said_next, is_protocol, has_fuse, fuse_lines, room_in, block_in, Gives, OrMemory, UnlessMemory, out_of_memory};
+ghost use Rattle.room_spec.specs.Blocks.{body_len, is_end, block_len, value_after, version_line, named, name_line, numbers_of, inputs_of, in_range, inputs_line, up_to, number_line, fuse_in, of_simulator, said_next, is_protocol, has_fuse, fuse_lines, room_in, block_in, Gives, OrMemory, UnlessMemory};
 
 use crate::fault::SpecFault;
 use crate::name::Name;
 use crate::protocols::Protocols;
-use crate::spec::{MAX_BITS, MAX_PROCESSES, MAX_ROUNDS, MAX_SIMULATORS, MAX_TURNS, Spec, bits};
+use crate::spec::{
+    MAX_BITS, MAX_PROCESSES, MAX_ROUNDS, MAX_SIMULATORS, MAX_TURNS, Spec, bits, memory_words,
+};
 use crate::text::{cut, cut_near};
 use arrayvec::ArrayVec;
-use protocol_lang::{ParseFault, read_number};
-use std::alloc::{AllocError, Global};
+use protocol_lang::read_number;
+use std::alloc::Global;
 
 /// How many bytes a room block at the front of `text` takes: up to and with the first line `end`,
 /// or `None` where there is no such line.
@@ -161,7 +163,7 @@ pub fn read_body_with<'a>(
     let (turns, rest) = read_number_line(rest, 6, b"turns ", MAX_TURNS, SpecFault::Turns)?;
     let (fuses, text) = read_fuses(rest, simulators)?;
     let protocol = protocols.read(alloc, text)?;
-    let fuses = kept(alloc, fuses.as_slice())?;
+    let words = memory_words(usize::from(simulators), inputs.len(), usize::from(rounds));
     Ok(Spec {
         name,
         inputs,
@@ -169,18 +171,9 @@ pub fn read_body_with<'a>(
         rounds: rounds as u8,
         turns,
         fuses,
+        words,
         protocol,
     })
-}
-
-fn kept(alloc: Global, fuses: &[(u8, u32)]) -> Result<Vec<(u8, u32)>, SpecFault>
-    ensures items { IfOk result (λ kept. kept.items ≡ fuses.now) }
-    ensures err { IfErr result (λ fault. fault ≡ out_of_memory) }
-{
-    match Vec::from_slice(alloc, fuses) {
-        Ok(fuses) => Ok(fuses),
-        Err(AllocError) => Err(SpecFault::BadProtocol(ParseFault::OutOfMemory)),
-    }
 }
 
 /// The first line of `text` and the lines after it.

@@ -110,7 +110,10 @@ impl<'a> Protocols<'a> {
 fn parse_shared(alloc: Global, text: &[u8]) -> Result<Arc<Protocol, Global>, SpecFault>
     ensures { GivesOrMemory arc_value result (protocol_of (reading text.now)) }
 {
-    let protocol = parse_bytes(alloc, text).map_err(SpecFault::BadProtocol)?;
+    let protocol = match parse_bytes(alloc, text) {
+        Ok(protocol) => protocol,
+        Err(fault) => return Err(SpecFault::BadProtocol(fault)),
+    };
     match Arc::new(alloc, protocol) {
         Ok(protocol) => Ok(protocol),
         Err(_) => Err(SpecFault::BadProtocol(ParseFault::OutOfMemory)),

@@ -1,6 +1,7 @@
 //! What a room is told when it is made.
 ghost use Rattle.std.specs.Prelude.{◌≡◌, ◌*◌, ◌<◌, ◌≤◌, length, slice_index};
 ghost use Rattle.room_spec.specs.Rooms.{IsShape, IsWithinLimits, bits_of, fuse_of, processes};
+ghost use Rattle.room_spec.specs.Sizes.{memory_words};
 
 use crate::name::Name;
 use arrayvec::ArrayVec;
@@ -24,14 +25,43 @@ pub(crate) const MAX_BITS: usize = 64;
 
 /// The numbers that a room's memory depends on: `m` simulators run `n` processes, which write at
 /// most `rounds` times each, and a step number has `bits` binary digits. `n` is 1 to 16, `m` 1 to
-/// 8, `rounds` 1 to 15, and `m * n * bits` at most 64.
+/// 8, `rounds` 1 to 15, and `m * n * bits` at most 256.
 #[derive(Clone, Copy, Debug, PartialEq, Eq)]
 pub struct Shape {
     pub n: usize,
     pub m: usize,
     pub bits: usize,
     pub rounds: usize,
+    /// How many memory words there are, found once for each room.
+    words: usize,
     pub ghost limits: { IsShape n m bits rounds },
+    pub ghost counted: { words ≡ memory_words (record { n = n; m = m; bits = bits; rounds = rounds }) },
+}
+
+impl Shape {
+    ghost use Rattle.room_spec.specs.Sizes.{fields_in_word};
+    ghost use Rattle.room_spec.specs.Shapes.{sizes_of};
+
+    /// How many step numbers a memory word holds: 64, 32, 21 or 16. None lies across two words.
+    pub fn fields_in_word(&self) -> usize
+        ensures value { result ≡ fields_in_word (sizes_of self.now) }
+        ensures range { (16 ≤ result) × (result ≤ 64) }
+    {
+        match self.bits {
+            1 => 64,
+            2 => 32,
+            3 => 21,
+            _ => 16,
+        }
+    }
+
+    /// How many memory words hold the step numbers of all simulators, 1 to 4.
+    pub fn memory_words(&self) -> usize
+        ensures value { result ≡ memory_words (sizes_of self.now) }
+        ensures range { (1 ≤ result) × (result ≤ 4) }
+    {
+        self.words
+    }
 }
 
 /// A room's name, inputs, numbers, fuses and protocol, within the limits of every room.
@@ -42,15 +72,19 @@ pub struct Spec {
     pub(crate) simulators: u8,
     pub(crate) rounds: u8,
     pub(crate) turns: u16,
-    pub(crate) fuses: Vec<(u8, u32)>,
+    pub(crate) fuses: ArrayVec<(u8, u32), MAX_SIMULATORS>,
+    /// How many memory words there are.
+    pub(crate) words: u8,
     pub(crate) protocol: Arc<Protocol, Global>,
 }
 
 impl Model for Spec {
+    ghost use Rattle.std.specs.Prelude.{◌≡◌, length};
     ghost use Rattle.std.specs.Arc.{arc_value};
     ghost use Rattle.std.specs.Coded.{codes};
     ghost use Rattle.protocol_lang.specs.Codes.{expression_code};
-    ghost use Rattle.room_spec.specs.Rooms.{RoomSpec, IsWithinLimits};
+    ghost use Rattle.room_spec.specs.Rooms.{RoomSpec, IsWithinLimits, bits_of};
+    ghost use Rattle.room_spec.specs.Sizes.{memory_words};
 
     ghost Value = { RoomSpec };
 
@@ -58,11 +92,12 @@ impl Model for Spec {
 
     ghost view = { λ s. record { name = s.name; inputs = s.inputs.items; simulators = s.simulators; rounds = s.rounds; turns = s.turns; fuses = s.fuses.items; protocol = arc_value s.protocol } };
 
-    ghost invariant = { λ s. IsWithinLimits (record { name = s.name; inputs = s.inputs.items; simulators = s.simulators; rounds = s.rounds; turns = s.turns; fuses = s.fuses.items; protocol = arc_value s.protocol }) };
+    ghost invariant = { λ s. IsWithinLimits (record { name = s.name; inputs = s.inputs.items; simulators = s.simulators; rounds = s.rounds; turns = s.turns; fuses = s.fuses.items; protocol = arc_value s.protocol }) × (s.words ≡ memory_words (record { n = length s.inputs.items; m = s.simulators; bits = bits_of s.rounds; rounds = s.rounds })) };
 }
 
 impl Spec {
-    ghost use Rattle.room_spec.specs.Sizes.{sizes_in, sizes_of};
+    ghost use Rattle.room_spec.specs.Sizes.{sizes_in};
+    ghost use Rattle.room_spec.specs.Shapes.{sizes_of};
 
     /// The room's name.
     pub fn name(&self) -> &Name
@@ -142,6 +177,7 @@ impl Spec {
             m: usize::from(self.simulators),
             bits: bits(rounds),
             rounds,
+            words: usize::from(self.words),
         }
     }
 }
@@ -156,4 +192,14 @@ pub(crate) fn bits(rounds: usize) -> usize
         4..8 => 3,
         _ => 4,
     }
+}
+
+/// How many memory words a room of so many simulators, processes and rounds has, 1 to 4.
+#[tactic(auto, unfolding(crate::specs::Sizes::memory_words))]
+pub(crate) fn memory_words(m: usize, n: usize, rounds: usize) -> u8
+    requires { IsShape n m (bits_of rounds) rounds }
+    ensures { result ≡ memory_words (record { n = n; m = m; bits = bits_of rounds; rounds = rounds }) }
+{
+    let fields = 64 / bits(rounds);
+    ((m * n + (fields - 1)) / fields) as u8
 }

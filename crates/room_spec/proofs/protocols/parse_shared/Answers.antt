@@ -1,0 +1,5 @@
+use Rattle.room_spec.proofs.Memory.{parsed_or}
+use Rattle.room_spec.proofs.protocols.parse_shared.Goals as goal
+
+pub returns-in-Err : goal.returns-in-Err
+returns-in-Err c = parsed_or c.args.text.now c.in-Err.fault (rw c.in-Err.is at c.parse_bytes.ensures.exact)
