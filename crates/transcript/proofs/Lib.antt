@@ -4,7 +4,9 @@ pub mod Numbers
 pub mod Rows
 pub mod Histories
 pub mod Runs
+pub mod Agreeing
 pub mod Worked
 pub mod WorkedRuns
+pub mod WorkedTasks
 pub mod Writing
 pub mod FirstFault

@@ -2,3 +2,4 @@ pub mod Faults
 pub mod Grammar
 pub mod Lines
 pub mod Runs
+pub mod Tasks
