@@ -4,3 +4,5 @@ pub mod Feeding
 pub mod RoomLists
 pub mod ToldLines
 pub mod Rows
+pub mod Tallies
+pub mod Certifying

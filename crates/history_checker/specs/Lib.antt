@@ -1,3 +1,4 @@
 pub mod Processes
 pub mod Shown
 pub mod Verdicts
+pub mod Tasks

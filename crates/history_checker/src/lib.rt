@@ -1,12 +1,16 @@
 //! Verdicts on histories of bgsim: which lists of events are runs, and where the others break.
 #![tactic(auto)]
 
+mod bound;
 mod history;
 mod process;
 mod rooms;
 mod row;
 mod spelled;
+mod task;
 mod told;
 
+pub use bound::certified;
 pub use history::check;
 pub use rooms::{AddFault, NoRoom, Rooms, Specs, Verdict};
+pub use task::check_agreement;

@@ -1,0 +1,171 @@
+-- Decisions that are counted one by one, and the first that a task doesn't allow.
+use Rattle.std.proofs.Common.{◌≡◌, ◌≢◌, ℕ, zero, suc, ◌+◌, ◌<◌, ◌≤◌, ◌||◌, not, Bool, true, false, cond, eqb, List, [], ◌∷◌, ◌++◌, length, get_or, take, Option, Some, None, refl, sym, ap, ◌∙◌, subst, arith, inl, inr, ◌⊎◌}
+use Rattle.std.specs.Prelude.{slice_get, MatchBool}
+use Rattle.std.specs.List.{Contains, filter, list_any}
+use mathlib.Core.Logic.{dite}
+use native.Mathlib.Decide.{ℕ_discrete}
+use Rattle.std.proofs.lemmas.Bool.{cases_Bool, cases_lt, eq-eqb, eqb-true, ne_eqb}
+use Rattle.std.proofs.lemmas.List.{append-nil, length-append, length_push, take-append-le, take-take, take_more}
+use Rattle.std.proofs.lemmas.List.Elements.{filter-append}
+use Rattle.std.proofs.lemmas.Option.{slice_get_within, slice_get-get_or}
+use Rattle.room_spec.specs.Rooms.{RoomSpec}
+use Rattle.transcript.specs.declared.event.Event.{Event}
+use Rattle.transcript.specs.declared.event.Event.TheVariants.{Write, Snap, Decide}
+use Rattle.transcript.specs.Tasks.{decided_by, decided_in, different, MayBeDecided, IsInTask, KeepsTask, IsFirstExcess}
+use Rattle.transcript.proofs.Agreeing.{In, in_contains, contains_in, in_without, different_in, no_more, one_more}
+use Rattle.transcript.proofs.Runs.{slice_get-append, slice_get-push, slice_get-take, take-push}
+use Rattle.history_checker.specs.Tasks.{IsTally, Allows, HasDecided}
+
+-- ---- one value more
+
+last_kept : (m e : Bool) (x v : ℕ) → eqb v x ≡ e → eqb x v ≡ e → filter (λ y. not (eqb y x)) (cond m [] (v ∷ [])) ≡ cond (eqb x v || m) [] (v ∷ [])
+last_kept true true x v is is' = rw is' refl
+last_kept true false x v is is' = rw is' refl
+last_kept false true x v is is' = rw (is', is) refl
+last_kept false false x v is is' = rw (is', is) refl
+
+last_by : (m : Bool) (x v : ℕ) → filter (λ y. not (eqb y x)) (cond m [] (v ∷ [])) ≡ cond (eqb x v || m) [] (v ∷ [])
+last_by m x v = dite (ℕ_discrete v x)
+    (λ (e : v ≡ x). last_kept m true x v (eq-eqb v x e) (eq-eqb x v (sym e)))
+    (λ (n : v ≢ x). last_kept m false x v (ne_eqb v x n) (ne_eqb x v (λ e. n (sym e))))
+
+pub different-push : (xs : List ℕ) (v : ℕ) → different (xs ++ v ∷ []) ≡ different xs ++ cond (list_any (λ y. eqb y v) xs) [] (v ∷ [])
+different-push [] v = refl
+different-push (x ∷ xs) v =
+    ap (λ (l : List ℕ). x ∷ filter (λ y. not (eqb y x)) l) (different-push xs v)
+    ∙ ap (λ (l : List ℕ). x ∷ l) (filter-append (λ y. not (eqb y x)) (different xs) (cond (list_any (λ y. eqb y v) xs) [] (v ∷ [])))
+    ∙ ap (λ (l : List ℕ). x ∷ filter (λ y. not (eqb y x)) (different xs) ++ l) (last_by (list_any (λ y. eqb y v) xs) x v)
+
+-- ---- whether a value is among some
+
+any_by : (v x : ℕ) (xs : List ℕ) (b : Bool) → eqb x v ≡ b → (In v xs → list_any (λ y. eqb y v) xs ≡ true) → In v (x ∷ xs) → (b || list_any (λ y. eqb y v) xs) ≡ true
+any_by v x xs true is more at = refl
+any_by v x xs false is more (inl e) = absurd (let wrong : false ≡ true = sym is ∙ eq-eqb x v e in cc)
+any_by v x xs false is more (inr at) = more at
+
+in_any : (v : ℕ) (xs : List ℕ) → In v xs → list_any (λ y. eqb y v) xs ≡ true
+in_any v [] at = absurd at
+in_any v (x ∷ xs) at = any_by v x xs (eqb x v) refl (λ more. in_any v xs more) at
+
+from_by : (v x : ℕ) (xs : List ℕ) (b : Bool) → eqb x v ≡ b → (list_any (λ y. eqb y v) xs ≡ true → In v xs) → (b || list_any (λ y. eqb y v) xs) ≡ true → In v (x ∷ xs)
+from_by v x xs true is more at = inl (eqb-true x v is)
+from_by v x xs false is more at = inr (more at)
+
+any_in : (v : ℕ) (xs : List ℕ) → list_any (λ y. eqb y v) xs ≡ true → In v xs
+any_in v [] is = absurd cc
+any_in v (x ∷ xs) is = from_by v x xs (eqb x v) refl (λ more. any_in v xs more) is
+
+pub input_is : (v : ℕ) (inputs : List ℕ) → list_any (λ y. eqb y v) inputs ≡ true → Contains inputs v
+input_is v inputs is = in_contains v inputs (any_in v inputs is)
+
+pub no_input : (v : ℕ) (inputs : List ℕ) → list_any (λ y. eqb y v) inputs ≡ false → Contains inputs v → ⊥
+no_input v inputs none at = absurd (let wrong : false ≡ true = sym none ∙ in_any v inputs (contains_in v inputs at) in cc)
+
+in_different : (v : ℕ) (xs : List ℕ) → In v xs → In v (different xs)
+in_different v [] at = at
+in_different v (x ∷ xs) (inl e) = inl e
+in_different v (x ∷ xs) (inr more) = dite (ℕ_discrete v x)
+    (λ (e : v ≡ x). inl (sym e))
+    (λ (n : v ≢ x). inr (in_without x v (different xs) n (in_different v xs more)))
+
+same_bools : (b c : Bool) → (b ≡ true → c ≡ true) → (c ≡ true → b ≡ true) → b ≡ c
+same_bools true true to from = refl
+same_bools false false to from = refl
+same_bools true false to from = sym (to refl)
+same_bools false true to from = from refl
+
+any_different : (v : ℕ) (xs : List ℕ) → list_any (λ y. eqb y v) (different xs) ≡ list_any (λ y. eqb y v) xs
+any_different v xs = same_bools (list_any (λ y. eqb y v) (different xs)) (list_any (λ y. eqb y v) xs)
+    (λ is. in_any v xs (different_in v xs (any_in v (different xs) is)))
+    (λ is. in_any v (different xs) (in_different v xs (any_in v xs is)))
+
+-- ---- a decision
+
+module _ (spec : RoomSpec) (most v : ℕ) (old : List ℕ) where
+  pub refuses : list_any (λ y. eqb y v) spec.inputs ≡ false → (new : List ℕ) → Allows spec most v old false new
+  refuses none new before tally = λ may. no_input v spec.inputs none may.input
+
+  pub refuses_more : list_any (λ y. eqb y v) old ≡ false → most ≤ length old → (new : List ℕ) → Allows spec most v old false new
+  refuses_more fresh full new before tally = λ may.
+      let is = tally.values_are in
+      let none : list_any (λ y. eqb y v) (decided_in before) ≡ false = sym (any_different v (decided_in before)) ∙ ap (list_any (λ y. eqb y v)) (sym is) ∙ fresh in
+      let grown : length (different (decided_in before ++ v ∷ [])) ≡ length old + 1 =
+      ap (λ (l : List ℕ). length l) (different-push (decided_in before) v) ∙ ap (λ (b : Bool). length (different (decided_in before) ++ cond b [] (v ∷ []))) none ∙ length-append (different (decided_in before)) (v ∷ []) ∙ ap (λ (l : List ℕ). length l + 1) (sym is) in
+      let few = may.few in
+      absurd (omega (arith, grown, few, full))
+
+  pub allows_again : list_any (λ y. eqb y v) spec.inputs ≡ true → list_any (λ y. eqb y v) old ≡ true → Allows spec most v old true old
+  allows_again input there before tally =
+      let is = tally.values_are in
+      let among : list_any (λ y. eqb y v) (decided_in before) ≡ true = sym (any_different v (decided_in before)) ∙ ap (list_any (λ y. eqb y v)) (sym is) ∙ there in
+      let same : different (decided_in before ++ v ∷ []) ≡ old =
+      different-push (decided_in before) v ∙ ap (λ (b : Bool). different (decided_in before) ++ cond b [] (v ∷ [])) among ∙ append-nil (different (decided_in before)) ∙ sym is in
+      let few = tally.few in
+      let long = ap (λ (l : List ℕ). length l) same in
+      (record { input = input_is v spec.inputs input; few = omega (arith, few, long) }, sym same, few)
+
+  pub allows_more : list_any (λ y. eqb y v) spec.inputs ≡ true → list_any (λ y. eqb y v) old ≡ false → length old < most → (new : List ℕ) → new ≡ old ++ v ∷ [] → Allows spec most v old true new
+  allows_more input fresh room new new_is before tally =
+      let is = tally.values_are in
+      let none : list_any (λ y. eqb y v) (decided_in before) ≡ false = sym (any_different v (decided_in before)) ∙ ap (list_any (λ y. eqb y v)) (sym is) ∙ fresh in
+      let same : different (decided_in before ++ v ∷ []) ≡ new =
+      different-push (decided_in before) v ∙ ap (λ (b : Bool). different (decided_in before) ++ cond b [] (v ∷ [])) none ∙ ap (λ (l : List ℕ). l ++ v ∷ []) (sym is) ∙ sym new_is in
+      let long : length (different (decided_in before ++ v ∷ [])) ≡ length old + 1 = ap (λ (l : List ℕ). length l) (same ∙ new_is) ∙ length-append old (v ∷ []) in
+      let long' : length new ≡ length old + 1 = ap (λ (l : List ℕ). length l) new_is ∙ length-append old (v ∷ []) in
+      (record { input = input_is v spec.inputs input; few = omega (arith, room, long) }, sym same, omega (arith, room, long'))
+
+-- ---- any event
+
+by_answer : (spec : RoomSpec) (most p v : ℕ) (old new : List ℕ) (answer : Bool) → Allows spec most v old answer new → HasDecided spec most (Decide p v) old answer new
+by_answer spec most p v old new true allows before tally =
+    let has = allows before tally in
+    (has.0, record { values_are = has.1 ∙ ap different (sym (one_more before p v)); few = has.2 })
+by_answer spec most p v old new false allows before tally = allows before tally
+
+pub follows_decide : (spec : RoomSpec) (most p v : ℕ) (old new : List ℕ) (answer : Bool) (event : Event) → event ≡ Decide p v → Allows spec most v old answer new → HasDecided spec most event old answer new
+follows_decide spec most p v old new answer event is allows = subst (λ (e : Event). HasDecided spec most e old answer new) (sym is) (by_answer spec most p v old new answer allows)
+
+pub follows_other : (spec : RoomSpec) (most : ℕ) (old : List ℕ) (event : Event) → decided_by event ≡ None → HasDecided spec most event old true old
+follows_other spec most old (Write p v) none before tally = (tt, record { values_are = tally.values_are ∙ ap different (sym (no_more before (Write p v) refl)); few = tally.few })
+follows_other spec most old (Snap p row) none before tally = (tt, record { values_are = tally.values_are ∙ ap different (sym (no_more before (Snap p row) refl)); few = tally.few })
+follows_other spec most old (Decide p v) none before tally = absurd cc
+
+-- ---- whole lists
+
+pub KeepsTask-nil : (spec : RoomSpec) (most : ℕ) → KeepsTask spec most []
+KeepsTask-nil spec most t event is = absurd cc
+
+pub no_tally : (most : ℕ) → IsTally most [] []
+no_tally most = record { values_are = refl; few = omega arith }
+
+some_same : (x y : Event) → Some x ≡ Some y → x ≡ y
+some_same x y is = cc
+
+keeps_push : (spec : RoomSpec) (most : ℕ) (history : List Event) (event : Event) → KeepsTask spec most history → IsInTask spec most history event → KeepsTask spec most (history ++ event ∷ [])
+keeps_push spec most history event keeps may t x is = elim (cases_lt t (length history)) [
+  | inl below ↦ rw (take-append-le t history (event ∷ []) (omega arith)) (keeps t x (sym (slice_get-append history (event ∷ []) t below) ∙ is))
+  | inr past ↦
+      let within = slice_get_within (history ++ event ∷ []) t x is in
+      let here : length history ≡ t = omega (arith, length_push history event) in
+      let event_is : event ≡ x = some_same event x (sym (slice_get-push history event) ∙ ap (slice_get (history ++ event ∷ [])) here ∙ is) in
+      subst (λ (n : ℕ). IsInTask spec most (take n (history ++ event ∷ [])) x) here (rw take-push (subst (IsInTask spec most history) event_is may))
+]
+
+pub keeps_more : (spec : RoomSpec) (most : ℕ) (events : List Event) (t : ℕ) (d : Event) → t < length events → KeepsTask spec most (take t events) → IsInTask spec most (take t events) (get_or events t d) → KeepsTask spec most (take (t + 1) events)
+keeps_more spec most events t d within keeps may = rw (take_more events t d within) (keeps_push spec most (take t events) (get_or events t d) keeps may)
+
+pub excess_at : (spec : RoomSpec) (most : ℕ) (events : List Event) (t : ℕ) (d : Event) → t < length events → KeepsTask spec most (take t events) → (IsInTask spec most (take t events) (get_or events t d) → ⊥) → IsFirstExcess spec most events t
+excess_at spec most events t d within keeps breaks = record { event = get_or events t d; there = slice_get-get_or events t d within; breaks = breaks; kept_before = keeps }
+
+pub no_excess : (spec : RoomSpec) (most : ℕ) (events : List Event) (t : ℕ) → IsFirstExcess spec most events t → KeepsTask spec most events → ⊥
+no_excess spec most events t first keeps = first.breaks (keeps t first.event first.there)
+
+not_sooner : (spec : RoomSpec) (most : ℕ) (events : List Event) (s t : ℕ) → IsFirstExcess spec most events s → IsFirstExcess spec most events t → s < t → ⊥
+not_sooner spec most events s t a b earlier =
+    a.breaks (subst (λ before. IsInTask spec most before a.event) (take-take s t events (omega arith)) (b.kept_before s a.event (slice_get-take events t s earlier ∙ a.there)))
+
+pub one_excess : (spec : RoomSpec) (most : ℕ) (events : List Event) (s t : ℕ) → IsFirstExcess spec most events s → IsFirstExcess spec most events t → s ≡ t
+one_excess spec most events s t a b = elim (cases_lt s t) [
+  | inl earlier ↦ absurd (not_sooner spec most events s t a b earlier)
+  | inr not_before ↦ elim (cases_lt t s) [ inl later ↦ absurd (not_sooner spec most events t s b a later) | inr le ↦ omega arith ]
+]

@@ -1,0 +1,23 @@
+-- What is kept of the decisions of a room that has a task.
+use Rattle.std.specs.Prelude.{◌≡◌, ℕ, ◌≤◌, Bool, List, [], ◌∷◌, ◌++◌, length, MatchBool}
+use Rattle.room_spec.specs.Rooms.{RoomSpec}
+use Rattle.transcript.specs.declared.event.Event.{Event}
+use Rattle.transcript.specs.Tasks.{MayBeDecided, IsInTask, decided_in, different}
+
+-- what is kept are the different values that were decided, of which there are not too many
+pub record IsTally (most : ℕ) (before : List Event) (values : List ℕ) : Type 0 where
+  pub values_are : values ≡ different (decided_in before)
+  pub few : length values ≤ most
+
+-- Whatever the events before it were: where the answer is yes, v may be decided after them, and what is kept counts it; where it is
+-- no, it may not.
+abbrev pub Allows : RoomSpec → ℕ → ℕ → List ℕ → Bool → List ℕ → Type 0
+Allows spec most v old answer new =
+    (before : List Event) → IsTally most before old
+    → MatchBool answer (MayBeDecided spec most before v × (new ≡ different (decided_in before ++ v ∷ [])) × (length new ≤ most)) (MayBeDecided spec most before v → ⊥)
+
+-- the same of any event
+abbrev pub HasDecided : RoomSpec → ℕ → Event → List ℕ → Bool → List ℕ → Type 0
+HasDecided spec most event old answer new =
+    (before : List Event) → IsTally most before old
+    → MatchBool answer (IsInTask spec most before event × IsTally most (before ++ event ∷ []) new) (IsInTask spec most before event → ⊥)
