@@ -1,3 +1,4 @@
 pub mod PlaceLemmas
 pub mod WordLemmas
+pub mod Counts
 pub mod Worked

@@ -2,16 +2,21 @@
 use Rattle.std.proofs.Common.{◌≡◌, ℕ, zero, suc, ◌+◌, ◌-◌, ◌*◌, ◌/◌, ◌%◌, ◌<◌, ◌≤◌, inl, inr, refl, sym, ap, ◌∙◌, arith}
 use Rattle.std.proofs.lemmas.Bool.{cases_lt}
 use Rattle.std.proofs.lemmas.Nat.{mul-add-lt, same_from_place, div-add-mod', mod_below, div_below}
-use Rattle.room_spec.specs.Sizes.{Sizes}
+use Rattle.room_spec.specs.Sizes.{Sizes, memory_words}
 use Rattle.view_table.specs.declared.place.Place.{Place}
-use Rattle.view_table.specs.declared.place.Place.TheVariants.{Steps, Levels, View, Value, Out}
-use Rattle.view_table.specs.Places.{IsSimulator, IsProcess, IsPlace, IsPlaceAt, pairs, levels_from, views_from, values_from, outs_from, words_of, index_of}
+use Rattle.view_table.specs.declared.place.Place.TheVariants.{Memory, Levels, View, Value, Out}
+use Rattle.view_table.specs.Places.{IsSimulator, IsProcess, IsPlace, IsPlaceAt, pairs, views, levels_from, views_from, values_from, outs_from, words_of, index_of}
 
 -- ---- the words of one kind
 
 pub in_rows : (row rows rounds k : ℕ) → row < rows → (1 ≤ k) × (k ≤ rounds) → row * rounds + (k - 1) < rows * rounds
 in_rows row rows rounds k less range =
     let turned : row * rounds + (k - 1) < rounds * rows = mul-add-lt row rounds (k - 1) rows less (omega arith) in
+    omega arith
+
+pub in_words : (view views words w : ℕ) → view < views → w < words → view * words + w < views * words
+in_words view views words w less range =
+    let turned : view * words + w < words * views = mul-add-lt view words w views less range in
     omega arith
 
 pub pair_within : (sizes : Sizes) (i j : ℕ) → IsSimulator sizes i → IsProcess sizes j → i * sizes.n + j < pairs sizes
@@ -21,40 +26,42 @@ pair_within sizes i j simulator process =
 
 -- where the words of a place's kind begin, and where those of the next kind do
 abbrev starts : Sizes → Place → ℕ
-starts sizes Steps = 0
+starts sizes (Memory w) = 0
 starts sizes (Levels j k) = levels_from sizes
-starts sizes (View i j k) = views_from sizes
+starts sizes (View i j k w) = views_from sizes
 starts sizes (Value i j k) = values_from sizes
 starts sizes (Out i j) = outs_from sizes
 
 abbrev ends : Sizes → Place → ℕ
-ends sizes Steps = levels_from sizes
+ends sizes (Memory w) = levels_from sizes
 ends sizes (Levels j k) = views_from sizes
-ends sizes (View i j k) = values_from sizes
+ends sizes (View i j k w) = values_from sizes
 ends sizes (Value i j k) = outs_from sizes
 ends sizes (Out i j) = words_of sizes
 
 from_start : (sizes : Sizes) (place : Place) → starts sizes place ≤ index_of sizes place
 unfolding index_of
-from_start sizes Steps = omega arith
+from_start sizes (Memory w) = omega arith
 from_start sizes (Levels j k) = omega arith
-from_start sizes (View i j k) = omega arith
+from_start sizes (View i j k w) = omega arith
 from_start sizes (Value i j k) = omega arith
 from_start sizes (Out i j) = omega arith
 
 before_end : (sizes : Sizes) (place : Place) → IsPlace sizes place → index_of sizes place < ends sizes place
 unfolding index_of words_of
-before_end sizes Steps range = omega arith
+before_end sizes (Memory w) range = range
 before_end sizes (Levels j k) range = omega (arith, in_rows j sizes.n sizes.rounds k range.0 range.1)
-before_end sizes (View i j k) range = omega (arith, in_rows (i * sizes.n + j) (pairs sizes) sizes.rounds k (pair_within sizes i j range.0 range.1) range.2)
+before_end sizes (View i j k w) range =
+    let view = in_rows (i * sizes.n + j) (pairs sizes) sizes.rounds k (pair_within sizes i j range.0 range.1) range.2 in
+    omega (arith, in_words ((i * sizes.n + j) * sizes.rounds + (k - 1)) (views sizes) (memory_words sizes) w view range.3)
 before_end sizes (Value i j k) range = omega (arith, in_rows (i * sizes.n + j) (pairs sizes) sizes.rounds k (pair_within sizes i j range.0 range.1) range.2)
 before_end sizes (Out i j) range = omega (arith, pair_within sizes i j range.0 range.1)
 
 pub within : (sizes : Sizes) (place : Place) → IsPlace sizes place → index_of sizes place < words_of sizes
 unfolding words_of
-within sizes Steps range = omega (arith, before_end sizes Steps range)
+within sizes (Memory w) range = omega (arith, before_end sizes (Memory w) range)
 within sizes (Levels j k) range = omega (arith, before_end sizes (Levels j k) range)
-within sizes (View i j k) range = omega (arith, before_end sizes (View i j k) range)
+within sizes (View i j k w) range = omega (arith, before_end sizes (View i j k w) range)
 within sizes (Value i j k) range = omega (arith, before_end sizes (Value i j k) range)
 within sizes (Out i j) range = omega (arith, before_end sizes (Out i j) range)
 
@@ -70,37 +77,38 @@ distinct_kinds sizes a b in_range apart same = absurd (omega (arith, before_end 
 
 pub distinct : (sizes : Sizes) (a b : Place) → IsPlace sizes a → IsPlace sizes b → index_of sizes a ≡ index_of sizes b → a ≡ b
 unfolding index_of
-distinct sizes Steps Steps in_a in_b same = refl
-distinct sizes Steps (Levels j' k') in_a in_b same = distinct_kinds sizes Steps (Levels j' k') in_a (omega arith) same
-distinct sizes Steps (View i' j' k') in_a in_b same = distinct_kinds sizes Steps (View i' j' k') in_a (omega arith) same
-distinct sizes Steps (Value i' j' k') in_a in_b same = distinct_kinds sizes Steps (Value i' j' k') in_a (omega arith) same
-distinct sizes Steps (Out i' j') in_a in_b same = distinct_kinds sizes Steps (Out i' j') in_a (omega arith) same
-distinct sizes (Levels j k) Steps in_a in_b same = sym (distinct_kinds sizes Steps (Levels j k) in_b (omega arith) (sym same))
+distinct sizes (Memory w) (Memory w') in_a in_b same = ap (λ (x : ℕ). Memory x) same
+distinct sizes (Memory w) (Levels j' k') in_a in_b same = distinct_kinds sizes (Memory w) (Levels j' k') in_a (omega arith) same
+distinct sizes (Memory w) (View i' j' k' w') in_a in_b same = distinct_kinds sizes (Memory w) (View i' j' k' w') in_a (omega arith) same
+distinct sizes (Memory w) (Value i' j' k') in_a in_b same = distinct_kinds sizes (Memory w) (Value i' j' k') in_a (omega arith) same
+distinct sizes (Memory w) (Out i' j') in_a in_b same = distinct_kinds sizes (Memory w) (Out i' j') in_a (omega arith) same
+distinct sizes (Levels j k) (Memory w) in_a in_b same = sym (distinct_kinds sizes (Memory w) (Levels j k) in_b (omega arith) (sym same))
 distinct sizes (Levels j k) (Levels j' k') in_a in_b same =
     let parts = same_round j j' sizes.rounds k k' in_a.1 in_b.1 (omega arith) in
     cc
-distinct sizes (Levels j k) (View i' j' k') in_a in_b same = distinct_kinds sizes (Levels j k) (View i' j' k') in_a (omega arith) same
+distinct sizes (Levels j k) (View i' j' k' w') in_a in_b same = distinct_kinds sizes (Levels j k) (View i' j' k' w') in_a (omega arith) same
 distinct sizes (Levels j k) (Value i' j' k') in_a in_b same = distinct_kinds sizes (Levels j k) (Value i' j' k') in_a (omega arith) same
 distinct sizes (Levels j k) (Out i' j') in_a in_b same = distinct_kinds sizes (Levels j k) (Out i' j') in_a (omega arith) same
-distinct sizes (View i j k) Steps in_a in_b same = sym (distinct_kinds sizes Steps (View i j k) in_b (omega arith) (sym same))
-distinct sizes (View i j k) (Levels j' k') in_a in_b same = sym (distinct_kinds sizes (Levels j' k') (View i j k) in_b (omega arith) (sym same))
-distinct sizes (View i j k) (View i' j' k') in_a in_b same =
-    let rows = same_round (i * sizes.n + j) (i' * sizes.n + j') sizes.rounds k k' in_a.2 in_b.2 (omega arith) in
+distinct sizes (View i j k w) (Memory w') in_a in_b same = sym (distinct_kinds sizes (Memory w') (View i j k w) in_b (omega arith) (sym same))
+distinct sizes (View i j k w) (Levels j' k') in_a in_b same = sym (distinct_kinds sizes (Levels j' k') (View i j k w) in_b (omega arith) (sym same))
+distinct sizes (View i j k w) (View i' j' k' w') in_a in_b same =
+    let words = same_from_place ((i * sizes.n + j) * sizes.rounds + (k - 1)) w ((i' * sizes.n + j') * sizes.rounds + (k' - 1)) w' (memory_words sizes) in_a.3 in_b.3 (omega (arith, same)) in
+    let rows = same_round (i * sizes.n + j) (i' * sizes.n + j') sizes.rounds k k' in_a.2 in_b.2 words.0 in
     let parts = same_from_place i j i' j' sizes.n in_a.1 in_b.1 rows.0 in
     cc
-distinct sizes (View i j k) (Value i' j' k') in_a in_b same = distinct_kinds sizes (View i j k) (Value i' j' k') in_a (omega arith) same
-distinct sizes (View i j k) (Out i' j') in_a in_b same = distinct_kinds sizes (View i j k) (Out i' j') in_a (omega arith) same
-distinct sizes (Value i j k) Steps in_a in_b same = sym (distinct_kinds sizes Steps (Value i j k) in_b (omega arith) (sym same))
+distinct sizes (View i j k w) (Value i' j' k') in_a in_b same = distinct_kinds sizes (View i j k w) (Value i' j' k') in_a (omega arith) same
+distinct sizes (View i j k w) (Out i' j') in_a in_b same = distinct_kinds sizes (View i j k w) (Out i' j') in_a (omega arith) same
+distinct sizes (Value i j k) (Memory w) in_a in_b same = sym (distinct_kinds sizes (Memory w) (Value i j k) in_b (omega arith) (sym same))
 distinct sizes (Value i j k) (Levels j' k') in_a in_b same = sym (distinct_kinds sizes (Levels j' k') (Value i j k) in_b (omega arith) (sym same))
-distinct sizes (Value i j k) (View i' j' k') in_a in_b same = sym (distinct_kinds sizes (View i' j' k') (Value i j k) in_b (omega arith) (sym same))
+distinct sizes (Value i j k) (View i' j' k' w') in_a in_b same = sym (distinct_kinds sizes (View i' j' k' w') (Value i j k) in_b (omega arith) (sym same))
 distinct sizes (Value i j k) (Value i' j' k') in_a in_b same =
     let rows = same_round (i * sizes.n + j) (i' * sizes.n + j') sizes.rounds k k' in_a.2 in_b.2 (omega arith) in
     let parts = same_from_place i j i' j' sizes.n in_a.1 in_b.1 rows.0 in
     cc
 distinct sizes (Value i j k) (Out i' j') in_a in_b same = distinct_kinds sizes (Value i j k) (Out i' j') in_a (omega arith) same
-distinct sizes (Out i j) Steps in_a in_b same = sym (distinct_kinds sizes Steps (Out i j) in_b (omega arith) (sym same))
+distinct sizes (Out i j) (Memory w) in_a in_b same = sym (distinct_kinds sizes (Memory w) (Out i j) in_b (omega arith) (sym same))
 distinct sizes (Out i j) (Levels j' k') in_a in_b same = sym (distinct_kinds sizes (Levels j' k') (Out i j) in_b (omega arith) (sym same))
-distinct sizes (Out i j) (View i' j' k') in_a in_b same = sym (distinct_kinds sizes (View i' j' k') (Out i j) in_b (omega arith) (sym same))
+distinct sizes (Out i j) (View i' j' k' w') in_a in_b same = sym (distinct_kinds sizes (View i' j' k' w') (Out i j) in_b (omega arith) (sym same))
 distinct sizes (Out i j) (Value i' j' k') in_a in_b same = sym (distinct_kinds sizes (Value i' j' k') (Out i j) in_b (omega arith) (sym same))
 distinct sizes (Out i j) (Out i' j') in_a in_b same =
     let parts = same_from_place i j i' j' sizes.n in_a.1 in_b.1 (omega arith) in
@@ -129,14 +137,17 @@ in_levels sizes at less =
     let parts = row_round at sizes.n sizes.rounds less in
     (Levels (at / sizes.rounds) (at % sizes.rounds + 1), record { in_range = (parts.0, (parts.1, parts.2)); index = omega arith })
 
-in_views : (sizes : Sizes) (at : ℕ) → at < pairs sizes * sizes.rounds → (place : Place) × IsPlaceAt sizes place (views_from sizes + at)
+in_views : (sizes : Sizes) (at : ℕ) → at < views sizes * memory_words sizes → (place : Place) × IsPlaceAt sizes place (views_from sizes + at)
 unfolding index_of
 in_views sizes at less =
-    let parts = row_round at (pairs sizes) sizes.rounds less in
-    let row = at / sizes.rounds in
+    let some : 0 < memory_words sizes = pos_of_product at (views sizes) (memory_words sizes) less in
+    let view = at / memory_words sizes in
+    let parts = row_round view (pairs sizes) sizes.rounds (div_below at (memory_words sizes) (views sizes) some less) in
+    let row = view / sizes.rounds in
     let numbers = pair_parts sizes row parts.0 in
-    let joined : (row / sizes.n * sizes.n + row % sizes.n) * sizes.rounds + (at % sizes.rounds + 1 - 1) ≡ at = ap (λ r. r * sizes.rounds + (at % sizes.rounds + 1 - 1)) numbers.2 ∙ parts.3 in
-    (View (row / sizes.n) (row % sizes.n) (at % sizes.rounds + 1), record { in_range = (numbers.0, numbers.1, (parts.1, parts.2)); index = omega arith })
+    let joined : (row / sizes.n * sizes.n + row % sizes.n) * sizes.rounds + (view % sizes.rounds + 1 - 1) ≡ view = ap (λ r. r * sizes.rounds + (view % sizes.rounds + 1 - 1)) numbers.2 ∙ parts.3 in
+    let all : ((row / sizes.n * sizes.n + row % sizes.n) * sizes.rounds + (view % sizes.rounds + 1 - 1)) * memory_words sizes + at % memory_words sizes ≡ at = ap (λ v. v * memory_words sizes + at % memory_words sizes) joined ∙ div-add-mod' at (memory_words sizes) in
+    (View (row / sizes.n) (row % sizes.n) (view % sizes.rounds + 1) (at % memory_words sizes), record { in_range = (numbers.0, numbers.1, (parts.1, parts.2), mod_below at (memory_words sizes) some); index = omega (arith, all) })
 
 in_values : (sizes : Sizes) (at : ℕ) → at < pairs sizes * sizes.rounds → (place : Place) × IsPlaceAt sizes place (values_from sizes + at)
 unfolding index_of
@@ -160,10 +171,10 @@ moved sizes start at le found = (found.0, record { in_range = found.1.in_range; 
 pub some_place : (sizes : Sizes) (at : ℕ) → at < words_of sizes → (place : Place) × IsPlaceAt sizes place at
 unfolding index_of words_of
 some_place sizes at less =
-    elim (cases_lt at 1) [
-      | inl steps ↦ (Steps, record { in_range = tt; index = omega arith })
+    elim (cases_lt at (memory_words sizes)) [
+      | inl steps ↦ (Memory at, record { in_range = steps; index = refl })
       | inr later ↦ elim (cases_lt at (views_from sizes)) [
-        | inl levels ↦ moved sizes 1 at later (in_levels sizes (at - 1) (omega arith))
+        | inl levels ↦ moved sizes (memory_words sizes) at later (in_levels sizes (at - memory_words sizes) (omega arith))
         | inr later ↦ elim (cases_lt at (values_from sizes)) [
           | inl views ↦ moved sizes (views_from sizes) at later (in_views sizes (at - views_from sizes) (omega arith))
           | inr later ↦ elim (cases_lt at (outs_from sizes)) [

@@ -1,7 +1,8 @@
 //! Laws of places, and of a memory that has a word for each. Each is what its function ensures.
-ghost use Rattle.std.specs.Prelude.{◌≡◌, ◌≢◌, ℕ, ◌<◌, List, length, replicate};
+ghost use Rattle.std.specs.Prelude.{◌≡◌, ◌≢◌, ℕ, ◌+◌, ◌<◌, List, length, replicate};
 ghost use Rattle.room_spec.specs.Sizes.{Sizes};
 ghost use Rattle.view_table.specs.declared.place.Place.{Place};
+ghost use Rattle.view_table.specs.declared.place.Place.TheVariants as places;
 ghost use Rattle.view_table.specs.Places.{IsPlace, IsPlaceAt, index_of, words_of};
 ghost use Rattle.view_table.specs.Words.{word_at, with_word};
 
@@ -35,4 +36,10 @@ pub fn places_make_the_words()
 /// The words of a memory that is all 0.
 pub fn words_of_zeros()
     ensures { (sizes : Sizes) (place : Place) → IsPlace sizes place → word_at sizes (replicate (words_of sizes) 0) place ≡ 0 }
+{}
+
+/// The memory words come first, and the words of one view stand side by side.
+pub fn words_stand_together()
+    ensures memory { (sizes : Sizes) (w : ℕ) → index_of sizes (places.Memory w) ≡ w }
+    ensures view { (sizes : Sizes) (i j k w : ℕ) → index_of sizes (places.View i j k w) ≡ index_of sizes (places.View i j k 0) + w }
 {}

@@ -1,25 +1,29 @@
 //! The places of a room's shared memory.
 ghost use Rattle.std.specs.Prelude.{◌≡◌, ◌+◌, ◌-◌, ◌*◌, ◌<◌, ◌≤◌};
-ghost use Rattle.room_spec.specs.Sizes.{sizes_of};
-ghost use Rattle.view_table.specs.Places.{IsSimulator, IsProcess, IsRound, IsPlace, index_of, pairs, views_from, values_from, outs_from, words_of};
+ghost use Rattle.room_spec.specs.Sizes.{memory_words};
+ghost use Rattle.room_spec.specs.Shapes.{sizes_of};
+ghost use Rattle.view_table.specs.Places.{IsSimulator, IsProcess, IsRound, IsMemoryWord, IsPlace, index_of, pairs, views, views_from, values_from, outs_from, words_of};
 
 use room_spec::Shape;
 
-/// A word of a room's shared memory. Simulators and processes are counted from 0, rounds from 1.
+/// A word of a room's shared memory. Simulators, processes and memory words are counted from 0, rounds from 1.
 #[derive(Clone, Copy, Debug, PartialEq, Eq)]
 pub enum Place {
-    /// The step numbers of all processes at all simulators: the simulated memory.
-    Steps,
+    /// One of the words with the step numbers of all processes at all simulators: the simulated memory.
+    Memory {
+        word: usize,
+    },
     /// The levels of all simulators in the agreement on a process's snapshot in a round.
     Levels {
         process: usize,
         round: usize,
     },
-    /// The step numbers that a simulator proposes for a process's snapshot in a round.
+    /// One of the words with the step numbers that a simulator proposes for a process's snapshot in a round.
     View {
         simulator: usize,
         process: usize,
         round: usize,
+        word: usize,
     },
     /// The value that a process writes in a round, as a simulator has it.
     Value {
@@ -34,8 +38,8 @@ pub enum Place {
     },
 }
 
-/// Where a place stands among a room's words. Its numbers are those of a simulator, a process and
-/// a round of the room.
+/// Where a place stands among a room's words. Its numbers are those of a simulator, a process, a
+/// round and a memory word of the room.
 #[tactic(auto, unfolding(crate::specs::Places::index_of, crate::specs::Places::words_of))]
 pub fn index(shape: &Shape, place: Place) -> usize
     requires { IsPlace (sizes_of shape.now) place }
@@ -43,13 +47,17 @@ pub fn index(shape: &Shape, place: Place) -> usize
     ensures within { result < words_of (sizes_of shape.now) }
 {
     match place {
-        Place::Steps => 0,
-        Place::Levels { process, round } => 1 + in_round(shape, process, round),
+        Place::Memory { word } => word,
+        Place::Levels { process, round } => shape.memory_words() + in_round(shape, process, round),
         Place::View {
             simulator,
             process,
             round,
-        } => views_from(shape) + in_round(shape, pair(shape, simulator, process), round),
+            word,
+        } => {
+            let agreement = in_round(shape, pair(shape, simulator, process), round);
+            views_from(shape) + in_words(shape, agreement, word)
+        }
         Place::Value {
             simulator,
             process,
@@ -59,11 +67,11 @@ pub fn index(shape: &Shape, place: Place) -> usize
     }
 }
 
-/// How many words a room has, at most 737.
-#[tactic(auto, unfolding(crate::specs::Places::words_of))]
+/// How many words a room has, at most 5108.
+#[tactic(auto, unfolding(crate::specs::Places::words_of), using(crate::proofs::Counts::few_words))]
 pub fn words(shape: &Shape) -> usize
     ensures value { result ≡ words_of (sizes_of shape.now) }
-    ensures few { result ≤ 737 }
+    ensures few { result ≤ 5108 }
 {
     outs_from(shape) + pairs(shape)
 }
@@ -74,46 +82,63 @@ fn pair(shape: &Shape, simulator: usize, process: usize) -> usize
     requires process { IsProcess (sizes_of shape.now) process }
     ensures value { result ≡ simulator * shape.now.n + process }
     ensures within { result < pairs (sizes_of shape.now) }
-    ensures few { result < 64 }
+    ensures few { result < 128 }
 {
     simulator * shape.n + process
 }
 
 /// The number of a round among the rounds of rows that each have all of them.
 fn in_round(shape: &Shape, row: usize, round: usize) -> usize
-    requires few { row < 64 }
+    requires few { row < 128 }
     requires round { IsRound (sizes_of shape.now) round }
     ensures value { result ≡ row * shape.now.rounds + (round - 1) }
-    ensures few { result < 960 }
+    ensures few { result < 1920 }
 {
     row * shape.rounds + (round - 1)
 }
 
+/// The number of a word among the words of so many views, each of which has all of them.
+fn in_words(shape: &Shape, view: usize, word: usize) -> usize
+    requires few { view < 1920 }
+    requires word { IsMemoryWord (sizes_of shape.now) word }
+    ensures value { result ≡ view * memory_words (sizes_of shape.now) + word }
+    ensures few { result < 7680 }
+{
+    view * shape.memory_words() + word
+}
+
 fn pairs(shape: &Shape) -> usize
     ensures value { result ≡ pairs (sizes_of shape.now) }
-    ensures few { result ≤ 64 }
-    ensures in_rounds { 2 * (result * shape.now.rounds) + result ≤ 496 }
+    ensures few { result ≤ 128 }
 {
     shape.m * shape.n
 }
 
+/// The number of all agreements, each as one simulator has it.
+fn views(shape: &Shape) -> usize
+    ensures value { result ≡ views (sizes_of shape.now) }
+    ensures few { result ≤ 1920 }
+{
+    pairs(shape) * shape.rounds
+}
+
 fn views_from(shape: &Shape) -> usize
     ensures value { result ≡ views_from (sizes_of shape.now) }
-    ensures few { result ≤ 241 }
+    ensures few { result ≤ 244 }
 {
-    1 + shape.n * shape.rounds
+    shape.memory_words() + shape.n * shape.rounds
 }
 
 fn values_from(shape: &Shape) -> usize
     ensures value { result ≡ values_from (sizes_of shape.now) }
-    ensures few { result ≤ 489 }
+    ensures few { result ≤ 7924 }
 {
-    views_from(shape) + pairs(shape) * shape.rounds
+    views_from(shape) + views(shape) * shape.memory_words()
 }
 
 fn outs_from(shape: &Shape) -> usize
     ensures value { result ≡ outs_from (sizes_of shape.now) }
-    ensures few { result + pairs (sizes_of shape.now) ≤ 737 }
+    ensures few { result ≤ 9844 }
 {
-    values_from(shape) + pairs(shape) * shape.rounds
+    values_from(shape) + views(shape)
 }

@@ -1,14 +1,17 @@
 use Rattle.std.proofs.Common.{arith}
-use Rattle.room_spec.specs.Sizes.{sizes_of}
-use Rattle.view_table.specs.Places.{pairs, words_of}
-use Rattle.view_table.proofs.PlaceLemmas.{in_rows}
+use Rattle.room_spec.specs.Sizes.{Sizes, memory_words}
+use Rattle.room_spec.specs.Shapes.{sizes_of}
+use Rattle.view_table.specs.Places.{pairs, views, words_of}
+use Rattle.view_table.proofs.PlaceLemmas.{in_rows, in_words}
 use Rattle.view_table.proofs.place.index.Goals as goal
 
 pub returns-in-View-clause-within : goal.returns-in-View-clause-within
 unfolding words_of
 returns-in-View-clause-within c =
     let range = rw c.in-View.is at c.requires in
-    omega (arith, in_rows c.pair.result (pairs (sizes_of c.args.shape.now)) c.args.shape.now.rounds c.in-View.round c.pair.ensures.within range.2)
+    let sizes : Sizes = sizes_of c.args.shape.now in
+    let view = in_rows c.pair.result (pairs sizes) c.args.shape.now.rounds c.in-View.round c.pair.ensures.within range.2 in
+    omega (arith, in_words c.in_round-agreement.result (views sizes) (memory_words sizes) c.in-View.word (omega (arith, c.in_round-agreement.ensures.value, view)) range.3)
 
 pub returns-in-Value-clause-within : goal.returns-in-Value-clause-within
 unfolding words_of
