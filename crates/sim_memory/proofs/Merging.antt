@@ -6,10 +6,13 @@ use native.Mathlib.Decide.{ℕ_discrete}
 use Rattle.std.proofs.lemmas.Bool.{cases_lt, lt-ltb, le-ltb}
 use Rattle.std.proofs.lemmas.List.{get_or-replicate, get_or-set_same, get_or-set_other, length-set}
 use Rattle.std.proofs.Math.Nat.{zero-div, zero-mod}
-use Rattle.std.proofs.lemmas.Nat.{shr-shr}
+use Rattle.std.proofs.lemmas.Nat.{shr-shr, div-mul-add, mod-mul-add, div-add-mod'}
+use Rattle.std.proofs.Math.Nat.{add-mul}
 use Rattle.std.proofs.lemmas.Simd.{tops_compared, length-zip2, get_or-sel_l, get_or-zip2}
-use Rattle.room_spec.specs.Sizes.{Sizes}
-use Rattle.sim_memory.specs.Steps.{holder_of, merged_of, place_of, step_in}
+use Rattle.room_spec.specs.Sizes.{Sizes, AreSizes, fields_in_word}
+use Rattle.room_spec.proofs.MemoryWords.{are_memory_words, by_bits}
+use Rattle.sim_memory.specs.Steps.{field_number, holder_of, merged_of, place_of, step_in, word_of}
+use Rattle.sim_memory.specs.Lasts.{AreLast, AreSteps}
 use Rattle.sim_memory.proofs.Rows.{merged_below}
 use Rattle.sim_memory.proofs.Greatest.{alone, holder_is, holder_kept, holder_merged, holder_of_is, holder_passed}
 
@@ -102,14 +105,8 @@ holder_more_of (suc m) steps p = holder_more_by (suc m) steps p (omega arith) (c
 
 -- ---- the last writes
 
--- those of the first m simulators, and 0 behind the last process
-pub record AreLast (sizes : Sizes) (word m : ℕ) (holders rounds : List ℕ) : Type 0 where
-  pub holder : (p : ℕ) → p < sizes.n → get_or holders p 0 ≡ holder_of m (step_in sizes word) p
-  pub round : (p : ℕ) → p < sizes.n → get_or rounds p 0 ≡ merged_of m (step_in sizes word) p
-  pub behind : (p : ℕ) → sizes.n ≤ p → p < 16 → (get_or holders p 0 ≡ 0) × (get_or rounds p 0 ≡ 0)
-
-pub none_last : (sizes : Sizes) (word : ℕ) → sizes.n ≤ 16 → AreLast sizes word 0 (replicate 16 0) (replicate 16 0)
-none_last sizes word few = record {
+pub none_last : (sizes : Sizes) (words : List ℕ) → sizes.n ≤ 16 → AreLast sizes words 0 (replicate 16 0) (replicate 16 0)
+none_last sizes words few = record {
   holder = λ p below. get_or-replicate 16 p 0 0 (omega arith);
   round = λ p below. get_or-replicate 16 p 0 0 (omega arith);
   behind = λ p _ within. (get_or-replicate 16 p 0 0 within, get_or-replicate 16 p 0 0 within);
@@ -118,36 +115,49 @@ none_last sizes word few = record {
 one_more : (i : ℕ) → suc i ≡ i + 1
 one_more i = omega arith
 
-field_above : (sizes : Sizes) (word i p : ℕ) → word / 2 ^ place_of sizes i 0 / 2 ^ (p * sizes.bits) ≡ word / 2 ^ place_of sizes i p
-field_above sizes word i p =
-    let above : place_of sizes i 0 + p * sizes.bits ≡ place_of sizes i p = grind arith in
-    shr-shr word (place_of sizes i 0) (p * sizes.bits) ∙ ap (λ at. word / 2 ^ at) above
+-- a simulator's row that stands in one word
+whole_row : (sizes : Sizes) (i p : ℕ) → AreSizes sizes → p < sizes.n → place_of sizes i 0 + sizes.n * sizes.bits ≤ 64 → (word_of sizes i p ≡ word_of sizes i 0) × (place_of sizes i p ≡ place_of sizes i 0 + p * sizes.bits)
+whole_row sizes i p limits below narrow =
+    let words = are_memory_words sizes limits in
+    let fields = fields_in_word sizes in
+    let start = field_number sizes i 0 % fields in
+    let word = word_of sizes i 0 in
+    let sum : (start + sizes.n) * sizes.bits ≤ 64 = omega (arith, narrow, add-mul start sizes.n sizes.bits) in
+    let fit : start + sizes.n ≤ fields = by_bits sizes.rounds sizes.bits (λ bits. (start + sizes.n) * bits ≤ 64 → start + sizes.n ≤ 64 / bits) limits.width (λ h. omega arith) (λ h. omega arith) (λ h. omega arith) (λ h. omega arith) sum in
+    let parts = div-add-mod' (field_number sizes i 0) fields in
+    let number : field_number sizes i p ≡ word * fields + (start + p) = omega (arith, parts) in (
+      ap (λ (x : ℕ). x / fields) number ∙ div-mul-add word fields (start + p) (omega (arith, fit, below)),
+      ap (λ (x : ℕ). x % fields * sizes.bits) number ∙ ap (λ (x : ℕ). x * sizes.bits) (mod-mul-add word fields (start + p) (omega (arith, fit, below))) ∙ add-mul start p sizes.bits,
+    )
 
--- what one simulator's numbers are
-pub record AreSteps (sizes : Sizes) (word i : ℕ) (steps : List ℕ) : Type 0 where
-  pub own : (p : ℕ) → p < sizes.n → get_or steps p 0 ≡ step_in sizes word i p
-  pub behind : (p : ℕ) → sizes.n ≤ p → p < 16 → get_or steps p 0 ≡ 0
+field_above : (sizes : Sizes) (words : List ℕ) (i p : ℕ) → AreSizes sizes → p < sizes.n → place_of sizes i 0 + sizes.n * sizes.bits ≤ 64
+    → get_or words (word_of sizes i 0) 0 / 2 ^ place_of sizes i 0 / 2 ^ (p * sizes.bits) ≡ get_or words (word_of sizes i p) 0 / 2 ^ place_of sizes i p
+field_above sizes words i p limits below narrow =
+    let whole = whole_row sizes i p limits below narrow in
+    shr-shr (get_or words (word_of sizes i 0) 0) (place_of sizes i 0) (p * sizes.bits)
+    ∙ ap (λ (at : ℕ). get_or words (word_of sizes i 0) 0 / 2 ^ at) (sym whole.1) ∙ ap (λ (w : ℕ). get_or words w 0 / 2 ^ place_of sizes i p) (sym whole.0)
 
-pub steps_of : (sizes : Sizes) (word i row : ℕ) (steps : List ℕ) → row ≡ word / 2 ^ place_of sizes i 0 → ((p : ℕ) → p < sizes.n → get_or steps p 0 ≡ min (row / 2 ^ (p * sizes.bits) % 2 ^ sizes.bits) sizes.rounds) → ((p : ℕ) → sizes.n ≤ p → p < 16 → get_or steps p 0 ≡ 0) → AreSteps sizes word i steps
-steps_of sizes word i row steps is own behind = record {
-  own = λ p below. own p below ∙ ap (λ x. min (x % 2 ^ sizes.bits) sizes.rounds) (ap (λ x. x / 2 ^ (p * sizes.bits)) is ∙ field_above sizes word i p);
+pub steps_of : (sizes : Sizes) (words : List ℕ) (i row : ℕ) (steps : List ℕ) → AreSizes sizes → place_of sizes i 0 + sizes.n * sizes.bits ≤ 64 → row ≡ get_or words (word_of sizes i 0) 0 / 2 ^ place_of sizes i 0
+    → ((p : ℕ) → p < sizes.n → get_or steps p 0 ≡ min (row / 2 ^ (p * sizes.bits) % 2 ^ sizes.bits) sizes.rounds) → ((p : ℕ) → sizes.n ≤ p → p < 16 → get_or steps p 0 ≡ 0) → AreSteps sizes words i steps
+steps_of sizes words i row steps limits narrow is own behind = record {
+  own = λ p below. own p below ∙ ap (λ x. min (x % 2 ^ sizes.bits) sizes.rounds) (ap (λ x. x / 2 ^ (p * sizes.bits)) is ∙ field_above sizes words i p limits below narrow);
   behind = behind;
 }
 
-pub last_more : (sizes : Sizes) (word i : ℕ) (holders rounds steps later_holders later_rounds : List ℕ) → sizes.n ≤ 16 → AreLast sizes word i holders rounds → AreSteps sizes word i steps →
+pub last_more : (sizes : Sizes) (words : List ℕ) (i : ℕ) (holders rounds steps later_holders later_rounds : List ℕ) → sizes.n ≤ 16 → AreLast sizes words i holders rounds → AreSteps sizes words i steps →
     ((p : ℕ) → p < 16 → get_or later_holders p 0 ≡ cond (ltb (get_or rounds p 0) (get_or steps p 0)) i (get_or holders p 0)) →
     ((p : ℕ) → p < 16 → get_or later_rounds p 0 ≡ max (get_or rounds p 0) (get_or steps p 0)) →
-    AreLast sizes word (i + 1) later_holders later_rounds
-last_more sizes word i holders rounds steps later_holders later_rounds few last is holder round =
-    let later : AreLast sizes word (suc i) later_holders later_rounds = record {
-      holder = λ p below. holder p (omega arith) ∙ rw (last.round p below, last.holder p below, is.own p below) refl ∙ sym (holder_more_of i (step_in sizes word) p);
+    AreLast sizes words (i + 1) later_holders later_rounds
+last_more sizes words i holders rounds steps later_holders later_rounds few last is holder round =
+    let later : AreLast sizes words (suc i) later_holders later_rounds = record {
+      holder = λ p below. holder p (omega arith) ∙ rw (last.round p below, last.holder p below, is.own p below) refl ∙ sym (holder_more_of i (step_in sizes words) p);
       round = λ p below. round p (omega arith) ∙ rw (last.round p below, is.own p below) refl;
       behind = λ p after within.
           let none = last.behind p after within in
           let no_step = is.behind p after within in
           (holder p within ∙ rw (none.1, no_step, none.0) refl, let r = round p within in omega arith);
     } in
-    subst (λ (m : ℕ). AreLast sizes word m later_holders later_rounds) (one_more i) later
+    subst (λ (m : ℕ). AreLast sizes words m later_holders later_rounds) (one_more i) later
 
 no_step : (sizes : Sizes) (row p step : ℕ) → row ≡ 0 → step ≡ 0 → step ≡ min (row / 2 ^ (p * sizes.bits) % 2 ^ sizes.bits) sizes.rounds
 no_step sizes row p step none is =
@@ -155,19 +165,46 @@ no_step sizes row p step none is =
     omega arith
 
 -- a simulator of which the word has no step has the last write of no process
-pub last_same : (sizes : Sizes) (word i row : ℕ) (holders rounds : List ℕ) → sizes.n ≤ 16 → AreLast sizes word i holders rounds → row ≡ word / 2 ^ place_of sizes i 0 → row ≡ 0 → AreLast sizes word (i + 1) holders rounds
-last_same sizes word i row holders rounds few last is none =
+pub last_same : (sizes : Sizes) (words : List ℕ) (i row : ℕ) (holders rounds : List ℕ) → sizes.n ≤ 16 → AreSizes sizes → place_of sizes i 0 + sizes.n * sizes.bits ≤ 64 → AreLast sizes words i holders rounds → row ≡ get_or words (word_of sizes i 0) 0 / 2 ^ place_of sizes i 0 → row ≡ 0 → AreLast sizes words (i + 1) holders rounds
+last_same sizes words i row holders rounds few limits narrow last is none =
     let zeros : List ℕ = replicate 16 0 in
     let zero_at : (p : ℕ) → p < 16 → get_or zeros p 0 ≡ 0 = λ p below. get_or-replicate 16 p 0 0 below in
-    let steps = steps_of sizes word i row zeros is (λ p below. no_step sizes row p _ none (zero_at p (omega arith))) (λ p _ within. zero_at p within) in
-    last_more sizes word i holders rounds zeros holders rounds few last steps
+    let steps = steps_of sizes words i row zeros limits narrow is (λ p below. no_step sizes row p _ none (zero_at p (omega arith))) (λ p _ within. zero_at p within) in
+    last_more sizes words i holders rounds zeros holders rounds few last steps
     (λ p within. sym (ap (λ b. cond b i (get_or holders p 0)) (le-ltb _ _ (let zero = zero_at p within in omega arith))))
     (λ p within. let zero = zero_at p within in omega arith)
 
-pub last_in_range : (sizes : Sizes) (word : ℕ) (holders rounds : List ℕ) → 0 < sizes.m → AreLast sizes word sizes.m holders rounds → (p : ℕ) → p < sizes.n → (get_or holders p 0 < sizes.m) × (get_or rounds p 0 ≤ sizes.rounds)
-last_in_range sizes word holders rounds some last p below =
+pub last_in_range : (sizes : Sizes) (words : List ℕ) (holders rounds : List ℕ) → 0 < sizes.m → AreLast sizes words sizes.m holders rounds → (p : ℕ) → p < sizes.n → (get_or holders p 0 < sizes.m) × (get_or rounds p 0 ≤ sizes.rounds)
+last_in_range sizes words holders rounds some last p below =
     let is = last.holder p below in
     let round = last.round p below in
-    let holds = (holder_of_is sizes.m (step_in sizes word) p some).below in
-    let most = merged_below sizes.m (step_in sizes word) p sizes.rounds (λ i _. omega arith) in
+    let holds = (holder_of_is sizes.m (step_in sizes words) p some).below in
+    let most = merged_below sizes.m (step_in sizes words) p sizes.rounds (λ i _. omega arith) in
     (omega arith, omega arith)
+
+-- ---- the step numbers of one simulator, one after the other
+
+pub record AreFirstSteps (sizes : Sizes) (words : List ℕ) (i count : ℕ) (steps : List ℕ) : Type 0 where
+  pub long : length steps ≡ 16
+  pub own : (p : ℕ) → p < count → get_or steps p 0 ≡ step_in sizes words i p
+  pub behind : (p : ℕ) → count ≤ p → p < 16 → get_or steps p 0 ≡ 0
+
+pub no_first_steps : (sizes : Sizes) (words : List ℕ) (i : ℕ) → AreFirstSteps sizes words i 0 (replicate 16 0)
+no_first_steps sizes words i = record {
+  long = refl;
+  own = λ p below. absurd (omega arith);
+  behind = λ p _ within. get_or-replicate 16 p 0 0 within;
+}
+
+pub one_more_step : (sizes : Sizes) (words : List ℕ) (i p step : ℕ) (steps : List ℕ) → p < 16 → AreFirstSteps sizes words i p steps → step ≡ step_in sizes words i p → AreFirstSteps sizes words i (p + 1) (set steps p step)
+one_more_step sizes words i p step steps within so_far is = record {
+  long = length-set steps p step ∙ so_far.long;
+  own = λ q below.
+      dite (ℕ_discrete q p)
+      (λ (e : q ≡ p). ap (λ k. get_or (set steps p step) k 0) e ∙ get_or-set_same steps p step 0 (let long = so_far.long in omega arith) ∙ is ∙ ap (λ k. step_in sizes words i k) (sym e))
+      (λ (n : q ≢ p). get_or-set_other steps p q step 0 n ∙ so_far.own q (omega arith));
+  behind = λ q more q_within. get_or-set_other steps p q step 0 (λ (e : q ≡ p). absurd (omega arith)) ∙ so_far.behind q (omega arith) q_within;
+}
+
+pub all_steps : (sizes : Sizes) (words : List ℕ) (i count : ℕ) (steps : List ℕ) → count ≤ sizes.n → sizes.n ≤ count → AreFirstSteps sizes words i count steps → AreSteps sizes words i steps
+all_steps sizes words i count steps most all are = record { own = λ p below. are.own p (omega arith); behind = λ p after within. are.behind p (omega arith) within }

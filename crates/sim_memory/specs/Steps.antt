@@ -1,8 +1,8 @@
 -- Step numbers: how often each simulator has written for each process. A map of them gives for a simulator and a
 -- process a number.
-use Rattle.std.specs.Prelude.{◌≡◌, ◌≢◌, ℕ, zero, suc, ◌+◌, ◌*◌, ◌/◌, ◌%◌, ◌<◌, ◌≤◌, min, max, List, length, map, slice_index, ◌==◌, ◌&&◌, if◌then◌else◌}
+use Rattle.std.specs.Prelude.{◌≡◌, ◌≢◌, ℕ, zero, suc, ◌+◌, ◌-◌, ◌*◌, ◌/◌, ◌%◌, ◌<◌, ◌≤◌, min, max, List, length, map, slice_index, ◌==◌, ◌&&◌, if◌then◌else◌}
 use Rattle.std.specs.List.{range_with_len, position_or_len}
-use Rattle.room_spec.specs.Sizes.{Sizes}
+use Rattle.room_spec.specs.Sizes.{Sizes, fields_in_word, memory_words}
 use Rattle.level_cells.specs.Fields.{field_of}
 use Rattle.level_cells.specs.Packing.{packed}
 
@@ -56,22 +56,49 @@ one_more steps i p k q = if (k == i) && (q == p) then steps k q + 1 else steps k
 
 -- ---- memory words
 
--- the lowest bit of the field of simulator i and process p
+-- the number of the field of simulator i and process p among those of all simulators
+abbrev pub field_number : Sizes → ℕ → ℕ → ℕ
+field_number sizes i p = i * sizes.n + p
+
+-- the memory word in which it stands, and its lowest bit there
+abbrev pub word_of : Sizes → ℕ → ℕ → ℕ
+word_of sizes i p = field_number sizes i p / fields_in_word sizes
+
 abbrev pub place_of : Sizes → ℕ → ℕ → ℕ
-place_of sizes i p = (i * sizes.n + p) * sizes.bits
+place_of sizes i p = field_number sizes i p % fields_in_word sizes * sizes.bits
 
--- The reading of a memory word: its map of step numbers. A number above the last round reads as the last round.
-abbrev pub step_in : Sizes → ℕ → ℕ → ℕ → ℕ
-step_in sizes word i p = min (field_of word (place_of sizes i p) sizes.bits) sizes.rounds
+-- the field of simulator i and process p
+abbrev pub field_in : Sizes → List ℕ → ℕ → ℕ → ℕ
+field_in sizes words i p = field_of (slice_index words (word_of sizes i p)) (place_of sizes i p) sizes.bits
 
--- the memory word that has these step numbers
-abbrev pub memory_word : Sizes → (ℕ → ℕ → ℕ) → ℕ
-memory_word sizes steps = packed (λ place. steps (place / sizes.n) (place % sizes.n)) sizes.bits (sizes.m * sizes.n)
+-- The reading of memory words: their map of step numbers. A number above the last round reads as the last round.
+abbrev pub step_in : Sizes → List ℕ → ℕ → ℕ → ℕ
+step_in sizes words i p = min (field_in sizes words i p) sizes.rounds
 
--- no field of step numbers is lower in the second word
-abbrev pub AreFieldsAtMost : Sizes → ℕ → ℕ → Type 0
-AreFieldsAtMost sizes word later =
-    (i p : ℕ) → i < sizes.m → p < sizes.n → field_of word (place_of sizes i p) sizes.bits ≤ field_of later (place_of sizes i p) sizes.bits
+-- how many fields of a memory word a room has
+abbrev pub fields_of_word : Sizes → ℕ → ℕ
+fields_of_word sizes w = min (fields_in_word sizes) (sizes.m * sizes.n - w * fields_in_word sizes)
+
+-- a memory word that has these step numbers
+abbrev pub memory_word : Sizes → (ℕ → ℕ → ℕ) → ℕ → ℕ
+memory_word sizes steps w =
+    packed (λ x. steps ((w * fields_in_word sizes + x) / sizes.n) ((w * fields_in_word sizes + x) % sizes.n)) sizes.bits (fields_of_word sizes w)
+
+-- as many words as any room has; those behind the room's own are 0
+abbrev pub memory_of : Sizes → (ℕ → ℕ → ℕ) → List ℕ
+memory_of sizes steps = map (memory_word sizes steps) (range_with_len 0 4)
+
+-- the words have these step numbers
+abbrev pub AreMemory : Sizes → List ℕ → (ℕ → ℕ → ℕ) → Type 0
+AreMemory sizes words steps = (w : ℕ) → w < memory_words sizes → slice_index words w ≡ memory_word sizes steps w
+
+-- The map that has the fields of one memory word as the first map has them, and the others as the second.
+abbrev pub with_part : Sizes → ℕ → (ℕ → ℕ → ℕ) → (ℕ → ℕ → ℕ) → ℕ → ℕ → ℕ
+with_part sizes w source into i p = if word_of sizes i p == w then source i p else into i p
+
+-- no field of step numbers is lower in the second words
+abbrev pub AreFieldsAtMost : Sizes → List ℕ → List ℕ → Type 0
+AreFieldsAtMost sizes words later = (i p : ℕ) → i < sizes.m → p < sizes.n → field_in sizes words i p ≤ field_in sizes later i p
 
 -- no step number is above the last round
 abbrev pub AreWithin : Sizes → (ℕ → ℕ → ℕ) → Type 0

@@ -1,28 +1,31 @@
 //! The last writes of all processes at once.
-ghost use Rattle.std.specs.Prelude.{◌≡◌, ℕ, ◌*◌, ◌/◌, ◌%◌, ◌^◌, ◌<◌, ◌≤◌, max, min, slice_index, nat_lt, if◌then◌else◌};
-ghost use Rattle.room_spec.specs.Sizes.{sizes_of};
+ghost use Rattle.std.specs.Prelude.{◌≡◌, ℕ, ◌+◌, ◌*◌, ◌/◌, ◌%◌, ◌^◌, ◌<◌, ◌≤◌, length, max, min, slice_index, nat_lt, if◌then◌else◌};
+ghost use Rattle.room_spec.specs.Sizes.{memory_words};
+ghost use Rattle.room_spec.specs.Shapes.{sizes_of};
 ghost use Rattle.sim_memory.specs.Steps.{holder_of, merged_of, step_in};
+ghost use Rattle.sim_memory.specs.Lasts.{AreLast, AreSteps};
 
-use crate::place;
+use crate::{place, step_of};
 use level_cells::field;
 use room_spec::Shape;
 use std::simd::prelude::*;
 
-/// The last write of each process that a memory word shows. Behind the last process all numbers
+/// The last write of each process that memory words show. Behind the last process all numbers
 /// are 0.
 #[derive(Clone, Copy)]
 pub struct LastWrites {
     /// The least simulator that has the greatest step number for the process.
     pub holders: [u8; 16],
-    /// That number: 0 where the word shows no write.
+    /// That number: 0 where the words show no write.
     pub rounds: [u8; 16],
 }
 
-/// The last write of each process that a memory word shows, as [`last_write`](crate::last_write) has
+/// The last write of each process that the memory words show, as [`last_write`](crate::last_write) has
 /// that of one.
-pub fn last_writes(shape: &Shape, word: u64) -> LastWrites
-    ensures holders { (p : ℕ) → p < shape.now.n → slice_index result.holders p ≡ holder_of shape.now.m (step_in (sizes_of shape.now) word) p }
-    ensures rounds { (p : ℕ) → p < shape.now.n → slice_index result.rounds p ≡ merged_of shape.now.m (step_in (sizes_of shape.now) word) p }
+pub fn last_writes(shape: &Shape, words: &[u64]) -> LastWrites
+    requires { memory_words (sizes_of shape.now) ≤ length words.now }
+    ensures holders { (p : ℕ) → p < shape.now.n → slice_index result.holders p ≡ holder_of shape.now.m (step_in (sizes_of shape.now) words.now) p }
+    ensures rounds { (p : ℕ) → p < shape.now.n → slice_index result.rounds p ≡ merged_of shape.now.m (step_in (sizes_of shape.now) words.now) p }
     ensures range { (p : ℕ) → p < shape.now.n → (slice_index result.holders p < shape.now.m) × (slice_index result.rounds p ≤ shape.now.rounds) }
     ensures behind { (p : ℕ) → shape.now.n ≤ p → p < 16 → (slice_index result.holders p ≡ 0) × (slice_index result.rounds p ≡ 0) }
 {
@@ -31,15 +34,31 @@ pub fn last_writes(shape: &Shape, word: u64) -> LastWrites
         rounds: [0; 16],
     };
     for i in 0..shape.m {
-        let row = word >> place(shape, i, 0);
-        if row != 0 {
-            last = last.later(i as u8, lowest_steps(shape, row));
-        }
+        last = last.after(shape, words, i);
     }
     last
 }
 
 impl LastWrites {
+    /// With the step numbers of the next simulator, which mostly stand in one word.
+    #[inline(always)]
+    fn after(self, shape: &Shape, words: &[u64], i: usize) -> LastWrites
+        requires words { memory_words (sizes_of shape.now) ≤ length words.now }
+        requires simulator { i < shape.now.m }
+        requires last { AreLast (sizes_of shape.now) words.now i self.holders self.rounds }
+        ensures { AreLast (sizes_of shape.now) words.now (i + 1) result.holders result.rounds }
+    {
+        let (word, at) = place(shape, i, 0);
+        if at + shape.n * shape.bits > 64 {
+            return self.later(i as u8, each_step(shape, words, i));
+        }
+        let row = words[word] >> at;
+        if row == 0 {
+            return self;
+        }
+        self.later(i as u8, lowest_steps(shape, row))
+    }
+
     /// With the step numbers of the next simulator.
     fn later(self, i: u8, steps: [u8; 16]) -> LastWrites
         ensures holders { (p : ℕ) → p < 16 → slice_index result.holders p ≡ (if nat_lt (slice_index self.rounds p) (slice_index steps p) then i else slice_index self.holders p) }
@@ -58,6 +77,19 @@ impl LastWrites {
             rounds: rounds.simd_max(steps).to_array(),
         }
     }
+}
+
+/// The step numbers of a simulator, one for each process, and then 0.
+fn each_step(shape: &Shape, words: &[u64], i: usize) -> [u8; 16]
+    requires words { memory_words (sizes_of shape.now) ≤ length words.now }
+    requires simulator { i < shape.now.m }
+    ensures { AreSteps (sizes_of shape.now) words.now i result }
+{
+    let mut steps = [0; 16];
+    for p in 0..shape.n {
+        steps[p] = step_of(shape, words, i, p) as u8;
+    }
+    steps
 }
 
 /// The step numbers in the lowest fields of a word, one for each process, and then 0.
