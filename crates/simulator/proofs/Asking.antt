@@ -123,10 +123,10 @@ begins goals sweep process found = begins_by goals sweep process _ _ refl refl f
 -- ---- a turn ends: the sweep goes on by one process, which comes last from now on
 
 -- the other goals, from the next one on
-abbrev others : List Goal → ℕ → List Goal
+abbrev pub others : List Goal → ℕ → List Goal
 others goals sweep = drop (suc sweep) goals ++ take sweep goals
 
-first_of : (goals : List Goal) (sweep : ℕ) → sweep < length goals → is_unfinished (goal_at goals sweep) ≡ true → unfinished_from goals sweep ≡ goal_at goals sweep ∷ filter is_unfinished (others goals sweep)
+pub first_of : (goals : List Goal) (sweep : ℕ) → sweep < length goals → is_unfinished (goal_at goals sweep) ≡ true → unfinished_from goals sweep ≡ goal_at goals sweep ∷ filter is_unfinished (others goals sweep)
 first_of goals sweep below is =
     ap (λ (l : List Goal). filter is_unfinished (l ++ take sweep goals)) (drop-cons goals sweep Done below)
     ∙ ap (λ (b : Bool). cond b (goal_at goals sweep ∷ filter is_unfinished (others goals sweep)) (filter is_unfinished (others goals sweep))) is

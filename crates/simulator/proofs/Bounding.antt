@@ -1,6 +1,6 @@
 -- How many turns a simulator takes before it is idle: each useful one takes a process through one of its rounds, and of those
 -- between two useful ones there are fewer than unfinished processes.
-use Rattle.std.proofs.Common.{◌≡◌, ℕ, zero, suc, ◌+◌, ◌-◌, ◌*◌, ◌<◌, ◌≤◌, min, Bool, true, false, cond, leb, ltb, List, [], ◌∷◌, ◌++◌, length, set, Option, Some, None, refl, sym, ap, ◌∙◌, subst, arith}
+use Rattle.std.proofs.Common.{◌≡◌, ℕ, zero, suc, ◌+◌, ◌-◌, ◌*◌, ◌<◌, ◌≤◌, min, Bool, true, false, cond, eqb, leb, ltb, List, [], ◌∷◌, ◌++◌, length, set, Option, Some, None, refl, sym, ap, ◌∙◌, subst, arith}
 use Rattle.std.proofs.Math.Nat.{suc-mul}
 use Rattle.std.proofs.lemmas.Bool.{leb-false, ltb-true}
 use Rattle.std.proofs.lemmas.Nat.{mul-le}
@@ -8,7 +8,7 @@ use Rattle.protocol_lang.specs.declared.meaning.Action.{Action}
 use Rattle.protocol_lang.specs.declared.meaning.Action.TheVariants as actions
 use Rattle.protocol_lang.specs.Meaning.{next_action}
 use Rattle.protocol_lang.specs.Numbers.{greatest}
-use Rattle.std.specs.Prelude.{slice_index}
+use Rattle.std.specs.Prelude.{slice_index, ◌&&◌, ◌||◌}
 use Rattle.safe_agreement.specs.Levels.{has_level}
 use Rattle.level_cells.specs.Fields.{levels_of}
 use Rattle.room_spec.specs.Rooms.{RoomSpec, processes}
@@ -20,10 +20,10 @@ use Rattle.simulator.specs.declared.sweep.Ready.TheVariants as ready
 use Rattle.simulator.specs.declared.turn.Turn.TheVariants.{Useful, Quiet}
 use Rattle.simulator.specs.Bounds.{answered, answered_all, IsReadyThroughout}
 use Rattle.simulator.specs.Minds.{MindOf, MindState, is_unfinished, goal_at, current_goal, current_round, round_of, next_process, unfinished_in}
-use Rattle.simulator.specs.Moves.{entry_in, chosen_in, taken_at, taken}
+use Rattle.simulator.specs.Moves.{entry_in, chosen_in, is_again, loaded, taken_at, taken}
 use Rattle.simulator.specs.Ranges.{IsGoal, IsOpenAt, IsMind}
 use Rattle.simulator.specs.Sweeps.{SweepState, is_resting, ready_of, quiet_after}
-use Rattle.simulator.specs.Turns.{TakenOf, counted, begun, goes_on, ended, asked, after_write, acted, padded, gathered_all, gathered, opened_at, opened}
+use Rattle.simulator.specs.Turns.{TakenOf, counted, begun, goes_on, ended, asked, after_write, acted, most_collects, on_word, padded, gathered_all, gathered, opened_at, opened, scanned, words_in}
 use Rattle.simulator.proofs.Keeping.{kept}
 use Rattle.simulator.proofs.Processes.{next_is_left, none_next}
 use Rattle.simulator.proofs.Ranging.{round_range}
@@ -160,6 +160,19 @@ on_gathered : {S : Type 0} (row : ℕ → ℕ) (spec : RoomSpec) (entries : List
 on_gathered row spec entries mind quiet is =
     on_gathered_all spec (record mind { entries = padded row (processes spec - length entries) entries }) quiet (record { few = is.few; place = is.place; left = is.left; last = is.last })
 
+on_word_line : {S : Type 0} (spec : RoomSpec) (line : Line) (mind : MindOf S) (last : TakenOf S) (quiet : ℕ) → open_turns line ≡ 1 → total_after (processes spec) spec.rounds last quiet ≤ Allowed (processes spec) spec.rounds mind quiet
+    → total_after (processes spec) spec.rounds (on_word spec line mind last) quiet ≤ Allowed (processes spec) spec.rounds mind quiet
+on_word_line spec line mind last quiet is most =
+    on_test (processes spec) spec.rounds quiet (Allowed (processes spec) spec.rounds mind quiet) (ltb (mind.word + 1) (words_in spec)) _ last (on_line (processes spec) spec.rounds line (record mind { word = mind.word + 1 }) quiet is) most
+
+on_scanned : {S : Type 0} (spec : RoomSpec) (same : Bool) (mind : MindOf S) (quiet : ℕ) → total_after (processes spec) spec.rounds (scanned spec same mind) quiet ≤ Allowed (processes spec) spec.rounds mind quiet
+on_scanned spec same mind quiet =
+    let most = Allowed (processes spec) spec.rounds mind quiet in
+    let next = record mind { collects = mind.collects + 1 } in
+    on_test (processes spec) spec.rounds quiet most (eqb (words_in spec) 1) _ _ (on_line (processes spec) spec.rounds Show mind quiet refl)
+    (on_test (processes spec) spec.rounds quiet most ((same && ltb 1 (mind.collects + 1)) || eqb (mind.collects + 1) (most_collects spec)) _ _ (on_line (processes spec) spec.rounds Show next quiet refl)
+    (on_line (processes spec) spec.rounds Snap (record next { before = mind.snapshot }) quiet refl))
+
 on_opened_at : {S : Type 0} (n rounds : ℕ) (goal : Goal) (chosen : Option ℕ) (mind : MindOf S) (quiet : ℕ) → current_goal mind ≡ goal → IsTurning n rounds mind → total_after n rounds (opened_at goal chosen mind) quiet ≤ Allowed n rounds mind quiet
 on_opened_at n rounds (goals.Write round value) chosen mind quiet has is = on_line n rounds Raise mind quiet refl
 on_opened_at n rounds (goals.Ask round) chosen mind quiet has is = on_asked n rounds chosen mind quiet is
@@ -194,15 +207,19 @@ at_line : (line : Line) (spec : RoomSpec) (mind : MindState) (answer quiet : ℕ
     → total_after (processes spec) spec.rounds (taken_at line spec (counted mind) answer) quiet ≤ mind.turns + (all_left spec.rounds mind.goals * processes spec + (processes spec - (quiet + open_turns line)))
 at_line Rest spec mind answer quiet is at busy = on_opened spec (next_process mind.goals mind.sweep) mind answer quiet is refl (busy refl)
 at_line Raise spec mind answer quiet is at busy = on_line (processes spec) spec.rounds Snap (counted mind) quiet refl
-at_line Snap spec mind answer quiet is at busy = on_line (processes spec) spec.rounds Show (record (counted mind) { snapshot = answer }) quiet refl
-at_line Show spec mind answer quiet is at busy = on_line (processes spec) spec.rounds Enter (counted mind) quiet refl
+at_line Snap spec mind answer quiet is at busy =
+    let got = loaded answer (counted mind) in
+    on_word_line spec Snap got _ quiet refl (on_scanned spec (is_again got) (record got { word = 0 }) quiet)
+at_line Show spec mind answer quiet is at busy = on_word_line spec Show (counted mind) _ quiet refl (on_line (processes spec) spec.rounds Enter (record (counted mind) { word = 0 }) quiet refl)
 at_line Enter spec mind answer quiet is at busy = on_line (processes spec) spec.rounds Look (counted mind) quiet refl
 at_line Look spec mind answer quiet is at busy = on_line (processes spec) spec.rounds (Leave (has_level 2 (levels_of answer spec.simulators))) (counted mind) quiet refl
 at_line (Leave saw_two) spec mind answer quiet is at busy = on_line (processes spec) spec.rounds Ask (counted mind) quiet refl
 at_line Ask spec mind answer quiet is at busy = on_asked (processes spec) spec.rounds (chosen_in spec answer) (counted mind) quiet (turning spec mind is at)
 at_line (GetView chosen) spec mind answer quiet is at busy =
     let turn = turning spec mind is at.0 in
-    on_gathered (entry_in spec answer) spec [] (record (counted mind) { snapshot = answer }) quiet (record { few = turn.few; place = turn.place; left = turn.left; last = turn.last })
+    let got = loaded answer (counted mind) in
+    on_word_line spec (GetView chosen) got _ quiet refl
+    (on_gathered (entry_in spec got.snapshot) spec [] (record got { word = 0 }) quiet (record { few = turn.few; place = turn.place; left = turn.left; last = turn.last }))
 at_line Values spec mind answer quiet is at busy = on_gathered (entry_in spec mind.snapshot) spec (mind.entries ++ Some (min answer greatest) ∷ []) (counted mind) quiet (turning spec mind is at.0)
 at_line (Out decision) spec mind answer quiet is at busy =
     let turn = turning spec mind is at in

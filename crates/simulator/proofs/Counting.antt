@@ -1,5 +1,5 @@
 -- The quiet count stays one over every answer.
-use Rattle.std.proofs.Common.{◌≡◌, ℕ, ◌+◌, ◌-◌, ◌<◌, min, Bool, true, false, cond, leb, ltb, List, [], ◌∷◌, ◌++◌, length, Option, Some, None, refl, sym, subst, arith}
+use Rattle.std.proofs.Common.{◌≡◌, ℕ, ◌+◌, ◌-◌, ◌<◌, min, Bool, true, false, cond, eqb, leb, ltb, List, [], ◌∷◌, ◌++◌, length, Option, Some, None, refl, sym, subst, arith}
 use Rattle.std.proofs.lemmas.Bool.{leb-true}
 use Rattle.protocol_lang.specs.declared.meaning.Action.{Action}
 use Rattle.protocol_lang.specs.declared.meaning.Action.TheVariants as actions
@@ -7,7 +7,7 @@ use Rattle.room_spec.specs.Rooms.{RoomSpec}
 use Rattle.room_spec.specs.Rooms.{processes}
 use Rattle.protocol_lang.specs.Meaning.{next_action}
 use Rattle.protocol_lang.specs.Numbers.{greatest}
-use Rattle.std.specs.Prelude.{slice_index}
+use Rattle.std.specs.Prelude.{slice_index, ◌&&◌, ◌||◌}
 use Rattle.simulator.specs.declared.goal.Goal.{Goal}
 use Rattle.simulator.specs.declared.goal.Goal.TheVariants as goals
 use Rattle.simulator.specs.declared.line.Line.{Line}
@@ -15,11 +15,11 @@ use Rattle.simulator.specs.declared.line.Line.TheVariants.{Rest, Raise, Snap, Sh
 use Rattle.simulator.specs.declared.sweep.Ready.TheVariants as ready
 use Rattle.simulator.specs.declared.turn.Turn.TheVariants.{Useful}
 use Rattle.simulator.specs.Minds.{MindOf, MindState, is_unfinished, goal_at, current_goal, current_round, next_process, unfinished_in}
-use Rattle.simulator.specs.Moves.{entry_in, chosen_in, taken_at, taken}
+use Rattle.simulator.specs.Moves.{entry_in, chosen_in, is_again, loaded, taken_at, taken}
 use Rattle.simulator.specs.Quiet.{HasNoWrite, IsQuietCount, unfinished_from, AreAsksAtTheEnd}
 use Rattle.simulator.specs.Ranges.{IsOpenAt, IsMind}
 use Rattle.simulator.specs.Sweeps.{is_resting, ready_of, quiet_after}
-use Rattle.simulator.specs.Turns.{TakenOf, counted, begun, goes_on, ended, asked, acted, padded, gathered_all, gathered, opened_at, opened}
+use Rattle.simulator.specs.Turns.{TakenOf, counted, begun, goes_on, ended, asked, acted, most_collects, on_word, padded, gathered_all, gathered, opened_at, opened, scanned, words_in}
 use Rattle.simulator.proofs.Asking.{begins, no_asks, quiet_ends, all_asked}
 use Rattle.simulator.proofs.Processes.{next_is_left}
 
@@ -55,6 +55,12 @@ on_gathered_all spec mind quiet counts =
 on_gathered : {S : Type 0} (row : ℕ → ℕ) (spec : RoomSpec) (entries : List (Option ℕ)) (mind : MindOf S) (quiet : ℕ) → IsQuietCount mind quiet → CountsOn (gathered row spec entries mind) quiet
 on_gathered row spec entries mind quiet counts = on_gathered_all spec (record mind { entries = padded row (processes spec - length entries) entries }) quiet counts
 
+on_word_line : {S : Type 0} (spec : RoomSpec) (line : Line) (mind : MindOf S) (last : TakenOf S) (quiet : ℕ) → IsQuietCount mind quiet → CountsOn last quiet → CountsOn (on_word spec line mind last) quiet
+on_word_line spec line mind last quiet counts is = on_test (ltb (mind.word + 1) (words_in spec)) _ last quiet counts is
+
+on_scanned : {S : Type 0} (spec : RoomSpec) (same : Bool) (mind : MindOf S) (quiet : ℕ) → IsQuietCount mind quiet → CountsOn (scanned spec same mind) quiet
+on_scanned spec same mind quiet counts = on_test (eqb (words_in spec) 1) _ _ quiet counts (on_test ((same && ltb 1 (mind.collects + 1)) || eqb (mind.collects + 1) (most_collects spec)) _ _ quiet counts counts)
+
 on_opened_at : {S : Type 0} (goal : Goal) (chosen : Option ℕ) (mind : MindOf S) (quiet : ℕ) → IsTurning mind quiet → CountsOn (opened_at goal chosen mind) quiet
 on_opened_at (goals.Write round value) chosen mind quiet is = is.counts
 on_opened_at (goals.Ask round) chosen mind quiet is = on_asked chosen mind quiet is
@@ -71,13 +77,15 @@ on_opened (Some process) chosen mind quiet found place counts =
 at_line : (line : Line) (spec : RoomSpec) (mind : MindState) (answer quiet : ℕ) → mind.sweep < length mind.goals → IsOpenAt line spec mind → IsQuietCount mind quiet → CountsOn (taken_at line spec (counted mind) answer) quiet
 at_line Rest spec mind answer quiet place at counts = on_opened (next_process mind.goals mind.sweep) (chosen_in spec answer) (counted mind) quiet refl place counts
 at_line Raise spec mind answer quiet place at counts = counts
-at_line Snap spec mind answer quiet place at counts = counts
-at_line Show spec mind answer quiet place at counts = counts
+at_line Snap spec mind answer quiet place at counts = on_word_line spec Snap (loaded answer (counted mind)) _ quiet counts (on_scanned spec (is_again (loaded answer (counted mind))) (record (loaded answer (counted mind)) { word = 0 }) quiet counts)
+at_line Show spec mind answer quiet place at counts = on_word_line spec Show (counted mind) _ quiet counts counts
 at_line Enter spec mind answer quiet place at counts = counts
 at_line Look spec mind answer quiet place at counts = counts
 at_line (Leave saw_two) spec mind answer quiet place at counts = counts
 at_line Ask spec mind answer quiet place at counts = on_asked (chosen_in spec answer) (counted mind) quiet (record { place = place; left = at; counts = counts })
-at_line (GetView chosen) spec mind answer quiet place at counts = on_gathered (entry_in spec answer) spec [] (record (counted mind) { snapshot = answer }) quiet counts
+at_line (GetView chosen) spec mind answer quiet place at counts =
+    let got = loaded answer (counted mind) in
+    on_word_line spec (GetView chosen) got _ quiet counts (on_gathered (entry_in spec got.snapshot) spec [] (record got { word = 0 }) quiet counts)
 at_line Values spec mind answer quiet place at counts = on_gathered (entry_in spec mind.snapshot) spec (mind.entries ++ Some (min answer greatest) ∷ []) (counted mind) quiet counts
 at_line (Out decision) spec mind answer quiet place at counts = useful goals.Done (counted mind) quiet
 

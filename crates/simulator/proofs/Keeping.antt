@@ -1,9 +1,12 @@
 -- Every answer leads from a mind to a mind.
-use Rattle.std.proofs.Common.{◌≡◌, ◌≢◌, ℕ, ◌+◌, ◌-◌, ◌*◌, ◌<◌, ◌≤◌, min, Bool, true, false, cond, ltb, List, [], ◌∷◌, ◌++◌, length, get_or, set, Option, Some, None, refl, sym, ap, ◌∙◌, subst, arith}
+use Rattle.std.proofs.Common.{◌≡◌, ◌≢◌, ℕ, ◌+◌, ◌-◌, ◌*◌, ◌%◌, ◌<◌, ◌≤◌, min, Bool, true, false, cond, eqb, ltb, List, [], ◌∷◌, ◌++◌, length, get_or, set, Option, Some, None, refl, sym, ap, ◌∙◌, subst, arith}
 use mathlib.Core.Logic.{dite}
 use native.Mathlib.Decide.{ℕ_discrete}
-use Rattle.std.proofs.lemmas.Bool.{ltb-true}
-use Rattle.std.proofs.lemmas.Nat.{mod_below}
+use Rattle.std.specs.Prelude.{◌&&◌, ◌||◌}
+use Rattle.std.proofs.lemmas.Bool.{eqb-true, eqb-false, ne_eqb, ltb-true, ltb-false}
+use Rattle.std.proofs.lemmas.Nat.{mod_below, mul-le}
+use Rattle.simulator.proofs.Stepping.{words_some}
+use Rattle.simulator.proofs.Limits.{limit_most}
 use Rattle.std.proofs.lemmas.List.{get_or-set_same, get_or-set_other, length-set, length-append}
 use Rattle.std.proofs.lemmas.List.FromFn.{length-map-range_with_len, get_or-map-range_with_len}
 use Rattle.protocol_lang.specs.declared.meaning.Action.{Action}
@@ -22,12 +25,26 @@ use Rattle.simulator.specs.declared.turn.Turn.TheVariants.{Useful, Quiet}
 use Rattle.simulator.specs.declared.operation.Move.{Move}
 use Rattle.simulator.specs.declared.operation.Move.TheVariants.{OutOfTurns}
 use Rattle.simulator.specs.Minds.{MindState, is_unfinished, goal_at, current_goal, current_round, next_process, first_goal, opening_mind}
-use Rattle.simulator.specs.Moves.{entry_in, chosen_in, first_move_at, first_move, move_at, move_of, IsOperation, taken_at, taken}
-use Rattle.simulator.specs.Turns.{counted, begun, goes_on, ended, asked, after_write, acted, padded, gathered, opened_at, opened}
-use Rattle.simulator.specs.Ranges.{IsGoal, most_steps, charged_steps, IsOpenAt, IsMind}
+use Rattle.simulator.specs.Moves.{entry_in, chosen_in, is_again, loaded, first_move_at, first_move, move_at, move_of, IsOperation, taken_at, taken}
+use Rattle.simulator.specs.Turns.{TakenOf, collected, counted, begun, goes_on, ended, asked, after_write, acted, most_collects, padded, gathered, opened_at, opened, scanned, words_in}
+use Rattle.simulator.specs.Firsts.{IsVisited, AreVisitedLast}
+use Rattle.simulator.specs.Quiet.{unfinished_from}
+use Rattle.simulator.proofs.Visiting.{visited_begun, visited_ended, visited_first}
+use Rattle.simulator.specs.Ranges.{IsCollectCount, IsGoal, greatest_limit, most_steps, charged_steps, scan_steps, turn_limit, words_at, IsOpenAt, IsMind}
 use Rattle.simulator.proofs.Processes.{next_is_left}
 use Rattle.simulator.proofs.Gathering.{padded_is}
 use Rattle.simulator.proofs.Ranging.{round_range, chosen_below}
+
+-- ---- the limit of a turn
+
+limit_over : (spec : RoomSpec) (steps entries : ℕ) → entries ≤ processes spec → steps ≤ 7 + scan_steps spec + 2 * words_in spec + entries → steps ≤ turn_limit spec
+unfolding turn_limit
+limit_over spec steps entries few most = omega (arith, few, most)
+
+scan_whole : (spec : RoomSpec) (collects : ℕ) → words_in spec ≢ 1 → collects ≤ most_collects spec → words_in spec * collects ≤ scan_steps spec
+scan_whole spec collects several most =
+    let is : scan_steps spec ≡ words_in spec * most_collects spec = ap (λ (b : Bool). cond b 1 (words_in spec * most_collects spec)) (ne_eqb _ _ several) in
+    omega (arith, is, mul-le (words_in spec) collects (words_in spec) (most_collects spec) (omega arith) most)
 
 -- ---- a mind in the midst of a step: its process is unfinished, and its turn is charged
 
@@ -39,10 +56,13 @@ pub record IsBusy (spec : RoomSpec) (mind : MindState) : Type 0 where
   pub sweep : mind.sweep < processes spec
   pub turns : mind.turns ≤ spec.turns
   pub entries : length mind.entries ≤ processes spec
-  pub counted : mind.steps + 26 ≤ 26 * mind.turns + mind.turn_steps
+  pub snapshot : length mind.snapshot ≡ 4
+  pub before : length mind.before ≡ 4
+  pub counted : mind.steps + greatest_limit ≤ greatest_limit * mind.turns + mind.turn_steps
   pub unfinished : is_unfinished (current_goal mind) ≡ true
+  pub order : AreVisitedLast (unfinished_from mind.goals mind.sweep)
 
-busy_at : (spec : RoomSpec) (mind : MindState) → IsMind spec mind → is_unfinished (current_goal mind) ≡ true → mind.steps + 26 ≤ 26 * mind.turns + mind.turn_steps → IsBusy spec (counted mind)
+busy_at : (spec : RoomSpec) (mind : MindState) → IsMind spec mind → is_unfinished (current_goal mind) ≡ true → mind.steps + greatest_limit ≤ greatest_limit * mind.turns + mind.turn_steps → IsBusy spec (counted mind)
 busy_at spec mind is unfinished charged = record {
   limits = is.limits;
   number = is.number;
@@ -51,12 +71,15 @@ busy_at spec mind is unfinished charged = record {
   sweep = is.sweep;
   turns = is.turns;
   entries = is.entries;
+  snapshot = is.snapshot;
+  before = is.before;
   counted = omega arith;
   unfinished = unfinished;
+  order = is.order;
 }
 
-busy_begun : (spec : RoomSpec) (mind : MindState) (process : ℕ) → IsMind spec mind → mind.steps ≤ 26 * mind.turns + mind.turn_steps → mind.turns < spec.turns → process < processes spec → is_unfinished (goal_at mind.goals process) ≡ true → IsBusy spec (begun process (counted mind))
-busy_begun spec mind process is charged left below unfinished = record {
+busy_begun : (spec : RoomSpec) (mind : MindState) (process : ℕ) → next_process mind.goals mind.sweep ≡ Some process → IsMind spec mind → mind.steps ≤ greatest_limit * mind.turns + mind.turn_steps → mind.turns < spec.turns → process < processes spec → is_unfinished (goal_at mind.goals process) ≡ true → IsBusy spec (begun process (counted mind))
+busy_begun spec mind process found is charged left below unfinished = record {
   limits = is.limits;
   number = is.number;
   goals = is.goals;
@@ -64,14 +87,17 @@ busy_begun spec mind process is charged left below unfinished = record {
   sweep = below;
   turns = omega arith;
   entries = is.entries;
+  snapshot = is.snapshot;
+  before = is.before;
   counted = omega arith;
   unfinished = unfinished;
+  order = visited_begun mind.goals mind.sweep process found is.order;
 }
 
 -- ---- the turn goes on
 
-goes : (spec : RoomSpec) (mind : MindState) (line : Line) → IsBusy spec mind → mind.turn_steps ≤ most_steps line (length mind.entries) → charged_steps line mind.steps ≤ mind.steps + 26 → IsOpenAt line spec (goes_on line mind).mind → IsMind spec (goes_on line mind).mind
-goes spec mind line is few charged at = record {
+goes : (spec : RoomSpec) (mind : MindState) (line : Line) → IsBusy spec mind → mind.word < words_at spec line → IsCollectCount spec line mind.collects → mind.turn_steps ≤ most_steps spec line mind.word mind.collects (length mind.entries) → charged_steps line mind.steps ≤ mind.steps + greatest_limit → IsOpenAt line spec (goes_on line mind).mind → IsMind spec (goes_on line mind).mind
+goes spec mind line is word collects few charged at = record {
   limits = is.limits;
   number = is.number;
   goals = is.goals;
@@ -79,9 +105,14 @@ goes spec mind line is few charged at = record {
   sweep = is.sweep;
   turns = is.turns;
   entries = is.entries;
+  snapshot = is.snapshot;
+  before = is.before;
+  word = word;
+  collects = collects;
   few = few;
   counted = omega (arith, is.counted);
   at = at;
+  order = is.order;
 }
 
 -- ---- the turn ends
@@ -92,8 +123,8 @@ set_goal all sweep process rounds goal below range was =
     (λ (e : process ≡ sweep). subst (λ g. IsGoal rounds g) (sym (ap (λ (p : ℕ). get_or (set all sweep goal) p goals.Done) e ∙ get_or-set_same all sweep goal goals.Done (omega arith))) range)
     (λ (n : process ≢ sweep). subst (λ g. IsGoal rounds g) (sym (get_or-set_other all sweep process goal goals.Done n)) was)
 
-ends : (spec : RoomSpec) (mind : MindState) (turn : Turn) (goal : Goal) → IsBusy spec mind → IsGoal spec.rounds goal → mind.turn_steps ≤ 26 → IsMind spec (ended turn goal mind).mind
-ends spec mind turn goal is range few = record {
+ends : (spec : RoomSpec) (mind : MindState) (turn : Turn) (goal : Goal) → IsBusy spec mind → IsGoal spec.rounds goal → IsVisited goal → mind.word < 1 → mind.turn_steps ≤ turn_limit spec → IsMind spec (ended turn goal mind).mind
+ends spec mind turn goal is range visited word few = record {
   limits = is.limits;
   number = is.number;
   goals = length-set mind.goals mind.sweep goal ∙ is.goals;
@@ -101,9 +132,14 @@ ends spec mind turn goal is range few = record {
   sweep = let some : 0 < length mind.goals = omega (arith, is.goals, is.sweep) in omega (arith, mod_below (mind.sweep + 1) (length mind.goals) some, is.goals);
   turns = is.turns;
   entries = is.entries;
+  snapshot = is.snapshot;
+  before = is.before;
+  word = word;
+  collects = refl;
   few = omega arith;
-  counted = omega (arith, is.counted);
+  counted = omega (arith, is.counted, limit_most spec is.limits);
   at = tt;
+  order = visited_ended mind.goals mind.sweep goal (omega (arith, is.goals, is.sweep)) is.unfinished visited is.order;
 }
 
 -- ---- the lines at which a turn may end
@@ -111,26 +147,29 @@ ends spec mind turn goal is range few = record {
 busy_round : (spec : RoomSpec) (mind : MindState) → IsBusy spec mind → (1 ≤ current_round mind) × (current_round mind ≤ spec.rounds)
 busy_round spec mind is = round_range spec.rounds (current_goal mind) (is.rounds mind.sweep is.sweep) is.unfinished
 
-asks : (spec : RoomSpec) (mind : MindState) (word : ℕ) (chosen : Option ℕ) → chosen_in spec word ≡ chosen → IsBusy spec mind → mind.turn_steps ≤ 8 → IsMind spec (asked chosen mind).mind
-asks spec mind word None found is few = ends spec mind Quiet (goals.Ask (current_round mind)) is (busy_round spec mind is) (omega arith)
-asks spec mind word (Some chosen) found is few = goes spec mind (GetView chosen) is few (omega arith) (is.unfinished, chosen_below spec word chosen found)
+asks : (spec : RoomSpec) (mind : MindState) (word : ℕ) (chosen : Option ℕ) → chosen_in spec word ≡ chosen → IsBusy spec mind → mind.word < 1 → mind.collects ≤ most_collects spec → mind.turn_steps ≤ 6 + scan_steps spec + words_in spec → IsMind spec (asked chosen mind).mind
+asks spec mind word None found is at collects few = ends spec mind Quiet (goals.Ask (current_round mind)) is (busy_round spec mind is) tt at (limit_over spec mind.turn_steps 0 (omega arith) (omega (arith, few)))
+asks spec mind word (Some chosen) found is at collects few = goes spec mind (GetView chosen) is (omega (arith, at, (words_some spec is.limits).0)) collects (omega (arith, few)) (omega arith) (is.unfinished, chosen_below spec word chosen found)
 
 write_range : (b : Bool) (rounds round value : ℕ) → ltb round rounds ≡ b → IsGoal rounds (cond b (goals.Write (round + 1) value) goals.Spent)
 write_range true rounds round value is = (omega arith, let less = ltb-true round rounds is in omega arith)
 write_range false rounds round value is = tt
 
-acts : (spec : RoomSpec) (mind : MindState) (action : Action) → IsBusy spec mind → mind.turn_steps ≤ 9 + length mind.entries → IsMind spec (acted spec action mind).mind
-acts spec mind (actions.Write value) is few =
-    let n = is.limits.shape.n_range in
-    ends spec mind Useful (after_write spec.rounds (current_round mind) value) is (write_range _ spec.rounds (current_round mind) value refl) (omega (arith, is.entries, n.1))
-acts spec mind (actions.Decide decision) is few = goes spec mind (Out decision) is few (omega arith) is.unfinished
+write_visited : (b : Bool) (round value : ℕ) → 1 ≤ round → IsVisited (cond b (goals.Write (round + 1) value) goals.Spent)
+write_visited true round value first = omega arith
+write_visited false round value first = tt
 
-gathers_all : (spec : RoomSpec) (mind : MindState) (b : Bool) → ltb (length mind.entries) (processes spec) ≡ b → IsBusy spec mind → mind.turn_steps ≤ 9 + length mind.entries → (length mind.entries < processes spec → 1 ≤ entry_in spec mind.snapshot (length mind.entries)) → IsMind spec (cond b (goes_on Values mind) (acted spec (next_action spec.protocol (get_or spec.inputs mind.sweep 0) mind.sweep (current_round mind) mind.entries) mind)).mind
-gathers_all spec mind true less is few shown = let below = ltb-true _ _ less in goes spec mind Values is few (omega arith) (is.unfinished, below, shown below)
-gathers_all spec mind false less is few shown = acts spec mind (next_action spec.protocol (get_or spec.inputs mind.sweep 0) mind.sweep (current_round mind) mind.entries) is few
+acts : (spec : RoomSpec) (mind : MindState) (action : Action) → IsBusy spec mind → mind.word < 1 → mind.collects ≤ most_collects spec → mind.turn_steps ≤ 6 + scan_steps spec + 2 * words_in spec + length mind.entries → IsMind spec (acted spec action mind).mind
+acts spec mind (actions.Write value) is at collects few =
+    ends spec mind Useful (after_write spec.rounds (current_round mind) value) is (write_range _ spec.rounds (current_round mind) value refl) (write_visited (ltb (current_round mind) spec.rounds) (current_round mind) value (busy_round spec mind is).0) at (limit_over spec mind.turn_steps (length mind.entries) is.entries (omega (arith, few)))
+acts spec mind (actions.Decide decision) is at collects few = goes spec mind (Out decision) is at collects few (omega arith) is.unfinished
 
-gathers : (spec : RoomSpec) (mind : MindState) (entries : List (Option ℕ)) → IsBusy spec mind → length entries ≤ processes spec → mind.turn_steps ≤ 9 + length entries → IsMind spec (gathered (entry_in spec mind.snapshot) spec entries mind).mind
-gathers spec mind entries is within few =
+gathers_all : (spec : RoomSpec) (mind : MindState) (b : Bool) → ltb (length mind.entries) (processes spec) ≡ b → IsBusy spec mind → mind.word < 1 → mind.collects ≤ most_collects spec → mind.turn_steps ≤ 6 + scan_steps spec + 2 * words_in spec + length mind.entries → (length mind.entries < processes spec → 1 ≤ entry_in spec mind.snapshot (length mind.entries)) → IsMind spec (cond b (goes_on Values mind) (acted spec (next_action spec.protocol (get_or spec.inputs mind.sweep 0) mind.sweep (current_round mind) mind.entries) mind)).mind
+gathers_all spec mind true less is at collects few shown = let below = ltb-true _ _ less in goes spec mind Values is at collects few (omega arith) (is.unfinished, below, shown below)
+gathers_all spec mind false less is at collects few shown = acts spec mind (next_action spec.protocol (get_or spec.inputs mind.sweep 0) mind.sweep (current_round mind) mind.entries) is at collects few
+
+gathers : (spec : RoomSpec) (mind : MindState) (entries : List (Option ℕ)) → IsBusy spec mind → mind.word < 1 → mind.collects ≤ most_collects spec → length entries ≤ processes spec → mind.turn_steps ≤ 6 + scan_steps spec + 2 * words_in spec + length entries → IsMind spec (gathered (entry_in spec mind.snapshot) spec entries mind).mind
+gathers spec mind entries is at collects within few =
     let row = entry_in spec mind.snapshot in
     let padding = padded_is row (processes spec - length entries) entries in
     let after = padded row (processes spec - length entries) entries in
@@ -142,13 +181,17 @@ gathers spec mind entries is within few =
       sweep = is.sweep;
       turns = is.turns;
       entries = omega (arith, padding.short);
+      snapshot = is.snapshot;
+      before = is.before;
       counted = is.counted;
       unfinished = is.unfinished;
+      order = is.order;
     } in
-    gathers_all spec (record mind { entries = after }) _ refl busy (omega (arith, padding.long)) (λ less. padding.shown (omega arith))
+    gathers_all spec (record mind { entries = after }) _ refl busy at collects (omega (arith, padding.long)) (λ less. padding.shown (omega arith))
 
-shows : (spec : RoomSpec) (mind : MindState) (snapshot : ℕ) → IsBusy spec mind → IsBusy spec (record mind { snapshot = snapshot })
-shows spec mind snapshot is = record {
+-- a word is loaded
+loads : (spec : RoomSpec) (mind : MindState) (answer : ℕ) → IsBusy spec mind → IsBusy spec (loaded answer mind)
+loads spec mind answer is = record {
   limits = is.limits;
   number = is.number;
   goals = is.goals;
@@ -156,51 +199,130 @@ shows spec mind snapshot is = record {
   sweep = is.sweep;
   turns = is.turns;
   entries = is.entries;
+  snapshot = length-set mind.snapshot mind.word answer ∙ is.snapshot;
+  before = is.before;
   counted = is.counted;
   unfinished = is.unfinished;
+  order = is.order;
 }
+
+-- another word, count of collects or collect before
+moves_on : (spec : RoomSpec) (mind : MindState) (word collects : ℕ) (before : List ℕ) → length before ≡ 4 → IsBusy spec mind → IsBusy spec (record mind { word = word; collects = collects; before = before })
+moves_on spec mind word collects before long is = record {
+  limits = is.limits;
+  number = is.number;
+  goals = is.goals;
+  rounds = is.rounds;
+  sweep = is.sweep;
+  turns = is.turns;
+  entries = is.entries;
+  snapshot = is.snapshot;
+  before = long;
+  counted = is.counted;
+  unfinished = is.unfinished;
+  order = is.order;
+}
+
+-- the line goes on with the next word, or is through
+by_word : (spec : RoomSpec) (line : Line) (mind : MindState) (last : TakenOf (List ℕ)) (b : Bool) → ltb (mind.word + 1) (words_in spec) ≡ b
+    → (mind.word + 1 < words_in spec → IsMind spec (goes_on line (record mind { word = mind.word + 1 })).mind) → (mind.word + 1 ≡ words_in spec → IsMind spec last.mind) → mind.word < words_in spec
+    → IsMind spec (cond b (goes_on line (record mind { word = mind.word + 1 })) last).mind
+by_word spec line mind last true is more whole within = more (ltb-true _ _ is)
+by_word spec line mind last false is more whole within = let least = ltb-false _ _ is in whole (omega (arith, least, within))
+
+no_word : (spec : RoomSpec) → IsWithinLimits spec → 0 < words_in spec
+no_word spec limits = let some = (words_some spec limits).0 in omega arith
+
+-- ---- the scan
+
+again : (spec : RoomSpec) (mind : MindState) (b : Bool) → (b ≡ false → mind.collects < most_collects spec) → IsBusy spec mind → mind.word ≡ 0 → words_in spec ≢ 1 → 1 ≤ mind.collects → mind.collects ≤ most_collects spec → mind.turn_steps ≤ 2 + words_in spec * mind.collects
+    → IsMind spec (cond b (goes_on Show mind) (goes_on Snap (record mind { before = mind.snapshot }))).mind
+again spec mind true less is word several some most few =
+    let all = scan_whole spec mind.collects several most in
+    goes spec mind Show is (omega (arith, word, no_word spec is.limits)) most (omega (arith, few, all)) (omega arith) is.unfinished
+again spec mind false less is word several some most few =
+    goes spec (record mind { before = mind.snapshot }) Snap (moves_on spec mind mind.word mind.collects mind.snapshot is.snapshot is) (omega (arith, word, no_word spec is.limits)) (less refl, λ one. absurd (several one)) (omega (arith, few)) (omega arith) is.unfinished
+
+not_most : (same : Bool) (collects most : ℕ) → same || eqb collects most ≡ false → collects ≤ most → collects < most
+not_most true collects most is few = absurd cc
+not_most false collects most is few = let other = eqb-false collects most is in by_differ collects most other few
+  where
+    by_differ : (x y : ℕ) → x ≢ y → x ≤ y → x < y
+    by_differ x y other few = dite (ℕ_discrete x y) (λ (e : x ≡ y). absurd (other e)) (λ (n : x ≢ y). omega arith)
+
+scans : (spec : RoomSpec) (mind : MindState) (same b : Bool) → eqb (words_in spec) 1 ≡ b → IsBusy spec mind → mind.word ≡ 0 → IsCollectCount spec Snap mind.collects → mind.turn_steps ≤ 2 + words_in spec * (mind.collects + 1)
+    → IsMind spec (cond b (goes_on Show mind) (collected spec same (record mind { collects = mind.collects + 1 }))).mind
+scans spec mind same true is busy word collects few =
+    let one : words_in spec ≡ 1 = eqb-true _ _ is in
+    let none = collects.1 one in
+    let steps : words_in spec * (mind.collects + 1) ≡ 1 = ap (λ w. w * (mind.collects + 1)) one ∙ omega (arith, none) in
+    let single : scan_steps spec ≡ 1 = ap (λ (b : Bool). cond b 1 (words_in spec * most_collects spec)) is in
+    goes spec mind Show busy (omega (arith, word, no_word spec busy.limits)) (omega (arith, none)) (omega (arith, few, steps, single)) (omega arith) busy.unfinished
+scans spec mind same false is busy word collects few =
+    again spec (record mind { collects = mind.collects + 1 }) ((same && ltb 1 (mind.collects + 1)) || eqb (mind.collects + 1) (most_collects spec)) (λ no. not_most (same && ltb 1 (mind.collects + 1)) (mind.collects + 1) (most_collects spec) no (omega (arith, collects.0)))
+    (moves_on spec mind mind.word (mind.collects + 1) mind.before busy.before busy) word (eqb-false _ _ is) (omega arith) (omega (arith, collects.0)) few
 
 -- ---- the first step of a turn
 
-opens_at : (spec : RoomSpec) (mind : MindState) (word : ℕ) (goal : Goal) → current_goal mind ≡ goal → IsBusy spec mind → mind.turn_steps ≤ 1 → IsMind spec (opened_at goal (chosen_in spec word) mind).mind
-opens_at spec mind word (goals.Write round value) has is few = goes spec mind Raise is few (omega arith) is.unfinished
-opens_at spec mind word (goals.Ask round) has is few = asks spec mind word (chosen_in spec word) refl is (omega arith)
-opens_at spec mind word goals.Done has is few = absurd (let other = sym is.unfinished ∙ ap is_unfinished has in cc)
-opens_at spec mind word goals.Spent has is few = absurd (let other = sym is.unfinished ∙ ap is_unfinished has in cc)
+opens_at : (spec : RoomSpec) (mind : MindState) (word : ℕ) (goal : Goal) → current_goal mind ≡ goal → IsBusy spec mind → mind.word < 1 → mind.collects ≡ 0 → mind.turn_steps ≤ 1 → IsMind spec (opened_at goal (chosen_in spec word) mind).mind
+opens_at spec mind word (goals.Write round value) has is at none few = goes spec mind Raise is at none few (omega arith) is.unfinished
+opens_at spec mind word (goals.Ask round) has is at none few = asks spec mind word (chosen_in spec word) refl is at (omega (arith, none)) (omega (arith, few))
+opens_at spec mind word goals.Done has is at none few = absurd (let other = sym is.unfinished ∙ ap is_unfinished has in cc)
+opens_at spec mind word goals.Spent has is at none few = absurd (let other = sym is.unfinished ∙ ap is_unfinished has in cc)
 
 charged_operation : (b : Bool) (move : Move) → IsOperation (cond b move OutOfTurns) → b ≡ true
 charged_operation true move is = refl
 charged_operation false move is = absurd is
 
-opens_next : (spec : RoomSpec) (mind : MindState) (word : ℕ) (next : Option ℕ) → next_process mind.goals mind.sweep ≡ next → IsMind spec mind → mind.turn_steps ≤ 0 → mind.steps ≤ 26 * mind.turns + mind.turn_steps → IsOperation (first_move next spec mind) → IsMind spec (opened next (chosen_in spec word) (counted mind)).mind
-opens_next spec mind word None found is few charged operation = absurd operation
-opens_next spec mind word (Some process) found is few charged operation =
+opens_next : (spec : RoomSpec) (mind : MindState) (word : ℕ) (next : Option ℕ) → next_process mind.goals mind.sweep ≡ next → IsMind spec mind → mind.word < 1 → mind.collects ≡ 0 → mind.turn_steps ≤ 0 → mind.steps ≤ greatest_limit * mind.turns + mind.turn_steps → IsOperation (first_move next spec mind) → IsMind spec (opened next (chosen_in spec word) (counted mind)).mind
+opens_next spec mind word None found is at none few charged operation = absurd operation
+opens_next spec mind word (Some process) found is at none few charged operation =
     let next = next_is_left mind.goals mind.sweep process (omega (arith, is.sweep, is.goals)) found in
     let left = ltb-true _ _ (charged_operation (ltb mind.turns spec.turns) (first_move_at (goal_at mind.goals process) spec mind.number process) operation) in
-    let busy = busy_begun spec mind process is charged left (omega (arith, next.below, is.goals)) next.unfinished in
-    opens_at spec (begun process (counted mind)) word (goal_at mind.goals process) refl busy (omega arith)
+    let busy = busy_begun spec mind process found is charged left (omega (arith, next.below, is.goals)) next.unfinished in
+    opens_at spec (begun process (counted mind)) word (goal_at mind.goals process) refl busy at none (omega arith)
 
 -- ---- every line
 
-kept_at : (line : Line) (spec : RoomSpec) (mind : MindState) (answer : ℕ) → IsMind spec mind → mind.turn_steps ≤ most_steps line (length mind.entries) → charged_steps line mind.steps ≤ 26 * mind.turns + mind.turn_steps → IsOpenAt line spec mind → IsOperation (move_at line spec mind) → IsMind spec (taken_at line spec (counted mind) answer).mind
-kept_at Rest spec mind answer is few charged at operation = opens_next spec mind answer (next_process mind.goals mind.sweep) refl is few charged operation
-kept_at Raise spec mind answer is few charged at operation = goes spec (counted mind) Snap (busy_at spec mind is at charged) (omega arith) (omega arith) at
-kept_at Snap spec mind answer is few charged at operation = goes spec (record (counted mind) { snapshot = answer }) Show (shows spec (counted mind) answer (busy_at spec mind is at charged)) (omega arith) (omega arith) at
-kept_at Show spec mind answer is few charged at operation = goes spec (counted mind) Enter (busy_at spec mind is at charged) (omega arith) (omega arith) at
-kept_at Enter spec mind answer is few charged at operation = goes spec (counted mind) Look (busy_at spec mind is at charged) (omega arith) (omega arith) at
-kept_at Look spec mind answer is few charged at operation = goes spec (counted mind) (Leave (has_level 2 (levels_of answer spec.simulators))) (busy_at spec mind is at charged) (omega arith) (omega arith) at
-kept_at (Leave saw_two) spec mind answer is few charged at operation = goes spec (counted mind) Ask (busy_at spec mind is at charged) (omega arith) (omega arith) at
-kept_at Ask spec mind answer is few charged at operation = asks spec (counted mind) answer (chosen_in spec answer) refl (busy_at spec mind is at charged) (omega arith)
-kept_at (GetView chosen) spec mind answer is few charged at operation = gathers spec (record (counted mind) { snapshot = answer }) [] (shows spec (counted mind) answer (busy_at spec mind is at.0 charged)) (omega arith) (omega arith)
-kept_at Values spec mind answer is few charged at operation =
+kept_at : (line : Line) (spec : RoomSpec) (mind : MindState) (answer : ℕ) → IsMind spec mind → mind.word < words_at spec line → IsCollectCount spec line mind.collects → mind.turn_steps ≤ most_steps spec line mind.word mind.collects (length mind.entries)
+    → charged_steps line mind.steps ≤ greatest_limit * mind.turns + mind.turn_steps → IsOpenAt line spec mind → IsOperation (move_at line spec mind) → IsMind spec (taken_at line spec (counted mind) answer).mind
+kept_at Rest spec mind answer is word collects few charged at operation = opens_next spec mind answer (next_process mind.goals mind.sweep) refl is word collects few charged operation
+kept_at Raise spec mind answer is word collects few charged at operation =
+    goes spec (counted mind) Snap (busy_at spec mind is at charged) (omega (arith, word, no_word spec is.limits)) (omega (arith, collects), λ one. collects) (omega (arith, few)) (omega arith) at
+kept_at Snap spec mind answer is word collects few charged at operation =
+    let got = loaded answer (counted mind) in
+    let busy = loads spec (counted mind) answer (busy_at spec mind is at charged) in
+    by_word spec Snap got (scanned spec (is_again got) (record got { word = 0 })) (ltb (mind.word + 1) (words_in spec)) refl
+    (λ less. goes spec (record got { word = mind.word + 1 }) Snap (moves_on spec got (mind.word + 1) mind.collects mind.before is.before busy) less collects (omega (arith, few)) (omega arith) at)
+    (λ last.
+    let more : words_in spec * (mind.collects + 1) ≡ words_in spec * mind.collects + words_in spec = grind arith in
+    scans spec (record got { word = 0 }) (is_again got) (eqb (words_in spec) 1) refl (moves_on spec got 0 mind.collects mind.before is.before busy) refl collects (omega (arith, few, more, last)))
+    word
+kept_at Show spec mind answer is word collects few charged at operation =
+    let busy = busy_at spec mind is at charged in
+    by_word spec Show (counted mind) (goes_on Enter (record (counted mind) { word = 0 })) (ltb (mind.word + 1) (words_in spec)) refl
+    (λ less. goes spec (record (counted mind) { word = mind.word + 1 }) Show (moves_on spec (counted mind) (mind.word + 1) mind.collects mind.before is.before busy) less collects (omega (arith, few)) (omega arith) at)
+    (λ last. goes spec (record (counted mind) { word = 0 }) Enter (moves_on spec (counted mind) 0 mind.collects mind.before is.before busy) (omega arith) collects (omega (arith, few, last)) (omega arith) at)
+    word
+kept_at Enter spec mind answer is word collects few charged at operation = goes spec (counted mind) Look (busy_at spec mind is at charged) word collects (omega (arith, few)) (omega arith) at
+kept_at Look spec mind answer is word collects few charged at operation = goes spec (counted mind) (Leave (has_level 2 (levels_of answer spec.simulators))) (busy_at spec mind is at charged) word collects (omega (arith, few)) (omega arith) at
+kept_at (Leave saw_two) spec mind answer is word collects few charged at operation = goes spec (counted mind) Ask (busy_at spec mind is at charged) word collects (omega (arith, few)) (omega arith) at
+kept_at Ask spec mind answer is word collects few charged at operation = asks spec (counted mind) answer (chosen_in spec answer) refl (busy_at spec mind is at charged) word collects (omega (arith, few))
+kept_at (GetView chosen) spec mind answer is word collects few charged at operation =
+    let got = loaded answer (counted mind) in
+    let busy = loads spec (counted mind) answer (busy_at spec mind is at.0 charged) in
+    by_word spec (GetView chosen) got (gathered (entry_in spec got.snapshot) spec [] (record got { word = 0 })) (ltb (mind.word + 1) (words_in spec)) refl
+    (λ less. goes spec (record got { word = mind.word + 1 }) (GetView chosen) (moves_on spec got (mind.word + 1) mind.collects mind.before is.before busy) less collects (omega (arith, few)) (omega arith) at)
+    (λ last. gathers spec (record got { word = 0 }) [] (moves_on spec got 0 mind.collects mind.before is.before busy) (omega arith) collects (omega arith) (omega (arith, few, last)))
+    word
+kept_at Values spec mind answer is word collects few charged at operation =
     let long : length (mind.entries ++ Some (min answer greatest) ∷ []) ≡ length mind.entries + 1 = length-append mind.entries (Some (min answer greatest) ∷ []) in
-    gathers spec (counted mind) (mind.entries ++ Some (min answer greatest) ∷ []) (busy_at spec mind is at.0 charged) (omega (arith, at.1)) (omega arith)
-kept_at (Out decision) spec mind answer is few charged at operation =
-    let n = is.limits.shape.n_range in
-    ends spec (counted mind) Useful goals.Done (busy_at spec mind is at charged) tt (omega (arith, is.entries, n.1))
+    gathers spec (counted mind) (mind.entries ++ Some (min answer greatest) ∷ []) (busy_at spec mind is at.0 charged) word collects (omega (arith, at.1)) (omega (arith, few, long))
+kept_at (Out decision) spec mind answer is word collects few charged at operation =
+    ends spec (counted mind) Useful goals.Done (busy_at spec mind is at charged) tt tt word (limit_over spec (mind.turn_steps + 1) (length mind.entries) is.entries (omega (arith, few)))
 
 pub kept : (spec : RoomSpec) (mind : MindState) (answer : ℕ) → IsMind spec mind → IsOperation (move_of spec mind) → IsMind spec (taken spec mind answer).mind
-kept spec mind answer is operation = kept_at mind.line spec mind answer is is.few is.counted is.at operation
+kept spec mind answer is operation = kept_at mind.line spec mind answer is is.word is.collects is.few is.counted is.at operation
 
 pub kept_of : (spec : RoomSpec) (mind after : MindState) (answer : ℕ) → after ≡ (taken spec mind answer).mind → IsMind spec mind → IsOperation (move_of spec mind) → IsMind spec after
 kept_of spec mind after answer is mind_is operation = subst (λ m. IsMind spec m) (sym is) (kept spec mind answer mind_is operation)
@@ -219,9 +341,14 @@ opens spec i limits below =
       sweep = mod_below i (processes spec) n.0;
       turns = omega arith;
       entries = omega arith;
+      snapshot = refl;
+      before = refl;
+      word = omega arith;
+      collects = refl;
       few = omega arith;
       counted = omega arith;
       at = tt;
+      order = visited_first spec (i % processes spec);
     }
 
 pub opens_of : (spec : RoomSpec) (i : ℕ) (mind : MindState) → mind ≡ opening_mind spec i → IsWithinLimits spec → i < spec.simulators → IsMind spec mind

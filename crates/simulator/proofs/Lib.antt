@@ -1,6 +1,7 @@
 pub mod Processes
 pub mod Gathering
 pub mod Ranging
+pub mod Visiting
 pub mod Keeping
 pub mod Levels
 pub mod Stepping
@@ -10,3 +11,4 @@ pub mod Bounding
 pub mod Spending
 mod Worked
 mod WorkedTurns
+pub mod Limits

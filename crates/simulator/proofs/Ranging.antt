@@ -1,5 +1,5 @@
 -- Each word that a mind works on is one of its room.
-use Rattle.std.proofs.Common.{◌≡◌, ℕ, ◌<◌, ◌≤◌, Bool, true, false, cond, ltb, length, Option, Some, None, refl, sym, subst, arith}
+use Rattle.std.proofs.Common.{◌≡◌, ℕ, ◌<◌, ◌≤◌, Bool, true, false, cond, ltb, List, length, Option, Some, None, refl, sym, subst, arith}
 use Rattle.std.proofs.lemmas.List.FromFn.{length-map-range_with_len}
 use Rattle.room_spec.specs.Rooms.{RoomSpec, processes}
 use Rattle.room_spec.specs.Sizes.{sizes_in}
@@ -9,7 +9,9 @@ use Rattle.view_table.specs.declared.place.Place.TheVariants as places
 use Rattle.view_table.specs.Places.{IsPlace, words_of}
 use Rattle.view_table.proofs.PlaceLemmas as table
 use Rattle.safe_agreement.proofs.Clean.{resolved_to}
-use Rattle.sim_memory.specs.Steps.{step_in}
+use Rattle.sim_memory.specs.Steps.{step_in, word_of}
+use Rattle.sim_memory.proofs.Words.{word_below}
+use Rattle.simulator.specs.Turns.{words_in}
 use Rattle.sim_memory.proofs.Greatest.{holder_of_is, holder_merged, greatest_at}
 use Rattle.sim_memory.proofs.Rows.{merged_below}
 use Rattle.simulator.specs.declared.goal.Goal.{Goal}
@@ -20,7 +22,7 @@ use Rattle.simulator.specs.declared.operation.Move.{Move}
 use Rattle.simulator.specs.declared.operation.Move.TheVariants.{OutOfTurns}
 use Rattle.simulator.specs.Minds.{MindState, is_unfinished, round_of, goal_at, current_goal, current_round, next_process}
 use Rattle.simulator.specs.Moves.{index_in, levels_index, view_index, value_index, entry_in, holder_in, chosen_in, level_unit, leave_by, first_move_at, first_move, move_at, move_of, IsWithin}
-use Rattle.simulator.specs.Ranges.{IsGoal, IsOpenAt, IsMind}
+use Rattle.simulator.specs.Ranges.{IsGoal, IsOpenAt, IsMind, words_at}
 use Rattle.simulator.proofs.Processes.{next_is_left}
 
 -- ---- rounds, rows, holders, chosen simulators
@@ -31,19 +33,19 @@ round_range rounds (goals.Ask round) range is = range
 round_range rounds goals.Done range is = absurd cc
 round_range rounds goals.Spent range is = absurd cc
 
-pub row_most : (spec : RoomSpec) (word process : ℕ) → entry_in spec word process ≤ spec.rounds
-row_most spec word process = merged_below spec.simulators (step_in (sizes_in spec) word) process spec.rounds (λ i below. omega arith)
+pub row_most : (spec : RoomSpec) (words : List ℕ) (process : ℕ) → entry_in spec words process ≤ spec.rounds
+row_most spec words process = merged_below spec.simulators (step_in (sizes_in spec) words) process spec.rounds (λ i below. omega arith)
 
-pub holder_below : (spec : RoomSpec) (word process : ℕ) → 0 < spec.simulators → holder_in spec word process < spec.simulators
-holder_below spec word process some = let is = holder_of_is spec.simulators (step_in (sizes_in spec) word) process some in is.below
+pub holder_below : (spec : RoomSpec) (words : List ℕ) (process : ℕ) → 0 < spec.simulators → holder_in spec words process < spec.simulators
+holder_below spec words process some = let is = holder_of_is spec.simulators (step_in (sizes_in spec) words) process some in is.below
 
 -- the row is what the holder has
-pub row_of_holder : (spec : RoomSpec) (word process : ℕ) → 0 < spec.simulators → entry_in spec word process ≡ step_in (sizes_in spec) word (holder_in spec word process) process
-row_of_holder spec word process some = holder_merged spec.simulators (step_in (sizes_in spec) word) process (holder_in spec word process) (holder_of_is spec.simulators (step_in (sizes_in spec) word) process some)
+pub row_of_holder : (spec : RoomSpec) (words : List ℕ) (process : ℕ) → 0 < spec.simulators → entry_in spec words process ≡ step_in (sizes_in spec) words (holder_in spec words process) process
+row_of_holder spec words process some = holder_merged spec.simulators (step_in (sizes_in spec) words) process (holder_in spec words process) (holder_of_is spec.simulators (step_in (sizes_in spec) words) process some)
 
 -- a simulator that has a write shows it
-pub row_at : (spec : RoomSpec) (word process i : ℕ) → i < spec.simulators → step_in (sizes_in spec) word i process ≤ entry_in spec word process
-row_at spec word process i below = greatest_at spec.simulators (λ k. step_in (sizes_in spec) word k process) i below
+pub row_at : (spec : RoomSpec) (words : List ℕ) (process i : ℕ) → i < spec.simulators → step_in (sizes_in spec) words i process ≤ entry_in spec words process
+row_at spec words process i below = greatest_at spec.simulators (λ k. step_in (sizes_in spec) words k process) i below
 
 pub chosen_below : (spec : RoomSpec) (word chosen : ℕ) → chosen_in spec word ≡ Some chosen → chosen < spec.simulators
 chosen_below spec word chosen is =
@@ -61,8 +63,8 @@ current_range spec mind is unfinished = round_range spec.rounds (current_goal mi
 levels_within : (spec : RoomSpec) (mind : MindState) → IsMind spec mind → is_unfinished (current_goal mind) ≡ true → levels_index spec mind < words_of (sizes_in spec)
 levels_within spec mind is unfinished = within_index spec (places.Levels mind.sweep (current_round mind)) (is.sweep, current_range spec mind is unfinished)
 
-view_within : (spec : RoomSpec) (simulator : ℕ) (mind : MindState) → IsMind spec mind → is_unfinished (current_goal mind) ≡ true → simulator < spec.simulators → view_index spec simulator mind < words_of (sizes_in spec)
-view_within spec simulator mind is unfinished below = within_index spec (places.View simulator mind.sweep (current_round mind)) (below, is.sweep, current_range spec mind is unfinished)
+view_within : (spec : RoomSpec) (simulator : ℕ) (mind : MindState) → IsMind spec mind → is_unfinished (current_goal mind) ≡ true → simulator < spec.simulators → mind.word < words_in spec → view_index spec simulator mind < words_of (sizes_in spec)
+view_within spec simulator mind is unfinished below word = within_index spec (places.View simulator mind.sweep (current_round mind) mind.word) (below, is.sweep, current_range spec mind is unfinished, word)
 
 value_within : (spec : RoomSpec) (mind : MindState) (process : ℕ) → IsMind spec mind → process < processes spec → 1 ≤ entry_in spec mind.snapshot process → value_index spec mind process < words_of (sizes_in spec)
 value_within spec mind process is below shown =
@@ -93,25 +95,25 @@ first_within spec mind (Some process) is found =
     charged_within (ltb mind.turns spec.turns) (first_move_at (goal_at mind.goals process) spec mind.number process) (words_of (sizes_in spec))
     (first_within_at (goal_at mind.goals process) spec mind.number process (is.rounds process below) is.number below)
 
-within_at : (line : Line) (spec : RoomSpec) (mind : MindState) → IsMind spec mind → IsOpenAt line spec mind → IsWithin (move_at line spec mind) (words_of (sizes_in spec))
-within_at Rest spec mind is at = first_within spec mind (next_process mind.goals mind.sweep) is refl
-within_at Raise spec mind is at = within_index spec places.Steps tt
-within_at Snap spec mind is at = within_index spec places.Steps tt
-within_at Show spec mind is at = view_within spec mind.number mind is at is.number
-within_at Enter spec mind is at = levels_within spec mind is at
-within_at Look spec mind is at = levels_within spec mind is at
-within_at (Leave saw_two) spec mind is at = leave_within saw_two (levels_index spec mind) (level_unit mind) (words_of (sizes_in spec)) (levels_within spec mind is at)
-within_at Ask spec mind is at = levels_within spec mind is at
-within_at (GetView chosen) spec mind is at = view_within spec chosen mind is at.0 at.1
-within_at Values spec mind is at = value_within spec mind (length mind.entries) is at.1 at.2
-within_at (Out decision) spec mind is at = within_index spec (places.Out mind.number mind.sweep) (is.number, is.sweep)
+within_at : (line : Line) (spec : RoomSpec) (mind : MindState) → IsMind spec mind → mind.word < words_at spec line → IsOpenAt line spec mind → IsWithin (move_at line spec mind) (words_of (sizes_in spec))
+within_at Rest spec mind is word at = first_within spec mind (next_process mind.goals mind.sweep) is refl
+within_at Raise spec mind is word at = within_index spec (places.Memory (word_of (sizes_in spec) mind.number mind.sweep)) (word_below (sizes_in spec) mind.number mind.sweep is.limits.shape is.number is.sweep)
+within_at Snap spec mind is word at = within_index spec (places.Memory mind.word) word
+within_at Show spec mind is word at = view_within spec mind.number mind is at is.number word
+within_at Enter spec mind is word at = levels_within spec mind is at
+within_at Look spec mind is word at = levels_within spec mind is at
+within_at (Leave saw_two) spec mind is word at = leave_within saw_two (levels_index spec mind) (level_unit mind) (words_of (sizes_in spec)) (levels_within spec mind is at)
+within_at Ask spec mind is word at = levels_within spec mind is at
+within_at (GetView chosen) spec mind is word at = view_within spec chosen mind is at.0 at.1 word
+within_at Values spec mind is word at = value_within spec mind (length mind.entries) is at.1 at.2
+within_at (Out decision) spec mind is word at = within_index spec (places.Out mind.number mind.sweep) (is.number, is.sweep)
 
 -- the same where a move is known to be that of a line, on a list that has all words
-pub within_words : (line : Line) (spec : RoomSpec) (mind : MindState) (move : Move) (count : ℕ) → move ≡ move_at line spec mind → count ≡ words_of (sizes_in spec) → IsMind spec mind → IsOpenAt line spec mind → IsWithin move count
-within_words line spec mind move count is all mind_is at = subst (λ n. IsWithin move n) (sym all) (subst (λ m. IsWithin m (words_of (sizes_in spec))) (sym is) (within_at line spec mind mind_is at))
+pub within_words : (line : Line) (spec : RoomSpec) (mind : MindState) (move : Move) (count : ℕ) → move ≡ move_at line spec mind → count ≡ words_of (sizes_in spec) → IsMind spec mind → mind.word < words_at spec line → IsOpenAt line spec mind → IsWithin move count
+within_words line spec mind move count is all mind_is word at = subst (λ n. IsWithin move n) (sym all) (subst (λ m. IsWithin m (words_of (sizes_in spec))) (sym is) (within_at line spec mind mind_is word at))
 
 pub within : (spec : RoomSpec) (mind : MindState) → IsMind spec mind → IsWithin (move_of spec mind) (words_of (sizes_in spec))
-within spec mind is = within_at mind.line spec mind is is.at
+within spec mind is = within_at mind.line spec mind is is.word is.at
 
 pub within_of : (spec : RoomSpec) (mind : MindState) (move : Move) → move ≡ move_of spec mind → IsMind spec mind → IsWithin move (words_of (sizes_in spec))
 within_of spec mind move is mind_is = subst (λ m. IsWithin m (words_of (sizes_in spec))) (sym is) (within spec mind mind_is)

@@ -1,13 +1,13 @@
--- How many atomic steps a simulator takes before it is idle: at most n + 10 for each turn that it begins, and the rest of the
+-- How many atomic steps a simulator takes before it is idle: at most its limit for each turn that it begins, and the rest of the
 -- one that is open.
-use Rattle.std.proofs.Common.{◌≡◌, ℕ, ◌+◌, ◌-◌, ◌*◌, ◌<◌, ◌≤◌, min, Bool, true, false, cond, ltb, List, [], ◌∷◌, ◌++◌, length, Option, Some, None, refl, ap, ◌∙◌, arith}
+use Rattle.std.proofs.Common.{◌≡◌, ℕ, ◌+◌, ◌-◌, ◌*◌, ◌<◌, ◌≤◌, min, Bool, true, false, cond, eqb, ltb, List, [], ◌∷◌, ◌++◌, length, Option, Some, None, refl, ap, ◌∙◌, arith}
 use Rattle.std.proofs.Math.Nat.{suc-mul, add-mul}
 use Rattle.std.proofs.lemmas.Nat.{mul-le}
 use Rattle.protocol_lang.specs.declared.meaning.Action.{Action}
 use Rattle.protocol_lang.specs.declared.meaning.Action.TheVariants as actions
 use Rattle.protocol_lang.specs.Meaning.{next_action}
 use Rattle.protocol_lang.specs.Numbers.{greatest}
-use Rattle.std.specs.Prelude.{slice_index}
+use Rattle.std.specs.Prelude.{slice_index, ◌&&◌, ◌||◌}
 use Rattle.safe_agreement.specs.Levels.{has_level}
 use Rattle.level_cells.specs.Fields.{levels_of}
 use Rattle.room_spec.specs.Rooms.{RoomSpec, processes}
@@ -20,10 +20,10 @@ use Rattle.simulator.specs.declared.turn.Turn.{Turn}
 use Rattle.simulator.specs.declared.turn.Turn.TheVariants.{Useful}
 use Rattle.simulator.specs.Bounds.{answered, answered_all, IsReadyThroughout}
 use Rattle.simulator.specs.Minds.{MindState, goal_at, current_round, next_process, unfinished_in}
-use Rattle.simulator.specs.Moves.{entry_in, chosen_in, taken_at, taken}
-use Rattle.simulator.specs.Ranges.{IsMind}
+use Rattle.simulator.specs.Moves.{entry_in, chosen_in, is_again, loaded, taken_at, taken}
+use Rattle.simulator.specs.Ranges.{IsMind, turn_limit}
 use Rattle.simulator.specs.Sweeps.{SweepState, is_resting, ready_of}
-use Rattle.simulator.specs.Turns.{TakenOf, counted, begun, goes_on, ended, asked, after_write, acted, padded, gathered_all, gathered, opened_at, opened}
+use Rattle.simulator.specs.Turns.{TakenOf, counted, begun, goes_on, ended, asked, after_write, acted, most_collects, on_word, padded, gathered_all, gathered, opened_at, opened, scanned, words_in}
 use Rattle.simulator.proofs.Bounding.{open_turns, falls_all, busy_by, open_most, turns_before}
 use Rattle.simulator.proofs.Keeping.{kept}
 use Rattle.simulator.proofs.Processes.{none_next}
@@ -32,7 +32,7 @@ use Rattle.simulator.proofs.Stepping.{bounded, moves, steps_by_one}
 -- ---- one step of a turn
 
 -- no turn is begun, and a turn that stays open has the same steps
-record IsOn (mind : MindState) (after : TakenOf ℕ) : Type 0 where
+record IsOn (mind : MindState) (after : TakenOf (List ℕ)) : Type 0 where
   turns : after.mind.turns ≡ mind.turns
   stays : is_resting after.mind.line ≡ false → after.mind.turn_steps ≡ mind.turn_steps
 
@@ -50,7 +50,7 @@ on_acted : (spec : RoomSpec) (action : Action) (mind : MindState) → IsOn mind 
 on_acted spec (actions.Write value) mind = on_end Useful (after_write spec.rounds (current_round mind) value) mind
 on_acted spec (actions.Decide decision) mind = on_line (Out decision) mind
 
-on_test : (b : Bool) (mind : MindState) (one other : TakenOf ℕ) → IsOn mind one → IsOn mind other → IsOn mind (cond b one other)
+on_test : (b : Bool) (mind : MindState) (one other : TakenOf (List ℕ)) → IsOn mind one → IsOn mind other → IsOn mind (cond b one other)
 on_test true mind one other is that = is
 on_test false mind one other is that = that
 
@@ -64,6 +64,13 @@ on_gathered row spec entries mind =
     let is = on_gathered_all spec (record mind { entries = padded row (processes spec - length entries) entries }) in
     record { turns = is.turns; stays = is.stays }
 
+on_word_line : (spec : RoomSpec) (line : Line) (mind : MindState) (last : TakenOf (List ℕ)) → IsOn mind last → IsOn mind (on_word spec line mind last)
+on_word_line spec line mind last is = on_test (ltb (mind.word + 1) (words_in spec)) mind _ last (record { turns = refl; stays = λ still. refl }) is
+
+on_scanned : (spec : RoomSpec) (same : Bool) (mind : MindState) → IsOn mind (scanned spec same mind)
+on_scanned spec same mind =
+    on_test (eqb (words_in spec) 1) mind _ _ (on_line Show mind) (on_test ((same && ltb 1 (mind.collects + 1)) || eqb (mind.collects + 1) (most_collects spec)) mind _ _ (record { turns = refl; stays = λ still. refl }) (record { turns = refl; stays = λ still. refl }))
+
 on_opened_at : (goal : Goal) (chosen : Option ℕ) (mind : MindState) → IsOn mind (opened_at goal chosen mind)
 on_opened_at (goals.Write round value) chosen mind = on_line Raise mind
 on_opened_at (goals.Ask round) chosen mind = on_asked chosen mind
@@ -73,14 +80,18 @@ on_opened_at goals.Spent chosen mind = on_line Rest mind
 in_turn : (line : Line) (spec : RoomSpec) (mind : MindState) (answer : ℕ) → is_resting line ≡ false → IsOn (counted mind) (taken_at line spec (counted mind) answer)
 in_turn Rest spec mind answer still = absurd cc
 in_turn Raise spec mind answer still = on_line Snap (counted mind)
-in_turn Snap spec mind answer still = let is = on_line Show (record (counted mind) { snapshot = answer }) in record { turns = is.turns; stays = is.stays }
-in_turn Show spec mind answer still = on_line Enter (counted mind)
+in_turn Snap spec mind answer still =
+    let got = loaded answer (counted mind) in
+    let is = on_word_line spec Snap got _ (let scan = on_scanned spec (is_again got) (record got { word = 0 }) in record { turns = scan.turns; stays = scan.stays }) in
+    record { turns = is.turns; stays = is.stays }
+in_turn Show spec mind answer still = on_word_line spec Show (counted mind) _ (record { turns = refl; stays = λ still. refl })
 in_turn Enter spec mind answer still = on_line Look (counted mind)
 in_turn Look spec mind answer still = on_line (Leave (has_level 2 (levels_of answer spec.simulators))) (counted mind)
 in_turn (Leave saw_two) spec mind answer still = on_line Ask (counted mind)
 in_turn Ask spec mind answer still = on_asked (chosen_in spec answer) (counted mind)
 in_turn (GetView chosen) spec mind answer still =
-    let is = on_gathered (entry_in spec answer) spec [] (record (counted mind) { snapshot = answer }) in
+    let got = loaded answer (counted mind) in
+    let is = on_word_line spec (GetView chosen) got _ (let gathering = on_gathered (entry_in spec got.snapshot) spec [] (record got { word = 0 }) in record { turns = gathering.turns; stays = gathering.stays }) in
     record { turns = is.turns; stays = is.stays }
 in_turn Values spec mind answer still = on_gathered (entry_in spec mind.snapshot) spec (mind.entries ++ Some (min answer greatest) ∷ []) (counted mind)
 in_turn (Out decision) spec mind answer still = on_end Useful goals.Done (counted mind)
@@ -88,7 +99,7 @@ in_turn (Out decision) spec mind answer still = on_end Useful goals.Done (counte
 -- ---- the first step of a turn
 
 -- one turn is begun, and it has one step more where it stays open
-record IsBegun (mind : MindState) (after : TakenOf ℕ) : Type 0 where
+record IsBegun (mind : MindState) (after : TakenOf (List ℕ)) : Type 0 where
   turns : after.mind.turns ≡ mind.turns + 1
   stays : is_resting after.mind.line ≡ false → after.mind.turn_steps ≡ mind.turn_steps + 1
 
@@ -127,29 +138,29 @@ spent_by true most steps turn_steps more is = omega arith
 spent_by false most steps turn_steps more is = omega (arith, is refl)
 
 spends_by : (b : Bool) (spec : RoomSpec) (mind : MindState) (quiet answer : ℕ) → is_resting mind.line ≡ b → IsMind spec mind → ready_of spec mind quiet ≡ ready.Step
-    → spent (processes spec + 10) (taken spec mind answer).mind + mind.turns * (processes spec + 10) ≤ mind.steps + left_of b (processes spec + 10) mind.turn_steps + (taken spec mind answer).mind.turns * (processes spec + 10)
+    → spent (turn_limit spec) (taken spec mind answer).mind + mind.turns * (turn_limit spec) ≤ mind.steps + left_of b (turn_limit spec) mind.turn_steps + (taken spec mind answer).mind.turns * (turn_limit spec)
 spends_by true spec mind quiet answer rests is ready =
     let after = (taken spec mind answer).mind in
     let begins = at_rest mind.line spec mind answer quiet rests (busy_by spec mind quiet ready rests) in
-    let left = spent_by (is_resting after.line) (processes spec + 10) after.steps after.turn_steps (mind.turn_steps + 1) begins.stays in
-    let product : after.turns * (processes spec + 10) ≡ mind.turns * (processes spec + 10) + (processes spec + 10) = ap (λ (k : ℕ). k * (processes spec + 10)) (begins.turns ∙ omega arith) ∙ suc-mul mind.turns (processes spec + 10) in
-    omega (arith, left, product, steps_by_one spec mind answer)
+    let left = spent_by (is_resting after.line) (turn_limit spec) after.steps after.turn_steps (mind.turn_steps + 1) begins.stays in
+    let product : after.turns * (turn_limit spec) ≡ mind.turns * (turn_limit spec) + (turn_limit spec) = ap (λ (k : ℕ). k * (turn_limit spec)) (begins.turns ∙ omega arith) ∙ suc-mul mind.turns (turn_limit spec) in
+    omega (arith, left, product, bounded spec mind is, steps_by_one spec mind answer)
 spends_by false spec mind quiet answer still is ready =
     let after = (taken spec mind answer).mind in
     let goes = in_turn mind.line spec mind answer still in
     let few = bounded spec mind is in
-    let left = spent_by (is_resting after.line) (processes spec + 10) after.steps after.turn_steps (mind.turn_steps + 1) goes.stays in
-    let product : after.turns * (processes spec + 10) ≡ mind.turns * (processes spec + 10) = ap (λ (k : ℕ). k * (processes spec + 10)) goes.turns in
+    let left = spent_by (is_resting after.line) (turn_limit spec) after.steps after.turn_steps (mind.turn_steps + 1) goes.stays in
+    let product : after.turns * (turn_limit spec) ≡ mind.turns * (turn_limit spec) = ap (λ (k : ℕ). k * (turn_limit spec)) goes.turns in
     omega (arith, left, product, few, steps_by_one spec mind answer)
 
 spends : (spec : RoomSpec) (mind : MindState) (quiet answer : ℕ) → IsMind spec mind → ready_of spec mind quiet ≡ ready.Step
-    → spent (processes spec + 10) (taken spec mind answer).mind + mind.turns * (processes spec + 10) ≤ spent (processes spec + 10) mind + (taken spec mind answer).mind.turns * (processes spec + 10)
+    → spent (turn_limit spec) (taken spec mind answer).mind + mind.turns * (turn_limit spec) ≤ spent (turn_limit spec) mind + (taken spec mind answer).mind.turns * (turn_limit spec)
 spends spec mind quiet answer is ready =
     let by = spends_by (is_resting mind.line) spec mind quiet answer refl is ready in
     omega (arith, by)
 
 spends_all : (spec : RoomSpec) (sweep : SweepState) (answers : List ℕ) → IsMind spec sweep.mind → IsReadyThroughout spec sweep answers
-    → spent (processes spec + 10) (answered_all spec sweep answers).mind + sweep.mind.turns * (processes spec + 10) ≤ spent (processes spec + 10) sweep.mind + (answered_all spec sweep answers).mind.turns * (processes spec + 10)
+    → spent (turn_limit spec) (answered_all spec sweep answers).mind + sweep.mind.turns * (turn_limit spec) ≤ spent (turn_limit spec) sweep.mind + (answered_all spec sweep answers).mind.turns * (turn_limit spec)
 spends_all spec sweep [] is ready = omega arith
 spends_all spec sweep (answer ∷ answers) is ready =
     let here = spends spec sweep.mind sweep.quiet answer is ready.0 in
@@ -172,14 +183,14 @@ open_left Values most steps = omega arith
 open_left (Out decision) most steps = omega arith
 
 pub steps_bounded : (spec : RoomSpec) (sweep : SweepState) (answers : List ℕ) → IsMind spec sweep.mind → IsReadyThroughout spec sweep answers
-    → (answered_all spec sweep answers).mind.steps ≤ sweep.mind.steps + (processes spec * spec.rounds + 1) * processes spec * (processes spec + 10)
+    → (answered_all spec sweep answers).mind.steps ≤ sweep.mind.steps + (processes spec * spec.rounds + 1) * processes spec * (turn_limit spec)
 steps_bounded spec sweep answers is ready =
     let n = processes spec in
     let last = answered_all spec sweep answers in
     let most = (n * spec.rounds + 1) * n in
     let turns : last.mind.turns + open_turns sweep.mind.line ≤ sweep.mind.turns + most =
     omega (arith, turns_before n spec.rounds last.mind last.quiet, falls_all spec sweep answers is ready, open_most spec sweep.mind sweep.quiet is) in
-    let product = mul-le (last.mind.turns + open_turns sweep.mind.line) (n + 10) (sweep.mind.turns + most) (n + 10) turns (omega arith) in
-    let one = add-mul last.mind.turns (open_turns sweep.mind.line) (n + 10) in
-    let other = add-mul sweep.mind.turns most (n + 10) in
-    omega (arith, product, one, other, open_left sweep.mind.line (n + 10) sweep.mind.turn_steps, spends_all spec sweep answers is ready)
+    let product = mul-le (last.mind.turns + open_turns sweep.mind.line) (turn_limit spec) (sweep.mind.turns + most) (turn_limit spec) turns (omega arith) in
+    let one = add-mul last.mind.turns (open_turns sweep.mind.line) (turn_limit spec) in
+    let other = add-mul sweep.mind.turns most (turn_limit spec) in
+    omega (arith, product, one, other, open_left sweep.mind.line (turn_limit spec) sweep.mind.turn_steps, spends_all spec sweep answers is ready)

@@ -1,9 +1,12 @@
 -- What holds of a step at any line, and what a mind does that is ready for one.
-use Rattle.std.proofs.Common.{◌≡◌, ◌≢◌, ℕ, zero, suc, ◌+◌, ◌<◌, ◌≤◌, Bool, true, false, cond, ltb, leb, List, [], length, Option, Some, None, refl, sym, ap, ◌∙◌, subst, arith}
-use Rattle.std.proofs.lemmas.Bool.{ltb-true, ltb-false, lt-ltb, le-ltb, leb-false}
+use Rattle.std.proofs.Common.{◌≡◌, ◌≢◌, ℕ, zero, suc, ◌+◌, ◌*◌, ◌<◌, ◌≤◌, Bool, true, false, cond, eqb, ltb, leb, List, [], length, Option, Some, None, refl, sym, ap, ◌∙◌, subst, arith}
+use Rattle.std.proofs.lemmas.Bool.{eqb-true, ltb-true, ltb-false, lt-ltb, le-ltb, leb-false}
+use Rattle.std.proofs.lemmas.Nat.{mul-le}
 use Rattle.protocol_lang.specs.declared.meaning.Action.{Action}
 use Rattle.protocol_lang.specs.declared.meaning.Action.TheVariants as actions
-use Rattle.room_spec.specs.Rooms.{RoomSpec, processes}
+use Rattle.room_spec.specs.Rooms.{RoomSpec, IsWithinLimits, processes}
+use Rattle.room_spec.specs.Sizes.{sizes_in}
+use Rattle.room_spec.proofs.MemoryWords.{are_memory_words}
 use Rattle.simulator.specs.declared.goal.Goal.{Goal}
 use Rattle.simulator.specs.declared.goal.Goal.TheVariants as goals
 use Rattle.simulator.specs.declared.line.Line.{Line}
@@ -13,64 +16,91 @@ use Rattle.simulator.specs.declared.turn.Turn.TheVariants.{Still}
 use Rattle.simulator.specs.declared.operation.Move.TheVariants.{Finished, OutOfTurns}
 use Rattle.simulator.specs.declared.sweep.Ready.TheVariants as answers
 use Rattle.simulator.specs.Minds.{MindState, is_unfinished, goal_at, next_process, unfinished_in}
-use Rattle.simulator.specs.Moves.{levels_index, level_unit, entry_in, chosen_in, leave_by, first_move_at, first_move, move_at, move_of, IsOperation, taken_at, taken}
-use Rattle.simulator.specs.Turns.{TakenOf, counted, goes_on, asked, acted, gathered_all, gathered, opened_at, opened}
-use Rattle.simulator.specs.Ranges.{most_steps, IsMind}
+use Rattle.simulator.specs.Moves.{levels_index, level_unit, entry_in, chosen_in, is_again, leave_by, loaded, first_move_at, first_move, move_at, move_of, IsOperation, taken_at, taken}
+use Rattle.simulator.specs.Turns.{TakenOf, counted, goes_on, asked, acted, gathered_all, gathered, most_collects, on_word, opened_at, opened, scanned, words_in}
+use Rattle.simulator.specs.Ranges.{IsCollectCount, IsMind, most_steps, scan_steps, turn_limit, words_at}
 use Rattle.simulator.specs.Sweeps.{is_resting, ready_between, ready_of}
 use Rattle.simulator.proofs.Processes.{IsLeft, next_is_left, next_none, next_some}
 
 -- ---- turns are short
 
-most_below : (line : Line) (entries most : ℕ) → entries ≤ most → most_steps line entries ≤ 9 + most
-most_below Rest entries most few = omega arith
-most_below Raise entries most few = omega arith
-most_below Snap entries most few = omega arith
-most_below Show entries most few = omega arith
-most_below Enter entries most few = omega arith
-most_below Look entries most few = omega arith
-most_below (Leave saw_two) entries most few = omega arith
-most_below Ask entries most few = omega arith
-most_below (GetView chosen) entries most few = omega arith
-most_below Values entries most few = omega arith
-most_below (Out decision) entries most few = omega arith
+scan_by : (b : Bool) (words collects most word : ℕ) → b ≡ eqb words 1 → collects < most → word < words → (words ≡ 1 → collects ≡ 0) → words * collects + word + 1 ≤ cond b 1 (words * most)
+scan_by true words collects most word is less within one =
+    let single : words ≡ 1 = eqb-true words 1 (sym is) in
+    let none = one single in
+    let product : words * collects ≡ 0 = ap (λ x. words * x) none ∙ omega arith in
+    omega (arith, product, single, within)
+scan_by false words collects most word is less within one =
+    let product : words * suc collects ≤ words * most = mul-le words (suc collects) words most (omega arith) less in
+    let more : words * suc collects ≡ words * collects + words = grind arith in
+    omega (arith, product, more, within)
 
-pub bounded : (spec : RoomSpec) (mind : MindState) → IsMind spec mind → mind.turn_steps < processes spec + 10
-bounded spec mind is = let most = most_below mind.line (length mind.entries) (processes spec) is.entries in omega (arith, is.few)
+-- a scan that isn't over has taken fewer steps than a scan may
+pub scan_below : (spec : RoomSpec) (word collects : ℕ) → IsCollectCount spec Snap collects → word < words_in spec → words_in spec * collects + word + 1 ≤ scan_steps spec
+scan_below spec word collects count within = scan_by (eqb (words_in spec) 1) (words_in spec) collects (most_collects spec) word refl count.0 within count.1
+
+most_below : (line : Line) (spec : RoomSpec) (word collects entries : ℕ) → word < words_at spec line → IsCollectCount spec line collects → 1 ≤ words_in spec → entries ≤ processes spec → most_steps spec line word collects entries < turn_limit spec
+unfolding turn_limit
+most_below Rest spec word collects entries within count some few = omega arith
+most_below Raise spec word collects entries within count some few = omega arith
+most_below Snap spec word collects entries within count some few = omega (arith, scan_below spec word collects count within)
+most_below Show spec word collects entries within count some few = omega (arith, within)
+most_below Enter spec word collects entries within count some few = omega arith
+most_below Look spec word collects entries within count some few = omega arith
+most_below (Leave saw_two) spec word collects entries within count some few = omega arith
+most_below Ask spec word collects entries within count some few = omega arith
+most_below (GetView chosen) spec word collects entries within count some few = omega (arith, within)
+most_below Values spec word collects entries within count some few = omega (arith, few)
+most_below (Out decision) spec word collects entries within count some few = omega (arith, few)
+
+pub words_some : (spec : RoomSpec) → IsWithinLimits spec → (1 ≤ words_in spec) × (words_in spec ≤ 4)
+words_some spec limits = let words = are_memory_words (sizes_in spec) limits.shape in (words.some, words.few)
+
+pub bounded : (spec : RoomSpec) (mind : MindState) → IsMind spec mind → mind.turn_steps < turn_limit spec
+bounded spec mind is = let most = most_below mind.line spec mind.word mind.collects (length mind.entries) is.word is.collects (words_some spec is.limits).0 is.entries in omega (arith, is.few, most)
 
 -- ---- a step keeps the number and counts itself; after one that ends a turn none are counted in the turn
 
--- the same number, one step more, and a turn that has ended has no steps
-pub record IsStepped (mind : MindState) (after : TakenOf ℕ) : Type 0 where
+-- the same number, one step more, also in a turn that goes on, and a turn that has ended has no steps
+pub record IsStepped (mind : MindState) (after : TakenOf (List ℕ)) : Type 0 where
   pub number : after.mind.number ≡ mind.number
   pub steps : after.mind.steps ≡ mind.steps + 1
   pub rests : after.turn ≢ Still → after.mind.turn_steps ≡ 0
+  pub stays : is_resting after.mind.line ≡ false → after.mind.turn_steps ≡ mind.turn_steps + 1
 
--- the same number and steps, and a turn that has ended has no steps
-record IsMoved (mind : MindState) (after : TakenOf ℕ) : Type 0 where
+-- the same number and steps, also in a turn that goes on, and a turn that has ended has no steps
+record IsMoved (mind : MindState) (after : TakenOf (List ℕ)) : Type 0 where
   number : after.mind.number ≡ mind.number
   steps : after.mind.steps ≡ mind.steps
   rests : after.turn ≢ Still → after.mind.turn_steps ≡ 0
+  stays : is_resting after.mind.line ≡ false → after.mind.turn_steps ≡ mind.turn_steps
 
 moved_on : (line : Line) (mind : MindState) → IsMoved mind (goes_on line mind)
-moved_on line mind = record { number = refl; steps = refl; rests = λ ends. absurd (ends refl) }
+moved_on line mind = record { number = refl; steps = refl; rests = λ ends. absurd (ends refl); stays = λ goes. refl }
 
 moved_asked : (chosen : Option ℕ) (mind : MindState) → IsMoved mind (asked chosen mind)
-moved_asked None mind = record { number = refl; steps = refl; rests = λ ends. refl }
-moved_asked (Some chosen) mind = record { number = refl; steps = refl; rests = λ ends. absurd (ends refl) }
+moved_asked None mind = record { number = refl; steps = refl; rests = λ ends. refl; stays = λ goes. absurd cc }
+moved_asked (Some chosen) mind = record { number = refl; steps = refl; rests = λ ends. absurd (ends refl); stays = λ goes. refl }
 
 moved_acted : (spec : RoomSpec) (action : Action) (mind : MindState) → IsMoved mind (acted spec action mind)
-moved_acted spec (actions.Write value) mind = record { number = refl; steps = refl; rests = λ ends. refl }
-moved_acted spec (actions.Decide decision) mind = record { number = refl; steps = refl; rests = λ ends. absurd (ends refl) }
+moved_acted spec (actions.Write value) mind = record { number = refl; steps = refl; rests = λ ends. refl; stays = λ goes. absurd cc }
+moved_acted spec (actions.Decide decision) mind = record { number = refl; steps = refl; rests = λ ends. absurd (ends refl); stays = λ goes. refl }
 
-moved_by : (b : Bool) (mind : MindState) (first second : TakenOf ℕ) → IsMoved mind first → IsMoved mind second → IsMoved mind (cond b first second)
+moved_by : (b : Bool) (mind : MindState) (first second : TakenOf (List ℕ)) → IsMoved mind first → IsMoved mind second → IsMoved mind (cond b first second)
 moved_by true mind first second is other = is
 moved_by false mind first second is other = other
+
+moved_word : (spec : RoomSpec) (line : Line) (mind : MindState) (last : TakenOf (List ℕ)) → IsMoved mind last → IsMoved mind (on_word spec line mind last)
+moved_word spec line mind last is = moved_by (ltb (mind.word + 1) (words_in spec)) mind _ last (record { number = refl; steps = refl; rests = λ ends. absurd (ends refl); stays = λ goes. refl }) is
+
+moved_scanned : (spec : RoomSpec) (same : Bool) (mind : MindState) → IsMoved mind (scanned spec same mind)
+moved_scanned spec same mind = moved_by (eqb (words_in spec) 1) mind _ _ (moved_on Show mind) (moved_by _ mind _ _ (record { number = refl; steps = refl; rests = λ ends. absurd (ends refl); stays = λ goes. refl }) (record { number = refl; steps = refl; rests = λ ends. absurd (ends refl); stays = λ goes. refl }))
 
 moved_all : (spec : RoomSpec) (mind : MindState) → IsMoved mind (gathered_all spec mind)
 moved_all spec mind = moved_by (ltb (length mind.entries) (processes spec)) mind _ _ (moved_on Values mind) (moved_acted spec _ mind)
 
 moved_gathered : (row : ℕ → ℕ) (spec : RoomSpec) (entries : List (Option ℕ)) (mind : MindState) → IsMoved mind (gathered row spec entries mind)
-moved_gathered row spec entries mind = let is = moved_all spec _ in record { number = is.number; steps = is.steps; rests = is.rests }
+moved_gathered row spec entries mind = let is = moved_all spec _ in record { number = is.number; steps = is.steps; rests = is.rests; stays = is.stays }
 
 moved_opened_at : (goal : Goal) (chosen : Option ℕ) (mind : MindState) → IsMoved mind (opened_at goal chosen mind)
 moved_opened_at (goals.Write round value) chosen mind = moved_on Raise mind
@@ -80,29 +110,37 @@ moved_opened_at goals.Spent chosen mind = moved_on Rest mind
 
 moved_opened : (next chosen : Option ℕ) (mind : MindState) → IsMoved mind (opened next chosen mind)
 moved_opened None chosen mind = moved_on Rest mind
-moved_opened (Some process) chosen mind = let is = moved_opened_at (goal_at mind.goals process) chosen _ in record { number = is.number; steps = is.steps; rests = is.rests }
+moved_opened (Some process) chosen mind = let is = moved_opened_at (goal_at mind.goals process) chosen _ in record { number = is.number; steps = is.steps; rests = is.rests; stays = is.stays }
 
 moved_taken : (line : Line) (spec : RoomSpec) (mind : MindState) (answer : ℕ) → IsMoved mind (taken_at line spec mind answer)
 moved_taken Rest spec mind answer = moved_opened (next_process mind.goals mind.sweep) (chosen_in spec answer) mind
 moved_taken Raise spec mind answer = moved_on Snap mind
-moved_taken Snap spec mind answer = let is = moved_on Show (record mind { snapshot = answer }) in record { number = is.number; steps = is.steps; rests = is.rests }
-moved_taken Show spec mind answer = moved_on Enter mind
+moved_taken Snap spec mind answer =
+    let is = moved_word spec Snap (loaded answer mind) _ (let scan = moved_scanned spec (is_again (loaded answer mind)) (record (loaded answer mind) { word = 0 }) in record { number = scan.number; steps = scan.steps; rests = scan.rests; stays = scan.stays }) in
+    record { number = is.number; steps = is.steps; rests = is.rests; stays = is.stays }
+moved_taken Show spec mind answer = moved_word spec Show mind _ (record { number = refl; steps = refl; rests = λ ends. absurd (ends refl); stays = λ goes. refl })
 moved_taken Enter spec mind answer = moved_on Look mind
 moved_taken Look spec mind answer = moved_on _ mind
 moved_taken (Leave saw_two) spec mind answer = moved_on Ask mind
 moved_taken Ask spec mind answer = moved_asked (chosen_in spec answer) mind
-moved_taken (GetView chosen) spec mind answer = let is = moved_gathered (entry_in spec answer) spec [] (record mind { snapshot = answer }) in record { number = is.number; steps = is.steps; rests = is.rests }
+moved_taken (GetView chosen) spec mind answer =
+    let got = loaded answer mind in
+    let is = moved_word spec (GetView chosen) got _ (let gathering = moved_gathered (entry_in spec got.snapshot) spec [] (record got { word = 0 }) in record { number = gathering.number; steps = gathering.steps; rests = gathering.rests; stays = gathering.stays }) in
+    record { number = is.number; steps = is.steps; rests = is.rests; stays = is.stays }
 moved_taken Values spec mind answer = moved_gathered (entry_in spec mind.snapshot) spec _ mind
-moved_taken (Out decision) spec mind answer = record { number = refl; steps = refl; rests = λ ends. refl }
+moved_taken (Out decision) spec mind answer = record { number = refl; steps = refl; rests = λ ends. refl; stays = λ goes. absurd cc }
 
 pub stepped : (spec : RoomSpec) (mind : MindState) (answer : ℕ) → IsStepped mind (taken spec mind answer)
-stepped spec mind answer = let is = moved_taken mind.line spec (counted mind) answer in record { number = is.number; steps = is.steps; rests = is.rests }
+stepped spec mind answer = let is = moved_taken mind.line spec (counted mind) answer in record { number = is.number; steps = is.steps; rests = is.rests; stays = is.stays }
 
 pub keeps_number : (spec : RoomSpec) (mind : MindState) (answer : ℕ) → (taken spec mind answer).mind.number ≡ mind.number
 keeps_number spec mind answer = let is = stepped spec mind answer in is.number
 
 pub steps_by_one : (spec : RoomSpec) (mind : MindState) (answer : ℕ) → (taken spec mind answer).mind.steps ≡ mind.steps + 1
 steps_by_one spec mind answer = let is = stepped spec mind answer in is.steps
+
+pub stays_in_turn : (spec : RoomSpec) (mind : MindState) (answer : ℕ) → is_resting (taken spec mind answer).mind.line ≡ false → (taken spec mind answer).mind.turn_steps ≡ mind.turn_steps + 1
+stays_in_turn spec mind answer = let is = stepped spec mind answer in is.stays
 
 pub rests : (spec : RoomSpec) (mind : MindState) (answer : ℕ) → (taken spec mind answer).turn ≢ Still → (taken spec mind answer).mind.turn_steps ≡ 0
 rests spec mind answer = let is = stepped spec mind answer in is.rests

@@ -7,7 +7,7 @@ use Rattle.simulator.specs.declared.line.Line.TheVariants as lines
 use Rattle.simulator.specs.declared.operation.Move.TheVariants.{Load, Store, Add, Sub, Finished}
 use Rattle.simulator.specs.declared.sweep.Ready.TheVariants.{Step, Idle, OutOfTurns}
 use Rattle.simulator.specs.declared.turn.Turn.TheVariants.{Still, Useful, Quiet}
-use Rattle.simulator.specs.Minds.{MindState, next_process, unfinished_in}
+use Rattle.simulator.specs.Minds.{no_words, MindState, next_process, unfinished_in}
 use Rattle.simulator.specs.Turns.{padded, after_write, ended, asked}
 use Rattle.simulator.specs.Moves.{words_after, answer_of}
 use Rattle.simulator.specs.Quiet.{IsQuietCount, unfinished_from}
@@ -56,7 +56,7 @@ loaded = (refl, refl)
 
 -- the mind of simulator 2, which asks for process 2, and the same between two turns
 abbrev asking : MindState
-asking = record { number = 2; goals = goals; sweep = 2; turns = 3; steps = 20; turn_steps = 6; line = lines.Ask; snapshot = 0; entries = [] }
+asking = record { number = 2; goals = goals; sweep = 2; turns = 3; steps = 20; turn_steps = 6; line = lines.Ask; word = 0; collects = 0; before = no_words; snapshot = no_words; entries = [] }
 
 abbrev resting : MindState
 resting = record asking { line = lines.Rest }

@@ -13,6 +13,7 @@ use Rattle.simulator.specs.declared.sweep.Ready.{Ready}
 use Rattle.simulator.specs.Minds.{MindState, opening_mind, unfinished_in}
 use Rattle.simulator.specs.Moves.{move_of, taken, entry_in, holder_in}
 use Rattle.simulator.specs.Sweeps.{SweepState, opening_sweep, quiet_after, ready_of}
+use Rattle.room_spec.specs.Sizes.{memory_words}
 use Rattle.view_table.specs.Places.{index_of}
 
 -- a room of one round, with the protocol `first input; else ..;`
@@ -59,19 +60,21 @@ one_answers = 0 ∷ 0 ∷ 1 ∷ 0 ∷ 0 ∷ 1 ∷ 0 ∷ 2 ∷ 1 ∷ 5 ∷ 0 ∷ 
 
 smallest_room : moves one 0 one_answers
     ≡ Store 3 5 ∷ Add 0 1 ∷ Load 0 ∷ Store 2 1 ∷ Add 1 1 ∷ Load 1 ∷ Add 1 1 ∷ Load 1 ∷ Load 2 ∷ Load 3 ∷ Store 4 6 ∷ Finished ∷ []
-unfolding index_of
+unfolding index_of memory_words
 smallest_room = refl
 
 smallest_counts : (counts (mind_after one 0 []) ≡ 0 ∷ 0 ∷ 0 ∷ 1 ∷ []) × (counts (mind_after one 0 (take 10 one_answers)) ≡ 10 ∷ 1 ∷ 10 ∷ 1 ∷ []) × (counts (mind_after one 0 one_answers) ≡ 11 ∷ 1 ∷ 0 ∷ 0 ∷ [])
+unfolding memory_words
 smallest_counts = (refl, refl, refl)
 
 -- a process that asks for a write more than it has rounds is spent
 is_spent : moves (room_of (5 ∷ []) 1 10 Write (Number 6)) 0 (take 10 one_answers)
     ≡ Store 3 5 ∷ Add 0 1 ∷ Load 0 ∷ Store 2 1 ∷ Add 1 1 ∷ Load 1 ∷ Add 1 1 ∷ Load 1 ∷ Load 2 ∷ Load 3 ∷ Finished ∷ []
-unfolding index_of
+unfolding index_of memory_words
 is_spent = refl
 
 spent_counts : counts (mind_after (room_of (5 ∷ []) 1 10 Write (Number 6)) 0 (take 10 one_answers)) ≡ 10 ∷ 1 ∷ 0 ∷ 0 ∷ []
+unfolding memory_words
 spent_counts = refl
 
 -- the last three moves, where the view and then the value are loaded so
@@ -79,26 +82,27 @@ abbrev ending : Expression → List ℕ → List Move
 ending value answers = drop 8 (moves (room_of (5 ∷ []) 1 10 Decide value) 0 (take 8 one_answers ++ answers))
 
 decides : (ending (Number 4294967295) (1 ∷ 5 ∷ 0 ∷ []) ≡ Load 2 ∷ Load 3 ∷ Store 4 4294967296 ∷ Finished ∷ []) × (ending (Number 0) (1 ∷ 0 ∷ 0 ∷ []) ≡ Load 2 ∷ Load 3 ∷ Store 4 1 ∷ Finished ∷ [])
-unfolding index_of
+unfolding index_of memory_words
 decides = (refl, refl)
 
 -- numbers above the greatest value, and bits that no row has, are read as well
 reads_any_number : (ending (Named Mine) (1 ∷ 4294967295 ∷ 0 ∷ []) ≡ Load 2 ∷ Load 3 ∷ Store 4 4294967296 ∷ Finished ∷ []) × (ending (Named Mine) (1 ∷ 18446744073709551615 ∷ 0 ∷ []) ≡ Load 2 ∷ Load 3 ∷ Store 4 4294967296 ∷ Finished ∷ []) × (ending (Named Mine) (18446744073709551615 ∷ 6 ∷ 0 ∷ []) ≡ Load 2 ∷ Load 3 ∷ Store 4 7 ∷ Finished ∷ [])
-unfolding index_of
+unfolding index_of memory_words
 reads_any_number = (refl, refl, refl)
 
 sees_nothing_in_a_view_of_0 : ending (Named Count) (0 ∷ 0 ∷ []) ≡ Load 2 ∷ Store 4 1 ∷ Finished ∷ []
-unfolding index_of
+unfolding index_of memory_words
 sees_nothing_in_a_view_of_0 = refl
 
 -- ---- two processes and two simulators
 
 -- whoever comes second proposes both writes
 views_in_either_order : (moves pair 0 (0 ∷ 0 ∷ 1 ∷ []) ≡ Store 7 7 ∷ Add 0 1 ∷ Load 0 ∷ Store 3 1 ∷ []) × (moves pair 1 (0 ∷ 0 ∷ 9 ∷ []) ≡ Store 10 3 ∷ Add 0 8 ∷ Load 0 ∷ Store 6 9 ∷ []) × (moves pair 0 (0 ∷ 0 ∷ 9 ∷ []) ≡ Store 7 7 ∷ Add 0 1 ∷ Load 0 ∷ Store 3 9 ∷ []) × (moves pair 1 (0 ∷ 0 ∷ 8 ∷ []) ≡ Store 10 3 ∷ Add 0 8 ∷ Load 0 ∷ Store 6 8 ∷ [])
-unfolding index_of
+unfolding index_of memory_words
 views_in_either_order = (refl, refl, refl, refl)
 
 view_counts : counts (mind_after pair 1 (0 ∷ 0 ∷ 9 ∷ [])) ≡ 3 ∷ 1 ∷ 3 ∷ 2 ∷ []
+unfolding memory_words
 view_counts = refl
 
 abbrev beside_a_two : List ℕ
@@ -107,14 +111,16 @@ beside_a_two = 0 ∷ 0 ∷ 12 ∷ 0 ∷ 0 ∷ 6 ∷ 0 ∷ 2 ∷ 13 ∷ 7 ∷ 3 �
 -- simulator 0's proposal stands already, so simulator 1 takes back its level
 withdraws_beside_a_two : moves pair 1 beside_a_two
     ≡ Store 10 3 ∷ Add 0 8 ∷ Load 0 ∷ Store 6 12 ∷ Add 2 4 ∷ Load 2 ∷ Sub 2 4 ∷ Load 2 ∷ Load 4 ∷ Load 7 ∷ Load 10 ∷ Store 14 4 ∷ Store 9 7 ∷ Add 0 4 ∷ []
-unfolding index_of
+unfolding index_of memory_words
 withdraws_beside_a_two = refl
 
 counts_beside_a_two : counts (mind_after pair 1 beside_a_two) ≡ 13 ∷ 2 ∷ 1 ∷ 1 ∷ []
+unfolding memory_words
 counts_beside_a_two = refl
 
 -- who has stored the last write of a process that a word shows, and which write that is
-last_writes : (holder_in pair 9 0 ≡ 0) × (entry_in pair 9 0 ≡ 1) × (holder_in pair 9 1 ≡ 1) × (entry_in pair 9 1 ≡ 1) × (holder_in pair 6 0 ≡ 1) × (entry_in pair 6 0 ≡ 1) × (holder_in pair 6 1 ≡ 0) × (entry_in pair 6 1 ≡ 1) × (entry_in pair 8 0 ≡ 0)
+last_writes : (holder_in pair (9 ∷ []) 0 ≡ 0) × (entry_in pair (9 ∷ []) 0 ≡ 1) × (holder_in pair (9 ∷ []) 1 ≡ 1) × (entry_in pair (9 ∷ []) 1 ≡ 1) × (holder_in pair (6 ∷ []) 0 ≡ 1) × (entry_in pair (6 ∷ []) 0 ≡ 1) × (holder_in pair (6 ∷ []) 1 ≡ 0) × (entry_in pair (6 ∷ []) 1 ≡ 1) × (entry_in pair (8 ∷ []) 0 ≡ 0)
+unfolding memory_words
 last_writes = (refl, refl, refl, refl, refl, refl, refl, refl, refl)
 
 -- ---- three processes, one simulator, seven turns
@@ -134,10 +140,11 @@ goes_round : moves three 0 round_answers
     ∷ Load 3
     ∷ Load 1
     ∷ OutOfTurns ∷ []
-unfolding index_of
+unfolding index_of memory_words
 goes_round = refl
 
 round_counts : (counts (mind_after three 0 (take 8 round_answers)) ≡ 8 ∷ 1 ∷ 0 ∷ 3 ∷ []) × (counts (mind_after three 0 (take 26 round_answers)) ≡ 26 ∷ 5 ∷ 1 ∷ 3 ∷ []) × (counts (mind_after three 0 round_answers) ≡ 33 ∷ 7 ∷ 0 ∷ 2 ∷ [])
+unfolding memory_words
 round_counts = (refl, refl, refl)
 
 -- ---- sweeps
@@ -161,14 +168,49 @@ two_turns = room_of (5 ∷ []) 1 2 Decide (Named Mine)
 
 -- It is in its turn until it asks, in vain the first time: then it is idle, and with the count anew it asks once more.
 ready_in_order : (ready_as two_turns (sweep_after two_turns (take 1 one_answers)) ≡ Step) × (ready_as two_turns (sweep_after two_turns (take 7 one_answers)) ≡ Step) × (ready_as two_turns (sweep_after two_turns (take 7 one_answers ++ 1 ∷ [])) ≡ Idle) × (ready_as two_turns (woken (sweep_after two_turns (take 7 one_answers ++ 1 ∷ []))) ≡ Step)
+unfolding memory_words
 ready_in_order = (refl, refl, refl, refl)
 
 -- idle comes before out of turns
 without_turns : (ready_as two_turns (quiet_from two_turns (woken (sweep_after two_turns (take 7 one_answers ++ 1 ∷ []))) (1 ∷ [])) ≡ Idle) × (ready_as two_turns (woken (sweep_after two_turns (take 7 one_answers ++ 1 ∷ 1 ∷ []))) ≡ WithoutTurns)
+unfolding memory_words
 without_turns = (refl, refl)
 
 abbrev one_turn : RoomSpec
 one_turn = room_of (5 ∷ []) 1 1 Decide (Named Mine)
 
 idle_with_nothing_left : (ready_as one_turn (sweep_after one_turn one_answers) ≡ Idle) × (ready_as one_turn (woken (sweep_after one_turn one_answers)) ≡ Idle)
+unfolding memory_words
 idle_with_nothing_left = (refl, refl)
+
+-- ---- nine processes, two simulators and fifteen rounds: two memory words
+
+abbrev big : RoomSpec
+big = record {
+  name = codes "big";
+  inputs = 1 ∷ 2 ∷ 3 ∷ 4 ∷ 5 ∷ 6 ∷ 7 ∷ 8 ∷ 9 ∷ [];
+  simulators = 2;
+  rounds = 15;
+  turns = 100;
+  fuses = [];
+  protocol = record { first = Named Input; rules = []; last = record { kind = Decide; value = Named Min } };
+}
+
+-- simulator 1 raises process 1 between the first two collects of simulator 0, which so makes three
+abbrev scan_answers : List ℕ
+scan_answers = 0 ∷ 0 ∷ 1 ∷ 0 ∷ 1099511627777 ∷ 0 ∷ 1099511627777 ∷ 0 ∷ []
+
+three_collects : moves big 0 scan_answers ≡ Store 677 1 ∷ Add 0 1 ∷ Load 0 ∷ Load 1 ∷ Load 0 ∷ Load 1 ∷ Load 0 ∷ Load 1 ∷ Store 137 1099511627777 ∷ []
+unfolding index_of memory_words
+three_collects = refl
+
+count_of_collects : ((mind_after big 0 (take 4 scan_answers)).collects ≡ 1) × ((mind_after big 0 (take 6 scan_answers)).collects ≡ 2) × ((mind_after big 0 (take 7 scan_answers)).collects ≡ 2) × ((mind_after big 0 scan_answers).collects ≡ 3)
+unfolding memory_words
+count_of_collects = (refl, refl, refl, refl)
+
+-- both words of the proposal are stored before it enters; its last two moves of a whole turn are those of the decision and the next write
+whole_turn : (drop 8 (moves big 0 (scan_answers ++ 0 ∷ 0 ∷ 0 ∷ 1 ∷ 0 ∷ 2 ∷ 1099511627777 ∷ 0 ∷ 1 ∷ 2 ∷ 0 ∷ []))
+    ≡ Store 137 1099511627777 ∷ Store 138 0 ∷ Add 2 1 ∷ Load 2 ∷ Add 2 1 ∷ Load 2 ∷ Load 137 ∷ Load 138 ∷ Load 677 ∷ Load 827 ∷ Store 947 2 ∷ Store 692 2 ∷ [])
+    × ((mind_after big 0 (scan_answers ++ 0 ∷ 0 ∷ 0 ∷ 1 ∷ 0 ∷ 2 ∷ 1099511627777 ∷ 0 ∷ 1 ∷ 2 ∷ [])).collects ≡ 3) × ((mind_after big 0 (scan_answers ++ 0 ∷ 0 ∷ 0 ∷ 1 ∷ 0 ∷ 2 ∷ 1099511627777 ∷ 0 ∷ 1 ∷ 2 ∷ 0 ∷ [])).collects ≡ 0)
+unfolding index_of memory_words
+whole_turn = (refl, refl, refl)

@@ -1,7 +1,9 @@
 pub mod Minds
 pub mod Turns
 pub mod Moves
+pub mod Firsts
 pub mod Ranges
 pub mod Sweeps
 pub mod Quiet
 pub mod Bounds
+pub mod Notes

@@ -1,6 +1,6 @@
 -- What a simulator has in mind. It is the same whatever a snapshot of the simulated memory is taken to be, a word of its
 -- fields or a map of step numbers: S is the type of such a snapshot.
-use Rattle.std.specs.Prelude.{ℕ, ◌+◌, ◌%◌, Bool, true, false, List, [], length, map, Option, Some, None, slice_index, slice_index_or, take, drop, position}
+use Rattle.std.specs.Prelude.{ℕ, ◌+◌, ◌%◌, Bool, true, false, List, [], length, map, Option, Some, None, slice_index, replicate, slice_index_or, take, drop, position}
 use Rattle.std.specs.List.{range_with_len, filter}
 use Rattle.std.specs.Option.{option_map}
 use Rattle.protocol_lang.specs.Meaning.{first_value}
@@ -12,8 +12,10 @@ use Rattle.simulator.specs.declared.line.Line.TheVariants.{Rest}
 
 -- number: which simulator it is. goals: what is left to do for each process. sweep: the process at which its sweep stands,
 -- on which its open turn works. turns: how many turns it has begun. steps, turn_steps: how many atomic steps it has taken
--- in all, and in its open turn. line: its next step in that turn. snapshot: what it loaded of the simulated memory last.
--- entries: the values that it has gathered for the snapshot of its process.
+-- in all, and in its open turn. line: its next step in that turn. word: on which of the memory's words that step works; 0
+-- where it works on none. collects: how many whole collects the scan of its open turn has made, where the memory has more
+-- than one word. before: the last of them. snapshot: the collect that is being made, and then what it loaded of the simulated
+-- memory last. entries: the values that it has gathered for the snapshot of its process.
 pub record MindOf (S : Type 0) : Type 0 where
   pub number : ℕ
   pub goals : List Goal
@@ -22,6 +24,9 @@ pub record MindOf (S : Type 0) : Type 0 where
   pub steps : ℕ
   pub turn_steps : ℕ
   pub line : Line
+  pub word : ℕ
+  pub collects : ℕ
+  pub before : S
   pub snapshot : S
   pub entries : List (Option ℕ)
 
@@ -81,14 +86,20 @@ opening_mind_of blank spec i = record {
   steps = 0;
   turn_steps = 0;
   line = Rest;
+  word = 0;
+  collects = 0;
+  before = blank;
   snapshot = blank;
   entries = [];
 }
 
--- ---- minds whose snapshot is a memory word
+-- ---- minds whose snapshot is a list of memory words, as many as any room has
 
 abbrev pub MindState : Type 0
-MindState = MindOf ℕ
+MindState = MindOf (List ℕ)
+
+abbrev pub no_words : List ℕ
+no_words = replicate 4 0
 
 abbrev pub opening_mind : RoomSpec → ℕ → MindState
-opening_mind spec i = opening_mind_of 0 spec i
+opening_mind spec i = opening_mind_of no_words spec i

@@ -1,5 +1,5 @@
 -- The operation on one word that a mind wants next, and the mind that its answer makes.
-use Rattle.std.specs.Prelude.{ℕ, ◌+◌, ◌*◌, ◌-◌, ◌%◌, ◌^◌, ◌<◌, Bool, true, false, List, length, Option, Some, None, slice_index, slice_set, nat_lt, if◌then◌else◌, ⊤}
+use Rattle.std.specs.Prelude.{ℕ, ◌+◌, ◌*◌, ◌-◌, ◌%◌, ◌^◌, ◌<◌, Bool, true, false, List, length, Option, Some, None, slice_index, slice_set, nat_lt, ◌==◌, ◌&&◌, if◌then◌else◌, ⊤}
 use Rattle.room_spec.specs.Rooms.{RoomSpec}
 use Rattle.room_spec.specs.Sizes.{sizes_in}
 use Rattle.level_cells.specs.Fields.{levels_of}
@@ -7,7 +7,7 @@ use Rattle.view_table.specs.Places.{index_of}
 use Rattle.view_table.specs.declared.place.Place.{Place}
 use Rattle.view_table.specs.declared.place.Place.TheVariants as places
 use Rattle.safe_agreement.specs.Levels.{has_level, resolved_of}
-use Rattle.sim_memory.specs.Steps.{merged_of, holder_of, place_of, step_in}
+use Rattle.sim_memory.specs.Steps.{merged_of, holder_of, place_of, step_in, word_of}
 use Rattle.simulator.specs.declared.goal.Goal.{Goal}
 use Rattle.simulator.specs.declared.goal.Goal.TheVariants as goals
 use Rattle.simulator.specs.declared.line.Line.{Line}
@@ -15,7 +15,7 @@ use Rattle.simulator.specs.declared.line.Line.TheVariants.{Rest, Raise, Snap, Sh
 use Rattle.simulator.specs.declared.operation.Move.{Move}
 use Rattle.simulator.specs.declared.operation.Move.TheVariants.{Load, Store, Add, Sub, Finished, OutOfTurns}
 use Rattle.simulator.specs.Minds.{MindState, goal_at, current_round, next_process}
-use Rattle.simulator.specs.Turns.{TakenOf, counted, goes_on, snapped, asked, got_view, got_value, decided, opened}
+use Rattle.simulator.specs.Turns.{TakenOf, counted, goes_on, snapped, showed, asked, got_view, got_value, decided, opened}
 
 -- ---- words
 
@@ -28,24 +28,31 @@ abbrev pub levels_index : RoomSpec → MindState → ℕ
 levels_index spec mind = index_in spec (places.Levels mind.sweep (current_round mind))
 
 abbrev pub view_index : RoomSpec → ℕ → MindState → ℕ
-view_index spec simulator mind = index_in spec (places.View simulator mind.sweep (current_round mind))
+view_index spec simulator mind = index_in spec (places.View simulator mind.sweep (current_round mind) mind.word)
 
--- one at the lowest bit of its own level, and of its own step number of the process
+abbrev pub memory_index : RoomSpec → ℕ → ℕ
+memory_index spec w = index_in spec (places.Memory w)
+
+-- the word of its own step number of the process
+abbrev pub step_index : RoomSpec → MindState → ℕ
+step_index spec mind = memory_index spec (word_of (sizes_in spec) mind.number mind.sweep)
+
+-- one at the lowest bit of its own level, and of that step number
 abbrev pub level_unit : MindState → ℕ
 level_unit mind = 2 ^ (2 * mind.number)
 
 abbrev pub step_unit : RoomSpec → MindState → ℕ
 step_unit spec mind = 2 ^ place_of (sizes_in spec) mind.number mind.sweep
 
--- ---- what a memory word shows
+-- ---- what memory words show
 
 -- how many writes of a process
-abbrev pub entry_in : RoomSpec → ℕ → ℕ → ℕ
-entry_in spec word process = merged_of spec.simulators (step_in (sizes_in spec) word) process
+abbrev pub entry_in : RoomSpec → List ℕ → ℕ → ℕ
+entry_in spec words process = merged_of spec.simulators (step_in (sizes_in spec) words) process
 
 -- the simulator that has stored the last of them
-abbrev pub holder_in : RoomSpec → ℕ → ℕ → ℕ
-holder_in spec word process = holder_of spec.simulators (step_in (sizes_in spec) word) process
+abbrev pub holder_in : RoomSpec → List ℕ → ℕ → ℕ
+holder_in spec words process = holder_of spec.simulators (step_in (sizes_in spec) words) process
 
 -- ---- moves
 
@@ -71,9 +78,9 @@ first_move (Some process) spec mind =
 
 abbrev pub move_at : Line → RoomSpec → MindState → Move
 move_at Rest spec mind = first_move (next_process mind.goals mind.sweep) spec mind
-move_at Raise spec mind = Add (index_in spec places.Steps) (step_unit spec mind)
-move_at Snap spec mind = Load (index_in spec places.Steps)
-move_at Show spec mind = Store (view_index spec mind.number mind) mind.snapshot
+move_at Raise spec mind = Add (step_index spec mind) (step_unit spec mind)
+move_at Snap spec mind = Load (memory_index spec mind.word)
+move_at Show spec mind = Store (view_index spec mind.number mind) (slice_index mind.snapshot mind.word)
 move_at Enter spec mind = Add (levels_index spec mind) (level_unit mind)
 move_at Look spec mind = Load (levels_index spec mind)
 move_at (Leave saw_two) spec mind = leave_by saw_two (levels_index spec mind) (level_unit mind)
@@ -109,21 +116,34 @@ IsWithin OutOfTurns count = ⊤
 abbrev pub chosen_in : RoomSpec → ℕ → Option ℕ
 chosen_in spec word = resolved_of (levels_of word spec.simulators)
 
-abbrev pub taken_at : Line → RoomSpec → MindState → ℕ → TakenOf ℕ
+-- a word of memory was loaded
+abbrev pub loaded : ℕ → MindState → MindState
+loaded answer mind = record mind { snapshot = slice_set mind.snapshot mind.word answer }
+
+-- whether two lists of memory words are the same
+abbrev pub same_words : List ℕ → List ℕ → Bool
+same_words words others =
+    (slice_index words 0 == slice_index others 0) && (slice_index words 1 == slice_index others 1) && (slice_index words 2 == slice_index others 2) && (slice_index words 3 == slice_index others 3)
+
+-- whether the collect of a mind is the one before
+abbrev pub is_again : MindState → Bool
+is_again mind = same_words mind.snapshot mind.before
+
+abbrev pub taken_at : Line → RoomSpec → MindState → ℕ → TakenOf (List ℕ)
 taken_at Rest spec mind answer = opened (next_process mind.goals mind.sweep) (chosen_in spec answer) mind
 taken_at Raise spec mind answer = goes_on Snap mind
-taken_at Snap spec mind answer = snapped answer mind
-taken_at Show spec mind answer = goes_on Enter mind
+taken_at Snap spec mind answer = snapped spec (is_again (loaded answer mind)) (loaded answer mind)
+taken_at Show spec mind answer = showed spec mind
 taken_at Enter spec mind answer = goes_on Look mind
 taken_at Look spec mind answer = goes_on (Leave (has_level 2 (levels_of answer spec.simulators))) mind
 taken_at (Leave saw_two) spec mind answer = goes_on Ask mind
 taken_at Ask spec mind answer = asked (chosen_in spec answer) mind
-taken_at (GetView chosen) spec mind answer = got_view (entry_in spec answer) spec answer mind
+taken_at (GetView chosen) spec mind answer = got_view (entry_in spec (loaded answer mind).snapshot) spec chosen (loaded answer mind)
 taken_at Values spec mind answer = got_value (entry_in spec mind.snapshot) spec answer mind
 taken_at (Out decision) spec mind answer = decided mind
 
 -- the mind after its move was answered, and what has become of its turn
-abbrev pub taken : RoomSpec → MindState → ℕ → TakenOf ℕ
+abbrev pub taken : RoomSpec → MindState → ℕ → TakenOf (List ℕ)
 taken spec mind answer = taken_at mind.line spec (counted mind) answer
 
 -- ---- moves on a list of words, in which a sum and a difference wrap at 2 ^ 64

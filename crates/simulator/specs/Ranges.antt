@@ -1,5 +1,5 @@
 -- The ranges of a mind's numbers.
-use Rattle.std.specs.Prelude.{◌≡◌, ℕ, ◌+◌, ◌*◌, ◌<◌, ◌≤◌, true, length, ⊤}
+use Rattle.std.specs.Prelude.{◌≡◌, ℕ, ◌+◌, ◌*◌, ◌<◌, ◌≤◌, true, length, ◌==◌, if◌then◌else◌, ⊤}
 use Rattle.room_spec.specs.Rooms.{RoomSpec, IsWithinLimits, processes}
 use Rattle.simulator.specs.declared.goal.Goal.{Goal}
 use Rattle.simulator.specs.declared.goal.Goal.TheVariants as goals
@@ -7,6 +7,9 @@ use Rattle.simulator.specs.declared.line.Line.{Line}
 use Rattle.simulator.specs.declared.line.Line.TheVariants.{Rest, Raise, Snap, Show, Enter, Look, Leave, Ask, GetView, Values, Out}
 use Rattle.simulator.specs.Minds.{MindState, goal_at, current_goal, is_unfinished}
 use Rattle.simulator.specs.Moves.{entry_in}
+use Rattle.simulator.specs.Turns.{most_collects, words_in}
+use Rattle.simulator.specs.Firsts.{AreVisitedLast}
+use Rattle.simulator.specs.Quiet.{unfinished_from}
 
 -- a goal's round is a round of the room
 abbrev pub IsGoal : ℕ → Goal → Type 0
@@ -15,24 +18,55 @@ IsGoal rounds (goals.Ask round) = (1 ≤ round) × (round ≤ rounds)
 IsGoal rounds goals.Done = ⊤
 IsGoal rounds goals.Spent = ⊤
 
--- the most atomic steps that an open turn may have taken at a line, with so many entries gathered
-abbrev pub most_steps : Line → ℕ → ℕ
-most_steps Rest entries = 0
-most_steps Raise entries = 1
-most_steps Snap entries = 2
-most_steps Show entries = 3
-most_steps Enter entries = 4
-most_steps Look entries = 5
-most_steps (Leave saw_two) entries = 6
-most_steps Ask entries = 7
-most_steps (GetView chosen) entries = 8
-most_steps Values entries = 9 + entries
-most_steps (Out decision) entries = 9 + entries
+-- the most atomic steps of a scan: one load, or so many collects
+abbrev pub scan_steps : RoomSpec → ℕ
+scan_steps spec = if words_in spec == 1 then 1 else words_in spec * most_collects spec
 
--- the steps that the open turn may still take count with those taken: each turn has at most 26
+-- No turn takes more atomic steps: seven of its own, two for each memory word (its proposal, and the one that was chosen), its
+-- scan, and one for each process.
+unfoldable pub turn_limit : RoomSpec → ℕ
+turn_limit spec = processes spec + 7 + 2 * words_in spec + scan_steps spec
+
+-- the most that any turn takes, in whatever room
+abbrev pub greatest_limit : ℕ
+greatest_limit = 4096
+
+-- the steps of a scan in the midst of it
+abbrev pub scanning : RoomSpec → ℕ → ℕ → ℕ
+scanning spec word collects = 2 + (words_in spec * collects + word)
+
+-- the most atomic steps that an open turn may have taken at a line, with so many words done at it, collects made and entries gathered
+abbrev pub most_steps : RoomSpec → Line → ℕ → ℕ → ℕ → ℕ
+most_steps spec Rest word collects entries = 0
+most_steps spec Raise word collects entries = 1
+most_steps spec Snap word collects entries = scanning spec word collects
+most_steps spec Show word collects entries = 2 + scan_steps spec + word
+most_steps spec Enter word collects entries = 2 + scan_steps spec + words_in spec
+most_steps spec Look word collects entries = 3 + scan_steps spec + words_in spec
+most_steps spec (Leave saw_two) word collects entries = 4 + scan_steps spec + words_in spec
+most_steps spec Ask word collects entries = 5 + scan_steps spec + words_in spec
+most_steps spec (GetView chosen) word collects entries = 6 + scan_steps spec + words_in spec + word
+most_steps spec Values word collects entries = 6 + scan_steps spec + 2 * words_in spec + entries
+most_steps spec (Out decision) word collects entries = 6 + scan_steps spec + 2 * words_in spec + entries
+
+-- the steps that the open turn may still take count with those taken
 abbrev pub charged_steps : Line → ℕ → ℕ
 charged_steps Rest steps = steps
-charged_steps line steps = steps + 26
+charged_steps line steps = steps + greatest_limit
+
+-- how many words a line works on, one after the other
+abbrev pub words_at : RoomSpec → Line → ℕ
+words_at spec Snap = words_in spec
+words_at spec Show = words_in spec
+words_at spec (GetView chosen) = words_in spec
+words_at spec line = 1
+
+-- how many collects its scan may have made
+abbrev pub IsCollectCount : RoomSpec → Line → ℕ → Type 0
+IsCollectCount spec Rest collects = collects ≡ 0
+IsCollectCount spec Raise collects = collects ≡ 0
+IsCollectCount spec Snap collects = (collects < most_collects spec) × (words_in spec ≡ 1 → collects ≡ 0)
+IsCollectCount spec line collects = collects ≤ most_collects spec
 
 abbrev pub IsOpenAt : Line → RoomSpec → MindState → Type 0
 IsOpenAt Rest spec mind = ⊤
@@ -49,6 +83,12 @@ pub record IsMind (spec : RoomSpec) (mind : MindState) : Type 0 where
   pub sweep : mind.sweep < processes spec
   pub turns : mind.turns ≤ spec.turns
   pub entries : length mind.entries ≤ processes spec
-  pub few : mind.turn_steps ≤ most_steps mind.line (length mind.entries)
-  pub counted : charged_steps mind.line mind.steps ≤ 26 * mind.turns + mind.turn_steps
+  pub snapshot : length mind.snapshot ≡ 4
+  pub before : length mind.before ≡ 4
+  pub word : mind.word < words_at spec mind.line
+  pub collects : IsCollectCount spec mind.line mind.collects
+  pub few : mind.turn_steps ≤ most_steps spec mind.line mind.word mind.collects (length mind.entries)
+  pub counted : charged_steps mind.line mind.steps ≤ greatest_limit * mind.turns + mind.turn_steps
   pub at : IsOpenAt mind.line spec mind
+  -- the processes that its sweep hasn't come to yet are the next ones
+  pub order : AreVisitedLast (unfinished_from mind.goals mind.sweep)

@@ -1,14 +1,15 @@
 -- The lines of a turn: what each makes of a mind. They too are the same whatever a snapshot is; S is its type.
-use Rattle.std.specs.Prelude.{ℕ, zero, suc, ◌+◌, ◌-◌, ◌%◌, List, [], ◌∷◌, ◌++◌, length, Option, Some, None, slice_index, slice_set, min, nat_lt, ◌==◌, if◌then◌else◌}
+use Rattle.std.specs.Prelude.{ℕ, zero, suc, ◌+◌, ◌-◌, ◌*◌, ◌%◌, Bool, ◌&&◌, ◌||◌, List, [], ◌∷◌, ◌++◌, length, Option, Some, None, slice_index, slice_set, min, nat_lt, ◌==◌, if◌then◌else◌}
 use Rattle.protocol_lang.specs.Numbers.{greatest}
 use Rattle.protocol_lang.specs.Meaning.{next_action}
 use Rattle.protocol_lang.specs.declared.meaning.Action.{Action}
 use Rattle.protocol_lang.specs.declared.meaning.Action.TheVariants as actions
 use Rattle.room_spec.specs.Rooms.{RoomSpec, processes}
+use Rattle.room_spec.specs.Sizes.{memory_words, sizes_in}
 use Rattle.simulator.specs.declared.goal.Goal.{Goal}
 use Rattle.simulator.specs.declared.goal.Goal.TheVariants as goals
 use Rattle.simulator.specs.declared.line.Line.{Line}
-use Rattle.simulator.specs.declared.line.Line.TheVariants.{Rest, Raise, Show, GetView, Values, Out}
+use Rattle.simulator.specs.declared.line.Line.TheVariants.{Rest, Raise, Snap, Show, Enter, GetView, Values, Out}
 use Rattle.simulator.specs.declared.turn.Turn.{Turn}
 use Rattle.simulator.specs.declared.turn.Turn.TheVariants.{Still, Useful, Quiet}
 use Rattle.simulator.specs.Minds.{MindOf, goal_at, current_round}
@@ -33,13 +34,39 @@ goes_on line mind = record { mind = record mind { line = line }; turn = Still }
 -- The turn ends, with this goal for its process from now on; the sweep goes on by one process.
 abbrev pub ended : {S : Type 0} → Turn → Goal → MindOf S → TakenOf S
 ended turn goal mind = record {
-  mind = record mind { goals = slice_set mind.goals mind.sweep goal; sweep = (mind.sweep + 1) % length mind.goals; turn_steps = 0; line = Rest };
+  mind = record mind { goals = slice_set mind.goals mind.sweep goal; sweep = (mind.sweep + 1) % length mind.goals; turn_steps = 0; line = Rest; collects = 0 };
   turn = turn;
 }
 
--- The mind has loaded a snapshot of the simulated memory, to propose it.
-abbrev pub snapped : {S : Type 0} → S → MindOf S → TakenOf S
-snapped snapshot mind = goes_on Show (record mind { snapshot = snapshot })
+-- how many words hold the step numbers
+abbrev pub words_in : RoomSpec → ℕ
+words_in spec = memory_words (sizes_in spec)
+
+-- The line has done with one of the memory's words. It goes on with the next one, or is through with this.
+abbrev pub on_word : {S : Type 0} → RoomSpec → Line → MindOf S → TakenOf S → TakenOf S
+on_word spec line mind last = if nat_lt (mind.word + 1) (words_in spec) then goes_on line (record mind { word = mind.word + 1 }) else last
+
+-- a scan makes no more collects: as many as there are writes in the room, and two
+abbrev pub most_collects : RoomSpec → ℕ
+most_collects spec = spec.simulators * processes spec * spec.rounds + 2
+
+-- One more whole collect was made; same: it is the one before. The scan ends with the first that is.
+abbrev pub collected : {S : Type 0} → RoomSpec → Bool → MindOf S → TakenOf S
+collected spec same mind =
+    if (same && nat_lt 1 mind.collects) || (mind.collects == most_collects spec) then goes_on Show mind
+    else goes_on Snap (record mind { before = mind.snapshot })
+
+-- where the memory is one word, one load of it is a snapshot
+abbrev pub scanned : {S : Type 0} → RoomSpec → Bool → MindOf S → TakenOf S
+scanned spec same mind = if words_in spec == 1 then goes_on Show mind else collected spec same (record mind { collects = mind.collects + 1 })
+
+-- The mind has loaded a word of the simulated memory, for the snapshot that it will propose.
+abbrev pub snapped : {S : Type 0} → RoomSpec → Bool → MindOf S → TakenOf S
+snapped spec same mind = on_word spec Snap mind (scanned spec same (record mind { word = 0 }))
+
+-- it has stored a word of its proposal
+abbrev pub showed : {S : Type 0} → RoomSpec → MindOf S → TakenOf S
+showed spec mind = on_word spec Show mind (goes_on Enter (record mind { word = 0 }))
 
 -- It has asked which proposal was chosen. Where none is yet, the turn is quiet.
 abbrev pub asked : {S : Type 0} → Option ℕ → MindOf S → TakenOf S
@@ -69,9 +96,9 @@ abbrev pub gathered : {S : Type 0} → (ℕ → ℕ) → RoomSpec → List (Opti
 gathered row spec entries mind =
     gathered_all spec (record mind { entries = padded row (processes spec - length entries) entries })
 
--- it has loaded the chosen proposal, whose row this is
-abbrev pub got_view : {S : Type 0} → (ℕ → ℕ) → RoomSpec → S → MindOf S → TakenOf S
-got_view row spec snapshot mind = gathered row spec [] (record mind { snapshot = snapshot })
+-- it has loaded a word of the chosen proposal, whose row this is
+abbrev pub got_view : {S : Type 0} → (ℕ → ℕ) → RoomSpec → ℕ → MindOf S → TakenOf S
+got_view row spec chosen mind = on_word spec (GetView chosen) mind (gathered row spec [] (record mind { word = 0 }))
 
 -- it has loaded the value of the next process; a number above the greatest value reads as that
 abbrev pub got_value : {S : Type 0} → (ℕ → ℕ) → RoomSpec → ℕ → MindOf S → TakenOf S

@@ -11,10 +11,12 @@ ghost use Rattle.simulator.specs.declared.operation.Move.TheVariants as moves;
 ghost use Rattle.simulator.specs.declared.sweep.Ready.TheVariants as answers;
 ghost use Rattle.simulator.specs.declared.turn.Turn.TheVariants.{Still};
 ghost use Rattle.simulator.specs.Bounds.{IsReadyThroughout, answered_all};
-ghost use Rattle.simulator.specs.Minds.{MindState, goal_at, opening_mind, unfinished_in};
+ghost use Rattle.simulator.specs.Firsts.{IsVisited};
+ghost use Rattle.simulator.specs.Minds.{MindState, current_goal, goal_at, is_unfinished, opening_mind, unfinished_in};
 ghost use Rattle.simulator.specs.Moves.{IsOperation, IsWithin, move_of, taken};
 ghost use Rattle.simulator.specs.Quiet.{HasNoWrite, IsQuietCount};
-ghost use Rattle.simulator.specs.Ranges.{IsMind};
+ghost use Rattle.simulator.specs.Ranges.{IsMind, turn_limit};
+ghost use Rattle.simulator.specs.Turns.{most_collects, words_in};
 ghost use Rattle.simulator.specs.Sweeps.{SweepState, is_resting, opening_sweep, quiet_after, ready_of};
 
 /// Every simulator of a room begins with a mind.
@@ -27,15 +29,16 @@ pub fn minds_stay()
     ensures { (spec : RoomSpec) (mind : MindState) (answer : ℕ) → IsMind spec mind → IsOperation (move_of spec mind) → IsMind spec (taken spec mind answer).mind }
 {}
 
-/// Each answer makes one atomic step more of the same simulator.
+/// Each answer makes one atomic step more of the same simulator, and of its turn, if that goes on.
 pub fn steps_are_counted()
     ensures steps { (spec : RoomSpec) (mind : MindState) (answer : ℕ) → (taken spec mind answer).mind.steps ≡ mind.steps + 1 }
     ensures number { (spec : RoomSpec) (mind : MindState) (answer : ℕ) → (taken spec mind answer).mind.number ≡ mind.number }
+    ensures in_turn { (spec : RoomSpec) (mind : MindState) (answer : ℕ) → is_resting (taken spec mind answer).mind.line ≡ false → (taken spec mind answer).mind.turn_steps ≡ mind.turn_steps + 1 }
 {}
 
-/// An open turn has taken less than n + 10 atomic steps, and after its last none are counted.
+/// An open turn has taken fewer atomic steps than its limit, and after its last none are counted.
 pub fn turns_are_short()
-    ensures in_turn { (spec : RoomSpec) (mind : MindState) → IsMind spec mind → mind.turn_steps < processes spec + 10 }
+    ensures in_turn { (spec : RoomSpec) (mind : MindState) → IsMind spec mind → mind.turn_steps < turn_limit spec }
     ensures ended { (spec : RoomSpec) (mind : MindState) (answer : ℕ) → (taken spec mind answer).turn ≢ Still → (taken spec mind answer).mind.turn_steps ≡ 0 }
 {}
 
@@ -79,7 +82,23 @@ pub fn turns_are_bounded()
     ensures { (spec : RoomSpec) (sweep : SweepState) (answers : List ℕ) → IsMind spec sweep.mind → IsReadyThroughout spec sweep answers → (answered_all spec sweep answers).mind.turns ≤ sweep.mind.turns + (processes spec * spec.rounds + 1) * processes spec }
 {}
 
-/// Nor does it take more than `(n * rounds + 1) * n * (n + 10)` atomic steps, a turn that is open at first included.
+/// Nor does it take more than `(n * rounds + 1) * n` times the limit of a turn, a turn that is open at first included.
 pub fn steps_are_bounded()
-    ensures { (spec : RoomSpec) (sweep : SweepState) (answers : List ℕ) → IsMind spec sweep.mind → IsReadyThroughout spec sweep answers → (answered_all spec sweep answers).mind.steps ≤ sweep.mind.steps + (processes spec * spec.rounds + 1) * processes spec * (processes spec + 10) }
+    ensures { (spec : RoomSpec) (sweep : SweepState) (answers : List ℕ) → IsMind spec sweep.mind → IsReadyThroughout spec sweep answers → (answered_all spec sweep answers).mind.steps ≤ sweep.mind.steps + (processes spec * spec.rounds + 1) * processes spec * turn_limit spec }
+{}
+
+/// No scan makes more collects than the room has writes, and two; and none is counted where the memory is one word, or
+/// no turn is open.
+pub fn scans_are_bounded()
+    ensures most { (spec : RoomSpec) (mind : MindState) → IsMind spec mind → mind.collects ≤ most_collects spec }
+    ensures rests { (spec : RoomSpec) (mind : MindState) → IsMind spec mind → is_resting mind.line ≡ true → mind.collects ≡ 0 }
+    // The limit of a turn where the memory is one word, and where it is more.
+    ensures one { (spec : RoomSpec) → words_in spec ≡ 1 → turn_limit spec ≡ processes spec + 10 }
+    ensures several { (spec : RoomSpec) → words_in spec ≢ 1 → turn_limit spec ≡ processes spec + 7 + 2 * words_in spec + words_in spec * (spec.simulators * processes spec * spec.rounds + 2) }
+{}
+
+/// A sweep goes round: whoever works on a process of which a turn has ended before has ended a turn
+/// on each.
+pub fn sweeps_go_round()
+    ensures { (spec : RoomSpec) (mind : MindState) (process : ℕ) → IsMind spec mind → is_unfinished (current_goal mind) ≡ true → IsVisited (current_goal mind) → IsVisited (goal_at mind.goals process) }
 {}

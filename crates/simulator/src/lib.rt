@@ -16,7 +16,7 @@ mod mind;
 mod next;
 mod operating;
 mod operation;
-mod shown;
+mod snapshot;
 mod sweep;
 mod taking;
 mod turn;

@@ -9,9 +9,9 @@ pub enum Line {
     Rest,
     /// Add one to its own step number of the process.
     Raise,
-    /// Load the step numbers: a snapshot of the simulated memory.
+    /// Load the step numbers, one memory word after the other: a snapshot of the simulated memory.
     Snap,
-    /// Store that snapshot as its proposal.
+    /// Store that snapshot as its proposal, one word after the other.
     Show,
     /// Enter the agreement: from level 0 to 1.
     Enter,
@@ -21,8 +21,8 @@ pub enum Line {
     Leave { saw_two: bool },
     /// Load the levels of the agreement, to learn whose proposal was chosen.
     Ask,
-    /// Load the proposal of the chosen simulator.
-    GetView { chosen: usize },
+    /// Load the proposal of the chosen simulator, one word after the other.
+    GetView { chosen: u8 },
     /// Load the value of the next process that the chosen proposal shows.
     Values,
     /// Store the decision.

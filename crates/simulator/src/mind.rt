@@ -1,18 +1,18 @@
 //! What a simulator has in mind.
-ghost use Rattle.std.specs.Prelude.{◌≡◌, ◌≢◌, ◌+◌, ◌<◌, ◌≤◌, true, length, nat_lt};
+ghost use Rattle.std.specs.Prelude.{◌≡◌, ◌≢◌, ◌+◌, ◌*◌, ◌<◌, ◌≤◌, true, length, nat_lt};
 ghost use Rattle.room_spec.specs.Rooms.{processes};
 ghost use Rattle.room_spec.specs.Sizes.{sizes_in};
 ghost use Rattle.view_table.specs.Places.{words_of};
 ghost use Rattle.simulator.specs.declared.turn.Turn.TheVariants.{Still};
 ghost use Rattle.simulator.specs.Minds.{opening_mind, unfinished_in};
 ghost use Rattle.simulator.specs.Moves.{IsOperation, IsWithin, answer_of, move_of, taken, words_after};
-ghost use Rattle.simulator.specs.Ranges.{IsMind};
+ghost use Rattle.simulator.specs.Ranges.{IsMind, turn_limit};
 ghost use Rattle.simulator.specs.Sweeps.{is_resting};
 
 use crate::goal::{Goal, first_goals, more_unfinished, unfinished_in};
 use crate::line::Line;
 use crate::operation::Move;
-use crate::shown::Shown;
+use crate::snapshot::Snapshot;
 use crate::turn::Turn;
 use crate::words::{chosen_in, saw_two};
 use arrayvec::ArrayVec;
@@ -25,16 +25,18 @@ use std::marker::Model;
 /// room's spec. No call takes memory.
 #[derive(Drop)]
 pub struct Mind {
-    pub(crate) number: usize,
+    pub(crate) number: u8,
     pub(crate) goals: ArrayVec<Goal, 16>,
-    pub(crate) sweep: usize,
-    pub(crate) turns: u64,
+    pub(crate) sweep: u8,
+    pub(crate) turns: u16,
     pub(crate) steps: u64,
-    pub(crate) turn_steps: u64,
+    pub(crate) turn_steps: u16,
     pub(crate) line: Line,
-    pub(crate) snapshot: u64,
+    pub(crate) word: u8,
+    pub(crate) collects: u16,
+    pub(crate) before: [u64; 4],
+    pub(crate) snapshot: Snapshot,
     pub(crate) entries: View,
-    pub(crate) shown: Shown,
 }
 
 impl Model for Mind {
@@ -42,7 +44,7 @@ impl Model for Mind {
 
     ghost Value = { MindState };
 
-    ghost view = { λ m. record { number = m.number; goals = m.goals.items; sweep = m.sweep; turns = m.turns; steps = m.steps; turn_steps = m.turn_steps; line = m.line; snapshot = m.snapshot; entries = m.entries.items } };
+    ghost view = { λ m. record { number = m.number; goals = m.goals.items; sweep = m.sweep; turns = m.turns; steps = m.steps; turn_steps = m.turn_steps; line = m.line; word = m.word; collects = m.collects; before = m.before; snapshot = m.snapshot; entries = m.entries.items } };
 }
 
 impl Mind {
@@ -55,16 +57,18 @@ impl Mind {
     {
         let shape = spec.shape();
         Mind {
-            number: i,
+            number: i as u8,
             goals: first_goals(spec),
-            sweep: i % shape.n,
+            sweep: (i % shape.n) as u8,
             turns: 0,
             steps: 0,
             turn_steps: 0,
             line: Line::Rest,
-            snapshot: 0,
+            word: 0,
+            collects: 0,
+            before: [0; 4],
+            snapshot: Snapshot::nothing(),
             entries: View::new(),
-            shown: Shown::nothing(),
         }
     }
 
@@ -82,23 +86,26 @@ impl Mind {
     /// Takes in what the atomic step answered, and says what has become of the turn. The answer
     /// counts after a `Load` alone, and any answer will do: a step number above the room's rounds
     /// reads as their number, and a value above 4294967295 as that.
-    #[tactic(auto, using(crate::proofs::Keeping::kept_of, crate::proofs::Stepping::bounded, crate::proofs::Stepping::rests))]
+    #[tactic(auto, using(crate::proofs::Keeping::kept_of, crate::proofs::Stepping::bounded, crate::proofs::Limits::few_collects, crate::proofs::Stepping::rests))]
     pub fn take(&mut self, spec: &Spec, answer: u64) -> Turn
         requires is_mind { IsMind spec.now self.old }
         requires operation { IsOperation (move_of spec.now self.old) }
         ensures mind { self.new ≡ (taken spec.now self.old answer).mind }
         ensures turn { result ≡ (taken spec.now self.old answer).turn }
         ensures is_mind { IsMind spec.now self.new }
-        // A turn takes at most n + 10 atomic steps.
-        ensures bound { self.new.turn_steps < processes spec.now + 10 }
+        // A turn takes fewer atomic steps than its limit: n + 10 where the memory is one word, and for c words n + 7 + 2 * c and c for
+        // each of m * n * rounds + 2 collects.
+        ensures bound { self.new.turn_steps < turn_limit spec.now }
+        // A scan makes no more collects than the room has writes, and two.
+        ensures collects { self.new.collects ≤ spec.now.simulators * processes spec.now * spec.now.rounds + 2 }
         ensures ended { result ≢ Still → self.new.turn_steps ≡ 0 }
     {
         self.count_step();
         match self.line {
             Line::Rest => self.open(spec, answer),
             Line::Raise => self.go_on(Line::Snap),
-            Line::Snap => self.snap(answer),
-            Line::Show => self.go_on(Line::Enter),
+            Line::Snap => self.snap(spec, answer),
+            Line::Show => self.show(spec),
             Line::Enter => self.go_on(Line::Look),
             Line::Look => {
                 let saw_two = saw_two(spec, answer);
@@ -106,7 +113,7 @@ impl Mind {
             }
             Line::Leave { .. } => self.go_on(Line::Ask),
             Line::Ask => self.ask(chosen_in(spec, answer)),
-            Line::GetView { .. } => self.get_view(spec, answer),
+            Line::GetView { chosen } => self.get_view(spec, chosen, answer),
             Line::Values => self.get_value(spec, answer),
             Line::Out { .. } => self.end(Turn::Useful, Goal::Done),
         }
@@ -125,8 +132,11 @@ impl Mind {
         ensures mind { self.new ≡ (taken spec.now self.old (answer_of (move_of spec.now self.old) words.old)).mind }
         ensures turn { result ≡ (taken spec.now self.old (answer_of (move_of spec.now self.old) words.old)).turn }
         ensures is_mind { IsMind spec.now self.new }
-        // A turn takes at most n + 10 atomic steps.
-        ensures bound { self.new.turn_steps < processes spec.now + 10 }
+        // A turn takes fewer atomic steps than its limit: n + 10 where the memory is one word, and for c words n + 7 + 2 * c and c for
+        // each of m * n * rounds + 2 collects.
+        ensures bound { self.new.turn_steps < turn_limit spec.now }
+        // A scan makes no more collects than the room has writes, and two.
+        ensures collects { self.new.collects ≤ spec.now.simulators * processes spec.now * spec.now.rounds + 2 }
         ensures ended { result ≢ Still → self.new.turn_steps ≡ 0 }
     {
         self.step_at(spec, words, self.line)
@@ -150,14 +160,43 @@ impl Mind {
     pub fn turns_taken(&self) -> u64
         ensures { result ≡ self.now.turns }
     {
-        self.turns
+        u64::from(self.turns)
     }
 
-    /// How many atomic steps it has taken in its open turn, below n + 10; 0 between two turns.
+    /// How many whole collects the scan of its open turn has made; 0 where no turn is open, and where
+    /// the room's memory is one word.
+    pub fn collects(&self) -> u32
+        ensures { result ≡ self.now.collects }
+    {
+        u32::from(self.collects)
+    }
+
+    /// How many atomic steps it has taken in its open turn, below its limit; 0 between two turns.
     pub fn turn_steps(&self) -> u64
         ensures { result ≡ self.now.turn_steps }
     {
-        self.turn_steps
+        u64::from(self.turn_steps)
+    }
+
+    /// Which simulator it is.
+    pub(crate) fn number(&self) -> usize
+        ensures { result ≡ self.now.number }
+    {
+        usize::from(self.number)
+    }
+
+    /// The process at which its sweep stands.
+    pub(crate) fn process(&self) -> usize
+        ensures { result ≡ self.now.sweep }
+    {
+        usize::from(self.sweep)
+    }
+
+    /// The memory word on which its line works.
+    pub(crate) fn word(&self) -> usize
+        ensures { result ≡ self.now.word }
+    {
+        usize::from(self.word)
     }
 
     /// For how many processes something is left to do, 0 to 16.
@@ -185,9 +224,11 @@ impl Default for Mind {
             steps: 0,
             turn_steps: 0,
             line: Line::Rest,
-            snapshot: 0,
+            word: 0,
+            collects: 0,
+            before: [0; 4],
+            snapshot: Snapshot::nothing(),
             entries: View::new(),
-            shown: Shown::nothing(),
         }
     }
 }

@@ -1,13 +1,14 @@
 //! The lines of a turn: the operation of each.
-ghost use Rattle.std.specs.Prelude.{◌≡◌, ◌+◌, ◌<◌, ◌≤◌, true, length};
+ghost use Rattle.std.specs.Prelude.{◌≡◌, ◌+◌, ◌<◌, ◌≤◌, true, length, slice_index};
 ghost use Rattle.room_spec.specs.Rooms.{processes};
 ghost use Rattle.room_spec.specs.Sizes.{sizes_in};
 ghost use Rattle.view_table.specs.Places.{words_of};
 ghost use Rattle.view_table.specs.declared.place.Place.TheVariants as places;
 ghost use Rattle.simulator.specs.declared.operation.Move.TheVariants as moves;
 ghost use Rattle.simulator.specs.Minds.{current_goal, current_round, is_unfinished, next_process};
-ghost use Rattle.simulator.specs.Moves.{first_move, first_move_at, index_in, leave_by, level_unit, levels_index, move_at, entry_in, step_unit, value_index, view_index};
-ghost use Rattle.simulator.specs.Ranges.{IsGoal, IsMind, IsOpenAt};
+ghost use Rattle.simulator.specs.Moves.{first_move, first_move_at, index_in, leave_by, level_unit, levels_index, memory_index, move_at, entry_in, step_index, step_unit, value_index, view_index};
+ghost use Rattle.simulator.specs.Ranges.{IsGoal, IsMind, IsOpenAt, words_at};
+ghost use Rattle.simulator.specs.Turns.{words_in};
 
 use crate::goal::{Goal, next_process};
 use crate::line::Line;
@@ -24,6 +25,7 @@ impl Mind {
     #[inline(always)]
     pub(crate) fn move_at(&self, spec: &Spec, line: Line) -> Move
         requires is_mind { IsMind spec.now self.now }
+        requires word { self.now.word < words_at spec.now line }
         requires at { IsOpenAt line spec.now self.now }
         ensures { result ≡ move_at line spec.now self.now }
     {
@@ -46,35 +48,40 @@ impl Mind {
         requires { IsMind spec.now self.now }
         ensures { result ≡ first_move (next_process self.now.goals self.now.sweep) spec.now self.now }
     {
-        let Some(process) = next_process(self.goals.as_slice(), self.sweep) else {
+        let Some(process) = next_process(self.goals.as_slice(), self.process()) else {
             return Move::Finished;
         };
-        if self.turns >= spec.turns() {
+        if self.turns_taken() >= spec.turns() {
             return Move::OutOfTurns;
         }
-        first_move_at(spec, self.number, process, self.goals[process])
+        first_move_at(spec, self.number(), process, self.goals[process])
     }
 
     fn raise_move(&self, spec: &Spec) -> Move
         requires { IsMind spec.now self.now }
-        ensures { result ≡ moves.Add (index_in spec.now places.Steps) (step_unit spec.now self.now) }
+        ensures { result ≡ moves.Add (step_index spec.now self.now) (step_unit spec.now self.now) }
     {
-        let at = place(&spec.shape(), self.number, self.sweep);
-        Move::Add(index_in(spec, Place::Steps), one_at(at))
+        let (word, at) = place(&spec.shape(), self.number(), self.process());
+        Move::Add(index_in(spec, Place::Memory { word }), one_at(at))
     }
 
     fn snap_move(&self, spec: &Spec) -> Move
-        ensures { result ≡ moves.Load (index_in spec.now places.Steps) }
+        requires { self.now.word < words_in spec.now }
+        ensures { result ≡ moves.Load (memory_index spec.now self.now.word) }
     {
-        Move::Load(index_in(spec, Place::Steps))
+        Move::Load(index_in(spec, Place::Memory { word: self.word() }))
     }
 
     fn show_move(&self, spec: &Spec) -> Move
         requires is_mind { IsMind spec.now self.now }
         requires open { is_unfinished (current_goal self.now) ≡ true }
-        ensures { result ≡ moves.Store (view_index spec.now self.now.number self.now) self.now.snapshot }
+        requires word { self.now.word < words_in spec.now }
+        ensures { result ≡ moves.Store (view_index spec.now self.now.number self.now) (slice_index self.now.snapshot self.now.word) }
     {
-        Move::Store(self.view_index(spec, self.number), self.snapshot)
+        Move::Store(
+            self.view_index(spec, self.number()),
+            self.snapshot.word(self.word()),
+        )
     }
 
     fn enter_move(&self, spec: &Spec) -> Move
@@ -82,7 +89,7 @@ impl Mind {
         requires open { is_unfinished (current_goal self.now) ≡ true }
         ensures { result ≡ moves.Add (levels_index spec.now self.now) (level_unit self.now) }
     {
-        Move::Add(self.levels_index(spec), one_at(2 * self.number))
+        Move::Add(self.levels_index(spec), one_at(2 * self.number()))
     }
 
     fn look_move(&self, spec: &Spec) -> Move
@@ -98,7 +105,7 @@ impl Mind {
         requires open { is_unfinished (current_goal self.now) ≡ true }
         ensures { result ≡ leave_by saw_two (levels_index spec.now self.now) (level_unit self.now) }
     {
-        let (index, unit) = (self.levels_index(spec), one_at(2 * self.number));
+        let (index, unit) = (self.levels_index(spec), one_at(2 * self.number()));
         if saw_two {
             Move::Sub(index, unit)
         } else {
@@ -106,13 +113,14 @@ impl Mind {
         }
     }
 
-    fn view_move(&self, spec: &Spec, chosen: usize) -> Move
+    fn view_move(&self, spec: &Spec, chosen: u8) -> Move
         requires is_mind { IsMind spec.now self.now }
         requires open { is_unfinished (current_goal self.now) ≡ true }
         requires simulator { chosen < spec.now.simulators }
+        requires word { self.now.word < words_in spec.now }
         ensures { result ≡ moves.Load (view_index spec.now chosen self.now) }
     {
-        Move::Load(self.view_index(spec, chosen))
+        Move::Load(self.view_index(spec, usize::from(chosen)))
     }
 
     fn value_move(&self, spec: &Spec) -> Move
@@ -122,7 +130,7 @@ impl Mind {
         ensures { result ≡ moves.Load (value_index spec.now self.now (length self.now.entries)) }
     {
         let process = self.entries.len();
-        let (simulator, round) = self.shown.last_write(spec, self.snapshot, process);
+        let (simulator, round) = self.snapshot.last_write(spec, process);
         let value = Place::Value {
             simulator,
             process,
@@ -136,8 +144,8 @@ impl Mind {
         ensures { result ≡ moves.Store (index_in spec.now (places.Out self.now.number self.now.sweep)) (decision + 1) }
     {
         let out = Place::Out {
-            simulator: self.number,
-            process: self.sweep,
+            simulator: self.number(),
+            process: self.process(),
         };
         Move::Store(index_in(spec, out), u64::from(decision) + 1)
     }
@@ -149,7 +157,7 @@ impl Mind {
         ensures { result ≡ levels_index spec.now self.now }
     {
         let levels = Place::Levels {
-            process: self.sweep,
+            process: self.process(),
             round: usize::from(self.round()),
         };
         index_in(spec, levels)
@@ -160,12 +168,14 @@ impl Mind {
         requires is_mind { IsMind spec.now self.now }
         requires open { is_unfinished (current_goal self.now) ≡ true }
         requires simulator { simulator < spec.now.simulators }
+        requires word { self.now.word < words_in spec.now }
         ensures { result ≡ view_index spec.now simulator self.now }
     {
         let view = Place::View {
             simulator,
-            process: self.sweep,
+            process: self.process(),
             round: usize::from(self.round()),
+            word: self.word(),
         };
         index_in(spec, view)
     }
@@ -175,7 +185,7 @@ impl Mind {
         requires { self.now.sweep < length self.now.goals }
         ensures { result ≡ current_round self.now }
     {
-        self.goals[self.sweep].round()
+        self.goals[self.process()].round()
     }
 }
 

@@ -1,9 +1,9 @@
 //! The lines of a turn: the operation of each done on words that nobody else has, and taken in.
-ghost use Rattle.std.specs.Prelude.{◌≡◌, length};
+ghost use Rattle.std.specs.Prelude.{◌≡◌, ◌<◌, length};
 ghost use Rattle.room_spec.specs.Sizes.{sizes_in};
 ghost use Rattle.view_table.specs.Places.{words_of};
 ghost use Rattle.simulator.specs.Moves.{IsOperation, IsWithin, answer_of, move_at, taken_at, words_after};
-ghost use Rattle.simulator.specs.Ranges.{IsMind, IsOpenAt};
+ghost use Rattle.simulator.specs.Ranges.{IsMind, IsOpenAt, words_at};
 ghost use Rattle.simulator.specs.Turns.{counted};
 
 use crate::goal::Goal;
@@ -18,6 +18,7 @@ impl Mind {
     /// Takes the atomic step of this line.
     pub(crate) fn step_at(&mut self, spec: &Spec, words: &mut [u64], line: Line) -> Turn
         requires is_mind { IsMind spec.now self.old }
+        requires word { self.old.word < words_at spec.now line }
         requires at { IsOpenAt line spec.now self.old }
         requires operation { IsOperation (move_at line spec.now self.old) }
         requires words { length words.old ≡ words_of (sizes_in spec.now) }
@@ -36,11 +37,11 @@ impl Mind {
             }
             Line::Snap => {
                 let snapshot = self.operate(spec, words, line);
-                self.snap(snapshot)
+                self.snap(spec, snapshot)
             }
             Line::Show => {
                 self.operate(spec, words, line);
-                self.go_on(Line::Enter)
+                self.show(spec)
             }
             Line::Enter => {
                 self.operate(spec, words, line);
@@ -58,9 +59,9 @@ impl Mind {
                 let chosen = chosen_in(spec, self.operate(spec, words, line));
                 self.ask(chosen)
             }
-            Line::GetView { .. } => {
-                let snapshot = self.operate(spec, words, line);
-                self.get_view(spec, snapshot)
+            Line::GetView { chosen } => {
+                let word = self.operate(spec, words, line);
+                self.get_view(spec, chosen, word)
             }
             Line::Values => {
                 let value = self.operate(spec, words, line);
@@ -78,6 +79,7 @@ impl Mind {
     #[tactic(auto, using(crate::proofs::Ranging::within_words))]
     fn operate(&mut self, spec: &Spec, words: &mut [u64], line: Line) -> u64
         requires is_mind { IsMind spec.now self.old }
+        requires word { self.old.word < words_at spec.now line }
         requires at { IsOpenAt line spec.now self.old }
         requires words { length words.old ≡ words_of (sizes_in spec.now) }
         ensures words { words.new ≡ words_after (move_at line spec.now self.old) words.old }

@@ -1,15 +1,15 @@
 //! The lines of a turn: what the answer of each makes of the mind.
-ghost use Rattle.std.specs.Prelude.{◌≡◌, ◌+◌, ◌-◌, ◌<◌, ◌≤◌, [], ◌∷◌, ◌++◌, Some, length, min};
+ghost use Rattle.std.specs.Prelude.{◌≡◌, ◌+◌, ◌-◌, ◌<◌, ◌≤◌, [], ◌∷◌, ◌++◌, Some, length, min, nat_lt};
 ghost use Rattle.protocol_lang.specs.Numbers.{greatest};
 ghost use Rattle.room_spec.specs.Rooms.{processes};
 ghost use Rattle.simulator.specs.Minds.{goal_at, next_process};
-ghost use Rattle.simulator.specs.Moves.{chosen_in, entry_in};
-ghost use Rattle.simulator.specs.Turns.{acted, after_write, asked, counted, ended, gathered, gathered_all, goes_on, got_value, got_view, opened, padded, snapped};
+ghost use Rattle.simulator.specs.Moves.{chosen_in, entry_in, is_again, loaded};
+ghost use Rattle.simulator.specs.Turns.{acted, after_write, asked, collected, counted, ended, gathered, gathered_all, goes_on, got_value, got_view, most_collects, opened, padded, scanned, showed, snapped, words_in};
 
 use crate::goal::{Goal, next_process};
 use crate::line::Line;
 use crate::mind::Mind;
-use crate::shown::Shown;
+use crate::snapshot::Snapshot;
 use crate::turn::Turn;
 use crate::words::chosen_in;
 use protocol_lang::{Action, View, next};
@@ -18,7 +18,7 @@ use room_spec::Spec;
 impl Mind {
     pub(crate) fn count_step(&mut self)
         requires steps { self.old.steps < 4294967295 }
-        requires turn_steps { self.old.turn_steps < 255 }
+        requires turn_steps { self.old.turn_steps < 65535 }
         ensures { self.new ≡ counted self.old }
     {
         self.steps += 1;
@@ -32,10 +32,10 @@ impl Mind {
         ensures mind { self.new ≡ (opened (next_process self.old.goals self.old.sweep) (chosen_in spec.now answer) self.old).mind }
         ensures turn { result ≡ (opened (next_process self.old.goals self.old.sweep) (chosen_in spec.now answer) self.old).turn }
     {
-        let Some(process) = next_process(self.goals.as_slice(), self.sweep) else {
+        let Some(process) = next_process(self.goals.as_slice(), self.process()) else {
             return self.go_on(Line::Rest);
         };
-        self.sweep = process;
+        self.sweep = process as u8;
         self.turns += 1;
         match self.goals[process] {
             Goal::Write { .. } => self.go_on(Line::Raise),
@@ -58,26 +58,102 @@ impl Mind {
         ensures mind { self.new ≡ (ended turn goal self.old).mind }
         ensures turn { result ≡ turn }
     {
-        self.goals[self.sweep] = goal;
-        self.sweep = if self.sweep + 1 < self.goals.len() {
+        let process = self.process();
+        self.goals[process] = goal;
+        self.sweep = if process + 1 < self.goals.len() {
             self.sweep + 1
         } else {
             0
         };
         self.turn_steps = 0;
+        self.collects = 0;
         self.line = Line::Rest;
         turn
     }
 
-    pub(crate) fn snap(&mut self, snapshot: u64) -> Turn
-        ensures mind { self.new ≡ (snapped snapshot self.old).mind }
-        ensures turn { result ≡ (snapped snapshot self.old).turn }
+    /// Takes in a word of a collect.
+    pub(crate) fn snap(&mut self, spec: &Spec, word: u64) -> Turn
+        requires word { self.old.word < 4 }
+        requires collects { self.old.collects < 65535 }
+        ensures mind { self.new ≡ (snapped spec.now (is_again (loaded word self.old)) (loaded word self.old)).mind }
+        ensures turn { result ≡ (snapped spec.now (is_again (loaded word self.old)) (loaded word self.old)).turn }
     {
-        self.snapshot = snapshot;
-        self.go_on(Line::Show)
+        let at = self.word();
+        self.snapshot.put(at, word);
+        if self.has_next_word(spec) {
+            return self.next_word(Line::Snap);
+        }
+        self.word = 0;
+        self.scan(spec)
     }
 
-    pub(crate) fn ask(&mut self, chosen: Option<usize>) -> Turn
+    /// Ends the scan with the collect that is whole, or makes another.
+    fn scan(&mut self, spec: &Spec) -> Turn
+        requires { self.old.collects < 65535 }
+        ensures mind { self.new ≡ (scanned spec.now (is_again self.old) self.old).mind }
+        ensures turn { result ≡ (scanned spec.now (is_again self.old) self.old).turn }
+    {
+        if spec.shape().memory_words() == 1 {
+            return self.go_on(Line::Show);
+        }
+        self.collects += 1;
+        self.collect(spec)
+    }
+
+    /// The same, after it was counted.
+    fn collect(&mut self, spec: &Spec) -> Turn
+        ensures mind { self.new ≡ (collected spec.now (is_again self.old) self.old).mind }
+        ensures turn { result ≡ (collected spec.now (is_again self.old) self.old).turn }
+    {
+        if self.is_again() && self.collects > 1 || self.collects() == most_collects(spec) {
+            return self.go_on(Line::Show);
+        }
+        self.before = self.snapshot.words();
+        self.go_on(Line::Snap)
+    }
+
+    /// Whether the collect is the one before.
+    fn is_again(&self) -> bool
+        ensures { result ≡ is_again self.now }
+    {
+        let words = self.snapshot.words();
+        words[0] == self.before[0]
+            && words[1] == self.before[1]
+            && words[2] == self.before[2]
+            && words[3] == self.before[3]
+    }
+
+    /// Goes on behind the store of a word of its proposal.
+    pub(crate) fn show(&mut self, spec: &Spec) -> Turn
+        requires { self.old.word < 4 }
+        ensures mind { self.new ≡ (showed spec.now self.old).mind }
+        ensures turn { result ≡ (showed spec.now self.old).turn }
+    {
+        if self.has_next_word(spec) {
+            return self.next_word(Line::Show);
+        }
+        self.word = 0;
+        self.go_on(Line::Enter)
+    }
+
+    /// Whether the memory has a word behind that of its line.
+    fn has_next_word(&self, spec: &Spec) -> bool
+        requires { self.now.word < 4 }
+        ensures { result ≡ nat_lt (self.now.word + 1) (words_in spec.now) }
+    {
+        self.word() + 1 < spec.shape().memory_words()
+    }
+
+    fn next_word(&mut self, line: Line) -> Turn
+        requires { self.old.word < 4 }
+        ensures mind { self.new ≡ (goes_on line (record self.old { word = self.old.word + 1 })).mind }
+        ensures turn { result ≡ (goes_on line (record self.old { word = self.old.word + 1 })).turn }
+    {
+        self.word += 1;
+        self.go_on(line)
+    }
+
+    pub(crate) fn ask(&mut self, chosen: Option<u8>) -> Turn
         requires { self.old.sweep < length self.old.goals }
         ensures mind { self.new ≡ (asked chosen self.old).mind }
         ensures turn { result ≡ (asked chosen self.old).turn }
@@ -91,14 +167,21 @@ impl Mind {
         }
     }
 
-    pub(crate) fn get_view(&mut self, spec: &Spec, snapshot: u64) -> Turn
+    /// Takes in a word of the chosen proposal.
+    pub(crate) fn get_view(&mut self, spec: &Spec, chosen: u8, word: u64) -> Turn
+        requires word { self.old.word < 4 }
         requires sweep { self.old.sweep < length self.old.goals }
         requires goals { length self.old.goals ≡ processes spec.now }
-        ensures mind { self.new ≡ (got_view (entry_in spec.now snapshot) spec.now snapshot self.old).mind }
-        ensures turn { result ≡ (got_view (entry_in spec.now snapshot) spec.now snapshot self.old).turn }
+        ensures mind { self.new ≡ (got_view (entry_in spec.now (loaded word self.old).snapshot) spec.now chosen (loaded word self.old)).mind }
+        ensures turn { result ≡ (got_view (entry_in spec.now (loaded word self.old).snapshot) spec.now chosen (loaded word self.old)).turn }
     {
-        self.snapshot = snapshot;
-        self.shown = Shown::in_room(spec, snapshot);
+        let at = self.word();
+        self.snapshot.put(at, word);
+        if self.has_next_word(spec) {
+            return self.next_word(Line::GetView { chosen });
+        }
+        self.word = 0;
+        self.snapshot.note(spec);
         self.entries.clear();
         self.gather(spec)
     }
@@ -124,7 +207,7 @@ impl Mind {
         ensures mind { self.new ≡ (gathered (entry_in spec.now self.old.snapshot) spec.now self.old.entries self.old).mind }
         ensures turn { result ≡ (gathered (entry_in spec.now self.old.snapshot) spec.now self.old.entries self.old).turn }
     {
-        pad(&mut self.entries, &self.shown, spec, self.snapshot);
+        pad(&mut self.entries, &self.snapshot, spec);
         if self.entries.len() < spec.n() {
             return self.go_on(Line::Values);
         }
@@ -143,8 +226,8 @@ impl Mind {
     {
         let action = next(
             spec.protocol(),
-            spec.input(self.sweep),
-            self.sweep as u32,
+            spec.input(self.process()),
+            u32::from(self.sweep),
             u32::from(self.round()),
             &self.entries,
         );
@@ -180,12 +263,19 @@ fn after_write(spec: &Spec, round: u8, value: u32) -> Goal
     }
 }
 
-/// Adds nothing for each next process of which the memory word shows no write.
-fn pad(entries: &mut View, shown: &Shown, spec: &Spec, word: u64)
+/// Adds nothing for each next process of which the memory words show no write.
+fn pad(entries: &mut View, snapshot: &Snapshot, spec: &Spec)
     requires { length entries.old.items ≤ processes spec.now }
-    ensures { entries.new.items ≡ padded (entry_in spec.now word) (processes spec.now - length entries.old.items) entries.old.items }
+    ensures { entries.new.items ≡ padded (entry_in spec.now snapshot.now) (processes spec.now - length entries.old.items) entries.old.items }
 {
-    while entries.len() < spec.n() && shown.shows_none(spec, word, entries.len()) {
+    while entries.len() < spec.n() && snapshot.shows_none(spec, entries.len()) {
         entries.push(None);
     }
+}
+
+/// A scan makes no more collects: as many as there are writes in the room, and two.
+fn most_collects(spec: &Spec) -> u32
+    ensures { result ≡ most_collects spec.now }
+{
+    (spec.m() * spec.n() * spec.rounds() + 2) as u32
 }

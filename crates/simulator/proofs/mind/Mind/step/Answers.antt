@@ -4,6 +4,7 @@ use Rattle.simulator.specs.Moves.{IsOperation, answer_of, move_at, taken_at, wor
 use Rattle.simulator.specs.Ranges.{IsOpenAt}
 use Rattle.simulator.specs.Turns.{counted}
 use Rattle.simulator.proofs.Keeping.{kept_of}
+use Rattle.simulator.proofs.Limits.{few_collects}
 use Rattle.simulator.proofs.Stepping.{bounded, rests_of}
 use Rattle.simulator.proofs.mind.Mind.step.Goals as goal
 
@@ -36,6 +37,9 @@ returns-clause-is_mind c = kept_of c.args.spec.now c.args.self.now c.step_at-2.n
 
 pub returns-clause-bound : goal.returns-clause-bound
 returns-clause-bound c = bounded c.args.spec.now c.step_at-2.new.self (returns-clause-is_mind c)
+
+pub returns-clause-collects : goal.returns-clause-collects
+returns-clause-collects c = few_collects c.args.spec.now c.step_at-2.new.self (returns-clause-is_mind c)
 
 pub returns-clause-ended : goal.returns-clause-ended
 returns-clause-ended c = rests_of c.args.spec.now c.args.self.now c.step_at-2.new.self c.step_at-2.result _ (returns-clause-mind c) (returns-clause-turn c)

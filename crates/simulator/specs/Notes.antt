@@ -1,0 +1,14 @@
+-- What was noted of memory words.
+use Rattle.std.specs.Prelude.{◌≡◌, ℕ, ◌<◌, ◌≤◌, List, slice_index}
+use Rattle.room_spec.specs.Rooms.{bits_of}
+use Rattle.room_spec.specs.Sizes.{Sizes}
+use Rattle.sim_memory.specs.Steps.{holder_of, merged_of, step_in}
+
+-- the sizes of a room of which these numbers were noted
+abbrev pub noted_sizes : ℕ → ℕ → ℕ → Sizes
+noted_sizes n m rounds = record { n = n; m = m; bits = bits_of rounds; rounds = rounds }
+
+-- of each of the n processes the last write that the words show, read by these numbers; of none, where n is 0
+abbrev pub IsNote : ℕ → ℕ → ℕ → List ℕ → List ℕ → List ℕ → Type 0
+IsNote n m rounds words holders last =
+    (p : ℕ) → p < n → (slice_index holders p ≡ holder_of m (step_in (noted_sizes n m rounds) words) p) × (slice_index last p ≡ merged_of m (step_in (noted_sizes n m rounds) words) p) × (slice_index holders p < m) × (slice_index last p ≤ rounds)

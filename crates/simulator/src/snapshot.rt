@@ -1,0 +1,121 @@
+//! The memory words that a simulator has loaded, and what they show.
+ghost use Rattle.std.specs.Prelude.{◌≡◌, ℕ, ◌<◌, ◌≤◌, ◌==◌, slice_index, slice_set, true};
+ghost use Rattle.room_spec.specs.Rooms.{bits_of, processes};
+ghost use Rattle.room_spec.specs.Sizes.{sizes_in};
+ghost use Rattle.simulator.specs.Minds.{no_words};
+ghost use Rattle.simulator.specs.Moves.{entry_in, holder_in};
+
+use room_spec::Spec;
+use sim_memory::{LastWrites, last_write, last_writes, shows_none};
+use std::marker::Model;
+
+/// As many memory words as any room has; those behind the room's own are 0. Beside them the last
+/// writes that they show, where these were worked out once for all processes, and the numbers of the
+/// room by which they were. Whoever asks by another room is answered from the words themselves.
+#[derive(Drop)]
+pub(crate) struct Snapshot {
+    words: [u64; 4],
+    n: u8,
+    m: u8,
+    rounds: u8,
+    last: LastWrites,
+}
+
+impl Model for Snapshot {
+    ghost use Rattle.std.specs.Prelude.{ℕ, List};
+    ghost use Rattle.simulator.specs.Notes.{IsNote};
+
+    ghost Value = { List ℕ };
+
+    ghost view = { λ s. s.words };
+
+    // What is noted is what the words show.
+    ghost invariant = { λ s. IsNote s.n s.m s.rounds s.words s.last.holders s.last.rounds };
+}
+
+impl Snapshot {
+    /// Of words that are all 0.
+    pub(crate) fn nothing() -> Snapshot
+        ensures { result ≡ no_words }
+    {
+        Snapshot {
+            words: [0; 4],
+            n: 0,
+            m: 0,
+            rounds: 0,
+            last: LastWrites {
+                holders: [0; 16],
+                rounds: [0; 16],
+            },
+        }
+    }
+
+    pub(crate) fn word(&self, at: usize) -> u64
+        requires { at < 4 }
+        ensures { result ≡ slice_index self.now at }
+    {
+        self.words[at]
+    }
+
+    pub(crate) fn words(&self) -> [u64; 4]
+        ensures { result ≡ self.now }
+    {
+        self.words
+    }
+
+    /// Puts in a word that was loaded. What was noted of the words is dropped.
+    pub(crate) fn put(&mut self, at: usize, word: u64)
+        requires { at < 4 }
+        ensures { self.new ≡ slice_set self.old at word }
+    {
+        self.n = 0;
+        self.words[at] = word;
+    }
+
+    /// Notes what the words show of the room.
+    pub(crate) fn note(&mut self, spec: &Spec)
+        ensures { self.new ≡ self.old }
+    {
+        let shape = spec.shape();
+        self.last = last_writes(&shape, &self.words);
+        self.n = shape.n as u8;
+        self.m = shape.m as u8;
+        self.rounds = shape.rounds as u8;
+    }
+
+    /// The last write of the process that the words show: the simulator that has stored it, and the
+    /// round.
+    pub(crate) fn last_write(&self, spec: &Spec, process: usize) -> (usize, usize)
+        requires { process < processes spec.now }
+        ensures holder { result.0 ≡ holder_in spec.now self.now process }
+        ensures below { result.0 < spec.now.simulators }
+        ensures row { result.1 ≡ entry_in spec.now self.now process }
+        ensures range { result.1 ≤ spec.now.rounds }
+    {
+        if !are_of(self.n, self.m, self.rounds, spec) {
+            return last_write(&spec.shape(), &self.words, process);
+        }
+        (
+            usize::from(self.last.holders[process]),
+            usize::from(self.last.rounds[process]),
+        )
+    }
+
+    /// Whether the words show no write of the process.
+    pub(crate) fn shows_none(&self, spec: &Spec, process: usize) -> bool
+        requires { process < processes spec.now }
+        ensures { result ≡ (entry_in spec.now self.now process == 0) }
+    {
+        if !are_of(self.n, self.m, self.rounds, spec) {
+            return shows_none(&spec.shape(), &self.words, process);
+        }
+        self.last.rounds[process] == 0
+    }
+}
+
+/// Whether these are the numbers of this room.
+fn are_of(n: u8, m: u8, rounds: u8, spec: &Spec) -> bool
+    ensures { result ≡ true → (n ≡ processes spec.now) × (m ≡ spec.now.simulators) × (rounds ≡ spec.now.rounds) × (processes spec.now ≤ 16) }
+{
+    usize::from(n) == spec.n() && usize::from(m) == spec.m() && usize::from(rounds) == spec.rounds()
+}
