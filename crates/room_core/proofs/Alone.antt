@@ -9,10 +9,11 @@ use Rattle.simulator.specs.declared.sweep.Ready.{Ready}
 use Rattle.simulator.specs.declared.sweep.Ready.TheVariants as ready
 use Rattle.simulator.specs.Minds.{MindState}
 use Rattle.simulator.specs.Moves.{answer_of}
-use Rattle.simulator.specs.Ranges.{IsMind, charged_steps, most_steps}
+use Rattle.simulator.specs.Ranges.{IsMind, charged_steps, greatest_limit, most_steps}
+use Rattle.simulator.proofs.Limits.{limit_most}
 use Rattle.simulator.specs.Sweeps.{SweepState, is_resting, opening_sweep, ready_between}
 use Rattle.simulator.proofs.Bounding.{total, total_falls, total_most, turns_before}
-use Rattle.simulator.proofs.Stepping.{steps_by_one}
+use Rattle.simulator.proofs.Stepping.{bounded, steps_by_one}
 use Rattle.room_core.specs.Rooms.{IsOneInterleaving, IsShaped, steps}
 use Rattle.room_core.specs.Calls.{RoomState, configuration_of, has_crashed, is_step, moved, operation_at, ready_at, reply_when, room_after_step, room_kind, step_reply, sweep_after, sweep_at, taken_by, with_sweep, woken}
 use Rattle.room_core.specs.Calls as calls
@@ -25,23 +26,22 @@ use Rattle.room_core.proofs.Settling.{ended_keeps, alone_keeps}
 
 -- ---- how many steps a simulator takes in all
 
-within_by : (line : Line) (taken turn_steps entries charged : ℕ) → charged_steps line taken ≤ charged + turn_steps → turn_steps ≤ most_steps line entries → entries ≤ 16 → taken ≤ charged
-within_by Rest taken turn_steps entries charged is few less = omega arith
-within_by Raise taken turn_steps entries charged is few less = omega arith
-within_by Snap taken turn_steps entries charged is few less = omega arith
-within_by Show taken turn_steps entries charged is few less = omega arith
-within_by Enter taken turn_steps entries charged is few less = omega arith
-within_by Look taken turn_steps entries charged is few less = omega arith
-within_by (Leave saw_two) taken turn_steps entries charged is few less = omega arith
-within_by Ask taken turn_steps entries charged is few less = omega arith
-within_by (GetView chosen) taken turn_steps entries charged is few less = omega arith
-within_by Values taken turn_steps entries charged is few less = omega arith
-within_by (Out decision) taken turn_steps entries charged is few less = omega arith
+within_by : (line : Line) (spec : RoomSpec) (taken turn_steps word collects entries charged : ℕ) → charged_steps line taken ≤ charged + turn_steps → turn_steps ≤ most_steps spec line word collects entries → turn_steps ≤ greatest_limit → taken ≤ charged
+within_by Rest spec taken turn_steps word collects entries charged is few most = omega arith
+within_by Raise spec taken turn_steps word collects entries charged is few most = omega arith
+within_by Snap spec taken turn_steps word collects entries charged is few most = omega arith
+within_by Show spec taken turn_steps word collects entries charged is few most = omega arith
+within_by Enter spec taken turn_steps word collects entries charged is few most = omega arith
+within_by Look spec taken turn_steps word collects entries charged is few most = omega arith
+within_by (Leave saw_two) spec taken turn_steps word collects entries charged is few most = omega arith
+within_by Ask spec taken turn_steps word collects entries charged is few most = omega arith
+within_by (GetView chosen) spec taken turn_steps word collects entries charged is few most = omega arith
+within_by Values spec taken turn_steps word collects entries charged is few most = omega arith
+within_by (Out decision) spec taken turn_steps word collects entries charged is few most = omega arith
 
 pub steps_within : (spec : RoomSpec) (mind : MindState) → IsMind spec mind → mind.steps ≤ calls.most_steps spec
 steps_within spec mind is =
-    let n = is.limits.shape.n_range in
-    let most = within_by mind.line mind.steps mind.turn_steps (length mind.entries) (26 * mind.turns) is.counted is.few (omega (arith, is.entries, n.1)) in
+    let most = within_by mind.line spec mind.steps mind.turn_steps mind.word mind.collects (length mind.entries) (greatest_limit * mind.turns) is.counted is.few (omega (arith, bounded spec mind is, limit_most spec is.limits)) in
     omega (arith, most, is.turns)
 
 -- ---- one step

@@ -17,6 +17,8 @@ use Rattle.simulator.specs.Turns.{TakenOf, counted, begun, goes_on, acted, decid
 use Rattle.simulator.proofs.Processes.{next_is_left}
 use Rattle.room_core.specs.Fields.{StepMap, Fields, changed_triple, chosen_at, entry_of_steps, shown_value}
 use Rattle.room_core.specs.Tracks.{Counts, Counted, Inside}
+use Rattle.room_core.specs.Fields.{is_same_collect, with_loaded}
+use Rattle.room_core.proofs.Wording.{got_view_by, showed_by, snapped_by}
 use Rattle.room_core.proofs.Lines.{stored_first_at, stored_first, stored_on, taken_first_at, taken_first, taken_on, StandsAt}
 use Rattle.room_core.proofs.Maps.{triple_else}
 use Rattle.room_core.proofs.Marks.{same_marks, IsBlockedCount, blocked_anew, blocked_begun, blocked_asked}
@@ -115,7 +117,7 @@ module _ (spec : RoomSpec) (fields : Fields) (i : ℕ) where
   abbrev Counted_ : Line → Type 0
   Counted_ line =
       let mind = fields.mind i in
-      CountsOn spec (stored_on line fields i mind.sweep (current_round mind) (counted mind)) (taken_on line spec fields mind.sweep (current_round mind) (counted mind)) (fields.quiet i)
+      CountsOn spec (stored_on line spec fields i mind.sweep (current_round mind) (counted mind)) (taken_on line spec fields mind.sweep (current_round mind) (counted mind)) (fields.quiet i)
 
   pub on_line : (line : Line) → StandsAt line spec fields i (fields.mind i) → IsBlockedCount (unresolved spec fields) (fields.mind i) (fields.quiet i) → Counted_ line
   on_line Rest at counts =
@@ -123,8 +125,10 @@ module _ (spec : RoomSpec) (fields : Fields) (i : ℕ) where
       let within : mind.sweep ≤ length mind.goals = let s = at.is_mind.sweep in let n = at.is_mind.goals in omega arith in
       on_rest spec fields (fields.quiet i) (next_process mind.goals mind.sweep) i mind (on_first spec fields (fields.quiet i) (next_process mind.goals mind.sweep) mind refl within counts)
   on_line Raise at counts = counts
-  on_line Snap at counts = counts
-  on_line Show at counts = counts
+  on_line Snap at counts =
+      let into = with_loaded spec fields.step (counted (fields.mind i)) in
+      snapped_by (λ (taken : TakenOf StepMap). CountsOn spec fields taken (fields.quiet i)) spec into (is_same_collect spec into) counts counts counts counts
+  on_line Show at counts = showed_by (λ (taken : TakenOf StepMap). CountsOn spec (stored_on Show spec fields i (fields.mind i).sweep (current_round (fields.mind i)) (counted (fields.mind i))) taken (fields.quiet i)) spec (counted (fields.mind i)) counts counts
   on_line Enter at counts =
       with_level spec fields i (current_round (fields.mind i)) (fields.level i (fields.mind i).sweep (current_round (fields.mind i)) + 1) (fields.quiet i) (fields.mind i) (λ round. no_ask spec.rounds (current_goal (fields.mind i)) (fields.step i (fields.mind i).sweep) round at.own.counts) counts
   on_line Look at counts = counts
@@ -133,8 +137,8 @@ module _ (spec : RoomSpec) (fields : Fields) (i : ℕ) where
   on_line Ask at counts = on_asked spec fields (fields.quiet i) (counted (fields.mind i)) (let s = at.is_mind.sweep in let n = at.is_mind.goals in omega arith) at.open_at counts
   on_line (GetView chosen) at counts =
       let mind = fields.mind i in
-      let view = fields.view chosen mind.sweep (current_round mind) in
-      on_gathered spec fields (fields.quiet i) (entry_of_steps spec view) [] (record (counted mind) { snapshot = view }) counts
+      let into = with_loaded spec (fields.view chosen mind.sweep (current_round mind)) (counted mind) in
+      got_view_by (λ (taken : TakenOf StepMap). CountsOn spec fields taken (fields.quiet i)) spec into (entry_of_steps spec into.snapshot) chosen counts (on_gathered spec fields (fields.quiet i) (entry_of_steps spec into.snapshot) [] (record into { word = 0 }) counts)
   on_line Values at counts =
       let mind = fields.mind i in
       on_gathered spec fields (fields.quiet i) (entry_of_steps spec mind.snapshot) (mind.entries ++ Some (min (shown_value spec fields mind.snapshot (length mind.entries)) greatest) ∷ []) (counted mind) counts

@@ -76,7 +76,7 @@ line_leads spec fields base i leads = subst (λ (f : Fields). line spec f i ≡ 
 with_counts : (room : Configuration) (fields : Fields) (quiet : ℕ → ℕ) → StandsFor room fields → StandsFor room (with_quiet fields quiet)
 with_counts room fields quiet for =
     stand_by room (with_quiet fields quiet) (held_of room fields for) (λ i below. mind_is room fields i for below) for.reads.crashed
-    (record { told = for.tracks.told; range = record { step = for.tracks.range.step; level = for.tracks.range.level; view = for.tracks.range.view }; snapshot = for.tracks.snapshot })
+    (record { told = for.tracks.told; range = record { step = for.tracks.range.step; level = for.tracks.range.level; view = for.tracks.range.view }; before = for.tracks.before; snapshot = for.tracks.snapshot })
 
 pub fields_stand : (room : RoomState) (fields : Fields) → IsWithinLimits room.spec → AreFieldsOf room fields → StandsFor (configuration_of room) fields
 fields_stand room fields limits are =
@@ -105,12 +105,12 @@ line_counts : (room : RoomState) (fields : Fields) (i : ℕ) → IsShaped (confi
 line_counts room fields i shape for may counts a less =
     let below = may.alive.below in
     let mind = fields.mind i in
-    let after = stored_on mind.line fields i mind.sweep (current_round mind) (counted mind) in
-    let kept : after.quiet ≡ fields.quiet = (is_store mind.line fields i mind.sweep (current_round mind) (counted mind)).quiet in
+    let after = stored_on mind.line room.spec fields i mind.sweep (current_round mind) (counted mind) in
+    let kept : after.quiet ≡ fields.quiet = (is_store mind.line room.spec fields i mind.sweep (current_round mind) (counted mind)).quiet in
     let own = sweep_after (taken_by room i) (sweep_at room i).quiet in
     let place : i < length room.sweeps = let count = sweep_count room shape in omega arith in
     let turn : (taken_by room i).turn ≡ (taken_in room.spec fields i).turn =
-    ap (λ (one : MindState). (taken room.spec one (answer_of (move_of room.spec one) room.words)).turn) (sym (mind_here room i)) ∙ ap (λ (one : TakenOf ℕ). one.turn) (taken_is (configuration_of room) fields i shape for may) in
+    ap (λ (one : MindState). (taken room.spec one (answer_of (move_of room.spec one) room.words)).turn) (sym (mind_here room i)) ∙ ap (λ (one : TakenOf (List ℕ)). one.turn) (taken_is (configuration_of room) fields i shape for may) in
     let quiet = quiet_after (taken_in room.spec fields i).turn (after.quiet i) in
     let is : (line room.spec fields i).quiet a ≡ changed after.quiet i quiet a = ap (λ (f : Fields). f.quiet a) (line_is (configuration_of room) fields i shape for may) in
     is ∙ dite (ℕ_discrete a i)

@@ -1,19 +1,20 @@
 -- The words and minds of a replay stand for the fields of the same replay.
 use Rattle.std.proofs.Common.{◌≡◌, ◌≢◌, ℕ, zero, suc, ◌<◌, Bool, true, false, List, [], ◌∷◌, length, get_or, set, map, refl, sym, ap, ◌∙◌, subst, arith}
 use Rattle.std.proofs.lemmas.List.{get_or-set_same, get_or-set_other, get_or-replicate}
-use Rattle.std.proofs.lemmas.List.FromFn.{get_or-map-range_with_len}
+use Rattle.std.proofs.lemmas.List.FromFn.{get_or-map-range_with_len, length-map-range_with_len}
 use Rattle.std.specs.List.{range_with_len}
 use mathlib.Core.Logic.{dite}
 use native.Mathlib.Decide.{ℕ_discrete}
 use Rattle.room_spec.specs.Rooms.{RoomSpec, IsWithinLimits, processes}
-use Rattle.room_spec.specs.Sizes.{sizes_in}
+use Rattle.room_spec.specs.Sizes.{Sizes, sizes_in}
 use Rattle.level_cells.proofs.PackingLemmas.{of_zeros}
 use Rattle.view_table.specs.declared.place.Place.{Place}
 use Rattle.view_table.specs.declared.place.Place.TheVariants as places
 use Rattle.view_table.proofs.WordLemmas.{zeros}
-use Rattle.sim_memory.specs.Steps.{AreWithin}
-use Rattle.sim_memory.proofs.Words.{word_zero}
-use Rattle.simulator.specs.Minds.{MindOf, MindState, goal_at, current_round, first_goal, opening_mind, opening_mind_of}
+use Rattle.sim_memory.specs.Steps.{AreWithin, memory_of, memory_word}
+use Rattle.sim_memory.proofs.Words.{memory_at, word_zero}
+use Rattle.std.proofs.lemmas.Grind.{same_number_lists}
+use Rattle.simulator.specs.Minds.{MindOf, MindState, goal_at, current_round, first_goal, no_words, opening_mind, opening_mind_of}
 use Rattle.simulator.specs.Turns.{TakenOf, counted}
 use Rattle.simulator.specs.Moves.{IsOperation, move_of, taken, words_after, answer_of}
 use Rattle.simulator.specs.Ranges.{IsMind}
@@ -39,23 +40,23 @@ pub stand_by : (room : Configuration) (fields : Fields) → Hold (sizes_in room.
 stand_by room fields held minds crashed tracks = record {
   reads = record {
     words = record {
-      step = record { within = λ i p _ _. tracks.range.step i p; same = held places.Steps tt };
+      step = record { within = λ i p _ _. tracks.range.step i p; same = λ w one. held (places.Memory w) one };
       level = λ j k process round. held (places.Levels j k) (process, round);
       levels = λ i j k _ _ _. tracks.range.level i j k;
-      view = λ i j k simulator process round. record { within = tracks.range.view i j k; same = held (places.View i j k) (simulator, process, round) };
+      view = λ i j k simulator process round. record { within = tracks.range.view i j k; same = λ w one. held (places.View i j k w) (simulator, process, round, one) };
       value = λ i j k simulator process round. held (places.Value i j k) (simulator, process, round);
       out = λ i j simulator process. held (places.Out i j) (simulator, process);
     };
-    minds = λ i below. record { within = tracks.snapshot i; same = minds i below };
+    minds = λ i below. record { before = tracks.before i; within = tracks.snapshot i; same = minds i below };
     crashed = crashed;
   };
   tracks = tracks;
 }
 
 pub held_of : (room : Configuration) (fields : Fields) → StandsFor room fields → Hold (sizes_in room.spec) room.words fields
-held_of room fields for places.Steps range = for.reads.words.step.same
+held_of room fields for (places.Memory w) range = let step = for.reads.words.step in step.same w range
 held_of room fields for (places.Levels j k) range = for.reads.words.level j k range.0 range.1
-held_of room fields for (places.View i j k) range = let view = for.reads.words.view i j k range.0 range.1 range.2 in view.same
+held_of room fields for (places.View i j k w) range = let view = for.reads.words.view i j k range.0 range.1 range.2 in view.same w range.3
 held_of room fields for (places.Value i j k) range = for.reads.words.value i j k range.0 range.1 range.2
 held_of room fields for (places.Out i j) range = for.reads.words.out i j range.0 range.1
 
@@ -74,11 +75,14 @@ stands_at room fields i shape for may =
       below = below;
       number = ap (λ (one : MindState). one.number) (sym same) ∙ shape.numbers i below;
       is_mind = is_mind;
+      word = is_mind.word;
+      collects = is_mind.collects;
       open_at = is_mind.at;
       moves = subst (λ (one : MindState). IsOperation (move_of room.spec one)) same may.moving;
       others = beside room.spec.rounds mind (fields.step i) (fields.level i) (for.tracks.told i);
       own = at_sweep room.spec.rounds mind (fields.step i) (fields.level i) (for.tracks.told i);
       range = for.tracks.range;
+      before = for.tracks.before i;
       snapshot = for.tracks.snapshot i;
     }
 
@@ -100,19 +104,21 @@ each_mind P i fields after mind store own all a = dite (ℕ_discrete a i)
 
 -- the fields after a line, as `line_parts` has them
 abbrev pub fields_by : RoomSpec → Fields → ℕ → Fields
-fields_by spec fields i = with_taken (stored_on (fields.mind i).line fields i (fields.mind i).sweep (current_round (fields.mind i)) (counted (fields.mind i))) i (taken_on (fields.mind i).line spec fields (fields.mind i).sweep (current_round (fields.mind i)) (counted (fields.mind i)))
+fields_by spec fields i = with_taken (stored_on (fields.mind i).line spec fields i (fields.mind i).sweep (current_round (fields.mind i)) (counted (fields.mind i))) i (taken_on (fields.mind i).line spec fields (fields.mind i).sweep (current_round (fields.mind i)) (counted (fields.mind i)))
 
 tracks_line : (spec : RoomSpec) (fields : Fields) (i : ℕ) → StandsAt (fields.mind i).line spec fields i (fields.mind i) → KeepsTrack spec fields → KeepsTrack spec (fields_by spec fields i)
 tracks_line spec fields i at tracks =
     let mind = fields.mind i in
-    let after = stored_on mind.line fields i mind.sweep (current_round mind) (counted mind) in
+    let after = stored_on mind.line spec fields i mind.sweep (current_round mind) (counted mind) in
     let new = (taken_on mind.line spec fields mind.sweep (current_round mind) (counted mind)).mind in
-    let store = is_store mind.line fields i mind.sweep (current_round mind) (counted mind) in
+    let store = is_store mind.line spec fields i mind.sweep (current_round mind) (counted mind) in
     let range = in_range_line mind.line spec fields i mind at in
+    let both = snapshot_line mind.line spec fields i mind at in
     record {
       told = told_others spec.rounds i fields after new store (told_line mind.line spec fields i mind at) tracks.told;
       range = record { step = range.step; level = range.level; view = range.view };
-      snapshot = each_mind (λ (one : MindOf StepMap). AreWithin (sizes_in spec) one.snapshot) i fields after new store (snapshot_line mind.line spec fields i mind at) tracks.snapshot;
+      before = each_mind (λ (one : MindOf StepMap). AreWithin (sizes_in spec) one.before) i fields after new store both.0 tracks.before;
+      snapshot = each_mind (λ (one : MindOf StepMap). AreWithin (sizes_in spec) one.snapshot) i fields after new store both.1 tracks.snapshot;
     }
 
 -- the turn of the mind that took its answer in is that of the line
@@ -127,8 +133,8 @@ parts_stand room fields i shape may for =
     let below = may.alive.below in
     let mind = fields.mind i in
     let at = stands_at room fields i shape for may in
-    let after = stored_on mind.line fields i mind.sweep (current_round mind) (counted mind) in
-    let store = is_store mind.line fields i mind.sweep (current_round mind) (counted mind) in
+    let after = stored_on mind.line room.spec fields i mind.sweep (current_round mind) (counted mind) in
+    let store = is_store mind.line room.spec fields i mind.sweep (current_round mind) (counted mind) in
     let new = (taken_on mind.line room.spec fields mind.sweep (current_round mind) (counted mind)).mind in
     let own = (taken room.spec (mind_at room i) (answer_to room i)).mind in
     let place : i < length room.minds = let count = shape.minds in omega arith in
@@ -137,7 +143,7 @@ parts_stand room fields i shape may for =
     (λ a less. dite (ℕ_discrete a i)
     (λ (e : a ≡ i).
     ap (λ (k : ℕ). get_or (set room.minds i own) k (opening_mind room.spec k)) e ∙ get_or-set_same room.minds i own (opening_mind room.spec i) place
-    ∙ ap (λ (one : TakenOf ℕ). one.mind) (taken_is room fields i shape for may) ∙ ap (worded (sizes_in room.spec)) (sym (changed_here after.mind i new a e)))
+    ∙ ap (λ (one : TakenOf (List ℕ)). one.mind) (taken_is room fields i shape for may) ∙ ap (worded (sizes_in room.spec)) (sym (changed_here after.mind i new a e)))
     (λ (n : a ≢ i).
     get_or-set_other room.minds i a own (opening_mind room.spec a) n ∙ mind_is room fields a for less
     ∙ ap (worded (sizes_in room.spec)) (sym (changed_else after.mind i new a n ∙ ap (λ (minds : ℕ → MindOf StepMap). minds a) store.mind))))
@@ -160,7 +166,7 @@ event_stands room fields (crashes i) shape may for =
     (λ a less. dite (ℕ_discrete a i)
     (λ (e : a ≡ i). ap (λ (k : ℕ). get_or (set room.crashed i true) k false) e ∙ get_or-set_same room.crashed i true false place ∙ sym (changed_here fields.crashed i true a e))
     (λ (n : a ≢ i). get_or-set_other room.crashed i a true false n ∙ for.reads.crashed a less ∙ sym (changed_else fields.crashed i true a n)))
-    (record { told = for.tracks.told; range = record { step = for.tracks.range.step; level = for.tracks.range.level; view = for.tracks.range.view }; snapshot = for.tracks.snapshot })
+    (record { told = for.tracks.told; range = record { step = for.tracks.range.step; level = for.tracks.range.level; view = for.tracks.range.view }; before = for.tracks.before; snapshot = for.tracks.snapshot })
 
 replay_stands : (room : Configuration) (fields : Fields) (schedule : List ScheduleEvent) → IsShaped room → IsLegal room schedule → StandsFor room fields → StandsFor (replay room schedule) (replay_fields room.spec fields schedule)
 replay_stands room fields [] shape legal for = for
@@ -172,11 +178,16 @@ replay_stands room fields (crashes i ∷ schedule) shape legal for =
 -- ---- the opening
 
 opening_words : (spec : RoomSpec) (place : Place) → word_for (sizes_in spec) (opening_fields spec) place ≡ 0
-opening_words spec places.Steps = word_zero (sizes_in spec)
+opening_words spec (places.Memory w) = word_zero (sizes_in spec) w
 opening_words spec (places.Levels j k) = of_zeros (λ i. 0) 2 spec.simulators (λ i less. refl)
-opening_words spec (places.View i j k) = word_zero (sizes_in spec)
+opening_words spec (places.View i j k w) = word_zero (sizes_in spec) w
 opening_words spec (places.Value i j k) = refl
 opening_words spec (places.Out i j) = refl
+
+zero_words : (sizes : Sizes) → memory_of sizes no_steps ≡ no_words
+zero_words sizes =
+    let long : length (memory_of sizes no_steps) ≡ 4 = length-map-range_with_len (memory_word sizes no_steps) 0 4 in
+    same_number_lists (memory_of sizes no_steps) no_words long (λ k less. memory_at sizes no_steps k (omega (arith, less, long)) ∙ word_zero sizes k ∙ sym (get_or-replicate 4 k 0 0 (omega (arith, less, long))))
 
 opening_tells : (spec : RoomSpec) (numbers : List ℕ) (p : ℕ) → Tells spec.rounds (goal_at (map (first_goal spec) numbers) p) AtRest 0 (λ k. 0)
 opening_tells spec [] p = record { counts = tt; levels = (λ k after. refl, λ k before one. absurd (omega (arith, one))) }
@@ -188,11 +199,12 @@ opening_stands spec =
     stand_by (opening spec) (opening_fields spec) (λ place range. zeros (sizes_in spec) place range ∙ sym (opening_words spec place))
     (λ i below.
     get_or-map-range_with_len (opening_mind spec) 0 spec.simulators i i (opening_mind spec i) below (omega arith)
-    ∙ ap (λ (word : ℕ). opening_mind_of word spec i) (sym (word_zero (sizes_in spec))))
+    ∙ ap (λ (words : List ℕ). opening_mind_of words spec i) (sym (zero_words (sizes_in spec))))
     (λ i below. get_or-replicate spec.simulators i false false below)
     (record {
       told = λ i. told_at_rest spec.rounds (opening_mind_of no_steps spec i) (λ p. 0) (λ p k. 0) refl (λ p. opening_tells spec (range_with_len 0 (processes spec)) p);
       range = record { step = λ i p. omega arith; level = λ i j k. omega arith; view = λ i j k a p _ _. omega arith };
+      before = λ i a p _ _. omega arith;
       snapshot = λ i a p _ _. omega arith;
     })
 

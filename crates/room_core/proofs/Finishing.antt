@@ -16,7 +16,7 @@ use Rattle.room_core.specs.Reading.{AreFieldsOf}
 use Rattle.room_core.specs.Tracks.{StandsFor}
 use Rattle.room_core.proofs.Maps.{changed_here, changed_else}
 use Rattle.room_core.proofs.Prefixes.{over_run}
-use Rattle.room_core.proofs.Effects.{Own, own_of, Effect, line_effect, stores, raises, scans, shows, enters, looks, leaves, asks_in_vain, finds, gathers, goes_to, will_decide, decides}
+use Rattle.room_core.proofs.Effects.{Own, own_of, Effect, line_effect, stores, raises, collects_word, collects_again, scans, shows_word, shows, loads_word, enters, looks, leaves, asks_in_vain, finds, gathers, goes_to, will_decide, decides}
 
 abbrev pub HasStored : Own → ℕ → Type 0
 HasStored own p = p < length own.mind.goals → goal_at own.mind.goals p ≡ goals.Done → own.out p ≢ 0
@@ -43,9 +43,13 @@ module _ (spec : RoomSpec) (fields : Fields) (own : Own) (p : ℕ) where
 
   pub own_stored : (after : Own) → Effect spec fields own after → HasStored own p → HasStored after p
   own_stored after (stores j k value rest goal count process first last) was = was
-  own_stored after (raises turn count) was = was
-  own_stored after (scans turn count none) was = was
-  own_stored after (shows turn count none) was = was
+  own_stored after (raises turn whole begun count) was = was
+  own_stored after (collects_word turn count none more) was = was
+  own_stored after (collects_again turn count none last several goes) was = was
+  own_stored after (scans collects turn count none last ends) was = was
+  own_stored after (loads_word found turn less more) was = was
+  own_stored after (shows_word turn count none more) was = was
+  own_stored after (shows turn count none last) was = was
   own_stored after (enters turn count none) was = was
   own_stored after (looks turn count one) was = was
   own_stored after (leaves saw_two turn count one) was = was

@@ -8,6 +8,9 @@ use Rattle.room_core.specs.Reading.{AreFieldsOf}
 use Rattle.room_core.specs.Moments.{fields_at}
 use Rattle.room_core.proofs.SmallValues.{small_values}
 use Rattle.room_core.proofs.Prefixes.{over_run}
+use Rattle.simulator.specs.declared.line.Line.TheVariants.{Show}
+use Rattle.room_core.specs.Fields.{with_shown}
+use Rattle.room_core.proofs.Effects.{IsLastWord}
 use Rattle.room_core.proofs.Moments.{IsHistory, history_kept, opening_history, history_run}
 use mathlib.Core.Logic.{dite}
 use native.Mathlib.Decide.{ℕ_discrete}
@@ -30,7 +33,7 @@ use Rattle.room_core.specs.Tracks.{Stage, Counts, Tells, stage_of, KeepsTrack, S
 use Rattle.room_core.specs.Tracks as stages
 use Rattle.room_core.proofs.Tracks.{at_sweep, stored_round}
 use Rattle.room_core.proofs.FieldReplays.{event_stands, stands_for}
-use Rattle.room_core.proofs.Effects.{Own, own_of, IsLineOf, line_effect, Effect, stores, raises, scans, shows, enters, looks, leaves, asks_in_vain, finds, gathers, goes_to, will_decide, decides}
+use Rattle.room_core.proofs.Effects.{Own, own_of, IsLineOf, line_effect, Effect, stores, raises, collects_word, collects_again, scans, shows_word, shows, loads_word, enters, looks, leaves, asks_in_vain, finds, gathers, goes_to, will_decide, decides}
 use Rattle.room_core.proofs.Sound.{IsSound, chosen_is_fixed, sound_kept, opening_sound}
 use Rattle.room_core.proofs.Fixing.{fixed_at}
 use Rattle.room_core.proofs.Staying.{LevelsStay, stay_line, with_others, stay_same}
@@ -38,7 +41,7 @@ use Rattle.room_core.proofs.Stages.{Scanned}
 use Rattle.room_core.proofs.Shown.{HasShown, progress_own, own_shown, own_grows}
 use Rattle.room_core.proofs.Exact.{at_two, scanned_level}
 use Rattle.room_core.proofs.OwnValues.{IsNext, own_writes, own_counts, own_values, own_stored, own_decided, own_spent}
-use Rattle.room_core.proofs.Known.{full, IsChosen, IsGathered, IsDeciding, IsKnown, ViewsWithin, loaded, acts, due_kept, chosen_kept, gathered_kept, deciding_kept}
+use Rattle.room_core.proofs.Known.{full, IsChosen, IsGathered, IsDeciding, IsKnown, ViewsWithin, loaded, word_loaded, IsLoaded, loaded_kept, acts, due_kept, chosen_kept, gathered_kept, deciding_kept}
 
 -- a turn at Raise has a write for its goal
 write_of : (rounds : ℕ) (goal : Goal) (step : ℕ) → Counts rounds goal stages.Stored step → (value : ℕ) × (goal ≡ goals.Write (round_of goal) value)
@@ -52,9 +55,15 @@ write_of rounds goals.Spent step counts = absurd counts
 module _ (spec : RoomSpec) (fields : Fields) (tracks : KeepsTrack spec fields) (small : HasSmallValues spec) (within : ViewsWithin spec fields) (known : IsKnown spec fields) (i : ℕ) (below : i < spec.simulators) where
   chosen_new : (after : Own) (chosen : ℕ) → Effect spec fields (own_of fields i) after → after.mind.line ≡ GetView chosen → IsChosen spec fields after.mind.sweep (current_round after.mind) chosen
   chosen_new after chosen (stores j k value rest goal count process first last) is = absurd cc
-  chosen_new after chosen (raises turn count) is = absurd cc
-  chosen_new after chosen (scans turn count none) is = absurd cc
-  chosen_new after chosen (shows turn count none) is = absurd cc
+  chosen_new after chosen (raises turn whole begun count) is = absurd cc
+  chosen_new after chosen (collects_word turn count none more) is = absurd cc
+  chosen_new after chosen (collects_again turn count none last several goes) is = absurd cc
+  chosen_new after chosen (scans collects turn count none last ends) is = absurd cc
+  chosen_new after chosen (loads_word found turn less more) is =
+      let same : ◌≡◌ {A = ℕ} found chosen = cc in
+      subst (λ (c : ℕ). IsChosen spec fields (fields.mind i).sweep (current_round (fields.mind i)) c) same (known.chosen i found below turn.stands)
+  chosen_new after chosen (shows_word turn count none more) is = absurd cc
+  chosen_new after chosen (shows turn count none last) is = absurd cc
   chosen_new after chosen (enters turn count none) is = absurd cc
   chosen_new after chosen (looks turn count one) is = absurd cc
   chosen_new after chosen (leaves saw_two turn count one) is = absurd cc
@@ -74,11 +83,36 @@ module _ (spec : RoomSpec) (fields : Fields) (tracks : KeepsTrack spec fields) (
   chosen_new after chosen (will_decide reading decision reads all action) is = absurd cc
   chosen_new after chosen (decides decision turn count) is = absurd cc
 
+  loading_new : (after : Own) (chosen : ℕ) → Effect spec fields (own_of fields i) after → after.mind.line ≡ GetView chosen → IsLoaded spec fields after chosen
+  loading_new after chosen (stores j k value rest goal count process first last) is = absurd cc
+  loading_new after chosen (raises turn whole begun count) is = absurd cc
+  loading_new after chosen (collects_word turn count none more) is = absurd cc
+  loading_new after chosen (collects_again turn count none last several goes) is = absurd cc
+  loading_new after chosen (scans collects turn count none last ends) is = absurd cc
+  loading_new after chosen (shows_word turn count none more) is = absurd cc
+  loading_new after chosen (shows turn count none last) is = absurd cc
+  loading_new after chosen (enters turn count none) is = absurd cc
+  loading_new after chosen (looks turn count one) is = absurd cc
+  loading_new after chosen (leaves saw_two turn count one) is = absurd cc
+  loading_new after chosen (asks_in_vain asking asks none) is = absurd cc
+  loading_new after chosen (finds asking found asks some) is = λ a q less less' early. let none = asks.fresh in absurd (omega arith)
+  loading_new after chosen (loads_word found turn less more) is =
+      let same : ◌≡◌ {A = ℕ} found chosen = cc in
+      subst (λ (c : ℕ). IsLoaded spec fields after c) same (λ a q less' less'' early. word_loaded spec fields within known i below found a q turn.stands less' less'' early)
+  loading_new after chosen (gathers reading reads more) is = absurd cc
+  loading_new after chosen (goes_to reading given reads all action) is = absurd cc
+  loading_new after chosen (will_decide reading decision reads all action) is = absurd cc
+  loading_new after chosen (decides decision turn count) is = absurd cc
+
   reading_new : (after : Own) → Effect spec fields (own_of fields i) after → after.mind.line ≡ Values → IsGathered spec fields after.mind.sweep (current_round after.mind) after.mind.snapshot after.mind.entries
   reading_new after (stores j k value rest goal count process first last) is = absurd cc
-  reading_new after (raises turn count) is = absurd cc
-  reading_new after (scans turn count none) is = absurd cc
-  reading_new after (shows turn count none) is = absurd cc
+  reading_new after (raises turn whole begun count) is = absurd cc
+  reading_new after (collects_word turn count none more) is = absurd cc
+  reading_new after (collects_again turn count none last several goes) is = absurd cc
+  reading_new after (scans collects turn count none last ends) is = absurd cc
+  reading_new after (loads_word found turn less more) is = absurd cc
+  reading_new after (shows_word turn count none more) is = absurd cc
+  reading_new after (shows turn count none last) is = absurd cc
   reading_new after (enters turn count none) is = absurd cc
   reading_new after (looks turn count one) is = absurd cc
   reading_new after (leaves saw_two turn count one) is = absurd cc
@@ -91,9 +125,13 @@ module _ (spec : RoomSpec) (fields : Fields) (tracks : KeepsTrack spec fields) (
 
   deciding_new : (after : Own) (decision : ℕ) → Effect spec fields (own_of fields i) after → after.mind.line ≡ Out decision → IsDeciding spec fields after.mind.sweep (current_round after.mind) decision
   deciding_new after decision (stores j k value rest goal count process first last) is = absurd cc
-  deciding_new after decision (raises turn count) is = absurd cc
-  deciding_new after decision (scans turn count none) is = absurd cc
-  deciding_new after decision (shows turn count none) is = absurd cc
+  deciding_new after decision (raises turn whole begun count) is = absurd cc
+  deciding_new after decision (collects_word turn count none more) is = absurd cc
+  deciding_new after decision (collects_again turn count none last several goes) is = absurd cc
+  deciding_new after decision (scans collects turn count none last ends) is = absurd cc
+  deciding_new after decision (loads_word found turn less more) is = absurd cc
+  deciding_new after decision (shows_word turn count none more) is = absurd cc
+  deciding_new after decision (shows turn count none last) is = absurd cc
   deciding_new after decision (enters turn count none) is = absurd cc
   deciding_new after decision (looks turn count one) is = absurd cc
   deciding_new after decision (leaves saw_two turn count one) is = absurd cc
@@ -120,7 +158,7 @@ module _ (spec : RoomSpec) (fields after : Fields) (i : ℕ) (tracks : KeepsTrac
   pub some_simulator : 0 < spec.simulators
   some_simulator = let b = effect.below in omega arith
 
-  view_of : (p k : ℕ) → fields.level i p k ≡ 2 → (HasShown (progress_own (own_of fields i) p k) × (after.view i p k ≡ fields.view i p k)) ⊎ ((progress_own (own_of fields i) p k ≡ Scanned) × (after.view i p k ≡ (fields.mind i).snapshot)) → after.view i p k ≡ fields.view i p k
+  view_of : (p k : ℕ) → fields.level i p k ≡ 2 → (HasShown (progress_own (own_of fields i) p k) × (after.view i p k ≡ fields.view i p k)) ⊎ ((progress_own (own_of fields i) p k ≡ Scanned) × (after.view i p k ≡ with_shown spec (fields.view i p k) (fields.mind i)) × IsLastWord spec (own_of fields i) × (p ≡ (fields.mind i).sweep) × (k ≡ current_round (fields.mind i)) × ((fields.mind i).line ≡ Show) × (p < processes spec)) → after.view i p k ≡ fields.view i p k
   view_of p k two (inl kept) = kept.1
   view_of p k two (inr new) = absurd (scanned_level spec fields i p k tracks new.0 two)
 
@@ -249,6 +287,17 @@ module _ (spec : RoomSpec) (fields after : Fields) (i : ℕ) (tracks : KeepsTrac
         (λ (n : a ≢ i).
         let same = effect.others a n in
         subst (λ (own : Own). IsChosen spec fields own.mind.sweep (current_round own.mind) chosen) (sym same) (known.chosen a chosen below (ap (λ (own : Own). own.mind.line) (sym same) ∙ is))));
+    loading = λ a chosen below is.
+        let pair = dite (ℕ_discrete a i)
+        (λ (e : a ≡ i).
+        let is' = ap (λ (b : ℕ). (after.mind b).line) (sym e) ∙ is in
+        subst (λ (b : ℕ). IsChosen spec fields (after.mind b).sweep (current_round (after.mind b)) chosen × IsLoaded spec fields (own_of after b) chosen) (sym e)
+        (chosen_new spec fields tracks small within known i effect.below (own_of after i) chosen effect.own is', loading_new spec fields tracks small within known i effect.below (own_of after i) chosen effect.own is'))
+        (λ (n : a ≢ i).
+        let same = effect.others a n in
+        let is' = ap (λ (own : Own). own.mind.line) (sym same) ∙ is in
+        subst (λ (own : Own). IsChosen spec fields own.mind.sweep (current_round own.mind) chosen × IsLoaded spec fields own chosen) (sym same) (known.chosen a chosen below is', known.loading a chosen below is')) in
+        loaded_kept spec fields after some_simulator stay within known views most due_after (own_of after a) chosen pair.0 pair.1;
     reading = λ a below is. gathered_kept spec fields after some_simulator stay within known views most due_after (after.mind a).sweep (current_round (after.mind a)) (after.mind a).snapshot (after.mind a).entries (dite (ℕ_discrete a i)
         (λ (e : a ≡ i).
         subst (λ (b : ℕ). IsGathered spec fields (after.mind b).sweep (current_round (after.mind b)) (after.mind b).snapshot (after.mind b).entries) (sym e)
@@ -288,6 +337,7 @@ known_other spec fields quiet crashed some tracks within known =
       low_writes = known.low_writes;
       stored = known.stored;
       chosen = λ a chosen below is. chosen_kept spec fields after some stay within known views most known.values (fields.mind a).sweep (current_round (fields.mind a)) chosen (known.chosen a chosen below is);
+      loading = known.loading;
       reading = λ a below is. gathered_kept spec fields after some stay within known views most known.values (fields.mind a).sweep (current_round (fields.mind a)) (fields.mind a).snapshot (fields.mind a).entries (known.reading a below is);
       deciding = λ a decision below is. deciding_kept spec fields after some stay within known views most known.values (fields.mind a).sweep (current_round (fields.mind a)) decision (known.deciding a decision below is);
       outs = λ a p decision below below' out. deciding_kept spec fields after some stay within known views most known.values p (fields.step a p) decision (known.outs a p decision below below' out);
@@ -309,6 +359,7 @@ opening_known spec small = record {
   writes = λ a p k value below below' is. let at = first_goal_is spec p k value below' is in first_write at.0 at.1;
   stored = λ a k value below is at. absurd (no_raise is);
   chosen = λ a chosen below is. absurd (no_view chosen is);
+  loading = λ a chosen below is. absurd (no_view chosen is);
   reading = λ a below is. absurd (no_values is);
   deciding = λ a decision below is. absurd (no_out decision is);
   outs = λ a p decision below below' out. absurd (omega arith);

@@ -8,7 +8,14 @@ use Rattle.protocol_lang.specs.declared.meaning.Action.{Action}
 use Rattle.protocol_lang.specs.declared.meaning.Action.TheVariants as actions
 use Rattle.room_spec.specs.Rooms.{RoomSpec, processes}
 use Rattle.safe_agreement.specs.Levels.{least_two}
-use Rattle.sim_memory.specs.Steps.{AreAtMost}
+use Rattle.room_spec.specs.Sizes.{sizes_in}
+use Rattle.sim_memory.specs.Steps.{AreAtMost, AreSameSteps, word_of}
+use Rattle.sim_memory.proofs.Rows.{row_same}
+use Rattle.room_core.specs.Agreements as agreements
+use Rattle.room_core.proofs.Collecting.{with_here, with_else}
+use mathlib.Core.Logic.{dite}
+use native.Mathlib.Decide.{ℕ_discrete}
+use Rattle.std.proofs.Common.{◌≢◌}
 use Rattle.sim_memory.proofs.Rows.{merged_reached}
 use Rattle.simulator.specs.declared.goal.Goal.TheVariants as goals
 use Rattle.simulator.specs.declared.line.Line.TheVariants.{Raise, GetView, Values, Out}
@@ -19,7 +26,7 @@ use Rattle.room_core.specs.Contents.{or_zero, shown_by, IsDue, first_write, next
 use Rattle.room_core.proofs.Staying.{LevelsStay}
 use Rattle.room_core.proofs.Fixing.{fixed_has_least}
 use Rattle.room_core.proofs.Contents.{first_has, due_only, ValuesDue, ValuesLow, small_more, padded_small, shown_value_is, AreFirst, first_more, padded_first, length_of_shown, shown_at, shown_none, shown_same}
-use Rattle.room_core.proofs.Effects.{own_of, action_of, Loads, loads_view, loads_value, IsReading}
+use Rattle.room_core.proofs.Effects.{Own, own_of, process_on, round_on, view_loaded, action_of, Loads, loads_view, loads_value, IsReading}
 
 -- an open turn on (j, k), by how far it has got in reading what was agreed on
 pub record IsChosen (spec : RoomSpec) (fields : Fields) (j k chosen : ℕ) : Type 0 where
@@ -27,10 +34,14 @@ pub record IsChosen (spec : RoomSpec) (fields : Fields) (j k chosen : ℕ) : Typ
   pub first : 1 ≤ k
   pub is : least_two (levels_at spec fields j k) ≡ Some chosen
 
+-- the words of the chosen proposal that have been loaded
+abbrev pub IsLoaded : RoomSpec → Fields → Own → ℕ → Type 0
+IsLoaded spec fields own chosen = (a p : ℕ) → a < spec.simulators → p < processes spec → word_of (sizes_in spec) a p < own.mind.word → own.mind.snapshot a p ≡ fields.view chosen (process_on own) (round_on own) a p
+
 pub record IsGathered (spec : RoomSpec) (fields : Fields) (j k : ℕ) (snapshot : StepMap) (entries : List (Option ℕ)) : Type 0 where
   pub fixed : IsFixedAt spec fields j k
   pub first : 1 ≤ k
-  pub view : snapshot ≡ view_at spec fields j k
+  pub view : AreSameSteps spec.simulators (processes spec) snapshot (view_at spec fields j k)
   pub so_far : AreFirst entries (shown_by spec fields snapshot)
   pub small : AreSmall entries
 
@@ -48,6 +59,7 @@ pub record IsKnown (spec : RoomSpec) (fields : Fields) : Type 0 where
   pub writes : (i p k value : ℕ) → i < spec.simulators → p < processes spec → goal_at (fields.mind i).goals p ≡ goals.Write k value → IsDue spec fields p k value
   pub stored : (i k value : ℕ) → i < spec.simulators → (fields.mind i).line ≡ Raise → current_goal (fields.mind i) ≡ goals.Write k value → fields.value i (fields.mind i).sweep k ≡ value
   pub chosen : (i chosen : ℕ) → i < spec.simulators → (fields.mind i).line ≡ GetView chosen → IsChosen spec fields (fields.mind i).sweep (current_round (fields.mind i)) chosen
+  pub loading : (i chosen : ℕ) → i < spec.simulators → (fields.mind i).line ≡ GetView chosen → IsLoaded spec fields (own_of fields i) chosen
   pub reading : (i : ℕ) → i < spec.simulators → (fields.mind i).line ≡ Values → IsGathered spec fields (fields.mind i).sweep (current_round (fields.mind i)) (fields.mind i).snapshot (fields.mind i).entries
   pub deciding : (i decision : ℕ) → i < spec.simulators → (fields.mind i).line ≡ Out decision → IsDeciding spec fields (fields.mind i).sweep (current_round (fields.mind i)) decision
   pub outs : (i p decision : ℕ) → i < spec.simulators → p < processes spec → fields.out i p ≡ decision + 1 → IsDeciding spec fields p (fields.step i p) decision
@@ -72,17 +84,27 @@ min_low value = omega arith
 -- ---- inside one moment: what a turn has just read
 
 module _ (spec : RoomSpec) (fields : Fields) (within : ViewsWithin spec fields) (known : IsKnown spec fields) (i : ℕ) (below : i < spec.simulators) where
+  pub word_loaded : (chosen a q : ℕ) → (fields.mind i).line ≡ GetView chosen → a < spec.simulators → q < processes spec → word_of (sizes_in spec) a q < (fields.mind i).word + 1 → (view_loaded spec fields (own_of fields i) chosen).snapshot a q ≡ fields.view chosen (fields.mind i).sweep (current_round (fields.mind i)) a q
+  word_loaded chosen a q stands less less' early =
+      let mind = fields.mind i in
+      let view = fields.view chosen mind.sweep (current_round mind) in
+      dite (ℕ_discrete (word_of (sizes_in spec) a q) mind.word)
+      (λ (e : word_of (sizes_in spec) a q ≡ mind.word). with_here (sizes_in spec) mind.word view mind.snapshot a q e)
+      (λ (n : word_of (sizes_in spec) a q ≢ mind.word). with_else (sizes_in spec) mind.word view mind.snapshot a q n ∙ known.loading i chosen below stands a q less less' (omega arith))
+
   loaded_by : (reading : MindOf StepMap) → Loads spec fields (own_of fields i) reading → IsGathered spec fields reading.sweep (current_round reading) reading.snapshot reading.entries
-  loaded_by reading (loads_view chosen turn less) =
+  loaded_by reading (loads_view chosen turn less last words) =
       let mind = fields.mind i in
       let at = known.chosen i chosen below turn.stands in
-      let view = fields.view chosen mind.sweep (current_round mind) in
+      let chosen_view = fields.view chosen mind.sweep (current_round mind) in
+      let view = (view_loaded spec fields (own_of fields i) chosen).snapshot in
       let all = shown_by spec fields view in
       let long : length all ≡ processes spec = length_of_shown spec fields view in
       record {
         fixed = at.fixed;
         first = at.first;
-        view = sym (ap (λ (o : Option ℕ). fields.view (or_zero o) mind.sweep (current_round mind)) at.is);
+        view = λ a q less' less''.
+            word_loaded chosen a q turn.stands less' less'' (let w = words a q less' less'' in omega (arith, w, last)) ∙ sym (ap (λ (o : Option ℕ). fields.view (or_zero o) mind.sweep (current_round mind) a q) at.is);
         so_far = padded_first (entry_of_steps spec view) all (processes spec - 0) [] (omega (arith, long)) (λ p less' none. shown_none spec fields view p (omega (arith, long, less')) none) refl;
         small = padded_small (entry_of_steps spec view) (processes spec - 0) [] tt;
       }
@@ -94,7 +116,7 @@ module _ (spec : RoomSpec) (fields : Fields) (within : ViewsWithin spec fields) 
       let entry : Option ℕ = Some (min (shown_value spec fields mind.snapshot p) greatest) in
       let long : length all ≡ processes spec = length_of_shown spec fields mind.snapshot in
       let long' : length (mind.entries ++ entry ∷ []) ≡ p + 1 = length-append mind.entries (entry ∷ []) in
-      let most : AreAtMost spec.simulators (processes spec) mind.snapshot fields.step = subst (λ (map : StepMap). AreAtMost spec.simulators (processes spec) map fields.step) (sym at.view) (view_within spec fields within mind.sweep (current_round mind) at.first at.fixed) in
+      let most : AreAtMost spec.simulators (processes spec) mind.snapshot fields.step = λ a q less' less''. let e = at.view a q less' less'' in let b = view_within spec fields within mind.sweep (current_round mind) at.first at.fixed a q less' less'' in omega (arith, e, b) in
       let is : get_or all p None ≡ entry = shown_at spec fields mind.snapshot p less ∙ sym (shown_value_is spec fields mind.snapshot p known.low_values known.values (omega arith) less (λ a less'. most a p less' less) row) in
       record {
         fixed = at.fixed;
@@ -120,7 +142,7 @@ module _ (spec : RoomSpec) (fields : Fields) (within : ViewsWithin spec fields) 
       let at = loaded reading reads in
       let long = length_of_shown spec fields reading.snapshot in
       let entries : reading.entries ≡ shown_by spec fields (view_at spec fields reading.sweep (current_round reading)) =
-      at.so_far ∙ take_all (length reading.entries) (shown_by spec fields reading.snapshot) (omega (arith, long, all)) ∙ ap (λ (map : StepMap). shown_by spec fields map) at.view in
+      at.so_far ∙ take_all (length reading.entries) (shown_by spec fields reading.snapshot) (omega (arith, long, all)) ∙ ap (λ (row : List ℕ). agreements.shown_by spec fields row) (row_same spec.simulators (processes spec) reading.snapshot (view_at spec fields reading.sweep (current_round reading)) at.view) in
       ap (λ (view : List (Option ℕ)). next_action spec.protocol (slice_index spec.inputs reading.sweep) reading.sweep (current_round reading) view) entries
 
 -- ---- from one moment to the next
@@ -162,13 +184,23 @@ module _ (spec : RoomSpec) (fields after : Fields) (some : 0 < spec.simulators) 
   pub chosen_kept : (j k chosen : ℕ) → IsChosen spec fields j k chosen → IsChosen spec after j k chosen
   chosen_kept j k chosen at = record { fixed = stay.fixed j k at.fixed; first = at.first; is = sym (stay.least j k at.fixed) ∙ at.is }
 
+  pub loaded_kept : (own : Own) (chosen : ℕ) → IsChosen spec fields (process_on own) (round_on own) chosen → IsLoaded spec fields own chosen → IsLoaded spec after own chosen
+  loaded_kept own chosen at is a q less less' early =
+      let least = fixed_has_least spec fields (process_on own) (round_on own) at.fixed in
+      let same : least.0 ≡ chosen = some_same (sym least.2 ∙ at.is) in
+      let view = views least.0 (process_on own) (round_on own) least.1 at.first at.fixed least.3 in
+      is a q less less' early ∙ ap (λ (map : StepMap). map a q) (sym (subst (λ (c : ℕ). after.view c (process_on own) (round_on own) ≡ fields.view c (process_on own) (round_on own)) same view))
+    where
+      some_same : {x y : ℕ} → Some x ≡ Some y → x ≡ y
+      some_same e = cc
+
   pub gathered_kept : (j k : ℕ) (snapshot : StepMap) (entries : List (Option ℕ)) → IsGathered spec fields j k snapshot entries → IsGathered spec after j k snapshot entries
   gathered_kept j k snapshot entries at =
-      let low : AreAtMost spec.simulators (processes spec) snapshot fields.step = subst (λ (map : StepMap). AreAtMost spec.simulators (processes spec) map fields.step) (sym at.view) (view_within spec fields within j k at.first at.fixed) in
+      let low : AreAtMost spec.simulators (processes spec) snapshot fields.step = λ a q less less'. let e = at.view a q less less' in let b = view_within spec fields within j k at.first at.fixed a q less less' in omega (arith, e, b) in
       record {
         fixed = stay.fixed j k at.fixed;
         first = at.first;
-        view = at.view ∙ sym (view_kept j k at.first at.fixed);
+        view = λ a q less less'. at.view a q less less' ∙ ap (λ (map : StepMap). map a q) (sym (view_kept j k at.first at.fixed));
         so_far = at.so_far ∙ ap (λ (all : List (Option ℕ)). take (length entries) all) (sym (shown_kept snapshot low));
         small = at.small;
       }

@@ -33,6 +33,9 @@ pub mod Fixing
 pub mod Staying
 pub mod Deciding
 pub mod Shown
+pub mod Collects
+pub mod Sums
+pub mod Collecting
 pub mod Moments
 pub mod Exact
 pub mod Contents
@@ -45,3 +48,5 @@ pub mod Promises
 pub mod LowValues
 pub mod Lasting
 pub mod Repeating
+pub mod Visits
+pub mod Certified

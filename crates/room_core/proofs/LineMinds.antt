@@ -1,14 +1,16 @@
 -- With what its word answers, a mind becomes the mind that the line makes.
-use Rattle.std.proofs.Common.{◌≡◌, ℕ, ◌+◌, ◌<◌, ◌≤◌, Bool, true, false, cond, ltb, min, List, [], ◌∷◌, ◌++◌, length, Option, Some, None, refl, ap, ◌∙◌, arith}
+use Rattle.std.proofs.Common.{◌≡◌, ℕ, ◌+◌, ◌<◌, ◌≤◌, Bool, true, false, cond, ltb, min, List, [], ◌∷◌, ◌++◌, length, Option, Some, None, set, refl, sym, ap, ◌∙◌, arith}
 use Rattle.std.specs.Prelude.{slice_index}
 use Rattle.std.proofs.lemmas.List.{length-append}
 use Rattle.protocol_lang.specs.Numbers.{greatest}
 use Rattle.room_spec.specs.Rooms.{RoomSpec, IsWithinLimits, processes}
-use Rattle.room_spec.specs.Sizes.{sizes_in}
+use Rattle.room_spec.specs.Sizes.{memory_words, sizes_in}
+use Rattle.room_spec.proofs.MemoryWords.{are_memory_words}
 use Rattle.level_cells.specs.Fields.{levels_of}
 use Rattle.level_cells.specs.Packing.{packed}
 use Rattle.safe_agreement.specs.Levels.{has_level}
-use Rattle.sim_memory.specs.Steps.{AreWithin, memory_word}
+use Rattle.sim_memory.specs.Steps.{AreWithin, memory_of, memory_word}
+use Rattle.sim_memory.proofs.Words.{part_memory}
 use Rattle.sim_memory.proofs.Rows.{merged_below}
 use Rattle.sim_memory.proofs.Greatest.{some_holder, holder_is}
 use Rattle.view_table.specs.Places.{IsProcess, IsRound}
@@ -18,15 +20,15 @@ use Rattle.simulator.specs.declared.goal.Goal.TheVariants as goals
 use Rattle.simulator.specs.declared.line.Line.{Line}
 use Rattle.simulator.specs.declared.line.Line.TheVariants.{Rest, Raise, Snap, Show, Enter, Look, Leave, Ask, GetView, Values, Out}
 use Rattle.simulator.specs.declared.operation.Move.TheVariants.{OutOfTurns}
-use Rattle.simulator.specs.Minds.{MindOf, goal_at, current_round, next_process}
+use Rattle.simulator.specs.Minds.{MindOf, MindState, goal_at, current_round, next_process}
 use Rattle.simulator.specs.Turns.{counted, begun, goes_on, snapped, asked, got_view, got_value, opened_at, opened}
-use Rattle.simulator.specs.Moves.{IsOperation, index_in, entry_in, holder_in, first_move_at, first_move, move_at, chosen_in, taken_at, answer_of}
+use Rattle.simulator.specs.Moves.{IsOperation, index_in, entry_in, holder_in, first_move_at, first_move, move_at, chosen_in, taken_at, answer_of, is_again, loaded}
 use Rattle.simulator.specs.Ranges.{IsMind}
-use Rattle.room_core.specs.Fields.{StepMap, Fields, chosen_at, entry_of_steps, holder_of_steps, shown_value}
+use Rattle.room_core.specs.Fields.{StepMap, Fields, chosen_at, entry_of_steps, holder_of_steps, is_same_collect, shown_value, with_loaded}
 use Rattle.room_core.specs.Reading.{worded}
 use Rattle.room_core.specs.Tracks.{AreInRange}
-use Rattle.room_core.proofs.Snapshots.{same_row, same_holder, same_levels, same_chosen}
-use Rattle.room_core.proofs.Wording.{worded_taken, asked_worded, opened_worded, gathered_worded}
+use Rattle.room_core.proofs.Snapshots.{part_within, same_collects, same_row, same_holder, same_levels, same_chosen}
+use Rattle.room_core.proofs.Wording.{worded_taken, asked_worded, opened_worded, gathered_worded, got_view_worded, showed_worded, snapped_worded}
 use Rattle.room_core.proofs.Holding.{Hold}
 use Rattle.room_core.proofs.Lines.{taken_first_at, taken_first, taken_on, StandsAt, open_round, first_place}
 
@@ -74,19 +76,28 @@ holder_below spec steps p limits =
     omega arith
 
 -- the value that a snapshot as a word shows of a process
-value_at_place : (spec : RoomSpec) (fields : Fields) (words : List ℕ) (steps : StepMap) (p : ℕ) → IsWithinLimits spec → AreWithin (sizes_in spec) steps → Hold (sizes_in spec) words fields → p < processes spec → 1 ≤ entry_in spec (memory_word (sizes_in spec) steps) p
-    → slice_index words (index_in spec (places.Value (holder_in spec (memory_word (sizes_in spec) steps) p) p (entry_in spec (memory_word (sizes_in spec) steps) p))) ≡ shown_value spec fields steps p
+value_at_place : (spec : RoomSpec) (fields : Fields) (words : List ℕ) (steps : StepMap) (p : ℕ) → IsWithinLimits spec → AreWithin (sizes_in spec) steps → Hold (sizes_in spec) words fields → p < processes spec → 1 ≤ entry_in spec (memory_of (sizes_in spec) steps) p
+    → slice_index words (index_in spec (places.Value (holder_in spec (memory_of (sizes_in spec) steps) p) p (entry_in spec (memory_of (sizes_in spec) steps) p))) ≡ shown_value spec fields steps p
 value_at_place spec fields words steps p limits within held below shown =
     let row = same_row spec steps p limits within below in
     let holder = same_holder spec steps p limits within below in
     let most = row_at_most spec steps p within below in
     let some : 1 ≤ entry_of_steps spec steps p = omega arith in
-    ap (λ (r : ℕ). slice_index words (index_in spec (places.Value (holder_in spec (memory_word (sizes_in spec) steps) p) p r))) row
+    ap (λ (r : ℕ). slice_index words (index_in spec (places.Value (holder_in spec (memory_of (sizes_in spec) steps) p) p r))) row
     ∙ ap (λ (h : ℕ). slice_index words (index_in spec (places.Value h p (entry_of_steps spec steps p)))) holder
     ∙ held (places.Value (holder_of_steps spec steps p) p (entry_of_steps spec steps p)) (holder_below spec steps p limits, below, (some, most))
 
 length_with_one : (entries : List (Option ℕ)) (value : Option ℕ) → length (entries ++ value ∷ []) ≡ length entries + 1
 length_with_one entries value = let one : List (Option ℕ) = value ∷ [] in length-append entries one
+
+-- ---- a word is loaded
+
+loaded_worded : (spec : RoomSpec) (mind : MindOf StepMap) (source : StepMap) (answer : ℕ) → IsWithinLimits spec → mind.word < memory_words (sizes_in spec) → answer ≡ memory_word (sizes_in spec) source mind.word
+    → loaded answer (counted (worded (sizes_in spec) mind)) ≡ worded (sizes_in spec) (with_loaded spec source (counted mind))
+loaded_worded spec mind source answer limits one is =
+    let few = (are_memory_words (sizes_in spec) limits.shape).few in
+    ap (λ (words : List ℕ). record (counted (worded (sizes_in spec) mind)) { snapshot = words })
+    (ap (λ (x : ℕ). set (memory_of (sizes_in spec) mind.snapshot) mind.word x) is ∙ sym (part_memory (sizes_in spec) source mind.snapshot mind.word (omega arith)))
 
 -- ---- all lines
 
@@ -94,8 +105,15 @@ pub same_taken : (line : Line) (spec : RoomSpec) (fields : Fields) (i : ℕ) (wo
     → taken_at line spec (counted (worded (sizes_in spec) mind)) (answer_of (move_at line spec (worded (sizes_in spec) mind)) words) ≡ worded_taken (sizes_in spec) (taken_on line spec fields mind.sweep (current_round mind) (counted mind))
 same_taken Rest spec fields i words mind at held = next_answer spec fields words mind held at.range at.is_mind (next_process mind.goals mind.sweep) at.moves
 same_taken Raise spec fields i words mind at held = refl
-same_taken Snap spec fields i words mind at held = ap (λ (word : ℕ). snapped word (counted (worded (sizes_in spec) mind))) (held places.Steps tt)
-same_taken Show spec fields i words mind at held = refl
+same_taken Snap spec fields i words mind at held =
+    let one : mind.word < memory_words (sizes_in spec) = at.word in
+    let into = with_loaded spec fields.step (counted mind) in
+    let is = loaded_worded spec mind fields.step (slice_index words (index_in spec (places.Memory mind.word))) at.is_mind.limits one (held (places.Memory mind.word) one) in
+    let within = part_within (sizes_in spec) mind.word fields.step mind.snapshot (λ a p _ _. at.range.step a p) at.snapshot in
+    ap (λ (m : MindState). snapped spec (is_again m) m) is
+    ∙ ap (λ (same : Bool). snapped spec same (worded (sizes_in spec) into)) (same_collects (sizes_in spec) at.is_mind.limits.shape into.snapshot mind.before within at.before)
+    ∙ snapped_worded (sizes_in spec) spec (is_same_collect spec into) into
+same_taken Show spec fields i words mind at held = showed_worded (sizes_in spec) spec (counted mind)
 same_taken Enter spec fields i words mind at held = refl
 same_taken Look spec fields i words mind at held =
     let j = mind.sweep in
@@ -113,14 +131,17 @@ same_taken (GetView chosen) spec fields i words mind at held =
     let j = mind.sweep in
     let k = current_round mind in
     let view = fields.view chosen j k in
-    let within = at.range.view chosen j k in
+    let one : mind.word < memory_words (sizes_in spec) = at.word in
     let round = open_round spec mind at.is_mind at.open_at.0 in
-    ap (λ (word : ℕ). got_view (entry_in spec word) spec word (counted (worded (sizes_in spec) mind))) (held (places.View chosen j k) (at.open_at.1, at.is_mind.sweep, round))
-    ∙ gathered_worded (sizes_in spec) spec (entry_in spec (memory_word (sizes_in spec) view)) (entry_of_steps spec view) [] (record (counted mind) { snapshot = view }) (omega arith) (λ p below. same_row spec view p at.is_mind.limits within below)
+    let into = with_loaded spec view (counted mind) in
+    let is = loaded_worded spec mind view (slice_index words (index_in spec (places.View chosen j k mind.word))) at.is_mind.limits one (held (places.View chosen j k mind.word) (at.open_at.1, at.is_mind.sweep, round, one)) in
+    let within = part_within (sizes_in spec) mind.word view mind.snapshot (at.range.view chosen j k) at.snapshot in
+    ap (λ (m : MindState). got_view (entry_in spec m.snapshot) spec chosen m) is
+    ∙ got_view_worded (sizes_in spec) spec (entry_in spec (memory_of (sizes_in spec) into.snapshot)) (entry_of_steps spec into.snapshot) chosen into (λ p below. same_row spec into.snapshot p at.is_mind.limits within below)
 same_taken Values spec fields i words mind at held =
     let p = length mind.entries in
     let longer = length_with_one mind.entries (Some (min (shown_value spec fields mind.snapshot p) greatest)) in
     let below : p < processes spec = at.open_at.1 in
-    ap (λ (value : ℕ). got_value (entry_in spec (memory_word (sizes_in spec) mind.snapshot)) spec value (counted (worded (sizes_in spec) mind))) (value_at_place spec fields words mind.snapshot p at.is_mind.limits at.snapshot held below at.open_at.2)
-    ∙ gathered_worded (sizes_in spec) spec (entry_in spec (memory_word (sizes_in spec) mind.snapshot)) (entry_of_steps spec mind.snapshot) (mind.entries ++ Some (min (shown_value spec fields mind.snapshot p) greatest) ∷ []) (counted mind) (omega arith) (λ q less. same_row spec mind.snapshot q at.is_mind.limits at.snapshot less)
+    ap (λ (value : ℕ). got_value (entry_in spec (memory_of (sizes_in spec) mind.snapshot)) spec value (counted (worded (sizes_in spec) mind))) (value_at_place spec fields words mind.snapshot p at.is_mind.limits at.snapshot held below at.open_at.2)
+    ∙ gathered_worded (sizes_in spec) spec (entry_in spec (memory_of (sizes_in spec) mind.snapshot)) (entry_of_steps spec mind.snapshot) (mind.entries ++ Some (min (shown_value spec fields mind.snapshot p) greatest) ∷ []) (counted mind) (omega arith) (λ q less. same_row spec mind.snapshot q at.is_mind.limits at.snapshot less)
 same_taken (Out decision) spec fields i words mind at held = refl

@@ -19,7 +19,8 @@ use Rattle.simulator.specs.Minds.{MindOf, goal_at, current_goal, current_round, 
 use Rattle.simulator.specs.Turns.{TakenOf, counted, begun, goes_on, ended, asked, acted, after_write, padded, gathered, opened_at}
 use Rattle.simulator.specs.Ranges.{IsGoal, IsMind}
 use Rattle.simulator.specs.Moves.{IsOperation, first_move_at, first_move}
-use Rattle.room_core.specs.Fields.{StepMap, Fields, changed, changed_pair, changed_triple, levels_at, chosen_at, entry_of_steps, shown_value}
+use Rattle.room_core.specs.Fields.{StepMap, Fields, changed, changed_pair, changed_triple, levels_at, chosen_at, entry_of_steps, shown_value, is_same_collect, with_loaded}
+use Rattle.room_core.proofs.Wording.{got_view_by, showed_by, snapped_by}
 use Rattle.room_core.specs.Reading.{worded}
 use Rattle.room_core.specs.Tracks.{AtRest, Stored, Past, stage_of, Tells, ToldBy}
 use Rattle.room_core.proofs.Maps.{changed_here, changed_else}
@@ -118,12 +119,18 @@ left_other true left = omega arith
 left_other false left = omega arith
 
 pub told_line : (line : Line) (spec : RoomSpec) (fields : Fields) (i : ℕ) (mind : MindOf StepMap) → StandsAt line spec fields i mind
-    → ToldBy spec.rounds (taken_on line spec fields mind.sweep (current_round mind) (counted mind)).mind ((stored_on line fields i mind.sweep (current_round mind) (counted mind)).step i) ((stored_on line fields i mind.sweep (current_round mind) (counted mind)).level i)
+    → ToldBy spec.rounds (taken_on line spec fields mind.sweep (current_round mind) (counted mind)).mind ((stored_on line spec fields i mind.sweep (current_round mind) (counted mind)).step i) ((stored_on line spec fields i mind.sweep (current_round mind) (counted mind)).level i)
 told_line Rest spec fields i mind at = next_told spec fields i mind (each_at_rest spec.rounds mind.sweep mind.goals (fields.step i) (fields.level i) at.others at.own) (next_process mind.goals mind.sweep) at.moves
 told_line Raise spec fields i mind at =
     raised_told spec.rounds Snap (counted mind) fields.step (fields.level i) i (fields.step i mind.sweep + 1) at.others (tells_raised spec.rounds (current_goal mind) (fields.step i mind.sweep) (fields.level i mind.sweep) at.own)
-told_line Snap spec fields i mind at = goes_told spec (fields.step i) (fields.level i) Show (record (counted mind) { snapshot = fields.step }) at.others at.own
-told_line Show spec fields i mind at = goes_told spec (fields.step i) (fields.level i) Enter (counted mind) at.others at.own
+told_line Snap spec fields i mind at =
+    let into = with_loaded spec fields.step (counted mind) in
+    let goes : (line : Line) (one : MindOf StepMap) → ToldBeside spec.rounds one.sweep one.goals (fields.step i) (fields.level i) → Tells spec.rounds (current_goal one) (stage_of line) (fields.step i one.sweep) (fields.level i one.sweep) → ToldBy spec.rounds (goes_on line one).mind (fields.step i) (fields.level i) = goes_told spec (fields.step i) (fields.level i) in
+    snapped_by (λ (taken : TakenOf StepMap). ToldBy spec.rounds taken.mind (fields.step i) (fields.level i)) spec into (is_same_collect spec into)
+    (goes Snap (record into { word = into.word + 1 }) at.others at.own) (goes Show (record into { word = 0 }) at.others at.own) (goes Show (record into { word = 0; collects = into.collects + 1 }) at.others at.own) (goes Snap (record into { word = 0; collects = into.collects + 1; before = into.snapshot }) at.others at.own)
+told_line Show spec fields i mind at =
+    showed_by (λ (taken : TakenOf StepMap). ToldBy spec.rounds taken.mind (fields.step i) (fields.level i)) spec (counted mind)
+    (goes_told spec (fields.step i) (fields.level i) Show (record (counted mind) { word = mind.word + 1 }) at.others at.own) (goes_told spec (fields.step i) (fields.level i) Enter (record (counted mind) { word = 0 }) at.others at.own)
 told_line Enter spec fields i mind at =
     level_told spec.rounds Look (counted mind) (fields.step i) fields.level i (current_round mind) (fields.level i mind.sweep (current_round mind) + 1) at.others (tells_entered spec.rounds (current_goal mind) (fields.step i mind.sweep) (fields.level i mind.sweep) at.own)
 told_line Look spec fields i mind at = goes_told spec (fields.step i) (fields.level i) (Leave (has_level 2 (levels_at spec fields mind.sweep (current_round mind)))) (counted mind) at.others at.own
@@ -132,7 +139,10 @@ told_line (Leave saw_two) spec fields i mind at =
 told_line Ask spec fields i mind at =
     asked_told spec (fields.step i) (fields.level i) (chosen_at spec fields mind.sweep (current_round mind)) (counted mind) (sweep_below spec mind at.is_mind) at.others at.own
 told_line (GetView chosen) spec fields i mind at =
-    gathered_told spec (fields.step i) (fields.level i) (entry_of_steps spec (fields.view chosen mind.sweep (current_round mind))) [] (record (counted mind) { snapshot = fields.view chosen mind.sweep (current_round mind) }) (sweep_below spec mind at.is_mind) (goal_range spec mind at.is_mind) at.others at.own
+    let into = with_loaded spec (fields.view chosen mind.sweep (current_round mind)) (counted mind) in
+    got_view_by (λ (taken : TakenOf StepMap). ToldBy spec.rounds taken.mind (fields.step i) (fields.level i)) spec into (entry_of_steps spec into.snapshot) chosen
+    (goes_told spec (fields.step i) (fields.level i) (GetView chosen) (record into { word = into.word + 1 }) at.others at.own)
+    (gathered_told spec (fields.step i) (fields.level i) (entry_of_steps spec into.snapshot) [] (record into { word = 0 }) (sweep_below spec mind at.is_mind) (goal_range spec mind at.is_mind) at.others at.own)
 told_line Values spec fields i mind at =
     gathered_told spec (fields.step i) (fields.level i) (entry_of_steps spec mind.snapshot) (mind.entries ++ Some (min (shown_value spec fields mind.snapshot (length mind.entries)) greatest) ∷ []) (counted mind) (sweep_below spec mind at.is_mind) (goal_range spec mind at.is_mind) at.others at.own
 told_line (Out decision) spec fields i mind at =

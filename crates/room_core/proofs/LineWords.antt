@@ -6,14 +6,15 @@ use Rattle.std.specs.Prelude.{slice_index}
 use mathlib.Core.Logic.{dite}
 use native.Mathlib.Decide.{ℕ_discrete}
 use Rattle.room_spec.specs.Rooms.{RoomSpec, IsWithinLimits}
-use Rattle.room_spec.specs.Sizes.{Sizes, AreSizes, sizes_in}
+use Rattle.room_spec.specs.Sizes.{Sizes, AreSizes, memory_words, sizes_in}
+use Rattle.room_spec.proofs.MemoryWords.{are_memory_words}
 use Rattle.level_cells.specs.Packing.{packed, FitFields}
 use Rattle.level_cells.proofs.PackingLemmas.{fits, with_one_more}
 use Rattle.view_table.specs.declared.place.Place.TheVariants as places
-use Rattle.view_table.specs.Places.{IsProcess, IsRound, words_of}
+use Rattle.view_table.specs.Places.{IsMemoryWord, IsProcess, IsRound, words_of}
 use Rattle.view_table.specs.Words.{with_word}
-use Rattle.sim_memory.specs.Steps.{AreWithin, IsRaised, place_of, memory_word}
-use Rattle.sim_memory.proofs.Words.{word_raised, word_fits, within_raised}
+use Rattle.sim_memory.specs.Steps.{AreWithin, IsRaised, place_of, memory_word, with_part, word_of}
+use Rattle.sim_memory.proofs.Words.{memory_at, part_here, word_below, word_raised, word_fits, within_raised}
 use Rattle.simulator.specs.declared.goal.Goal.{Goal}
 use Rattle.simulator.specs.declared.goal.Goal.TheVariants as goals
 use Rattle.simulator.specs.declared.line.Line.{Line}
@@ -39,13 +40,13 @@ raised_pair m n step i j = record {
   other_processes = λ b _ other. pair_else step i j (step i j + 1) i b (λ _ e. other e);
 }
 
-raised_word : (sizes : Sizes) (step : StepMap) (i j word : ℕ) → AreSizes sizes → AreWithin sizes step → i < sizes.m → j < sizes.n → step i j < sizes.rounds → word ≡ memory_word sizes step
-    → (word + 2 ^ place_of sizes i j) % 2 ^ 64 ≡ memory_word sizes (changed_pair step i j (step i j + 1))
+raised_word : (sizes : Sizes) (step : StepMap) (i j word : ℕ) → AreSizes sizes → AreWithin sizes step → i < sizes.m → j < sizes.n → step i j < sizes.rounds → word ≡ memory_word sizes step (word_of sizes i j)
+    → (word + 2 ^ place_of sizes i j) % 2 ^ 64 ≡ memory_word sizes (changed_pair step i j (step i j + 1)) (word_of sizes i j)
 raised_word sizes step i j word limits within below process room is =
     let after = changed_pair step i j (step i j + 1) in
     let raised = raised_pair sizes.m sizes.n step i j in
-    let sum : word + 2 ^ place_of sizes i j ≡ memory_word sizes after = ap (λ (w : ℕ). w + 2 ^ place_of sizes i j) is ∙ sym (word_raised sizes step after i j below process raised) in
-    let fit : memory_word sizes after < 2 ^ 64 = word_fits sizes after limits (within_raised sizes step after i j within raised room) in
+    let sum : word + 2 ^ place_of sizes i j ≡ memory_word sizes after (word_of sizes i j) = ap (λ (w : ℕ). w + 2 ^ place_of sizes i j) is ∙ sym (word_raised sizes step after i j limits below process raised) in
+    let fit : memory_word sizes after (word_of sizes i j) < 2 ^ 64 = word_fits sizes after (word_of sizes i j) limits (within_raised sizes step after i j within raised room) in
     ap (λ (w : ℕ). w % 2 ^ 64) sum ∙ mod-eq_of_lt fit
 
 -- ---- one more, and one less, in a field of levels
@@ -84,12 +85,14 @@ module _ (spec : RoomSpec) (fields : Fields) (i : ℕ) (words : List ℕ) (mind 
       subst (λ (n : ℕ). Hold (sizes_in spec) (with_word (sizes_in spec) words (places.Value n j k) value) after) (sym number)
       (held_after (sizes_in spec) words fields after (places.Value i j k) value whole (below, process, round) held (sym (triple_here fields.value i j k value)) (keeps_value (sizes_in spec) fields i j k value))
 
-  stored_view : (j k : ℕ) (view : StepMap) → IsProcess (sizes_in spec) j → IsRound (sizes_in spec) k
-      → Hold (sizes_in spec) (with_word (sizes_in spec) words (places.View mind.number j k) (memory_word (sizes_in spec) view)) (record fields { view = changed_triple fields.view i j k view })
-  stored_view j k view process round =
+  stored_view : (j k w : ℕ) (source : StepMap) → IsProcess (sizes_in spec) j → IsRound (sizes_in spec) k → IsMemoryWord (sizes_in spec) w
+      → Hold (sizes_in spec) (with_word (sizes_in spec) words (places.View mind.number j k w) (memory_word (sizes_in spec) source w)) (record fields { view = changed_triple fields.view i j k (with_part (sizes_in spec) w source (fields.view i j k)) })
+  stored_view j k w source process round one =
+      let view = with_part (sizes_in spec) w source (fields.view i j k) in
       let after = record fields { view = changed_triple fields.view i j k view } in
-      subst (λ (n : ℕ). Hold (sizes_in spec) (with_word (sizes_in spec) words (places.View n j k) (memory_word (sizes_in spec) view)) after) (sym number)
-      (held_after (sizes_in spec) words fields after (places.View i j k) (memory_word (sizes_in spec) view) whole (below, process, round) held (ap (memory_word (sizes_in spec)) (sym (triple_here fields.view i j k view))) (keeps_view (sizes_in spec) fields i j k view))
+      subst (λ (n : ℕ). Hold (sizes_in spec) (with_word (sizes_in spec) words (places.View n j k w) (memory_word (sizes_in spec) source w)) after) (sym number)
+      (held_after (sizes_in spec) words fields after (places.View i j k w) (memory_word (sizes_in spec) source w) whole (below, process, round, one) held
+      (sym (part_here (sizes_in spec) source (fields.view i j k) w) ∙ ap (λ (v : StepMap). memory_word (sizes_in spec) v w) (sym (triple_here fields.view i j k view))) (keeps_view (sizes_in spec) fields i j k w source))
 
   stored_out : (j out : ℕ) → IsProcess (sizes_in spec) j → Hold (sizes_in spec) (with_word (sizes_in spec) words (places.Out mind.number j) out) (record fields { out = changed_pair fields.out i j out })
   stored_out j out process =
@@ -98,12 +101,17 @@ module _ (spec : RoomSpec) (fields : Fields) (i : ℕ) (words : List ℕ) (mind 
       (held_after (sizes_in spec) words fields after (places.Out i j) out whole (below, process) held (sym (pair_here fields.out i j out)) (keeps_out (sizes_in spec) fields i j out))
 
   stored_step : (j : ℕ) → IsWithinLimits spec → AreWithin (sizes_in spec) fields.step → IsProcess (sizes_in spec) j → fields.step i j < spec.rounds
-      → Hold (sizes_in spec) (with_word (sizes_in spec) words places.Steps ((slice_index words (index_in spec places.Steps) + 2 ^ place_of (sizes_in spec) mind.number j) % 2 ^ 64)) (record fields { step = changed_pair fields.step i j (fields.step i j + 1) })
+      → Hold (sizes_in spec) (with_word (sizes_in spec) words (places.Memory (word_of (sizes_in spec) mind.number j)) ((slice_index words (index_in spec (places.Memory (word_of (sizes_in spec) mind.number j))) + 2 ^ place_of (sizes_in spec) mind.number j) % 2 ^ 64)) (record fields { step = changed_pair fields.step i j (fields.step i j + 1) })
   stored_step j limits within process room =
-      let old = slice_index words (index_in spec places.Steps) in
-      let new : (old + 2 ^ place_of (sizes_in spec) mind.number j) % 2 ^ 64 ≡ memory_word (sizes_in spec) (changed_pair fields.step i j (fields.step i j + 1)) =
-      ap (λ (n : ℕ). (old + 2 ^ place_of (sizes_in spec) n j) % 2 ^ 64) number ∙ raised_word (sizes_in spec) fields.step i j old limits.shape within below process room (held places.Steps tt) in
-      held_after (sizes_in spec) words fields (record fields { step = changed_pair fields.step i j (fields.step i j + 1) }) places.Steps ((old + 2 ^ place_of (sizes_in spec) mind.number j) % 2 ^ 64) whole tt held new (keeps_step (sizes_in spec) fields (changed_pair fields.step i j (fields.step i j + 1)))
+      let after = record fields { step = changed_pair fields.step i j (fields.step i j + 1) } in
+      let own = word_of (sizes_in spec) i j in
+      let range = word_below (sizes_in spec) i j limits.shape below process in
+      let old = slice_index words (index_in spec (places.Memory own)) in
+      let new : (old + 2 ^ place_of (sizes_in spec) i j) % 2 ^ 64 ≡ memory_word (sizes_in spec) (changed_pair fields.step i j (fields.step i j + 1)) own =
+      raised_word (sizes_in spec) fields.step i j old limits.shape within below process room (held (places.Memory own) range) in
+      subst (λ (n : ℕ). Hold (sizes_in spec) (with_word (sizes_in spec) words (places.Memory (word_of (sizes_in spec) n j)) ((slice_index words (index_in spec (places.Memory (word_of (sizes_in spec) n j))) + 2 ^ place_of (sizes_in spec) n j) % 2 ^ 64)) after) (sym number)
+      (held_after (sizes_in spec) words fields after (places.Memory own) ((old + 2 ^ place_of (sizes_in spec) i j) % 2 ^ 64) whole range held new
+      (keeps_step (sizes_in spec) fields (changed_pair fields.step i j (fields.step i j + 1)) i j (raised_pair spec.simulators (sizes_in spec).n fields.step i j)))
 
   stored_level : (j k level word : ℕ) → IsProcess (sizes_in spec) j → IsRound (sizes_in spec) k → word ≡ packed (λ a. changed_triple fields.level i j k level a j k) 2 spec.simulators
       → Hold (sizes_in spec) (with_word (sizes_in spec) words (places.Levels j k) word) (record fields { level = changed_triple fields.level i j k level })
@@ -145,7 +153,7 @@ module _ (spec : RoomSpec) (fields : Fields) (i : ℕ) (words : List ℕ) (mind 
 -- ---- all lines
 
 pub held_line : (line : Line) (spec : RoomSpec) (fields : Fields) (i : ℕ) (words : List ℕ) (mind : MindOf StepMap) → length words ≡ words_of (sizes_in spec) → StandsAt line spec fields i mind → Hold (sizes_in spec) words fields
-    → Hold (sizes_in spec) (words_after (move_at line spec (worded (sizes_in spec) mind)) words) (stored_on line fields i mind.sweep (current_round mind) (counted mind))
+    → Hold (sizes_in spec) (words_after (move_at line spec (worded (sizes_in spec) mind)) words) (stored_on line spec fields i mind.sweep (current_round mind) (counted mind))
 held_line Rest spec fields i words mind whole at held = next_stored spec fields i words mind whole held at.below at.number (next_process mind.goals mind.sweep) at.is_mind at.moves
 held_line Raise spec fields i words mind whole at held =
     let room = raised_below (current_goal mind) spec.rounds (fields.step i mind.sweep) (fields.level i mind.sweep) (at.is_mind.rounds mind.sweep at.is_mind.sweep) at.own in
@@ -153,7 +161,12 @@ held_line Raise spec fields i words mind whole at held =
 held_line Snap spec fields i words mind whole at held = held
 held_line Show spec fields i words mind whole at held =
     let round = open_round spec mind at.is_mind at.open_at in
-    stored_view spec fields i words mind whole held at.below at.number mind.sweep (current_round mind) mind.snapshot at.is_mind.sweep round
+    let w = mind.word in
+    let one : w < memory_words (sizes_in spec) = at.word in
+    let few = (are_memory_words (sizes_in spec) at.is_mind.limits.shape).few in
+    subst (λ (word : ℕ). Hold (sizes_in spec) (with_word (sizes_in spec) words (places.View mind.number mind.sweep (current_round mind) w) word) (record fields { view = changed_triple fields.view i mind.sweep (current_round mind) (with_part (sizes_in spec) w mind.snapshot (fields.view i mind.sweep (current_round mind))) }))
+    (sym (memory_at (sizes_in spec) mind.snapshot w (omega arith)))
+    (stored_view spec fields i words mind whole held at.below at.number mind.sweep (current_round mind) w mind.snapshot at.is_mind.sweep round one)
 held_line Enter spec fields i words mind whole at held =
     let round = open_round spec mind at.is_mind at.open_at in
     let none = outside spec.rounds (current_goal mind) (fields.step i mind.sweep) (fields.level i mind.sweep) at.own in

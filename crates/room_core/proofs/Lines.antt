@@ -12,10 +12,10 @@ use Rattle.simulator.specs.declared.line.Line.TheVariants.{Rest, Raise, Snap, Sh
 use Rattle.simulator.specs.declared.operation.Move.{Move}
 use Rattle.simulator.specs.declared.operation.Move.TheVariants.{OutOfTurns}
 use Rattle.simulator.specs.Minds.{MindOf, goal_at, current_goal, current_round, is_unfinished, round_of, next_process}
-use Rattle.simulator.specs.Turns.{TakenOf, counted, goes_on, snapped, asked, got_view, got_value, decided, opened}
+use Rattle.simulator.specs.Turns.{TakenOf, counted, goes_on, snapped, showed, asked, got_view, got_value, decided, opened}
 use Rattle.simulator.specs.Moves.{IsOperation, first_move_at, first_move, move_at}
-use Rattle.simulator.specs.Ranges.{IsGoal, IsOpenAt, IsMind}
-use Rattle.room_core.specs.Fields.{StepMap, Fields, changed_pair, changed_triple, levels_at, chosen_at, entry_of_steps, shown_value, with_taken, first_line_at, first_line, line_on}
+use Rattle.simulator.specs.Ranges.{IsCollectCount, IsGoal, IsOpenAt, IsMind, words_at}
+use Rattle.room_core.specs.Fields.{StepMap, Fields, changed_pair, changed_triple, levels_at, chosen_at, entry_of_steps, shown_value, is_same_collect, with_loaded, with_shown, with_taken, first_line_at, first_line, line_on}
 use Rattle.room_core.specs.Reading.{worded}
 use Rattle.room_core.specs.Tracks.{AreInRange, Tells, stage_of}
 use Rattle.room_core.proofs.Tracks.{ToldBeside}
@@ -32,18 +32,18 @@ abbrev pub stored_first : Option ℕ → Fields → ℕ → MindOf StepMap → F
 stored_first None fields i mind = fields
 stored_first (Some j) fields i mind = stored_first_at (goal_at mind.goals j) fields i j
 
-abbrev pub stored_on : Line → Fields → ℕ → ℕ → ℕ → MindOf StepMap → Fields
-stored_on Rest fields i j k mind = stored_first (next_process mind.goals mind.sweep) fields i mind
-stored_on Raise fields i j k mind = record fields { step = changed_pair fields.step i j (fields.step i j + 1) }
-stored_on Snap fields i j k mind = fields
-stored_on Show fields i j k mind = record fields { view = changed_triple fields.view i j k mind.snapshot }
-stored_on Enter fields i j k mind = record fields { level = changed_triple fields.level i j k (fields.level i j k + 1) }
-stored_on Look fields i j k mind = fields
-stored_on (Leave saw_two) fields i j k mind = record fields { level = changed_triple fields.level i j k (left_level saw_two) }
-stored_on Ask fields i j k mind = fields
-stored_on (GetView chosen) fields i j k mind = fields
-stored_on Values fields i j k mind = fields
-stored_on (Out decision) fields i j k mind = record fields { out = changed_pair fields.out i j (decision + 1) }
+abbrev pub stored_on : Line → RoomSpec → Fields → ℕ → ℕ → ℕ → MindOf StepMap → Fields
+stored_on Rest spec fields i j k mind = stored_first (next_process mind.goals mind.sweep) fields i mind
+stored_on Raise spec fields i j k mind = record fields { step = changed_pair fields.step i j (fields.step i j + 1) }
+stored_on Snap spec fields i j k mind = fields
+stored_on Show spec fields i j k mind = record fields { view = changed_triple fields.view i j k (with_shown spec (fields.view i j k) mind) }
+stored_on Enter spec fields i j k mind = record fields { level = changed_triple fields.level i j k (fields.level i j k + 1) }
+stored_on Look spec fields i j k mind = fields
+stored_on (Leave saw_two) spec fields i j k mind = record fields { level = changed_triple fields.level i j k (left_level saw_two) }
+stored_on Ask spec fields i j k mind = fields
+stored_on (GetView chosen) spec fields i j k mind = fields
+stored_on Values spec fields i j k mind = fields
+stored_on (Out decision) spec fields i j k mind = record fields { out = changed_pair fields.out i j (decision + 1) }
 
 abbrev pub taken_first_at : Goal → RoomSpec → Fields → ℕ → MindOf StepMap → TakenOf StepMap
 taken_first_at (goals.Write k value) spec fields j mind = opened (Some j) None mind
@@ -58,13 +58,13 @@ taken_first (Some j) spec fields mind = taken_first_at (goal_at mind.goals j) sp
 abbrev pub taken_on : Line → RoomSpec → Fields → ℕ → ℕ → MindOf StepMap → TakenOf StepMap
 taken_on Rest spec fields j k mind = taken_first (next_process mind.goals mind.sweep) spec fields mind
 taken_on Raise spec fields j k mind = goes_on Snap mind
-taken_on Snap spec fields j k mind = snapped fields.step mind
-taken_on Show spec fields j k mind = goes_on Enter mind
+taken_on Snap spec fields j k mind = snapped spec (is_same_collect spec (with_loaded spec fields.step mind)) (with_loaded spec fields.step mind)
+taken_on Show spec fields j k mind = showed spec mind
 taken_on Enter spec fields j k mind = goes_on Look mind
 taken_on Look spec fields j k mind = goes_on (Leave (has_level 2 (levels_at spec fields j k))) mind
 taken_on (Leave saw_two) spec fields j k mind = goes_on Ask mind
 taken_on Ask spec fields j k mind = asked (chosen_at spec fields j k) mind
-taken_on (GetView chosen) spec fields j k mind = got_view (entry_of_steps spec (fields.view chosen j k)) spec (fields.view chosen j k) mind
+taken_on (GetView chosen) spec fields j k mind = got_view (entry_of_steps spec (with_loaded spec (fields.view chosen j k) mind).snapshot) spec chosen (with_loaded spec (fields.view chosen j k) mind)
 taken_on Values spec fields j k mind = got_value (entry_of_steps spec mind.snapshot) spec (shown_value spec fields mind.snapshot (length mind.entries)) mind
 taken_on (Out decision) spec fields j k mind = decided mind
 
@@ -84,7 +84,7 @@ first_parts : (next : Option ℕ) (spec : RoomSpec) (fields : Fields) (i : ℕ) 
 first_parts None spec fields i mind moves = absurd moves
 first_parts (Some j) spec fields i mind moves = first_parts_at (goal_at mind.goals j) spec fields i j (counted mind) mind.number (operation_of (ltb mind.turns spec.turns) (first_move_at (goal_at mind.goals j) spec mind.number j) moves)
 
-pub line_parts : (line : Line) (spec : RoomSpec) (fields : Fields) (i j k : ℕ) (mind : MindOf StepMap) → IsOperation (move_at line spec (worded (sizes_in spec) mind)) → line_on line spec fields i j k (counted mind) ≡ with_taken (stored_on line fields i j k (counted mind)) i (taken_on line spec fields j k (counted mind))
+pub line_parts : (line : Line) (spec : RoomSpec) (fields : Fields) (i j k : ℕ) (mind : MindOf StepMap) → IsOperation (move_at line spec (worded (sizes_in spec) mind)) → line_on line spec fields i j k (counted mind) ≡ with_taken (stored_on line spec fields i j k (counted mind)) i (taken_on line spec fields j k (counted mind))
 line_parts Rest spec fields i j k mind moves = first_parts (next_process mind.goals mind.sweep) spec fields i mind moves
 line_parts Raise spec fields i j k mind moves = refl
 line_parts Snap spec fields i j k mind moves = refl
@@ -104,11 +104,14 @@ pub record StandsAt (line : Line) (spec : RoomSpec) (fields : Fields) (i : ℕ) 
   pub below : i < spec.simulators
   pub number : mind.number ≡ i
   pub is_mind : IsMind spec (worded (sizes_in spec) mind)
+  pub word : mind.word < words_at spec line
+  pub collects : IsCollectCount spec line mind.collects
   pub open_at : IsOpenAt line spec (worded (sizes_in spec) mind)
   pub moves : IsOperation (move_at line spec (worded (sizes_in spec) mind))
   pub others : ToldBeside spec.rounds mind.sweep mind.goals (fields.step i) (fields.level i)
   pub own : Tells spec.rounds (current_goal mind) (stage_of line) (fields.step i mind.sweep) (fields.level i mind.sweep)
   pub range : AreInRange spec fields
+  pub before : AreWithin (sizes_in spec) mind.before
   pub snapshot : AreWithin (sizes_in spec) mind.snapshot
 
 -- ---- places of a turn

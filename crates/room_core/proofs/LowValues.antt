@@ -18,7 +18,7 @@ use Rattle.room_core.specs.Agreements.{row_at, shown, shown_by, asks, written}
 use Rattle.room_core.specs.Contents.{IsSmallEntry, AreSmall, HasSmallValues}
 use Rattle.room_core.specs.Tracks.{StandsFor}
 use Rattle.room_core.proofs.FieldCalls.{fields_stand}
-use Rattle.room_core.proofs.Effects.{Own, own_of, Effect, stores, raises, scans, shows, enters, looks, leaves, asks_in_vain, finds, gathers, goes_to, will_decide, decides, line_effect}
+use Rattle.room_core.proofs.Effects.{Own, own_of, Effect, stores, raises, collects_word, collects_again, scans, shows_word, shows, loads_word, enters, looks, leaves, asks_in_vain, finds, gathers, goes_to, will_decide, decides, line_effect}
 use Rattle.room_core.proofs.Prefixes.{over_run}
 use Rattle.room_core.proofs.Moments.{opening_history}
 use Rattle.room_core.proofs.Sound.{opening_sound}
@@ -44,9 +44,13 @@ low_pair rows i j entry p r bound low all = low_row (eqb p i) (λ other. cond (e
 module _ (spec : RoomSpec) (fields : Fields) (own : Own) (low : (p k value : ℕ) → p < processes spec → goal_at own.mind.goals p ≡ goals.Write k value → value ≤ greatest) (all : (p r : ℕ) → own.value p r ≤ greatest) (p r : ℕ) where
   own_low : (after : Own) → Effect spec fields own after → after.value p r ≤ greatest
   own_low after (stores j k value rest goal count process first last) = low_pair own.value j k value p r greatest (low j k value process goal) all
-  own_low after (raises turn count) = all p r
-  own_low after (scans turn count none) = all p r
-  own_low after (shows turn count none) = all p r
+  own_low after (raises turn whole begun count) = all p r
+  own_low after (collects_word turn count none more) = all p r
+  own_low after (collects_again turn count none last several goes) = all p r
+  own_low after (scans collects turn count none last ends) = all p r
+  own_low after (loads_word found turn less more) = all p r
+  own_low after (shows_word turn count none more) = all p r
+  own_low after (shows turn count none last) = all p r
   own_low after (enters turn count none) = all p r
   own_low after (looks turn count one) = all p r
   own_low after (leaves saw_two turn count one) = all p r

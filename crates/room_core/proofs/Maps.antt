@@ -39,3 +39,17 @@ each_pair P map i j entry new old a b = each_changed (λ (row : ℕ → _). P (r
 
 pub each_triple : {A : Type 0} (P : A → Type 0) (map : ℕ → ℕ → ℕ → A) (i j k : ℕ) (entry : A) → P entry → ((a b c : ℕ) → P (map a b c)) → (a b c : ℕ) → P (changed_triple map i j k entry a b c)
 each_triple P map i j k entry new old a b c = each_changed (λ (row : ℕ → ℕ → _). P (row b c)) map i (changed_pair (map i) j k entry) (each_pair P (map i) j k entry new (old i) b c) (λ x. old x b c) a
+
+-- with the numbers at which it stands
+pub triple_by : {A : Type 0} (P : ℕ → ℕ → ℕ → A → Type 0) (map : ℕ → ℕ → ℕ → A) (i j k : ℕ) (entry : A) → P i j k entry → ((a b c : ℕ) → P a b c (map a b c)) → (a b c : ℕ) → P a b c (changed_triple map i j k entry a b c)
+triple_by P map i j k entry new old a b c = dite (ℕ_discrete a i)
+    (λ (e : a ≡ i). dite (ℕ_discrete b j)
+    (λ (e' : b ≡ j). dite (ℕ_discrete c k)
+    (λ (e'' : c ≡ k).
+    subst (λ (x : ℕ). P x b c (changed_triple map i j k entry x b c)) (sym e)
+    (subst (λ (y : ℕ). P i y c (changed_triple map i j k entry i y c)) (sym e')
+    (subst (λ (z : ℕ). P i j z (changed_triple map i j k entry i j z)) (sym e'')
+    (subst (P i j k) (sym (triple_here map i j k entry)) new))))
+    (λ (n : c ≢ k). subst (P a b c) (sym (triple_else map i j k entry a b c (λ _ _ s. n s))) (old a b c)))
+    (λ (n : b ≢ j). subst (P a b c) (sym (triple_else map i j k entry a b c (λ _ s _. n s))) (old a b c)))
+    (λ (n : a ≢ i). subst (P a b c) (sym (triple_else map i j k entry a b c (λ s _ _. n s))) (old a b c))

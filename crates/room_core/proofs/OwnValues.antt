@@ -14,7 +14,7 @@ use Rattle.simulator.specs.Turns.{after_write}
 use Rattle.room_core.specs.Fields.{StepMap, Fields, changed, changed_pair}
 use Rattle.room_core.proofs.Maps.{changed_here, changed_else, pair_here, pair_else}
 use Rattle.room_core.proofs.Deciding.{not_done, HasDecided}
-use Rattle.room_core.proofs.Effects.{Own, process_on, round_on, action_of, IsReading, Effect, stores, raises, scans, shows, enters, looks, leaves, asks_in_vain, finds, gathers, goes_to, will_decide, decides}
+use Rattle.room_core.proofs.Effects.{Own, process_on, round_on, action_of, IsReading, Effect, stores, raises, collects_word, collects_again, scans, shows_word, shows, loads_word, enters, looks, leaves, asks_in_vain, finds, gathers, goes_to, will_decide, decides}
 
 not_spent : (goal : Goal) → is_unfinished goal ≡ true → goal ≢ goals.Spent
 not_spent (goals.Write k value) left is = cc
@@ -53,9 +53,13 @@ module _ (spec : RoomSpec) (fields : Fields) (own : Own) (p : ℕ) where
 
   pub own_writes : (after : Own) (k value : ℕ) → Effect spec fields own after → goal_at after.mind.goals p ≡ goals.Write k value → (goal_at own.mind.goals p ≡ goals.Write k value) ⊎ IsNext spec fields own p k value
   own_writes after k value (stores j k' value' rest goal count process first last) is = inl is
-  own_writes after k value (raises turn count) is = inl is
-  own_writes after k value (scans turn count none) is = inl is
-  own_writes after k value (shows turn count none) is = inl is
+  own_writes after k value (raises turn whole begun count) is = inl is
+  own_writes after k value (collects_word turn count none more) is = inl is
+  own_writes after k value (collects_again turn count none last several goes) is = inl is
+  own_writes after k value (scans collects turn count none last ends) is = inl is
+  own_writes after k value (loads_word found turn less more) is = inl is
+  own_writes after k value (shows_word turn count none more) is = inl is
+  own_writes after k value (shows turn count none last) is = inl is
   own_writes after k value (enters turn count none) is = inl is
   own_writes after k value (looks turn count one) is = inl is
   own_writes after k value (leaves saw_two turn count one) is = inl is
@@ -84,9 +88,13 @@ module _ (spec : RoomSpec) (fields : Fields) (own : Own) (p : ℕ) where
 
   pub own_counts : (after : Own) (r : ℕ) → Effect spec fields own after → r ≤ after.step p → (r ≤ own.step p) ⊎ ((own.mind.line ≡ Raise) × (p ≡ own.mind.sweep) × (r ≡ own.step p + 1))
   own_counts after r (stores j k value rest goal count process first last) most = inl most
-  own_counts after r (raises turn count) most = raised_value r turn.stands most
-  own_counts after r (scans turn count none) most = inl most
-  own_counts after r (shows turn count none) most = inl most
+  own_counts after r (raises turn whole begun count) most = raised_value r turn.stands most
+  own_counts after r (collects_word turn count none more) most = inl most
+  own_counts after r (collects_again turn count none last several goes) most = inl most
+  own_counts after r (scans collects turn count none last ends) most = inl most
+  own_counts after r (loads_word found turn less more) most = inl most
+  own_counts after r (shows_word turn count none more) most = inl most
+  own_counts after r (shows turn count none last) most = inl most
   own_counts after r (enters turn count none) most = inl most
   own_counts after r (looks turn count one) most = inl most
   own_counts after r (leaves saw_two turn count one) most = inl most
@@ -104,9 +112,13 @@ module _ (spec : RoomSpec) (fields : Fields) (own : Own) (p : ℕ) where
   pub own_values : (after : Own) (r : ℕ) → Effect spec fields own after → (r ≤ own.step p) ⊎ (own.mind.line ≡ Raise) → after.value p r ≡ own.value p r
   own_values after r (stores j k value rest goal count process first last) (inl most) = pair_else own.value j k value p r (λ e e'. let same = ap own.step e in omega arith)
   own_values after r (stores j k value rest goal count process first last) (inr raise) = absurd (no_rest Rest rest raise)
-  own_values after r (raises turn count) kept = refl
-  own_values after r (scans turn count none) kept = refl
-  own_values after r (shows turn count none) kept = refl
+  own_values after r (raises turn whole begun count) kept = refl
+  own_values after r (collects_word turn count none more) kept = refl
+  own_values after r (collects_again turn count none last several goes) kept = refl
+  own_values after r (scans collects turn count none last ends) kept = refl
+  own_values after r (loads_word found turn less more) kept = refl
+  own_values after r (shows_word turn count none more) kept = refl
+  own_values after r (shows turn count none last) kept = refl
   own_values after r (enters turn count none) kept = refl
   own_values after r (looks turn count one) kept = refl
   own_values after r (leaves saw_two turn count one) kept = refl
@@ -122,9 +134,13 @@ module _ (spec : RoomSpec) (fields : Fields) (own : Own) (p : ℕ) where
   own_stored after k value (stores j k' value' rest goal count process first last) is at =
       let same = same_write k' k value' value (sym goal ∙ at) in
       ap (λ (q : ℕ). changed_pair own.value j k' value' j q) (sym same.0) ∙ pair_here own.value j k' value' ∙ same.1
-  own_stored after k value (raises turn count) is at = absurd cc
-  own_stored after k value (scans turn count none) is at = absurd cc
-  own_stored after k value (shows turn count none) is at = absurd cc
+  own_stored after k value (raises turn whole begun count) is at = absurd cc
+  own_stored after k value (collects_word turn count none more) is at = absurd cc
+  own_stored after k value (collects_again turn count none last several goes) is at = absurd cc
+  own_stored after k value (scans collects turn count none last ends) is at = absurd cc
+  own_stored after k value (loads_word found turn less more) is at = absurd cc
+  own_stored after k value (shows_word turn count none more) is at = absurd cc
+  own_stored after k value (shows turn count none last) is at = absurd cc
   own_stored after k value (enters turn count none) is at = absurd cc
   own_stored after k value (looks turn count one) is at = absurd cc
   own_stored after k value (leaves saw_two turn count one) is at = absurd cc
@@ -152,9 +168,13 @@ module _ (spec : RoomSpec) (fields : Fields) (own : Own) (p : ℕ) where
 
   pub own_decided : (after : Own) (d : ℕ) → Effect spec fields own after → HasDecided own p → after.out p ≡ d + 1 → ((own.out p ≡ d + 1) × (after.step p ≡ own.step p)) ⊎ ((own.mind.line ≡ Out d) × (p ≡ own.mind.sweep) × (after.step p ≡ round_on own))
   own_decided after d (stores j k value rest goal count process first last) was out = inl (out, refl)
-  own_decided after d (raises turn count) was out = inl (out, raised_else d turn.left was out)
-  own_decided after d (scans turn count none) was out = inl (out, refl)
-  own_decided after d (shows turn count none) was out = inl (out, refl)
+  own_decided after d (raises turn whole begun count) was out = inl (out, raised_else d turn.left was out)
+  own_decided after d (collects_word turn count none more) was out = inl (out, refl)
+  own_decided after d (collects_again turn count none last several goes) was out = inl (out, refl)
+  own_decided after d (scans collects turn count none last ends) was out = inl (out, refl)
+  own_decided after d (loads_word found turn less more) was out = inl (out, refl)
+  own_decided after d (shows_word turn count none more) was out = inl (out, refl)
+  own_decided after d (shows turn count none last) was out = inl (out, refl)
   own_decided after d (enters turn count none) was out = inl (out, refl)
   own_decided after d (looks turn count one) was out = inl (out, refl)
   own_decided after d (leaves saw_two turn count one) was out = inl (out, refl)
@@ -184,9 +204,13 @@ module _ (spec : RoomSpec) (fields : Fields) (own : Own) (p : ℕ) where
 
   pub own_spent : (after : Own) → Effect spec fields own after → goal_at after.mind.goals p ≡ goals.Spent → ((goal_at own.mind.goals p ≡ goals.Spent) × (after.step p ≡ own.step p)) ⊎ ((value : ℕ) × (after.step p ≡ own.step p) × IsNext spec fields own p (own.step p + 1) value)
   own_spent after (stores j k value rest goal count process first last) is = inl (is, refl)
-  own_spent after (raises turn count) is = inl (is, raised_spent turn.left is)
-  own_spent after (scans turn count none) is = inl (is, refl)
-  own_spent after (shows turn count none) is = inl (is, refl)
+  own_spent after (raises turn whole begun count) is = inl (is, raised_spent turn.left is)
+  own_spent after (collects_word turn count none more) is = inl (is, refl)
+  own_spent after (collects_again turn count none last several goes) is = inl (is, refl)
+  own_spent after (scans collects turn count none last ends) is = inl (is, refl)
+  own_spent after (loads_word found turn less more) is = inl (is, refl)
+  own_spent after (shows_word turn count none more) is = inl (is, refl)
+  own_spent after (shows turn count none last) is = inl (is, refl)
   own_spent after (enters turn count none) is = inl (is, refl)
   own_spent after (looks turn count one) is = inl (is, refl)
   own_spent after (leaves saw_two turn count one) is = inl (is, refl)

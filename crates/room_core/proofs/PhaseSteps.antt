@@ -13,7 +13,7 @@ use Rattle.room_core.specs.Fields.{StepMap, Fields, levels_at, changed, changed_
 use Rattle.room_core.specs.Tracks.{KeepsTrack}
 use Rattle.room_core.proofs.Maps.{changed_here, changed_else, pair_here, pair_else}
 use Rattle.room_core.proofs.Stages.{Progress, Fresh, Scanned, Shown, Inside, Seen, Past, line_progress, progress_in, phase_of, phase_by, phase_at, phases_in, later, earlier, now, resting, same_line, levels_are_phases}
-use Rattle.room_core.proofs.Effects.{Own, own_of, process_on, round_on, Effect, IsLineOf, stores, raises, scans, shows, enters, looks, leaves, asks_in_vain, finds, gathers, goes_to, will_decide, decides}
+use Rattle.room_core.proofs.Effects.{Own, own_of, process_on, round_on, Effect, IsLineOf, stores, raises, collects_word, collects_again, scans, shows_word, shows, loads_word, enters, looks, leaves, asks_in_vain, finds, gathers, goes_to, will_decide, decides}
 
 -- the phase in the agreement on (p, r), by what a simulator has
 abbrev pub phase_own : Own → ℕ → ℕ → Phase
@@ -129,9 +129,13 @@ module _ (spec : RoomSpec) (fields : Fields) (own : Own) (i p r : ℕ) where
 
   pub own_step : (after : Own) → Effect spec fields own after → (phase_own after p r ≡ phase_own own p r) ⊎ IsMove (levels_at spec fields p r) i (phase_own own p r) (phase_own after p r)
   own_step after (stores j k value rest goal count process first last) = inl (quiet_effect after.mind (ap line_progress rest) refl)
-  own_step after (raises turn count) = inl (raise_effect turn.stands)
-  own_step after (scans turn count none) = inl (next_line Fresh Scanned (ap line_progress turn.stands) refl)
-  own_step after (shows turn count none) = inl (next_line Scanned Shown (ap line_progress turn.stands) refl)
+  own_step after (raises turn whole begun count) = inl (raise_effect turn.stands)
+  own_step after (collects_word turn count none more) = inl (next_line Fresh Fresh (ap line_progress turn.stands) refl)
+  own_step after (collects_again turn count none last several goes) = inl (next_line Fresh Fresh (ap line_progress turn.stands) refl)
+  own_step after (scans collects turn count none last ends) = inl (next_line Fresh Scanned (ap line_progress turn.stands) refl)
+  own_step after (loads_word found turn less more) = inl (quiet_effect after.mind (ap line_progress turn.stands) refl)
+  own_step after (shows_word turn count none more) = inl (next_line Scanned Scanned (ap line_progress turn.stands) refl)
+  own_step after (shows turn count none last) = inl (next_line Scanned Shown (ap line_progress turn.stands) refl)
   own_step after (enters turn count none) =
       let level' = changed_pair own.level (process_on own) (round_on own) (own.level (process_on own) (round_on own) + 1) in
       by_place

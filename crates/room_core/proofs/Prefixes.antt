@@ -27,6 +27,11 @@ over_rest P keeps room fields done (crashes i ∷ rest) shape legal for now =
     subst (λ (schedule : List ScheduleEvent). P room.spec schedule (replay_fields room.spec (with_crash fields i) rest)) (append_assoc done (crashes i ∷ []) rest)
     (over_rest P keeps (crashed_by room i) (with_crash fields i) (done ++ crashes i ∷ []) rest (shape_after room (crashes i) legal.0 shape) legal.1 (event_stands room fields (crashes i) shape legal.0 for) (keeps room fields done (crashes i) shape legal.0 for now))
 
+-- It holds after every legal list.
+pub over_schedule : (P : RoomSpec → List ScheduleEvent → Fields → Type 0) → IsKept P → (spec : RoomSpec) → IsWithinLimits spec → (schedule : List ScheduleEvent) → IsLegal (opening spec) schedule → P spec [] (opening_fields spec) → P spec schedule (replay_fields spec (opening_fields spec) schedule)
+over_schedule P keeps spec limits schedule legal opens =
+    over_rest P keeps (opening spec) (opening_fields spec) [] schedule (opening_shape spec limits) legal (opening_stands spec) opens
+
 -- It holds of every room that is one interleaving.
 pub over_run : (P : RoomSpec → List ScheduleEvent → Fields → Type 0) → IsKept P → (room : Configuration) → IsWithinLimits room.spec → (one : IsOneInterleaving room) → P room.spec [] (opening_fields room.spec) → P room.spec one.schedule (replay_fields room.spec (opening_fields room.spec) one.schedule)
 over_run P keeps room limits one opens =

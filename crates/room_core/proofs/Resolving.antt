@@ -15,7 +15,7 @@ use Rattle.simulator.specs.Minds.{MindOf, goal_at, current_goal, current_round, 
 use Rattle.simulator.specs.Turns.{ended, after_write}
 use Rattle.room_core.specs.Fields.{StepMap, Fields, chosen_at, changed}
 use Rattle.room_core.proofs.Maps.{changed_else}
-use Rattle.room_core.proofs.Effects.{Own, process_on, round_on, is_reading, IsAsking, Effect, stores, raises, scans, shows, enters, looks, leaves, asks_in_vain, finds, gathers, goes_to, will_decide, decides}
+use Rattle.room_core.proofs.Effects.{Own, process_on, round_on, is_reading, IsAsking, Effect, stores, raises, collects_word, collects_again, scans, shows_word, shows, loads_word, enters, looks, leaves, asks_in_vain, finds, gathers, goes_to, will_decide, decides}
 
 -- The rounds before that of a goal that is left to do, with its own where the open turn has got what was chosen; and all that were counted
 -- of a process that is done or spent.
@@ -150,9 +150,13 @@ module _ (spec : RoomSpec) (fields : Fields) (own : Own) (p : ℕ) where
 
   pub own_resolves : (after : Own) → Effect spec fields own after → (resolved_own after p ≡ resolved_own own p) ⊎ IsFound spec fields p (resolved_own own p) (resolved_own after p)
   own_resolves after (stores j k value rest goal count process first last) = inl (unread_effect after.mind refl (ap is_reading rest) refl)
-  own_resolves after (raises turn count) = inl (raise_effect turn.stands turn.left after.mind refl refl)
-  own_resolves after (scans turn count none) = inl (unread_effect after.mind refl (ap is_reading turn.stands) refl)
-  own_resolves after (shows turn count none) = inl (unread_effect after.mind refl (ap is_reading turn.stands) refl)
+  own_resolves after (raises turn whole begun count) = inl (raise_effect turn.stands turn.left after.mind refl refl)
+  own_resolves after (collects_word turn count none more) = inl (unread_effect after.mind refl (ap is_reading turn.stands) refl)
+  own_resolves after (collects_again turn count none last several goes) = inl (unread_effect after.mind refl (ap is_reading turn.stands) refl)
+  own_resolves after (scans collects turn count none last ends) = inl (unread_effect after.mind refl (ap is_reading turn.stands) refl)
+  own_resolves after (loads_word found turn less more) = inl (still_effect after.mind refl refl (ap is_reading turn.stands) refl)
+  own_resolves after (shows_word turn count none more) = inl (unread_effect after.mind refl (ap is_reading turn.stands) refl)
+  own_resolves after (shows turn count none last) = inl (unread_effect after.mind refl (ap is_reading turn.stands) refl)
   own_resolves after (enters turn count none) = inl (unread_effect after.mind refl (ap is_reading turn.stands) refl)
   own_resolves after (looks turn count one) = inl (unread_effect after.mind refl (ap is_reading turn.stands) refl)
   own_resolves after (leaves saw_two turn count one) = inl (unread_effect after.mind refl (ap is_reading turn.stands) refl)

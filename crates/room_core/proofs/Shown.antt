@@ -4,12 +4,13 @@ use Rattle.std.specs.Prelude.{⊤}
 use Rattle.std.proofs.lemmas.Bool.{eq-eqb, eqb-true, ne_eqb, cases_order, cases_lt}
 use mathlib.Core.Logic.{dite}
 use native.Mathlib.Decide.{ℕ_discrete}
-use Rattle.room_spec.specs.Rooms.{RoomSpec}
+use Rattle.room_spec.specs.Rooms.{RoomSpec, processes}
+use Rattle.simulator.specs.declared.line.Line.TheVariants.{Snap, Show}
 use Rattle.simulator.specs.Minds.{MindOf}
-use Rattle.room_core.specs.Fields.{StepMap, Fields, changed, changed_pair}
+use Rattle.room_core.specs.Fields.{StepMap, Fields, changed, changed_pair, with_shown}
 use Rattle.room_core.proofs.Maps.{changed_here, changed_else, pair_here, pair_else}
 use Rattle.room_core.proofs.Stages.{Progress, Uncounted, Fresh, Scanned, Shown, Inside, Seen, Past, line_progress, progress_in, later, earlier, now, resting}
-use Rattle.room_core.proofs.Effects.{Own, process_on, round_on, Effect, stores, raises, scans, shows, enters, looks, leaves, asks_in_vain, finds, gathers, goes_to, will_decide, decides}
+use Rattle.room_core.proofs.Effects.{Own, process_on, round_on, IsTurn, IsLastWord, ScanEnds, step_loaded, Effect, stores, raises, collects_word, collects_again, scans, shows_word, shows, loads_word, enters, looks, leaves, asks_in_vain, finds, gathers, goes_to, will_decide, decides}
 use Rattle.room_core.proofs.PhaseSteps.{progress_else}
 
 -- it has proposed
@@ -88,7 +89,7 @@ scanned_by step r here line is = by_order (cases_order step r)
 
 module _ (spec : RoomSpec) (fields : Fields) (own : Own) (p r : ℕ) where
   abbrev Kept : (ℕ → ℕ → StepMap) → Type 0
-  Kept view = (HasShown (progress_own own p r) × (view p r ≡ own.view p r)) ⊎ ((progress_own own p r ≡ Scanned) × (view p r ≡ own.mind.snapshot))
+  Kept view = (HasShown (progress_own own p r) × (view p r ≡ own.view p r)) ⊎ ((progress_own own p r ≡ Scanned) × (view p r ≡ with_shown spec (own.view p r) own.mind) × IsLastWord spec own × (p ≡ own.mind.sweep) × (r ≡ round_on own) × (own.mind.line ≡ Show) × (p < processes spec))
 
   quiet_shown : (mind : MindOf StepMap) → line_progress own.mind.line ≡ Past → line_progress mind.line ≡ Past → HasShown (progress_at mind own.step p r) → Kept own.view
   quiet_shown mind is is' shown =
@@ -112,34 +113,56 @@ module _ (spec : RoomSpec) (fields : Fields) (own : Own) (p r : ℕ) where
       (subst (λ (s : ℕ). HasShown (progress_in s r false Fresh)) (changed_else own.step (process_on own) (own.step (process_on own) + 1) p n)
       (subst (λ (b : Bool). HasShown (progress_in (changed own.step (process_on own) (own.step (process_on own) + 1) p) r b Fresh)) here shown)))
 
-  -- the turn proposes its snapshot
-  show_shown : line_progress own.mind.line ≡ Scanned → own.step (process_on own) ≡ round_on own → HasShown (progress_in (own.step p) r (eqb p own.mind.sweep) Shown) → Kept (changed_pair own.view (process_on own) (round_on own) own.mind.snapshot)
-  show_shown is count shown = dite (ℕ_discrete p (process_on own))
+  abbrev shown_new : ℕ → ℕ → StepMap
+  shown_new = changed_pair own.view (process_on own) (round_on own) (with_shown spec (own.view (process_on own) (round_on own)) own.mind)
+
+  shown_elsewhere : (line : Progress) → own.step (process_on own) ≡ round_on own → (p ≡ process_on own → r ≡ round_on own → ⊥) → HasShown (progress_in (own.step p) r (eqb p own.mind.sweep) line) → Kept shown_new
+  shown_elsewhere line count other shown = inl (
+    subst HasShown (progress_else own.step (process_on own) (round_on own) p r (line_progress own.mind.line) line count other) shown,
+    pair_else own.view (process_on own) (round_on own) (with_shown spec (own.view (process_on own) (round_on own)) own.mind) p r other,
+  )
+
+  at_turn : (line : Progress) → own.step (process_on own) ≡ round_on own → p ≡ process_on own → r ≡ round_on own → progress_in (own.step p) r (eqb p own.mind.sweep) line ≡ line
+  at_turn line count e e' = ap (λ (b : Bool). progress_in (own.step p) r b line) (eq-eqb p own.mind.sweep e) ∙ now (own.step p) r true line (ap own.step e ∙ count ∙ sym e')
+
+  -- the turn proposes the last word of its snapshot
+  show_shown : IsTurn spec own Show → own.step (process_on own) ≡ round_on own → IsLastWord spec own → HasShown (progress_in (own.step p) r (eqb p own.mind.sweep) Shown) → Kept shown_new
+  show_shown turn count last shown = dite (ℕ_discrete p (process_on own))
       (λ (e : p ≡ process_on own). dite (ℕ_discrete r (round_on own))
       (λ (e' : r ≡ round_on own).
-      let new = changed_pair own.view (process_on own) (round_on own) own.mind.snapshot in
       inr (
-        ap (λ (b : Bool). progress_in (own.step p) r b (line_progress own.mind.line)) (eq-eqb p own.mind.sweep e) ∙ now (own.step p) r true (line_progress own.mind.line) (ap own.step e ∙ count ∙ sym e') ∙ is,
-        ap (λ (q : ℕ). new q r) e ∙ ap (λ (k : ℕ). new (process_on own) k) e' ∙ pair_here own.view (process_on own) (round_on own) own.mind.snapshot,
+        at_turn (line_progress own.mind.line) count e e' ∙ ap line_progress turn.stands,
+        ap (λ (q : ℕ). shown_new q r) e ∙ ap (λ (k : ℕ). shown_new (process_on own) k) e' ∙ pair_here own.view (process_on own) (round_on own) (with_shown spec (own.view (process_on own) (round_on own)) own.mind)
+            ∙ ap (λ (q : ℕ). with_shown spec (own.view q (round_on own)) own.mind) (sym e) ∙ ap (λ (k : ℕ). with_shown spec (own.view p k) own.mind) (sym e'),
+        last,
+        e,
+        e',
+        turn.stands,
+        let below = turn.process in omega (arith, e, below),
       ))
-      (λ (n : r ≢ round_on own). elsewhere (λ _ e'. n e')))
-      (λ (n : p ≢ process_on own). elsewhere (λ e _. n e))
-    where
-      elsewhere : (p ≡ process_on own → r ≡ round_on own → ⊥) → Kept (changed_pair own.view (process_on own) (round_on own) own.mind.snapshot)
-      elsewhere other =
-          inl (
-            subst HasShown (progress_else own.step (process_on own) (round_on own) p r (line_progress own.mind.line) Shown count other) shown,
-            pair_else own.view (process_on own) (round_on own) own.mind.snapshot p r other,
-          )
+      (λ (n : r ≢ round_on own). shown_elsewhere Shown count (λ _ e'. n e') shown))
+      (λ (n : p ≢ process_on own). shown_elsewhere Shown count (λ e _. n e) shown)
+
+  -- or another one
+  show_word_shown : line_progress own.mind.line ≡ Scanned → own.step (process_on own) ≡ round_on own → HasShown (progress_in (own.step p) r (eqb p own.mind.sweep) Scanned) → Kept shown_new
+  show_word_shown is count shown = dite (ℕ_discrete p (process_on own))
+      (λ (e : p ≡ process_on own). dite (ℕ_discrete r (round_on own))
+      (λ (e' : r ≡ round_on own). absurd (subst HasShown (at_turn Scanned count e e') shown))
+      (λ (n : r ≢ round_on own). shown_elsewhere Scanned count (λ _ e'. n e') shown))
+      (λ (n : p ≢ process_on own). shown_elsewhere Scanned count (λ e _. n e) shown)
 
   -- what was proposed stays, and what is proposed is the snapshot at hand
   pub own_shown : (after : Own) → Effect spec fields own after → HasShown (progress_own after p r)
-      → (HasShown (progress_own own p r) × (after.view p r ≡ own.view p r)) ⊎ ((progress_own own p r ≡ Scanned) × (after.view p r ≡ own.mind.snapshot))
+      → (HasShown (progress_own own p r) × (after.view p r ≡ own.view p r)) ⊎ ((progress_own own p r ≡ Scanned) × (after.view p r ≡ with_shown spec (own.view p r) own.mind) × IsLastWord spec own × (p ≡ own.mind.sweep) × (r ≡ round_on own) × (own.mind.line ≡ Show) × (p < processes spec))
   own_shown after (stores j k value rest goal count process first last) shown = quiet_shown after.mind (ap line_progress rest) refl shown
-  own_shown after (raises turn count) shown =
+  own_shown after (raises turn whole begun count) shown =
       inl (subst (λ (l : Progress). HasShown (progress_in (own.step p) r (eqb p own.mind.sweep) l)) (sym (ap line_progress turn.stands)) (raise_shown (ap line_progress turn.stands) shown), refl)
-  own_shown after (scans turn count none) shown = next_shown Fresh Scanned (ap line_progress turn.stands) (λ s. s) shown
-  own_shown after (shows turn count none) shown = show_shown (ap line_progress turn.stands) count shown
+  own_shown after (collects_word turn count none more) shown = next_shown Fresh Fresh (ap line_progress turn.stands) (λ s. s) shown
+  own_shown after (collects_again turn count none last several goes) shown = next_shown Fresh Fresh (ap line_progress turn.stands) (λ s. s) shown
+  own_shown after (scans collects turn count none last ends) shown = next_shown Fresh Scanned (ap line_progress turn.stands) (λ s. s) shown
+  own_shown after (loads_word found turn less more) shown = quiet_shown after.mind (ap line_progress turn.stands) refl shown
+  own_shown after (shows_word turn count none more) shown = show_word_shown (ap line_progress turn.stands) count shown
+  own_shown after (shows turn count none last) shown = show_shown turn count last shown
   own_shown after (enters turn count none) shown = next_shown Shown Inside (ap line_progress turn.stands) (λ s. s) shown
   own_shown after (looks turn count one) shown = next_shown Inside (line_progress after.mind.line) (ap line_progress turn.stands) (λ s. tt) shown
   own_shown after (leaves saw_two turn count one) shown = next_shown (Seen saw_two) Past (ap line_progress turn.stands) (λ s. s) shown
@@ -156,14 +179,23 @@ module _ (spec : RoomSpec) (fields : Fields) (own : Own) (p r : ℕ) where
   past_not : ◌≢◌ {A = Progress} Past Scanned
   past_not e = cc
 
-  -- a snapshot is the step numbers as they stood, and the simulator had counted the round
-  pub own_scanned : (after : Own) → Effect spec fields own after → progress_own after p r ≡ Scanned → (after.mind.snapshot ≡ fields.step) × (own.step p ≡ r) × (p ≡ own.mind.sweep) × (line_progress own.mind.line ≡ Fresh)
+  progress_scanned : line_progress own.mind.line ≡ Scanned → progress_in (own.step p) r (eqb p own.mind.sweep) Scanned ≡ Scanned → progress_own own p r ≡ Scanned
+  progress_scanned is scanned = ap (λ (l : Progress). progress_in (own.step p) r (eqb p own.mind.sweep) l) is ∙ scanned
+
+  -- a whole snapshot was there before; or the last word of it has just been loaded, and the simulator had counted the round
+  pub own_scanned : (after : Own) → Effect spec fields own after → progress_own after p r ≡ Scanned
+      → ((progress_own own p r ≡ Scanned) × (after.mind.snapshot ≡ own.mind.snapshot)) ⊎ ((after.mind.snapshot ≡ (step_loaded spec fields own).snapshot) × (own.step p ≡ r) × (p ≡ own.mind.sweep) × (own.mind.line ≡ Snap) × IsLastWord spec own × (p < processes spec) × (own.step (process_on own) ≡ round_on own) × ScanEnds spec fields own after.mind.collects)
   own_scanned after (stores j k value rest goal count process first last) is = absurd (not_scanned after.mind after.step Past refl past_not is)
-  own_scanned after (raises turn count) is = absurd (not_scanned after.mind after.step Fresh refl (λ e. cc) is)
-  own_scanned after (scans turn count none) is =
+  own_scanned after (raises turn whole begun count) is = absurd (not_scanned after.mind after.step Fresh refl (λ e. cc) is)
+  own_scanned after (collects_word turn count none more) is = absurd (not_scanned after.mind after.step Fresh refl (λ e. cc) is)
+  own_scanned after (collects_again turn count none last several goes) is = absurd (not_scanned after.mind after.step Fresh refl (λ e. cc) is)
+  own_scanned after (scans collects turn count none last ends) is =
       let at = scanned_by (own.step p) r (eqb p own.mind.sweep) Scanned is in
-      (refl, at.0, eqb-true p own.mind.sweep at.1, ap line_progress turn.stands)
-  own_scanned after (shows turn count none) is = absurd (not_scanned after.mind after.step Shown refl (λ e. cc) is)
+      let same : p ≡ own.mind.sweep = eqb-true p own.mind.sweep at.1 in
+      inr (refl, at.0, same, turn.stands, last, let below = turn.process in omega (arith, same, below), count, ends)
+  own_scanned after (loads_word found turn less more) is = absurd (not_scanned after.mind after.step Past refl past_not is)
+  own_scanned after (shows_word turn count none more) is = inl (progress_scanned (ap line_progress turn.stands) is, refl)
+  own_scanned after (shows turn count none last) is = absurd (not_scanned after.mind after.step Shown refl (λ e. cc) is)
   own_scanned after (enters turn count none) is = absurd (not_scanned after.mind after.step Inside refl (λ e. cc) is)
   own_scanned after (looks turn count one) is = absurd (not_scanned after.mind after.step (line_progress after.mind.line) refl (λ e. cc) is)
   own_scanned after (leaves saw_two turn count one) is = absurd (not_scanned after.mind after.step Past refl past_not is)
@@ -183,9 +215,13 @@ raised_most step j p = dite (ℕ_discrete p j)
 
 pub own_grows : (spec : RoomSpec) (fields : Fields) (own after : Own) (p : ℕ) → Effect spec fields own after → own.step p ≤ after.step p
 own_grows spec fields own after p (stores j k value rest goal count process first last) = omega arith
-own_grows spec fields own after p (raises turn count) = raised_most own.step own.mind.sweep p
-own_grows spec fields own after p (scans turn count none) = omega arith
-own_grows spec fields own after p (shows turn count none) = omega arith
+own_grows spec fields own after p (raises turn whole begun count) = raised_most own.step own.mind.sweep p
+own_grows spec fields own after p (collects_word turn count none more) = omega arith
+own_grows spec fields own after p (collects_again turn count none last several goes) = omega arith
+own_grows spec fields own after p (scans collects turn count none last ends) = omega arith
+own_grows spec fields own after p (loads_word found turn less more) = omega arith
+own_grows spec fields own after p (shows_word turn count none more) = omega arith
+own_grows spec fields own after p (shows turn count none last) = omega arith
 own_grows spec fields own after p (enters turn count none) = omega arith
 own_grows spec fields own after p (looks turn count one) = omega arith
 own_grows spec fields own after p (leaves saw_two turn count one) = omega arith

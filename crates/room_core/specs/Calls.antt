@@ -5,6 +5,7 @@ use Rattle.room_spec.specs.Rooms.{RoomSpec}
 use Rattle.room_spec.specs.Sizes.{sizes_in}
 use Rattle.view_table.specs.Places.{words_of}
 use Rattle.simulator.specs.Turns.{TakenOf}
+use Rattle.simulator.specs.Ranges.{greatest_limit}
 use Rattle.simulator.specs.Moves.{move_of}
 use Rattle.simulator.specs.Quiet.{IsQuietCount}
 use Rattle.simulator.specs.Sweeps.{SweepState, is_resting, opening_sweep, ready_of, quiet_after}
@@ -58,13 +59,13 @@ pub record IsCore (room : RoomState) : Type 0 where
 -- ---- a step
 
 -- what a simulator's operation makes of it
-abbrev pub sweep_after : TakenOf ℕ → ℕ → SweepState
+abbrev pub sweep_after : TakenOf (List ℕ) → ℕ → SweepState
 sweep_after taken quiet = record { mind = taken.mind; quiet = quiet_after taken.turn quiet }
 
 abbrev pub operation_at : RoomState → ℕ → Move
 operation_at room i = move_of room.spec (sweep_at room i).mind
 
-abbrev pub taken_by : RoomState → ℕ → TakenOf ℕ
+abbrev pub taken_by : RoomState → ℕ → TakenOf (List ℕ)
 taken_by room i = taken_from room.spec (sweep_at room i).mind room.words
 
 -- one atomic step, of its mind on the words
@@ -125,9 +126,9 @@ is_step ready.Step = true
 is_step ready.Idle = false
 is_step ready.OutOfTurns = false
 
--- a turn has at most 26 atomic steps
+-- a turn has at most so many atomic steps, in whatever room
 abbrev pub most_steps : RoomSpec → ℕ
-most_steps spec = 26 * spec.turns
+most_steps spec = greatest_limit * spec.turns
 
 abbrev pub room_kind : KindOf RoomState
 room_kind = record {

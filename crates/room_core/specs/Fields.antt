@@ -1,10 +1,11 @@
 -- The fields of a room, as maps named by numbers, with no word, bit or index in them; the line that a simulator takes on
 -- them; and their replay over a list of calls, with its replies.
-use Rattle.std.specs.Prelude.{◌≡◌, ◌⊎◌, ℕ, zero, suc, ◌+◌, ◌<◌, Bool, true, false, not, List, [], ◌∷◌, length, map, Option, Some, None, nat_le, ◌==◌, if◌then◌else◌, ⊤}
+use Rattle.std.specs.Prelude.{◌≡◌, ◌⊎◌, ℕ, zero, suc, ◌+◌, ◌<◌, Bool, true, false, not, List, [], ◌∷◌, length, map, Option, Some, None, nat_le, ◌==◌, ◌&&◌, if◌then◌else◌, ⊤}
 use Rattle.std.specs.List.{range_with_len}
-use Rattle.room_spec.specs.Rooms.{RoomSpec}
+use Rattle.room_spec.specs.Rooms.{RoomSpec, processes}
+use Rattle.room_spec.specs.Sizes.{sizes_in}
 use Rattle.safe_agreement.specs.Levels.{has_level, left_level, resolved_of}
-use Rattle.sim_memory.specs.Steps.{merged_of, holder_of}
+use Rattle.sim_memory.specs.Steps.{merged_of, holder_of, with_part}
 use Rattle.simulator.specs.declared.goal.Goal.{Goal}
 use Rattle.simulator.specs.declared.goal.Goal.TheVariants as goals
 use Rattle.simulator.specs.declared.line.Line.{Line}
@@ -12,7 +13,7 @@ use Rattle.simulator.specs.declared.line.Line.TheVariants.{Rest, Raise, Snap, Sh
 use Rattle.simulator.specs.declared.sweep.Ready.{Ready}
 use Rattle.simulator.specs.declared.sweep.Ready.TheVariants as ready
 use Rattle.simulator.specs.Minds.{MindOf, opening_mind_of, goal_at, current_round, next_process, unfinished_in}
-use Rattle.simulator.specs.Turns.{TakenOf, counted, goes_on, snapped, asked, got_view, got_value, decided, opened}
+use Rattle.simulator.specs.Turns.{TakenOf, counted, goes_on, snapped, showed, asked, got_view, got_value, decided, opened}
 use Rattle.simulator.specs.Sweeps.{is_resting, ready_of, quiet_after}
 use Rattle.room_core.specs.declared.reply.StepReply.{StepReply}
 use Rattle.room_core.specs.declared.reply.StepReply.TheVariants.{Crashed, NoSimulator}
@@ -88,6 +89,29 @@ holder_of_steps spec snapshot p = holder_of spec.simulators snapshot p
 abbrev pub shown_value : RoomSpec → Fields → StepMap → ℕ → ℕ
 shown_value spec fields snapshot p = fields.value (holder_of_steps spec snapshot p) p (entry_of_steps spec snapshot p)
 
+-- ---- collects
+
+-- whether this holds of all numbers below
+abbrev pub all_below : ℕ → (ℕ → Bool) → Bool
+all_below zero test = true
+all_below (suc n) test = all_below n test && test n
+
+-- whether all step numbers are the same
+abbrev pub same_steps : ℕ → ℕ → StepMap → StepMap → Bool
+same_steps m n one other = all_below m (λ i. all_below n (λ p. one i p == other i p))
+
+-- the mind has loaded the fields of its memory word from this map
+abbrev pub with_loaded : RoomSpec → StepMap → MindOf StepMap → MindOf StepMap
+with_loaded spec source mind = record mind { snapshot = with_part (sizes_in spec) mind.word source mind.snapshot }
+
+-- whether its collect is the one before
+abbrev pub is_same_collect : RoomSpec → MindOf StepMap → Bool
+is_same_collect spec mind = same_steps spec.simulators (processes spec) mind.snapshot mind.before
+
+-- the map with the fields of a mind's memory word stored
+abbrev pub with_shown : RoomSpec → StepMap → MindOf StepMap → StepMap
+with_shown spec view mind = with_part (sizes_in spec) mind.word mind.snapshot view
+
 -- ---- one line of simulator i
 
 -- i has this mind now, and its turn has become this
@@ -111,13 +135,13 @@ first_line (Some j) spec fields i mind = first_line_at (goal_at mind.goals j) sp
 abbrev pub line_on : Line → RoomSpec → Fields → ℕ → ℕ → ℕ → MindOf StepMap → Fields
 line_on Rest spec fields i j k mind = first_line (next_process mind.goals mind.sweep) spec fields i mind
 line_on Raise spec fields i j k mind = with_taken (record fields { step = changed_pair fields.step i j (fields.step i j + 1) }) i (goes_on Snap mind)
-line_on Snap spec fields i j k mind = with_taken fields i (snapped fields.step mind)
-line_on Show spec fields i j k mind = with_taken (record fields { view = changed_triple fields.view i j k mind.snapshot }) i (goes_on Enter mind)
+line_on Snap spec fields i j k mind = with_taken fields i (snapped spec (is_same_collect spec (with_loaded spec fields.step mind)) (with_loaded spec fields.step mind))
+line_on Show spec fields i j k mind = with_taken (record fields { view = changed_triple fields.view i j k (with_shown spec (fields.view i j k) mind) }) i (showed spec mind)
 line_on Enter spec fields i j k mind = with_taken (record fields { level = changed_triple fields.level i j k (fields.level i j k + 1) }) i (goes_on Look mind)
 line_on Look spec fields i j k mind = with_taken fields i (goes_on (Leave (has_level 2 (levels_at spec fields j k))) mind)
 line_on (Leave saw_two) spec fields i j k mind = with_taken (record fields { level = changed_triple fields.level i j k (left_level saw_two) }) i (goes_on Ask mind)
 line_on Ask spec fields i j k mind = with_taken fields i (asked (chosen_at spec fields j k) mind)
-line_on (GetView chosen) spec fields i j k mind = with_taken fields i (got_view (entry_of_steps spec (fields.view chosen j k)) spec (fields.view chosen j k) mind)
+line_on (GetView chosen) spec fields i j k mind = with_taken fields i (got_view (entry_of_steps spec (with_loaded spec (fields.view chosen j k) mind).snapshot) spec chosen (with_loaded spec (fields.view chosen j k) mind))
 line_on Values spec fields i j k mind = with_taken fields i (got_value (entry_of_steps spec mind.snapshot) spec (shown_value spec fields mind.snapshot (length mind.entries)) mind)
 line_on (Out decision) spec fields i j k mind = with_taken (record fields { out = changed_pair fields.out i j (decision + 1) }) i (decided mind)
 

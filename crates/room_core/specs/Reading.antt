@@ -1,23 +1,25 @@
 -- What the words and minds of a room stand for: its fields.
-use Rattle.std.specs.Prelude.{◌≡◌, ℕ, ◌<◌, ◌≤◌, List}
-use Rattle.room_spec.specs.Sizes.{Sizes, sizes_in}
+use Rattle.std.specs.Prelude.{◌≡◌, ℕ, ◌<◌, ◌≤◌, List, map}
+use Rattle.std.specs.List.{range_with_len}
+use Rattle.room_spec.specs.Sizes.{Sizes, memory_words, sizes_in}
 use Rattle.level_cells.specs.Fields.{level_of}
 use Rattle.level_cells.specs.Packing.{packed}
-use Rattle.view_table.specs.Places.{IsSimulator, IsProcess, IsRound}
+use Rattle.view_table.specs.Places.{IsSimulator, IsProcess, IsRound, IsMemoryWord}
 use Rattle.view_table.specs.Words.{word_at}
+use Rattle.view_table.specs.declared.place.Place.{Place}
 use Rattle.view_table.specs.declared.place.Place.TheVariants as places
-use Rattle.sim_memory.specs.Steps.{AreSameSteps, AreWithin, memory_word, step_in}
+use Rattle.sim_memory.specs.Steps.{AreSameSteps, AreWithin, memory_of, memory_word, step_in}
 use Rattle.simulator.specs.Minds.{MindOf, MindState}
 use Rattle.room_core.specs.Rooms.{Configuration, IsOneInterleaving, mind_at, crashed_at}
 use Rattle.room_core.specs.Calls.{RoomState, configuration_of, has_crashed, sweep_at}
 use Rattle.room_core.specs.Fields.{Fields, StepMap, opening_fields, replay_fields}
 
--- a memory word has these step numbers
-pub record IsWordOf (sizes : Sizes) (word : ℕ) (steps : StepMap) : Type 0 where
+-- the memory words that stand at these places have these step numbers
+pub record AreWordsAt (sizes : Sizes) (words : List ℕ) (place : ℕ → Place) (steps : StepMap) : Type 0 where
   pub within : AreWithin sizes steps
-  pub same : word ≡ memory_word sizes steps
+  pub same : (w : ℕ) → IsMemoryWord sizes w → word_at sizes words (place w) ≡ memory_word sizes steps w
 
--- a mind whose snapshot is given as a word
+-- a mind whose snapshot and whose collect before are given as words
 abbrev pub worded : Sizes → MindOf StepMap → MindState
 worded sizes mind = record {
   number = mind.number;
@@ -27,20 +29,24 @@ worded sizes mind = record {
   steps = mind.steps;
   turn_steps = mind.turn_steps;
   line = mind.line;
-  snapshot = memory_word sizes mind.snapshot;
+  word = mind.word;
+  collects = mind.collects;
+  before = memory_of sizes mind.before;
+  snapshot = memory_of sizes mind.snapshot;
   entries = mind.entries;
 }
 
 pub record IsMindOf (sizes : Sizes) (mind : MindState) (field : MindOf StepMap) : Type 0 where
+  pub before : AreWithin sizes field.before
   pub within : AreWithin sizes field.snapshot
   pub same : mind ≡ worded sizes field
 
 -- the words of a room have these fields
 pub record AreWordsOf (sizes : Sizes) (words : List ℕ) (fields : Fields) : Type 0 where
-  pub step : IsWordOf sizes (word_at sizes words places.Steps) fields.step
+  pub step : AreWordsAt sizes words places.Memory fields.step
   pub level : (j k : ℕ) → IsProcess sizes j → IsRound sizes k → word_at sizes words (places.Levels j k) ≡ packed (λ i. fields.level i j k) 2 sizes.m
   pub levels : (i j k : ℕ) → IsSimulator sizes i → IsProcess sizes j → IsRound sizes k → fields.level i j k ≤ 2
-  pub view : (i j k : ℕ) → IsSimulator sizes i → IsProcess sizes j → IsRound sizes k → IsWordOf sizes (word_at sizes words (places.View i j k)) (fields.view i j k)
+  pub view : (i j k : ℕ) → IsSimulator sizes i → IsProcess sizes j → IsRound sizes k → AreWordsAt sizes words (places.View i j k) (fields.view i j k)
   pub value : (i j k : ℕ) → IsSimulator sizes i → IsProcess sizes j → IsRound sizes k → word_at sizes words (places.Value i j k) ≡ fields.value i j k
   pub out : (i j : ℕ) → IsSimulator sizes i → IsProcess sizes j → word_at sizes words (places.Out i j) ≡ fields.out i j
 
@@ -63,7 +69,7 @@ pub record AreFieldsOf (room : RoomState) (fields : Fields) : Type 0 where
 
 -- ---- the reading of a room
 
--- a mind whose snapshot is given as its map
+-- a mind whose snapshot and whose collect before are given as their maps
 abbrev pub unworded : Sizes → MindState → MindOf StepMap
 unworded sizes mind = record {
   number = mind.number;
@@ -73,16 +79,23 @@ unworded sizes mind = record {
   steps = mind.steps;
   turn_steps = mind.turn_steps;
   line = mind.line;
+  word = mind.word;
+  collects = mind.collects;
+  before = step_in sizes mind.before;
   snapshot = step_in sizes mind.snapshot;
   entries = mind.entries;
 }
 
+-- the words that stand at the places of all memory words
+abbrev pub words_from : Sizes → List ℕ → (ℕ → Place) → List ℕ
+words_from sizes words place = map (λ w. word_at sizes words (place w)) (range_with_len 0 (memory_words sizes))
+
 -- the fields that its words, minds and marks say
 abbrev pub fields_in : RoomState → Fields
 fields_in room = record {
-  step = step_in (sizes_in room.spec) (word_at (sizes_in room.spec) room.words places.Steps);
+  step = step_in (sizes_in room.spec) (words_from (sizes_in room.spec) room.words places.Memory);
   level = λ i j k. level_of (word_at (sizes_in room.spec) room.words (places.Levels j k)) i;
-  view = λ i j k. step_in (sizes_in room.spec) (word_at (sizes_in room.spec) room.words (places.View i j k));
+  view = λ i j k. step_in (sizes_in room.spec) (words_from (sizes_in room.spec) room.words (places.View i j k));
   value = λ i j k. word_at (sizes_in room.spec) room.words (places.Value i j k);
   out = λ i j. word_at (sizes_in room.spec) room.words (places.Out i j);
   mind = λ i. unworded (sizes_in room.spec) (sweep_at room i).mind;
@@ -90,10 +103,11 @@ fields_in room = record {
   crashed = λ i. has_crashed room i;
 }
 
--- the same but for the snapshot, whose step numbers are the same
+-- the same but for the snapshot and the collect before, whose step numbers are the same
 pub record AreAlikeMinds (sizes : Sizes) (mind other : MindOf StepMap) : Type 0 where
+  pub before : AreSameSteps sizes.m sizes.n mind.before other.before
   pub snapshot : AreSameSteps sizes.m sizes.n mind.snapshot other.snapshot
-  pub rest : record mind { snapshot = other.snapshot } ≡ other
+  pub rest : record mind { before = other.before; snapshot = other.snapshot } ≡ other
 
 -- the same at the numbers of each simulator, process and round
 pub record AgreeIn (sizes : Sizes) (fields other : Fields) : Type 0 where

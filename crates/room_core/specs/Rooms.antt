@@ -34,7 +34,7 @@ crashed_at room i = slice_index_or room.crashed i false
 abbrev pub words_by : RoomSpec → MindState → List ℕ → List ℕ
 words_by spec mind words = words_after (move_of spec mind) words
 
-abbrev pub taken_from : RoomSpec → MindState → List ℕ → TakenOf ℕ
+abbrev pub taken_from : RoomSpec → MindState → List ℕ → TakenOf (List ℕ)
 taken_from spec mind words = taken spec mind (answer_of (move_of spec mind) words)
 
 -- the room after one atomic step of simulator i

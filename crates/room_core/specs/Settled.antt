@@ -11,3 +11,8 @@ pub data IsSettledFor (spec : RoomSpec) (fields : Fields) (j : ℕ) : Type 0 whe
   decided : has_out spec fields j ≡ true → IsSettledFor spec fields j
   spent : (value : ℕ) → is_clean spec fields j spec.rounds ≡ true → asks spec fields j spec.rounds ≡ Write value → IsSettledFor spec fields j
   held : (i k : ℕ) → i < spec.simulators → fields.crashed i ≡ true → 1 ≤ k → k ≤ spec.rounds → fields.level i j k ≡ 1 → IsSettledFor spec fields j
+
+-- It has decided, or a simulator has crashed inside an agreement on one of its snapshots.
+pub data IsDecidedOrHeld (spec : RoomSpec) (fields : Fields) (j : ℕ) : Type 0 where
+  has_decided : has_out spec fields j ≡ true → IsDecidedOrHeld spec fields j
+  is_held : (i k : ℕ) → i < spec.simulators → fields.crashed i ≡ true → 1 ≤ k → k ≤ spec.rounds → fields.level i j k ≡ 1 → IsDecidedOrHeld spec fields j

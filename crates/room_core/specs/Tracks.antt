@@ -90,6 +90,7 @@ pub record AreInRange (spec : RoomSpec) (fields : Fields) : Type 0 where
 pub record KeepsTrack (spec : RoomSpec) (fields : Fields) : Type 0 where
   pub told : (i : ℕ) → ToldBy spec.rounds (fields.mind i) (fields.step i) (fields.level i)
   pub range : AreInRange spec fields
+  pub before : (i : ℕ) → AreWithin (sizes_in spec) (fields.mind i).before
   pub snapshot : (i : ℕ) → AreWithin (sizes_in spec) (fields.mind i).snapshot
 
 -- The words, minds and marks of the room stand for these fields, which keep what the fields of every room keep.

@@ -1,16 +1,18 @@
 //! Laws of rooms, for a crate that runs one over shared words. Each is what its function ensures.
-ghost use Rattle.std.specs.Prelude.{false, ℕ, ◌≡◌, ◌≢◌, ◌↔◌, ◌⊎◌, ◌+◌, ◌*◌, ◌<◌, ◌≤◌, [], ◌∷◌, ◌++◌, true, List, Some};
-ghost use Rattle.room_spec.specs.Rooms.{RoomSpec, IsWithinLimits, processes};
+ghost use Rattle.std.specs.Prelude.{length, slice_index, false, ℕ, ◌≡◌, ◌≢◌, ◌↔◌, ◌⊎◌, ◌+◌, ◌*◌, ◌<◌, ◌≤◌, [], ◌∷◌, ◌++◌, true, List, Some};
+ghost use Rattle.room_spec.specs.Rooms.{IsCertified, RoomSpec, IsWithinLimits, processes};
 ghost use Rattle.safe_agreement.specs.Levels.{IsClean, least_two};
 ghost use Rattle.sim_memory.specs.Steps.{IsRowAtMost, row_of};
 ghost use Rattle.room_core.specs.Contents.{IsDue};
-ghost use Rattle.room_core.specs.Agreements.{AgreementsStay, HasAgreed, IsFixedAt, IsInsideTurn, asks, is_passed, view_at};
+ghost use Rattle.room_core.specs.Agreements.{AgreementsStay, HasAgreed, IsFixedAt, IsInsideTurn, asks, is_clean, is_passed, row_at, view_at};
 ghost use Rattle.protocol_lang.specs.Numbers.{greatest};
-ghost use Rattle.protocol_lang.specs.declared.meaning.Action.TheVariants.{Decide};
+ghost use Rattle.protocol_lang.specs.declared.meaning.Action.TheVariants.{Decide, Write};
 ghost use Rattle.simulator.specs.Minds.{goal_at};
 ghost use Rattle.simulator.specs.declared.goal.Goal.TheVariants.{Spent};
-ghost use Rattle.room_core.specs.Moments.{IsMoment};
-ghost use Rattle.room_core.specs.Settled.{IsSettledFor};
+ghost use Rattle.room_core.specs.Moments.{IsMoment, IsScan};
+ghost use Rattle.simulator.specs.Minds.{current_round};
+ghost use Rattle.simulator.specs.declared.line.Line.TheVariants.{Show};
+ghost use Rattle.room_core.specs.Settled.{IsDecidedOrHeld, IsSettledFor};
 ghost use Rattle.room_core.specs.Settling.{steps_while};
 ghost use Rattle.simulator.specs.Sweeps.{is_resting};
 ghost use Rattle.room_core.specs.Calls.{Call, RoomState, configuration_of, has_crashed, marked, most_steps, moved, opening_state, replies_to, room_after_calls, room_after_step, room_kind, sweep_at, with_sweep, woken};
@@ -183,4 +185,24 @@ pub fn values_in_range()
 pub fn settles()
     ensures settled { (room : RoomState) (fields : Fields) → IsWithinLimits room.spec → AreFieldsOf room fields → (i j : ℕ) → i < room.spec.simulators → j < processes room.spec → (fields_after_settle room.spec fields).crashed i ≡ false → ((fields_after_settle room.spec fields).mind i).turns < room.spec.turns → IsSettledFor room.spec (fields_after_settle room.spec fields) j }
     ensures rests { (room : RoomState) (fields : Fields) → IsWithinLimits room.spec → AreFieldsOf room fields → (i : ℕ) → i < room.spec.simulators → (fields_after_settle room.spec fields).crashed i ≡ false → is_resting ((fields_after_settle room.spec fields).mind i).line ≡ true }
+{}
+
+/// The content of each scan is the step numbers after a prefix of the list, which holds the simulator's own last write. Where the
+/// memory has more than one word, it is the prefix with which the collect before the last ended.
+pub fn scans()
+    ensures { (room : RoomState) (fields : Fields) → IsWithinLimits room.spec → (are : AreFieldsOf room fields) → (i : ℕ) → i < room.spec.simulators → (fields.mind i).line ≡ Show → IsScan room.spec are.run.schedule (length are.run.schedule) i (fields.mind i).sweep (current_round (fields.mind i)) (fields.mind i).snapshot (fields.mind i).collects }
+{}
+
+/// A simulator counts the first write of each process before the second of any, since its sweep goes round. So what was agreed on in
+/// a later round shows every process.
+pub fn later_rounds_show_all()
+    ensures proposals { (room : RoomState) (fields : Fields) → IsWithinLimits room.spec → AreFieldsOf room fields → (i j k p : ℕ) → i < room.spec.simulators → j < processes room.spec → p < processes room.spec → 2 ≤ k → fields.level i j k ≡ 2 → 1 ≤ fields.view i j k i p }
+    ensures agreed { (room : RoomState) (fields : Fields) → IsWithinLimits room.spec → AreFieldsOf room fields → (j k p : ℕ) → j < processes room.spec → p < processes room.spec → 2 ≤ k → IsFixedAt room.spec fields j k → 1 ≤ slice_index (row_at room.spec fields j k) p }
+{}
+
+/// In a room of a protocol by which each process waits for all but f, with two rounds or more, no process is spent: what was agreed on
+/// in its last round shows all, and so asks for a decision.
+pub fn certified_rooms_decide()
+    ensures unspent { (room : RoomState) (fields : Fields) → IsWithinLimits room.spec → AreFieldsOf room fields → (f : ℕ) → IsCertified room.spec f → (j value : ℕ) → 2 ≤ room.spec.rounds → j < processes room.spec → is_clean room.spec fields j room.spec.rounds ≡ true → asks room.spec fields j room.spec.rounds ≡ Write value → ⊥ }
+    ensures settled { (room : RoomState) (fields : Fields) → IsWithinLimits room.spec → AreFieldsOf room fields → (f : ℕ) → IsCertified room.spec f → (j : ℕ) → 2 ≤ room.spec.rounds → j < processes room.spec → IsSettledFor room.spec fields j → IsDecidedOrHeld room.spec fields j }
 {}

@@ -2,21 +2,23 @@
 ghost use Rattle.std.specs.Prelude.{ℕ, ◌≡◌, ◌≢◌, ◌<◌, ◌≤◌, false, length, map, replicate, slice_index, IfErr, IfOk};
 ghost use Rattle.std.specs.List.{range_with_len};
 ghost use Rattle.std.specs.Allocator.{alloc_error};
-ghost use Rattle.room_spec.specs.Rooms.{IsWithinLimits, processes};
+ghost use Rattle.room_spec.specs.Rooms.{IsCertified, IsWithinLimits, processes};
 ghost use Rattle.room_spec.specs.Sizes.{sizes_in};
 ghost use Rattle.view_table.specs.Places.{words_of};
-ghost use Rattle.simulator.specs.Minds.{goal_at};
+ghost use Rattle.simulator.specs.Minds.{current_round, goal_at};
+ghost use Rattle.simulator.specs.declared.line.Line.TheVariants.{Show};
 ghost use Rattle.simulator.specs.Moves.{IsOperation, answer_of, move_of, taken, words_after};
 ghost use Rattle.simulator.specs.Quiet.{HasNoWrite};
 ghost use Rattle.simulator.specs.Ranges.{IsMind};
 ghost use Rattle.simulator.specs.Sweeps.{opening_sweep};
 ghost use Rattle.room_core.specs.declared.reply.StepReply.TheVariants as replies;
-ghost use Rattle.room_core.specs.Rooms.{HasLine, IsAlive, IsOneInterleaving, IsRoom, IsShaped};
-ghost use Rattle.room_core.specs.Fields.{Fields, crash_reply_in, fields_after_crash, fields_after_settle, fields_after_step, fields_after_steps, opening_fields, step_reply_in};
+ghost use Rattle.room_core.specs.Rooms.{HasLine, IsAlive, IsOneInterleaving, IsRoom, IsShaped, mind_at, times};
+ghost use Rattle.room_core.specs.Fields.{Fields, IsLegalIn, crash_reply_in, fields_after_crash, fields_after_settle, fields_after_step, fields_after_steps, opening_fields, step_reply_in};
 ghost use Rattle.room_core.specs.Agreements.{AgreementsStay};
+ghost use Rattle.room_core.specs.Moments.{IsScan};
 ghost use Rattle.room_core.specs.Reading.{AreFieldsOf, Reads};
 ghost use Rattle.room_core.specs.Calls.{CountsQuietTurns, crash_reply, configuration_of, has_crashed, marked, moved, opening_state, ready_at, room_after_crash, room_after_settle, room_after_step, room_after_steps, room_kind, step_reply, sweep_after, sweep_at, with_sweep, woken};
-ghost use Rattle.room_core.specs.Settled.{IsSettledFor};
+ghost use Rattle.room_core.specs.Settled.{IsDecidedOrHeld, IsSettledFor};
 ghost use Rattle.room_core.specs.Settling.{each_in_order, ran_alone, turn_ended};
 
 use crate::reply::{CrashReply, StepReply};
@@ -109,10 +111,22 @@ impl RoomCore {
         ensures value { result.now ≡ self.now.spec }
         // One interleaving of its simulators' atomic steps, and of crashes, leads to this room.
         ensures run { IsOneInterleaving (configuration_of self.now) }
+        // In every such list each simulator stands as often as its mind counts steps.
+        ensures counts { (one : IsOneInterleaving (configuration_of self.now)) (i : ℕ) → i < self.now.spec.simulators → (mind_at (configuration_of self.now) i).steps ≡ times i one.schedule }
+        // The fields allow each of its events at its place.
+        ensures legal { (one : IsOneInterleaving (configuration_of self.now)) → IsLegalIn self.now.spec (opening_fields self.now.spec) one.schedule }
         // Its words, minds and marks of crashes stand for the fields to which that list leads.
         ensures fields { (fields : Fields) × AreFieldsOf self.now fields × Reads (configuration_of self.now) fields }
     {
         &self.spec
+    }
+
+    /// Its words, in the order of their places: as many as [`words`](view_table::words) of its shape.
+    pub fn words(&self) -> &[u64]
+        ensures value { result.now ≡ self.now.words }
+        ensures count { length result.now ≡ words_of (sizes_in self.now.spec) }
+    {
+        &self.words
     }
 
     /// The word at this index, which is below [`words`](view_table::words) of the room's shape.
@@ -126,7 +140,12 @@ impl RoomCore {
     /// What simulator `i` has in mind.
     pub fn mind(&self, i: usize) -> &Mind
         requires { i < self.now.spec.simulators }
-        ensures { result.now ≡ (sweep_at self.now i).mind }
+        ensures value { result.now ≡ (sweep_at self.now i).mind }
+        // Its numbers are within their ranges, and so an open turn has taken fewer steps than its limit.
+        ensures is_mind { IsMind self.now.spec (mind_at (configuration_of self.now) i) }
+        // The content of its scan, which it stores next, is the step numbers after a prefix of the list that leads to the room; the
+        // prefix holds its own last write.
+        ensures scan { (fields : Fields) (are : AreFieldsOf self.now fields) → (fields.mind i).line ≡ Show → IsScan self.now.spec are.run.schedule (length are.run.schedule) i (fields.mind i).sweep (current_round (fields.mind i)) (fields.mind i).snapshot (fields.mind i).collects }
     {
         self.sweeps[i].mind()
     }
@@ -221,6 +240,8 @@ impl RoomCore {
         ensures agreement { (fields : Fields) → AreFieldsOf self.old fields → AgreementsStay self.old.spec fields (fields_after_settle self.old.spec fields) }
         // Where a simulator that hasn't crashed has a turn left, each process has decided, is spent, or is held by one that has.
         ensures settled { (fields : Fields) → AreFieldsOf self.old fields → (i j : ℕ) → i < self.old.spec.simulators → j < processes self.old.spec → (fields_after_settle self.old.spec fields).crashed i ≡ false → ((fields_after_settle self.old.spec fields).mind i).turns < self.old.spec.turns → IsSettledFor self.old.spec (fields_after_settle self.old.spec fields) j }
+        // By a protocol that waits for all but f, in two rounds or more, none is spent.
+        ensures certified { (fields : Fields) → AreFieldsOf self.old fields → (f : ℕ) → IsCertified self.old.spec f → 2 ≤ self.old.spec.rounds → (i j : ℕ) → i < self.old.spec.simulators → j < processes self.old.spec → (fields_after_settle self.old.spec fields).crashed i ≡ false → ((fields_after_settle self.old.spec fields).mind i).turns < self.old.spec.turns → IsDecidedOrHeld self.old.spec (fields_after_settle self.old.spec fields) j }
     {
         self.finish_turns();
         self.run_each();

@@ -4,6 +4,7 @@ use Rattle.room_core.specs.Fields.{fields_after_settle}
 use Rattle.room_core.specs.Reading.{AreFieldsOf}
 use Rattle.room_core.specs.Settling.{each_in_order, ran_alone}
 use Rattle.room_core.proofs.FieldCalls.{settle_in_fields}
+use Rattle.room_core.proofs.Certified.{certified_for}
 use Rattle.room_core.proofs.Ending.{settled_for}
 use Rattle.room_core.proofs.Lasting.{agreements_stay}
 use Rattle.room_core.proofs.room.RoomCore.settle.Goals as goal
@@ -19,3 +20,6 @@ returns-clause-agreement c = λ fields are. agreements_stay c.args.self.now fiel
 
 pub returns-clause-settled : goal.returns-clause-settled
 returns-clause-settled c = λ fields are i j below low alive left. settled_for c.args.self.now fields c.finish_turns.ensures.limits are i j below low alive left
+
+pub returns-clause-certified : goal.returns-clause-certified
+returns-clause-certified c = λ fields are f certified two i j below low alive left. certified_for c.args.self.now fields c.finish_turns.ensures.limits are f certified two i j below low alive left
