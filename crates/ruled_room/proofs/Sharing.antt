@@ -6,9 +6,9 @@ use lib.ListN.{get_elem?}
 use Rattle.atomic_table.specs.Table.{Splits, Joins}
 use Rattle.atomic_table.proofs.Lists.{at_set, set_else}
 use Rattle.room_spec.specs.Rooms.{RoomSpec}
-use Rattle.simulator.specs.Minds.{MindState}
+use Rattle.ruled_room.specs.declared.rule.Progress.{Progress}
 use Rattle.ruled_room.specs.declared.rule.View.{View}
-use Rattle.ruled_room.specs.Views.{mind_in, only, alone, nobody, without, given, with_back}
+use Rattle.ruled_room.specs.Views.{progress_in, only, alone, nobody, without, given, with_back}
 use Rattle.ruled_room.specs.Rule.{AreHeldBy, IsBlank, IsRunning, Kept}
 use Rattle.ruled_room.proofs.Moving.{only-here, only-else}
 
@@ -37,7 +37,7 @@ left_over (x ∷ xs) zero (suc j) y e = ((λ q. omega arith), e)
 left_over (x ∷ xs) (suc n) zero y e = ((λ q. omega arith), e)
 left_over (x ∷ xs) (suc n) (suc j) y e = let h = left_over xs n j y e in ((λ q. h.0 (omega arith)), h.1)
 
-none_left : (l : List (Option MindState)) (n j : ℕ) → get_or l j None ≡ None → get_or (set l n None) j None ≡ None
+none_left : (l : List (Option Progress)) (n j : ℕ) → get_or l j None ≡ None → get_or (set l n None) j None ≡ None
 none_left [] n j e = e
 none_left (x ∷ xs) zero zero e = refl
 none_left (x ∷ xs) zero (suc j) e = e
@@ -51,84 +51,84 @@ put_in (z ∷ zs) zero (suc j) x y e = inr e
 put_in (z ∷ zs) (suc n) zero x y e = inr e
 put_in (z ∷ zs) (suc n) (suc j) x y e = ⊎_elim (λ (t : (j ≡ n) × (x ≡ y)). inl (ap suc t.0, t.1)) (λ (t : get_or zs j None ≡ Some y). inr t) (put_in zs n j x y e)
 
-cut_running : (s : RoomSpec) (words : List ℕ) (views : List View) (id n : ℕ) (v : View) (o : Option MindState) → mind_in v n ≡ o → get_elem? views id ≡ some v → IsRunning s words views → IsRunning s words (set views id (without n v) ++ given v.spec n o ∷ [])
-cut_running s words views id n v None none at r = record { minds = r.minds; owner = r.owner; begun = r.begun; long = r.long; run = r.run; held = held }
+cut_running : (s : RoomSpec) (words : List ℕ) (views : List View) (id n : ℕ) (v : View) (o : Option Progress) → progress_in v n ≡ o → get_elem? views id ≡ some v → IsRunning s words views → IsRunning s words (set views id (without n v) ++ given v.spec n o ∷ [])
+cut_running s words views id n v None none at r = record { simulators = r.simulators; owner = r.owner; begun = r.begun; long = r.long; run = r.run; held = held }
   where
-    held : AreHeldBy r.owner r.minds (set views id (without n v) ++ nobody v.spec ∷ [])
+    held : AreHeldBy r.owner r.simulators (set views id (without n v) ++ nobody v.spec ∷ [])
     held k u j y e m = ⊎_elim
         (λ (was : get_elem? (set views id (without n v)) k ≡ some u). ⊎_elim
         (λ (t : (k ≡ id) × (without n v ≡ u)).
-        let left = left_over v.minds n j y (subst (λ (w : View). mind_in w j ≡ Some y) (sym t.1) m) in
+        let left = left_over v.held n j y (subst (λ (w : View). progress_in w j ≡ Some y) (sym t.1) m) in
         let h = r.held id v j y at left.1 in (h.0 ∙ sym t.0, h.1))
         (λ (t : (k ≢ id) × (get_elem? views k ≡ some u)). r.held k u j y t.1 m)
         (at_set views id k (without n v) u was))
-        (λ (t : (k ≡ length (set views id (without n v))) × (nobody v.spec ≡ u)). absurd (let q = subst (λ (w : View). mind_in w j ≡ Some y) (sym t.1) m in cc))
+        (λ (t : (k ≡ length (set views id (without n v))) × (nobody v.spec ≡ u)). absurd (let q = subst (λ (w : View). progress_in w j ≡ Some y) (sym t.1) m in cc))
         (at_end (set views id (without n v)) (nobody v.spec) u k e)
-cut_running s words views id n v (Some x) there at r = record { minds = r.minds; owner = update r.owner n (length views); begun = r.begun; long = r.long; run = r.run; held = held }
+cut_running s words views id n v (Some x) there at r = record { simulators = r.simulators; owner = update r.owner n (length views); begun = r.begun; long = r.long; run = r.run; held = held }
   where
-    held : AreHeldBy (update r.owner n (length views)) r.minds (set views id (without n v) ++ alone v.spec [] n x ∷ [])
+    held : AreHeldBy (update r.owner n (length views)) r.simulators (set views id (without n v) ++ alone v.spec n x ∷ [])
     held k u j y e m =
         let mine = r.held id v n x at there in
         ⊎_elim
         (λ (was : get_elem? (set views id (without n v)) k ≡ some u). ⊎_elim
         (λ (t : (k ≡ id) × (without n v ≡ u)).
-        let left = left_over v.minds n j y (subst (λ (w : View). mind_in w j ≡ Some y) (sym t.1) m) in
+        let left = left_over v.held n j y (subst (λ (w : View). progress_in w j ≡ Some y) (sym t.1) m) in
         let h = r.held id v j y at left.1 in (update-else r.owner n (length views) j left.0 ∙ h.0 ∙ sym t.0, h.1))
         (λ (t : (k ≢ id) × (get_elem? views k ≡ some u)).
         let h = r.held k u j y t.1 m in
         (update-else r.owner n (length views) j (λ same. t.0 (sym h.0 ∙ ap r.owner same ∙ mine.0)) ∙ h.0, h.1))
         (at_set views id k (without n v) u was))
-        (λ (t : (k ≡ length (set views id (without n v))) × (alone v.spec [] n x ≡ u)).
-        let w = only-else n x j y (subst (λ (q : View). mind_in q j ≡ Some y) (sym t.1) m) in
-        (update-here r.owner n (length views) j w.0 ∙ sym (t.0 ∙ length-set views id (without n v)), subst (λ (q : ℕ × MindState). get_elem? r.minds q.0 ≡ some q.1) (λ p. (sym w.0 p, sym w.1 p)) mine.1))
-        (at_end (set views id (without n v)) (alone v.spec [] n x) u k e)
+        (λ (t : (k ≡ length (set views id (without n v))) × (alone v.spec n x ≡ u)).
+        let w = only-else n x j y (subst (λ (q : View). progress_in q j ≡ Some y) (sym t.1) m) in
+        (update-here r.owner n (length views) j w.0 ∙ sym (t.0 ∙ length-set views id (without n v)), subst (λ (q : ℕ × Progress). get_elem? r.simulators q.0 ≡ some q.1) (λ p. (sym w.0 p, sym w.1 p)) mine.1))
+        (at_end (set views id (without n v)) (alone v.spec n x) u k e)
 
-cut_blank : (s : RoomSpec) (words : List ℕ) (views : List View) (id n : ℕ) (v : View) (o : Option MindState) → mind_in v n ≡ o → get_elem? views id ≡ some v → IsBlank s words views → IsBlank s words (set views id (without n v) ++ given v.spec n o ∷ [])
+cut_blank : (s : RoomSpec) (words : List ℕ) (views : List View) (id n : ℕ) (v : View) (o : Option Progress) → progress_in v n ≡ o → get_elem? views id ≡ some v → IsBlank s words views → IsBlank s words (set views id (without n v) ++ given v.spec n o ∷ [])
 cut_blank s words views id n v (Some x) there at b = absurd (let e = b.nobody id v n at in cc)
 cut_blank s words views id n v None none at b = record { zeros = b.zeros; nobody = empty }
   where
-    empty : (k : ℕ) (u : View) (j : ℕ) → get_elem? (set views id (without n v) ++ nobody v.spec ∷ []) k ≡ some u → mind_in u j ≡ None
+    empty : (k : ℕ) (u : View) (j : ℕ) → get_elem? (set views id (without n v) ++ nobody v.spec ∷ []) k ≡ some u → progress_in u j ≡ None
     empty k u j e = ⊎_elim
         (λ (was : get_elem? (set views id (without n v)) k ≡ some u). ⊎_elim
-        (λ (t : (k ≡ id) × (without n v ≡ u)). subst (λ (w : View). mind_in w j ≡ None) t.1 (none_left v.minds n j (b.nobody id v j at)))
+        (λ (t : (k ≡ id) × (without n v ≡ u)). subst (λ (w : View). progress_in w j ≡ None) t.1 (none_left v.held n j (b.nobody id v j at)))
         (λ (t : (k ≢ id) × (get_elem? views k ≡ some u)). b.nobody k u j t.1)
         (at_set views id k (without n v) u was))
-        (λ (t : (k ≡ length (set views id (without n v))) × (nobody v.spec ≡ u)). subst (λ (w : View). mind_in w j ≡ None) t.1 refl)
+        (λ (t : (k ≡ length (set views id (without n v))) × (nobody v.spec ≡ u)). subst (λ (w : View). progress_in w j ≡ None) t.1 refl)
         (at_end (set views id (without n v)) (nobody v.spec) u k e)
 
-pub cuts : {S : Type 0} (s : RoomSpec) (id n : ℕ) (v : View) → Splits {S = S} (Kept s) id v (without n v) (given v.spec n (mind_in v n))
+pub cuts : {S : Type 0} (s : RoomSpec) (id n : ℕ) (v : View) → Splits {S = S} (Kept s) id v (without n v) (given v.spec n (progress_in v n))
 cuts s id n v t kept at = ⊎_elim
-    (λ (b : IsBlank s t.words t.views). inl (cut_blank s t.words t.views id n v (mind_in v n) refl at b))
-    (λ (r : IsRunning s t.words t.views). inr (cut_running s t.words t.views id n v (mind_in v n) refl at r))
+    (λ (b : IsBlank s t.words t.views). inl (cut_blank s t.words t.views id n v (progress_in v n) refl at b))
+    (λ (r : IsRunning s t.words t.views). inr (cut_running s t.words t.views id n v (progress_in v n) refl at r))
     kept
 
-join_running : (s spent : RoomSpec) (words : List ℕ) (views : List View) (id other n : ℕ) (v w : View) (x : MindState) (both : View) → both ≡ record { spec = v.spec; minds = set v.minds n (Some x); operations = v.operations }
-    → get_elem? views id ≡ some v → other ≢ id → get_elem? views other ≡ some w → w.minds ≡ only n x → IsRunning s words views → IsRunning s words (set (set views id both) other (nobody spent))
-join_running s spent words views id other n v w x both is at apart there alone-is r = record { minds = r.minds; owner = update r.owner n id; begun = r.begun; long = r.long; run = r.run; held = held }
+join_running : (s spent : RoomSpec) (words : List ℕ) (views : List View) (id other n : ℕ) (v w : View) (x : Progress) (both : View) → both ≡ record { spec = v.spec; held = set v.held n (Some x) }
+    → get_elem? views id ≡ some v → other ≢ id → get_elem? views other ≡ some w → w.held ≡ only n x → IsRunning s words views → IsRunning s words (set (set views id both) other (nobody spent))
+join_running s spent words views id other n v w x both is at apart there alone-is r = record { simulators = r.simulators; owner = update r.owner n id; begun = r.begun; long = r.long; run = r.run; held = held }
   where
-    held : AreHeldBy (update r.owner n id) r.minds (set (set views id both) other (nobody spent))
+    held : AreHeldBy (update r.owner n id) r.simulators (set (set views id both) other (nobody spent))
     held k u j y e m =
-        let mine = r.held other w n x there (ap (λ (l : List (Option MindState)). get_or l n None) alone-is ∙ only-here n x) in
+        let mine = r.held other w n x there (ap (λ (l : List (Option Progress)). get_or l n None) alone-is ∙ only-here n x) in
         ⊎_elim
-        (λ (a : (k ≡ other) × (nobody spent ≡ u)). absurd (let q = subst (λ (w : View). mind_in w j ≡ Some y) (sym a.1) m in cc))
+        (λ (a : (k ≡ other) × (nobody spent ≡ u)). absurd (let q = subst (λ (w : View). progress_in w j ≡ Some y) (sym a.1) m in cc))
         (λ (t : (k ≢ other) × (get_elem? (set views id both) k ≡ some u)). ⊎_elim
         (λ (a : (k ≡ id) × (both ≡ u)). ⊎_elim
-        (λ (q : (j ≡ n) × (x ≡ y)). (update-here r.owner n id j q.0 ∙ sym a.0, subst (λ (p : ℕ × MindState). get_elem? r.minds p.0 ≡ some p.1) (λ i. (sym q.0 i, q.1 i)) mine.1))
-        (λ (q : get_or v.minds j None ≡ Some y).
+        (λ (q : (j ≡ n) × (x ≡ y)). (update-here r.owner n id j q.0 ∙ sym a.0, subst (λ (p : ℕ × Progress). get_elem? r.simulators p.0 ≡ some p.1) (λ i. (sym q.0 i, q.1 i)) mine.1))
+        (λ (q : get_or v.held j None ≡ Some y).
         let h = r.held id v j y at q in
         (update-else r.owner n id j (λ same. apart (sym mine.0 ∙ ap r.owner (sym same) ∙ h.0)) ∙ h.0 ∙ sym a.0, h.1))
-        (put_in v.minds n j x y (subst (λ (w : View). mind_in w j ≡ Some y) (sym a.1 ∙ is) m)))
+        (put_in v.held n j x y (subst (λ (w : View). progress_in w j ≡ Some y) (sym a.1 ∙ is) m)))
         (λ (a : (k ≢ id) × (get_elem? views k ≡ some u)).
         let h = r.held k u j y a.1 m in
         (update-else r.owner n id j (λ same. t.0 (sym h.0 ∙ ap r.owner same ∙ mine.0)) ∙ h.0, h.1))
         (at_set views id k both u t.1))
         (at_set (set views id both) other k (nobody spent) u e)
 
-pub joins : {S : Type 0} (s spent : RoomSpec) (id other n : ℕ) (v w : View) (x : MindState) → w.minds ≡ only n x → Joins {S = S} (Kept s) id v other w (with_back n v w) (nobody spent)
+pub joins : {S : Type 0} (s spent : RoomSpec) (id other n : ℕ) (v w : View) (x : Progress) → w.held ≡ only n x → Joins {S = S} (Kept s) id v other w (with_back n v w) (nobody spent)
 joins s spent id other n v w x is t kept at apart there =
     let there' : get_elem? t.views other ≡ some w = sym (set_else t.views id other (with_back n v w) apart) ∙ there in
-    let here : mind_in w n ≡ Some x = ap (λ (l : List (Option MindState)). get_or l n None) is ∙ only-here n x in
-    let both-is : with_back n v w ≡ record { spec = v.spec; minds = set v.minds n (Some x); operations = v.operations } = ap (λ (o : Option MindState). record { spec = v.spec; minds = set v.minds n o; operations = v.operations }) here in
+    let here : progress_in w n ≡ Some x = ap (λ (l : List (Option Progress)). get_or l n None) is ∙ only-here n x in
+    let both-is : with_back n v w ≡ record { spec = v.spec; held = set v.held n (Some x) } = ap (λ (o : Option Progress). record { spec = v.spec; held = set v.held n o }) here in
     ⊎_elim
     (λ (b : IsBlank s t.words t.views). absurd (let e = b.nobody other w n there' in cc))
     (λ (r : IsRunning s t.words t.views). inr (join_running s spent t.words t.views id other n v w x (with_back n v w) both-is at apart there' is r))

@@ -1,5 +1,5 @@
 -- What a contract sees of a room on shared words, its keeper and its simulators.
-use Rattle.std.specs.Prelude.{◌≡◌, ℕ, ◌<◌, Bool, true, false, not, ◌&&◌, List, length, map, IsSome, is_some, Option, Some, None, slice_index_or, slice_set}
+use Rattle.std.specs.Prelude.{◌≡◌, ℕ, ◌<◌, Bool, true, false, not, ◌&&◌, List, [], length, map, IsSome, is_some, Option, Some, None, slice_index_or, slice_set}
 use Rattle.std.specs.List.{range_with_len}
 use Rattle.std.specs.Option.{option_map}
 use Rattle.atomic_table.specs.Seated.{TableId}
@@ -33,7 +33,7 @@ pub record IsSweepOf (spec : RoomSpec) (i : ℕ) (sweep : SweepState) : Type 0 w
   pub number : sweep.mind.number ≡ i
   pub quiet : IsQuietCount sweep.mind sweep.quiet
 
--- operations: what it has done on the room's words since it was given, as the table has noted it
+-- operations: what it has done on the room's words since the room began, each with its answer, as the table has noted it
 pub record SimulatorData : Type 0 where
   pub room : RoomName
   pub number : ℕ
@@ -64,13 +64,18 @@ TakesStep old NoSimulator new = ⊥
 -- ---- keepers
 
 -- sweeps: those of the simulators that are at home
+-- operations: what each of them has done since the room began; nothing for those that are out, who note it themselves
 pub record KeeperData : Type 0 where
   pub room : RoomName
   pub sweeps : List (Option SweepState)
+  pub operations : List (List Operation)
   pub crashed : List Bool
 
 abbrev pub sweep_home : KeeperData → ℕ → Option SweepState
 sweep_home keeper i = slice_index_or keeper.sweeps i None
+
+abbrev pub operations_home : KeeperData → ℕ → List Operation
+operations_home keeper i = slice_index_or keeper.operations i []
 
 -- simulator i is at home and hasn't crashed
 abbrev pub holds_in : KeeperData → ℕ → Bool

@@ -1,7 +1,7 @@
 //! The keeper of a room's simulators.
 ghost use Rattle.std.specs.Prelude.{◌≡◌, true, [], MatchOption, Some, None, slice_set};
-ghost use Rattle.ruled_room.specs.Parts.{IsComplete, IsFirstOut, holds_in, marked, sweep_home};
-ghost use Rattle.ruled_room.specs.Views.{IsAlone, given, mind_in, with_back, without};
+ghost use Rattle.ruled_room.specs.Parts.{IsComplete, IsFirstOut, holds_in, marked, operations_home, sweep_home};
+ghost use Rattle.ruled_room.specs.Views.{IsAlone, given, progress_in, with_back, without};
 
 use crate::boxed::BoxedSweep;
 use crate::room::RuledRoom;
@@ -21,19 +21,20 @@ pub struct Keeper {
 }
 
 impl Model for Keeper {
-    ghost use Rattle.std.specs.Prelude.{◌≡◌, [], length};
+    ghost use Rattle.std.specs.Prelude.{◌≡◌, [], length, map};
     ghost use Rattle.std.specs.Coded.{codes};
     ghost use Rattle.protocol_lang.specs.Codes.{expression_code};
     ghost use Rattle.ruled_room.specs.Parts.{AreSweeps, KeeperData, minds_of};
+    ghost use Rattle.ruled_room.specs.Views.{done_by, minds_in};
 
     ghost Value = { KeeperData };
 
     ghost coded = { Prim.hlevel (codes, expression_code) };
 
-    ghost view = { λ k. record { room = record { table = k.seat.table_id; spec = k.seat.me.0.spec }; sweeps = k.sweeps.items; crashed = k.crashed.items } };
+    ghost view = { λ k. record { room = record { table = k.seat.table_id; spec = k.seat.me.0.spec }; sweeps = k.sweeps.items; operations = map done_by k.seat.me.0.held; crashed = k.crashed.items } };
 
     // Its seat has the minds of those at home.
-    ghost invariant = { λ k. (k.seat.me.0.minds ≡ minds_of k.sweeps.items) × (k.seat.me.1 ≡ []) × (length k.sweeps.items ≡ k.seat.me.0.spec.simulators) × (length k.crashed.items ≡ k.seat.me.0.spec.simulators) × AreSweeps k.seat.me.0.spec k.sweeps.items };
+    ghost invariant = { λ k. (minds_in k.seat.me.0 ≡ minds_of k.sweeps.items) × (k.seat.me.1 ≡ []) × (length k.sweeps.items ≡ k.seat.me.0.spec.simulators) × (length k.crashed.items ≡ k.seat.me.0.spec.simulators) × AreSweeps k.seat.me.0.spec k.sweeps.items };
 }
 
 impl Keeper {
@@ -58,12 +59,12 @@ impl Keeper {
     }
 
     /// Gives simulator `i` away, which [`holds`](Keeper::holds) says is at home and hasn't crashed, with
-    /// the mind and the quiet count that it has at home.
+    /// the mind and the quiet count that it has at home, and with what it has done so far.
     pub fn give(&mut self, room: &RuledRoom, i: usize) -> Simulator
         requires room { self.old.room ≡ room.now }
         requires holds { holds_in self.old i ≡ true }
-        ensures keeper { self.new ≡ record self.old { sweeps = slice_set self.old.sweeps i None } }
-        ensures simulator { (result.room ≡ room.now) × (result.number ≡ i) × (Some result.sweep ≡ sweep_home self.old i) × (result.operations ≡ []) }
+        ensures keeper { self.new ≡ record self.old { sweeps = slice_set self.old.sweeps i None; operations = slice_set self.old.operations i [] } }
+        ensures simulator { (result.room ≡ room.now) × (result.number ≡ i) × (Some result.sweep ≡ sweep_home self.old i) × (result.operations ≡ operations_home self.old i) }
     {
         let place = &mut self.sweeps[i];
         let Some(sweep) = place.take() else {
@@ -77,11 +78,12 @@ impl Keeper {
         }
     }
 
-    /// Takes a simulator back, with its mind and quiet count, and marks it as crashed where it crashed.
+    /// Takes a simulator back, with its mind, its quiet count and what it has done, and marks it as
+    /// crashed where it crashed.
     pub fn take_back(&mut self, room: &RuledRoom, simulator: Simulator, stop: Stop)
         requires keeper { self.old.room ≡ room.now }
         requires simulator { simulator.room ≡ room.now }
-        ensures { self.new ≡ record { room = self.old.room; sweeps = slice_set self.old.sweeps simulator.number (Some simulator.sweep); crashed = marked stop simulator.number self.old.crashed } }
+        ensures { self.new ≡ record { room = self.old.room; sweeps = slice_set self.old.sweeps simulator.number (Some simulator.sweep); operations = slice_set self.old.operations simulator.number simulator.operations; crashed = marked stop simulator.number self.old.crashed } }
     {
         let Simulator {
             seat,
@@ -101,7 +103,7 @@ fn cut<C: Chosen>(room: &RuledRoom, seat: &mut Seat<(), View>, number: usize) ->
     requires table { seat.old.table_id ≡ room.now.table }
     requires number { number ≡ C.number }
     ensures seat { (seat.new.table_id ≡ seat.old.table_id) × (seat.new.id ≡ seat.old.id) × (seat.new.me ≡ (without number seat.old.me.0, seat.old.me.1)) }
-    ensures new { (result.table_id ≡ seat.old.table_id) × (result.me ≡ (given seat.old.me.0.spec number (mind_in seat.old.me.0 number), [])) }
+    ensures new { (result.table_id ≡ seat.old.table_id) × (result.me ≡ (given seat.old.me.0.spec number (progress_in seat.old.me.0 number), [])) }
 {
     room.table.shared.split_seat::<HandsOver<C>>(seat)
 }

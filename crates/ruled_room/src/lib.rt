@@ -14,6 +14,7 @@
 
 mod boxed;
 mod keeper;
+pub mod laws;
 mod room;
 pub mod rule;
 mod step;

@@ -1,12 +1,12 @@
 //! A room on words that threads share: its beginning and its end.
-ghost use Rattle.std.specs.Prelude.{◌≡◌, suc, ◌<◌, ◌≤◌, length, take, map, replicate, false, IfOk, IfErr, OnOk, Some};
+ghost use Rattle.std.specs.Prelude.{◌≡◌, suc, ◌<◌, ◌≤◌, [], length, take, map, replicate, false, IfOk, IfErr, OnOk, Some};
 ghost use Rattle.std.specs.Mem.Slots.{IsFull, slots_items, slots_len};
 ghost use Rattle.simulator.specs.Sweeps.{opening_sweep};
 ghost use Rattle.room_spec.specs.Rooms.{IsWithinLimits};
 ghost use Rattle.room_core.specs.Calls.{configuration_of};
-ghost use Rattle.room_core.specs.Rooms.{IsOneInterleaving};
 ghost use Rattle.ruled_room.specs.Parts.{GoneFor, IsComplete, first_sweeps};
 ghost use Rattle.ruled_room.specs.Rule.{word_count};
+ghost use Rattle.ruled_room.specs.Runs.{IsInterleavingOf};
 
 use crate::boxed::BoxedSweep;
 use crate::keeper::Keeper;
@@ -66,7 +66,7 @@ impl RuledRoom {
     /// refused memory; no run comes there, since nobody else has the new table.
     pub fn fresh(alloc: Global, spec: Spec) -> Result<(RuledRoom, Keeper), AllocError>
         ensures room { IfOk result (λ r. r.0.spec ≡ spec) }
-        ensures keeper { IfOk result (λ r. r.1 ≡ record { room = r.0; sweeps = first_sweeps spec; crashed = replicate spec.simulators false }) }
+        ensures keeper { IfOk result (λ r. r.1 ≡ record { room = r.0; sweeps = first_sweeps spec; operations = replicate spec.simulators []; crashed = replicate spec.simulators false }) }
     {
         let count = words(&spec.shape());
         let zero = zeros(alloc, count + 1)?;
@@ -91,8 +91,9 @@ impl RuledRoom {
         requires { keeper.room ≡ self }
         // The room has the keeper's minds and quiet counts, and its marks of crashes.
         ensures core { IfOk result (λ core. (core.spec ≡ self.spec) × (map Some core.sweeps ≡ keeper.sweeps) × (core.crashed ≡ keeper.crashed)) }
-        // Its words and minds are those of one interleaving of the steps that its minds count.
-        ensures run { IfOk result (λ core. IsOneInterleaving (configuration_of core)) }
+        // Its words and minds are those of one interleaving, along which each simulator does the operations that the keeper has
+        // noted of it, with their answers, and no other.
+        ensures run { IfOk result (λ core. IsInterleavingOf (configuration_of core) keeper.operations) }
         ensures home { OnOk result (IsComplete keeper.sweeps) }
         ensures gone { IfErr result (λ e. GoneFor keeper.sweeps e.2) }
         ensures same { IfErr result (λ e. (e.0 ≡ self) × (e.1 ≡ keeper)) }
@@ -112,7 +113,7 @@ impl RuledRoom {
         requires home { IsComplete keeper.sweeps }
         requires limits { IsWithinLimits self.spec }
         requires words { length words.items ≡ word_count self.spec }
-        ensures { (result.spec ≡ self.spec) × (map Some result.sweeps ≡ keeper.sweeps) × (result.crashed ≡ keeper.crashed) × IsOneInterleaving (configuration_of result) }
+        ensures { (result.spec ≡ self.spec) × (map Some result.sweeps ≡ keeper.sweeps) × (result.crashed ≡ keeper.crashed) × IsInterleavingOf (configuration_of result) keeper.operations }
     {
         let RuledRoom { table, spec } = self;
         let Keeper {

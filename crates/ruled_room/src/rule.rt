@@ -4,9 +4,11 @@
 //! Each simulator that was given away steps through a seat of its own, and the keeper has the first
 //! seat. A seat's view is data that exists in proofs alone, and changes at its own operations only.
 //!
-//! **Between any two operations** each simulator's mind is in the view of at most one seat, and some
-//! list of atomic steps, with nobody crashed, leads from the opening room to the room's words and
-//! these minds. Before the last word is 1, all words are 0 and no view has a mind.
+//! **Between any two operations** each simulator's mind is in the view of at most one seat, with the
+//! operations that it has done since the room began. Some list of atomic steps, with nobody crashed,
+//! leads from the opening room to the room's words and these minds, and along it each simulator does
+//! just these operations, with the answers that it had. Before the last word is 1, all words are 0 and
+//! no view has a mind.
 //!
 //! These are the operations. Own words and fields are those of the simulator that steps.
 //!
@@ -20,8 +22,8 @@
 //! | load | the levels of the agreement | lines look and ask; first line of a turn that asks | the same, by the word that was found |
 //! | load | the view that was agreed on | line get view | the same, by the word that was found |
 //! | load | a value that this view shows | line values | the same, by the word that was found |
-//! | load | the step numbers | a simulator is given | the keeper's: the mind leaves it, and a new seat has it |
-//! | load | the step numbers | a simulator is taken back | the keeper's: it has the mind again, and the other seat has none |
+//! | load | the step numbers | a simulator is given | the keeper's: the mind and its operations leave it, and a new seat has them |
+//! | load | the step numbers | a simulator is taken back | the keeper's: it has them again, and the other seat has none |
 //! | swap in 1 | the last | the room begins | the keeper's: where the swap found 0, it gets all opening minds |
 //!
 //! The first eight rows are the atomic steps of a simulator. There the view also notes the operation
@@ -41,12 +43,18 @@ pub struct Operation {
     pub answer: u64,
 }
 
-/// What a seat knows: its room's spec, the minds that it holds, each at its number, and the
-/// operations of a simulator that were done through it, in order. No value of it is made.
+/// How far a simulator has come: its mind, and the operations that it has done since its room began,
+/// in order.
+pub struct Progress {
+    pub mind: Mind,
+    pub operations: LinkedList<Operation>,
+}
+
+/// What a seat knows: its room's spec, and how far the simulators that it holds have come, each at its
+/// number. No value of it is made.
 pub struct View {
     pub spec: Spec,
-    pub minds: LinkedList<Option<Mind>>,
-    pub operations: LinkedList<Operation>,
+    pub held: LinkedList<Option<Progress>>,
 }
 
 /// The words and the minds are those of one interleaving.
@@ -139,11 +147,11 @@ pub struct HandsOver<C> {
 }
 
 impl<C: Chosen> Split<View> for HandsOver<C> {
-    ghost use Rattle.ruled_room.specs.Views.{given, mind_in, without};
+    ghost use Rattle.ruled_room.specs.Views.{given, progress_in, without};
 
     ghost left = { λ view. without C.number view };
 
-    ghost right = { λ view. given view.spec C.number (mind_in view C.number) };
+    ghost right = { λ view. given view.spec C.number (progress_in view C.number) };
 }
 
 impl<C: Chosen> Join<View> for HandsOver<C> {

@@ -8,7 +8,7 @@ ghost use Rattle.simulator.specs.Sweeps.{is_resting, ready_of};
 ghost use Rattle.room_core.specs.Calls.{reply_when};
 ghost use Rattle.room_core.specs.declared.reply.StepReply.TheVariants.{Idle};
 ghost use Rattle.ruled_room.specs.Parts.{IsSweepOf, TakesStep};
-ghost use Rattle.ruled_room.specs.Views.{alone, noted};
+ghost use Rattle.ruled_room.specs.Views.{alone, done_by, noted, progress_in};
 
 use crate::boxed::BoxedSweep;
 use crate::room::RuledRoom;
@@ -19,7 +19,7 @@ use simulator::{Mind, Move, Ready};
 use std::marker::Model;
 
 /// One simulator, which any thread may step. What it has in mind is its own: no other thread sees it.
-/// Proofs also see which operations it has done since it was given, and what they answered.
+/// Proofs also see which operations it has done since its room began, and what they answered.
 #[derive(Drop)]
 pub struct Simulator {
     pub(crate) seat: Seat<(), View>,
@@ -32,16 +32,16 @@ impl Model for Simulator {
     ghost use Rattle.std.specs.Coded.{codes};
     ghost use Rattle.protocol_lang.specs.Codes.{expression_code};
     ghost use Rattle.ruled_room.specs.Parts.{IsSweepOf, SimulatorData};
-    ghost use Rattle.ruled_room.specs.Views.{only};
+    ghost use Rattle.ruled_room.specs.Views.{done_by, only, progress_in};
 
     ghost Value = { SimulatorData };
 
     ghost coded = { Prim.hlevel (codes, expression_code) };
 
-    ghost view = { λ s. record { room = record { table = s.seat.table_id; spec = s.seat.me.0.spec }; number = s.number; sweep = s.sweep; operations = s.seat.me.0.operations } };
+    ghost view = { λ s. record { room = record { table = s.seat.table_id; spec = s.seat.me.0.spec }; number = s.number; sweep = s.sweep; operations = done_by (progress_in s.seat.me.0 s.number) } };
 
     // Its seat has its mind, and no other.
-    ghost invariant = { λ s. (s.seat.me.0.minds ≡ only s.number s.sweep.mind) × (s.seat.me.1 ≡ []) × IsSweepOf s.seat.me.0.spec s.number s.sweep };
+    ghost invariant = { λ s. (s.seat.me.0.held ≡ only s.number (record { mind = s.sweep.mind; operations = done_by (progress_in s.seat.me.0 s.number) })) × (s.seat.me.1 ≡ []) × IsSweepOf s.seat.me.0.spec s.number s.sweep };
 }
 
 impl Simulator {
@@ -100,7 +100,7 @@ impl Simulator {
 /// Does the operation on the table, and answers what it answered.
 fn perform(room: &RuledRoom, seat: &mut Seat<(), View>, mind: &Mind, next: Move) -> u64
     requires table { seat.old.table_id ≡ room.now.table }
-    requires seat { seat.old.me ≡ (alone room.now.spec seat.old.me.0.operations mind.now.number mind.now, []) }
+    requires seat { seat.old.me ≡ (alone room.now.spec mind.now.number (record { mind = mind.now; operations = done_by (progress_in seat.old.me.0 mind.now.number) }), []) }
     requires is_mind { IsMind room.now.spec mind.now }
     requires operation { IsOperation (move_of room.now.spec mind.now) }
     requires next { next ≡ move_of room.now.spec mind.now }

@@ -9,6 +9,7 @@ use Rattle.std.proofs.lemmas.List.FromFn.{get_or-map-range_with_len, length-map-
 use Rattle.std.proofs.lemmas.List.Sums.{sum_by-cons}
 use Rattle.room_spec.specs.Rooms.{RoomSpec, fuse_of}
 use Rattle.simulator.specs.Sweeps.{SweepState, opening_sweep}
+use Rattle.ruled_room.specs.declared.rule.Operation.{Operation}
 use Rattle.ruled_room.specs.Parts.{KeeperData, RoomName, SimulatorData, first_sweeps, holds_in, sweep_home}
 use Rattle.scheduler.specs.declared.workers.Task.{Task}
 use Rattle.scheduler.specs.Drives.{IsWithinFuse}
@@ -81,7 +82,7 @@ all_false (suc n) (suc i) = all_false n i
 
 -- the keeper of a new room who has given the first i simulators away
 abbrev pub keeper_after : RoomName → ℕ → KeeperData
-keeper_after room i = record { room = room; sweeps = hidden i (first_sweeps room.spec); crashed = replicate room.spec.simulators false }
+keeper_after room i = record { room = room; sweeps = hidden i (first_sweeps room.spec); operations = replicate room.spec.simulators []; crashed = replicate room.spec.simulators false }
 
 first_count : (spec : RoomSpec) → length (first_sweeps spec) ≡ spec.simulators
 first_count spec = length-map-range_with_len (λ i. Some (opening_sweep spec i)) 0 spec.simulators
@@ -132,12 +133,20 @@ all_given room keeper is = subst IsKept (sym is) (record {
 
 -- what giving one more makes of the keeper
 abbrev pub gives : ℕ → KeeperData → KeeperData
-gives i keeper = record { room = keeper.room; sweeps = set keeper.sweeps i None; crashed = keeper.crashed }
+gives i keeper = record { room = keeper.room; sweeps = set keeper.sweeps i None; operations = set keeper.operations i []; crashed = keeper.crashed }
+
+-- who has done nothing leaves nothing
+nothing_left : (m i : ℕ) → set (replicate {A = List Operation} m []) i [] ≡ replicate m []
+nothing_left zero i = refl
+nothing_left (suc m) zero = refl
+nothing_left (suc m) (suc i) = ap (λ (l : List (List Operation)). [] ∷ l) (nothing_left m i)
 
 pub one_given : (room : RoomName) (i : ℕ) (keeper new : KeeperData) → keeper ≡ keeper_after room i → new ≡ gives i keeper → new ≡ keeper_after room (i + 1)
 one_given room i keeper new is to =
     let next : suc i ≡ i + 1 = omega arith in
-    to ∙ ap (gives i) is ∙ ap (keeper_after room) next
+    let left : gives i (keeper_after room i) ≡ keeper_after room (suc i) =
+    λ p. record { room = room; sweeps = hidden (suc i) (first_sweeps room.spec); operations = nothing_left room.spec.simulators i p; crashed = replicate room.spec.simulators false } in
+    to ∙ ap (gives i) is ∙ left ∙ ap (keeper_after room) next
 
 pub fuses_count : (room : RoomName) (fuses : List (Option ℕ)) → fuses ≡ map (fuse_of room.spec.fuses) (range_with_len 0 room.spec.simulators) → length fuses ≡ room.spec.simulators
 fuses_count room fuses is = ap length is ∙ length-map-range_with_len (fuse_of room.spec.fuses) 0 room.spec.simulators

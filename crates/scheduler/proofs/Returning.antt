@@ -9,6 +9,7 @@ use Rattle.std.proofs.lemmas.List.{get_or-set_same, get_or-set_other, length-set
 use Rattle.std.proofs.lemmas.Option.{slice_get_within}
 use Rattle.room_spec.specs.Rooms.{RoomSpec, fuse_of}
 use Rattle.simulator.specs.Sweeps.{SweepState}
+use Rattle.ruled_room.specs.declared.rule.Operation.{Operation}
 use Rattle.ruled_room.specs.Parts.{KeeperData, RoomName, marked}
 use Rattle.ruled_room.specs.declared.stop.Stop.{Stop}
 use Rattle.ruled_room.specs.declared.stop.Stop.TheVariants.{Idle, OutOfTurns, Crashed}
@@ -136,8 +137,8 @@ marked_length Crashed crashed n = length-set crashed n true
 
 -- ---- its keeper
 
-abbrev pub with_back : KeeperData → ℕ → SweepState → Stop → KeeperData
-with_back keeper n sweep stop = record { room = keeper.room; sweeps = set keeper.sweeps n (Some sweep); crashed = marked stop n keeper.crashed }
+abbrev pub with_back : KeeperData → ℕ → SweepState → List Operation → Stop → KeeperData
+with_back keeper n sweep operations stop = record { room = keeper.room; sweeps = set keeper.sweeps n (Some sweep); operations = set keeper.operations n operations; crashed = marked stop n keeper.crashed }
 
 still_away : (keeper : KeeperData) (n : ℕ) (sweep : SweepState) (stop : Stop) → IsKept keeper → IsAway keeper.sweeps n → (i : ℕ) → get_or (set keeper.sweeps n (Some sweep)) i None ≡ None → get_or (marked stop n keeper.crashed) i false ≡ false
 still_away keeper n sweep stop kept is i none = dite (ℕ_discrete i n)
@@ -164,8 +165,8 @@ still_ended keeper n sweep stop kept is ended i found some = dite (ℕ_discrete 
     let was = kept.ended i found (sym (get_or-set_other keeper.sweeps n i (Some sweep) None other) ∙ some) in
     subst (λ (b : Bool). HasEnded (fuse_of keeper.room.spec.fuses i) keeper.room.spec found b) (sym (marked_other stop keeper.crashed n i other)) was)
 
-kept_back : (keeper : KeeperData) (n : ℕ) (sweep : SweepState) (stop : Stop) → IsKept keeper → IsAway keeper.sweeps n → HasEnded (fuse_of keeper.room.spec.fuses n) keeper.room.spec sweep (crashes stop) → IsKept (with_back keeper n sweep stop)
-kept_back keeper n sweep stop kept is ended = record {
+kept_back : (keeper : KeeperData) (n : ℕ) (sweep : SweepState) (operations : List Operation) (stop : Stop) → IsKept keeper → IsAway keeper.sweeps n → HasEnded (fuse_of keeper.room.spec.fuses n) keeper.room.spec sweep (crashes stop) → IsKept (with_back keeper n sweep operations stop)
+kept_back keeper n sweep operations stop kept is ended = record {
   sweeps = length-set keeper.sweeps n (Some sweep) ∙ kept.sweeps;
   crashed = marked_length stop keeper.crashed n ∙ kept.crashed;
   away = still_away keeper n sweep stop kept is;
@@ -188,14 +189,14 @@ is_for rooms keepers one d kept is =
     record { below = below; room = some_is (get_or keepers one.place d).room one.simulator.room (sym at.0 ∙ is.room); kept = at.1 }
 
 pub kept_by_all : (rooms : List RoomName) (keepers : List KeeperData) (one : Stopped) (new : KeeperData) (d : KeeperData) → AreKept rooms keepers → IsStoppedOf rooms one → 1 ≤ away keepers one.place one.simulator.number
-    → new ≡ with_back (get_or keepers one.place d) one.simulator.number one.simulator.sweep one.stop → AreKept rooms (set keepers one.place new)
+    → new ≡ with_back (get_or keepers one.place d) one.simulator.number one.simulator.sweep one.simulator.operations one.stop → AreKept rooms (set keepers one.place new)
 kept_by_all rooms keepers one new d kept is some to =
     let keeper : KeeperData = get_or keepers one.place d in
     let for_it = is_for rooms keepers one d kept is in
     let out = is_away keeper.sweeps one.simulator.number (let from = away_at keepers one.place one.simulator.number d for_it.below in omega (arith, some, from)) in
     let ended = ended_by one.stop (own_fuse one.simulator) one.simulator.room.spec one.simulator.sweep is.stops is.within in
     let here = subst (λ (r : RoomName). HasEnded (fuse_of r.spec.fuses one.simulator.number) r.spec one.simulator.sweep (crashes one.stop)) (sym for_it.room) ended in
-    let after : IsKept new = subst IsKept (sym to) (kept_back keeper one.simulator.number one.simulator.sweep one.stop for_it.kept out here) in
+    let after : IsKept new = subst IsKept (sym to) (kept_back keeper one.simulator.number one.simulator.sweep one.simulator.operations one.stop for_it.kept out here) in
     let room : new.room ≡ keeper.room = ap (λ (k : KeeperData). k.room) to in
     let at = kept.each one.place d for_it.below in
     record {
@@ -210,7 +211,7 @@ kept_by_all rooms keepers one new d kept is some to =
     }
 
 pub fewer_away : (rooms : List RoomName) (keepers : List KeeperData) (one : Stopped) (new : KeeperData) (d : KeeperData) → AreKept rooms keepers → IsStoppedOf rooms one → 1 ≤ away keepers one.place one.simulator.number
-    → new ≡ with_back (get_or keepers one.place d) one.simulator.number one.simulator.sweep one.stop
+    → new ≡ with_back (get_or keepers one.place d) one.simulator.number one.simulator.sweep one.simulator.operations one.stop
     → (k i : ℕ) → away (set keepers one.place new) k i + is_here k i one.place one.simulator.number ≡ away keepers k i
 fewer_away rooms keepers one new d kept is some to k i =
     let keeper : KeeperData = get_or keepers one.place d in

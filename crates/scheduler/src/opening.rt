@@ -106,7 +106,7 @@ fn deal(
     place: usize,
     fuses: &[Fuse],
 ) -> Result<(), AllocError>
-    requires keeper { keeper.old ≡ record { room = room.now; sweeps = first_sweeps room.now.spec; crashed = replicate room.now.spec.simulators false } }
+    requires keeper { keeper.old ≡ record { room = room.now; sweeps = first_sweeps room.now.spec; operations = replicate room.now.spec.simulators []; crashed = replicate room.now.spec.simulators false } }
     requires fuses { fuses.now ≡ map (fuse_of room.now.spec.fuses) (range_with_len 0 room.now.spec.simulators) }
     requires next { next.old < length queues.old.items }
     ensures keeper { OnOk result ((keeper.new.room ≡ room.now) × IsKept keeper.new) }

@@ -5,6 +5,7 @@ use Rattle.simulator.specs.declared.operation.Move.TheVariants.{Load, Store, Add
 use Rattle.simulator.proofs.Ranging.{within}
 use Rattle.ruled_room.specs.Rule.{word_count}
 use Rattle.ruled_room.specs.Parts.{RoomName}
+use Rattle.ruled_room.specs.Views.{done_by, progress_in}
 use Rattle.ruled_room.proofs.Moving.{allowed, load_words, changed_words, take-set_any, told}
 use Rattle.ruled_room.proofs.step.perform.Goals as goal
 
@@ -18,7 +19,7 @@ load-requires c =
     let inside : c.in-Load.index < word_count spec = subst (λ (m : Move). IsWithin m (word_count spec)) (sym move) (within spec mind c.requires.is_mind) in (
       c.requires.table ∙ ap (λ (r : RoomName). r.table) (sym c.room.view_is),
       omega arith,
-      rw key (allowed spec c.room.inside.table.shared.table_id.slots c.args.seat.now.id mind.number c.args.seat.now.me.0.operations c.args.seat.now.me mind (Load c.in-Load.index) c.in-Load.index (λ n. n) (λ n. n) c.requires.seat move c.requires.is_mind c.requires.operation inside (load_words (word_count spec) c.in-Load.index) (λ words. told (word_count spec) c.in-Load.index words inside)),
+      rw key (allowed spec c.room.inside.table.shared.table_id.slots c.args.seat.now.id mind.number c.args.seat.now.me (record { mind = mind; operations = done_by (progress_in c.args.seat.now.me.0 mind.number) }) (Load c.in-Load.index) c.in-Load.index (λ n. n) (λ n. n) c.requires.seat move c.requires.is_mind c.requires.operation inside (load_words (word_count spec) c.in-Load.index) (λ words. told (word_count spec) c.in-Load.index words inside)),
     )
 
 pub store-requires : goal.store-requires
@@ -31,7 +32,7 @@ store-requires c =
     let inside : c.in-Store.index < word_count spec = subst (λ (m : Move). IsWithin m (word_count spec)) (sym move) (within spec mind c.requires.is_mind) in (
       c.requires.table ∙ ap (λ (r : RoomName). r.table) (sym c.room.view_is),
       omega arith,
-      rw key (allowed spec c.room.inside.table.shared.table_id.slots c.args.seat.now.id mind.number c.args.seat.now.me.0.operations c.args.seat.now.me mind (Store c.in-Store.index c.in-Store.number) c.in-Store.index (λ _. c.in-Store.number) (λ _. c.in-Store.number) c.requires.seat move c.requires.is_mind c.requires.operation inside (λ words. take-set_any (word_count spec) words c.in-Store.index c.in-Store.number) (λ words. refl)),
+      rw key (allowed spec c.room.inside.table.shared.table_id.slots c.args.seat.now.id mind.number c.args.seat.now.me (record { mind = mind; operations = done_by (progress_in c.args.seat.now.me.0 mind.number) }) (Store c.in-Store.index c.in-Store.number) c.in-Store.index (λ _. c.in-Store.number) (λ _. c.in-Store.number) c.requires.seat move c.requires.is_mind c.requires.operation inside (λ words. take-set_any (word_count spec) words c.in-Store.index c.in-Store.number) (λ words. refl)),
     )
 
 pub fetch_add-requires : goal.fetch_add-requires
@@ -44,7 +45,7 @@ fetch_add-requires c =
     let inside : c.in-Add.index < word_count spec = subst (λ (m : Move). IsWithin m (word_count spec)) (sym move) (within spec mind c.requires.is_mind) in (
       c.requires.table ∙ ap (λ (r : RoomName). r.table) (sym c.room.view_is),
       omega arith,
-      rw key (allowed spec c.room.inside.table.shared.table_id.slots c.args.seat.now.id mind.number c.args.seat.now.me.0.operations c.args.seat.now.me mind (Add c.in-Add.index c.in-Add.number) c.in-Add.index (λ n. (n + c.in-Add.number) % 2 ^ 64) (λ n. n) c.requires.seat move c.requires.is_mind c.requires.operation inside (λ words. changed_words (word_count spec) c.in-Add.index (λ n. (n + c.in-Add.number) % 2 ^ 64) words inside) (λ words. told (word_count spec) c.in-Add.index words inside)),
+      rw key (allowed spec c.room.inside.table.shared.table_id.slots c.args.seat.now.id mind.number c.args.seat.now.me (record { mind = mind; operations = done_by (progress_in c.args.seat.now.me.0 mind.number) }) (Add c.in-Add.index c.in-Add.number) c.in-Add.index (λ n. (n + c.in-Add.number) % 2 ^ 64) (λ n. n) c.requires.seat move c.requires.is_mind c.requires.operation inside (λ words. changed_words (word_count spec) c.in-Add.index (λ n. (n + c.in-Add.number) % 2 ^ 64) words inside) (λ words. told (word_count spec) c.in-Add.index words inside)),
     )
 
 pub fetch_sub-requires : goal.fetch_sub-requires
@@ -57,5 +58,5 @@ fetch_sub-requires c =
     let inside : c.in-Sub.index < word_count spec = subst (λ (m : Move). IsWithin m (word_count spec)) (sym move) (within spec mind c.requires.is_mind) in (
       c.requires.table ∙ ap (λ (r : RoomName). r.table) (sym c.room.view_is),
       omega arith,
-      rw key (allowed spec c.room.inside.table.shared.table_id.slots c.args.seat.now.id mind.number c.args.seat.now.me.0.operations c.args.seat.now.me mind (Sub c.in-Sub.index c.in-Sub.number) c.in-Sub.index (λ n. (n + (2 ^ 64 - c.in-Sub.number)) % 2 ^ 64) (λ n. n) c.requires.seat move c.requires.is_mind c.requires.operation inside (λ words. changed_words (word_count spec) c.in-Sub.index (λ n. (n + (2 ^ 64 - c.in-Sub.number)) % 2 ^ 64) words inside) (λ words. told (word_count spec) c.in-Sub.index words inside)),
+      rw key (allowed spec c.room.inside.table.shared.table_id.slots c.args.seat.now.id mind.number c.args.seat.now.me (record { mind = mind; operations = done_by (progress_in c.args.seat.now.me.0 mind.number) }) (Sub c.in-Sub.index c.in-Sub.number) c.in-Sub.index (λ n. (n + (2 ^ 64 - c.in-Sub.number)) % 2 ^ 64) (λ n. n) c.requires.seat move c.requires.is_mind c.requires.operation inside (λ words. changed_words (word_count spec) c.in-Sub.index (λ n. (n + (2 ^ 64 - c.in-Sub.number)) % 2 ^ 64) words inside) (λ words. told (word_count spec) c.in-Sub.index words inside)),
     )
