@@ -1,5 +1,7 @@
 -- At most as many processes are held as simulators have crashed.
-use Rattle.std.proofs.Common.{◌≡◌, ℕ, zero, suc, ◌+◌, ◌<◌, ◌≤◌, ◌&&◌, Bool, true, false, not, cond, eqb, is_some, map, List, [], ◌∷◌, length, Option, Some, None, inl, inr, refl, sym, ap, ◌∙◌, subst, arith}
+use Rattle.std.proofs.Common.{◌≡◌, ◌≢◌, ℕ, zero, suc, ◌+◌, ◌-◌, ◌<◌, ◌≤◌, ◌&&◌, Bool, true, false, not, cond, eqb, is_some, map, List, [], ◌∷◌, length, Contains, Option, Some, None, inl, inr, refl, sym, ap, ◌∙◌, subst, arith}
+use Rattle.std.specs.Prelude.{◌||◌}
+use Rattle.std.specs.Option.{option_map}
 use Rattle.std.specs.List.{range_with_len, list_any, filter, find, count_by, IsDistinct, AllByRecursion}
 use Rattle.std.proofs.lemmas.Bool.{cases_Bool, and_parts, or_left, or_right, eq-eqb, eqb-true, ne_eqb}
 use Rattle.std.proofs.lemmas.Cmp.{nat_eq_equiv}
@@ -9,13 +11,15 @@ use Rattle.std.proofs.lemmas.List.Sums.{sum_by-cons}
 use Rattle.std.proofs.lemmas.Map.Made.{length-le_from_is_member, is_member-filter}
 use mathlib.Core.Logic.{dite}
 use native.Mathlib.Decide.{ℕ_discrete}
-use Rattle.room_spec.specs.Rooms.{IsWithinLimits, processes}
+use Rattle.room_spec.specs.Rooms.{RoomSpec, IsWithinLimits, processes}
 use Rattle.room_core.specs.Calls.{RoomState}
 use Rattle.room_core.specs.Fields.{Fields}
 use Rattle.room_core.specs.Reading.{AreFieldsOf}
-use Rattle.room_core.specs.Agreements.{decided_in, has_out}
+use Rattle.room_core.specs.Agreements.{decided_in, has_out, is_out, outs_at}
 use Rattle.room_core.proofs.FieldCalls.{fields_stand}
 use Rattle.room_core.proofs.Stages.{one_inside}
+use Rattle.ws_history.specs.declared.states.ProcessState.TheVariants.{Held}
+use Rattle.ws_history.proofs.Order.{cons_first, cons_rest}
 use Rattle.ws_history.specs.Reports.{is_held, is_inside, is_spent, held_by, held_in, state_by, state_of, states_of, crashed_in}
 
 -- ---- lists
@@ -99,6 +103,43 @@ holder_of None false None is = absurd cc
 some_of : (holder : Option ℕ) → is_some holder ≡ true → (i : ℕ) × (holder ≡ Some i)
 some_of (Some i) is = (i, refl)
 some_of None is = absurd cc
+
+-- ---- those that are held are among those with no decision inside whose agreements somebody has crashed
+
+contains_kept : (b : Bool) (x q : ℕ) (rest : List ℕ) → Contains rest q → Contains (cond b (x ∷ rest) rest) q
+contains_kept true x q rest has = cons_rest x rest q has
+contains_kept false x q rest has = has
+
+contains_here : (b : Bool) (x : ℕ) (rest : List ℕ) → b ≡ true → Contains (cond b (x ∷ rest) rest) x
+contains_here true x rest is = cons_first x rest
+contains_here false x rest is = absurd cc
+
+passes_in_range : (p : ℕ → Bool) (a n q : ℕ) → a ≤ q → q < a + n → p q ≡ true → Contains (filter p (range_with_len a n)) q
+passes_in_range p a zero q low high is = absurd (omega arith)
+passes_in_range p a (suc n) q low high is = dite (ℕ_discrete q a)
+    (λ (e : q ≡ a).
+    subst (λ (x : ℕ). Contains (filter p (range_with_len a (suc n))) x) (sym e) (contains_here (p a) a (filter p (range_with_len (a + 1) n)) (subst (λ (x : ℕ). p x ≡ true) e is)))
+    (λ (other : q ≢ a). contains_kept (p a) a q (filter p (range_with_len (a + 1) n)) (passes_in_range p (a + 1) n q (omega (arith, other)) (omega arith) is))
+
+none_of : (b : Bool) (found : Option ℕ) (rest : Bool) (x : ℕ) → option_map (λ (out : ℕ). out - 1) (cond b (Some x) found) ≡ None → (option_map (λ (out : ℕ). out - 1) found ≡ None → rest ≡ false) → (b || rest) ≡ false
+none_of true found rest x is more = absurd cc
+none_of false found rest x is more = more is
+
+none_found : (outs : List ℕ) → option_map (λ (out : ℕ). out - 1) (find is_out outs) ≡ None → list_any is_out outs ≡ false
+none_found [] none = refl
+none_found (x ∷ outs) none = none_of (is_out x) (find is_out outs) (list_any is_out outs) x none (none_found outs)
+
+held_is : (out : Option ℕ) (spent : Bool) (holder : Option ℕ) (i : ℕ) → state_by out spent holder ≡ Held i → (out ≡ None) × (is_some holder ≡ true)
+held_is (Some v) spent holder i is = absurd cc
+held_is None true holder i is = absurd cc
+held_is None false (Some h) i is = (refl, refl)
+held_is None false None i is = absurd cc
+
+pub held_among : (spec : RoomSpec) (fields : Fields) (j i : ℕ) → j < processes spec → state_of spec fields j ≡ Held i → Contains (held_in spec fields) j
+held_among spec fields j i below is =
+    let both = held_is (decided_in spec fields j) (is_spent spec fields j) (held_by spec fields j) i is in
+    let open_yet : has_out spec fields j ≡ false = none_found (outs_at spec fields j) both.0 in
+    passes_in_range (λ q. not (has_out spec fields q) && is_some (held_by spec fields q)) 0 (processes spec) j (omega arith) (omega arith) (rw (open_yet, both.1) refl)
 
 module _ (room : RoomState) (fields : Fields) (limits : IsWithinLimits room.spec) (are : AreFieldsOf room fields) where
   -- the process on which the open turn of a simulator works

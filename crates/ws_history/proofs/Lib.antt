@@ -9,6 +9,7 @@ pub mod Counts
 pub mod SourceIs
 pub mod Searching
 pub mod Ranges
+pub mod WordsRead
 pub mod Ordering
 pub mod Walking
 pub mod Agreeing
@@ -18,3 +19,4 @@ pub mod RoomFields
 pub mod Held
 pub mod Deciders
 pub mod Settled
+pub mod Certified

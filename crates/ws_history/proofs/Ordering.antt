@@ -109,10 +109,10 @@ module _ {X : Type 0} (R : X → X → Ordering) (total : IsTotalOrder R) (one :
 -- ---- a snapshot's place by all of its numbers
 
 abbrev agreed_cmp : Agreed → Agreed → Ordering
-agreed_cmp = then_cmp (on (λ s. s.sum) nat_cmp) (then_cmp (on (λ s. s.process) nat_cmp) (then_cmp (on (λ s. s.round) nat_cmp) (on (λ s. s.word) nat_cmp)))
+agreed_cmp = then_cmp (on (λ s. s.sum) nat_cmp) (then_cmp (on (λ s. s.process) nat_cmp) (on (λ s. s.round) nat_cmp))
 
 agreed_total : IsTotalOrder agreed_cmp
-agreed_total = then_total (on_total (λ (s : Agreed). s.sum) nat_cmp_total) (then_total (on_total (λ (s : Agreed). s.process) nat_cmp_total) (then_total (on_total (λ (s : Agreed). s.round) nat_cmp_total) (on_total (λ (s : Agreed). s.word) nat_cmp_total)))
+agreed_total = then_total (on_total (λ (s : Agreed). s.sum) nat_cmp_total) (then_total (on_total (λ (s : Agreed). s.process) nat_cmp_total) (on_total (λ (s : Agreed). s.round) nat_cmp_total))
 
 then_tied : (p q : Ordering) → ordering_then p q ≡ Equal → (p ≡ Equal) × (q ≡ Equal)
 then_tied Less q is = absurd cc
@@ -126,15 +126,12 @@ agreed_one : (s t : Agreed) → agreed_cmp s t ≡ Equal → s ≡ t
 agreed_one s t is =
     let a = then_tied (nat_cmp s.sum t.sum) _ is in
     let b = then_tied (nat_cmp s.process t.process) _ a.1 in
-    let c = then_tied (nat_cmp s.round t.round) _ b.1 in
     let sums = nat_tied s.sum t.sum a.0 in
     let all = nat_tied s.process t.process b.0 in
-    let rounds = nat_tied s.round t.round c.0 in
-    let words = nat_tied s.word t.word c.1 in
+    let rounds = nat_tied s.round t.round b.1 in
     ap (λ (x : ℕ). record s { sum = x }) sums
     ∙ ap (λ (x : ℕ). record s { sum = t.sum; process = x }) all
-    ∙ ap (λ (x : ℕ). record s { sum = t.sum; process = t.process; round = x }) rounds
-    ∙ ap (λ (x : ℕ). record t { word = x }) words
+    ∙ ap (λ (x : ℕ). record t { round = x }) rounds
 
 behind_is_greater : (a b : ℕ) → a < b → nat_cmp b a ≡ Greater
 behind_is_greater a b less =

@@ -3,21 +3,20 @@ use Rattle.std.proofs.Common.{◌≡◌, ℕ, ◌+◌, ◌<◌, ◌≤◌, List,
 use Rattle.protocol_lang.specs.Numbers.{greatest}
 use Rattle.room_spec.specs.Rooms.{IsWithinLimits, processes}
 use Rattle.room_spec.specs.Sizes.{sizes_in}
-use Rattle.view_table.specs.Words.{word_at}
 use Rattle.view_table.specs.declared.place.Place.TheVariants as places
 use Rattle.sim_memory.specs.Steps.{step_in}
 use Rattle.sim_memory.proofs.Rows.{merged_below}
 use Rattle.sim_memory.proofs.Words.{step_below}
-use Rattle.room_core.specs.Agreements.{greatest_step, is_passed, row_at}
+use Rattle.room_core.specs.Agreements.{greatest_step, is_passed, row_at, shown_of}
 use Rattle.room_core.specs.Calls.{RoomState}
 use Rattle.room_core.specs.Fields.{Fields}
-use Rattle.room_core.specs.Reading.{AgreeIn, AreFieldsOf}
+use Rattle.room_core.specs.Reading.{AgreeIn, AreFieldsOf, words_from}
 use Rattle.room_core.proofs.Decoding.{agrees}
 use Rattle.room_core.proofs.LowValues.{fields_low, out_low}
 use Rattle.room_core.proofs.Promises.{rooms_agree}
 use Rattle.ws_history.specs.Histories.{Snapshot}
 use Rattle.ws_history.specs.Orders.{all_passed}
-use Rattle.ws_history.specs.Readings.{read_of, view_word}
+use Rattle.ws_history.specs.Readings.{read_of}
 use Rattle.ws_history.specs.Sources.{history_of, source_of}
 use Rattle.ws_history.proofs.Agreeing.{same_passed, same_row}
 use Rattle.ws_history.proofs.PassedSources.{apart}
@@ -34,11 +33,11 @@ smaller x most low = omega arith
 module _ (room : RoomState) where
   pub low_rows : (j k p : ℕ) → get_or (row_at room.spec (read_of room) j k) p 0 ≤ room.spec.rounds
   unfolding read_of
-  low_rows j k p = row_low (sizes_in room.spec) (view_word room j k) p
+  low_rows j k p = row_low (sizes_in room.spec) (words_from (sizes_in room.spec) room.words (places.View (shown_of room.spec (read_of room) j k) j k)) p
 
   pub low_greatest : (p : ℕ) → greatest_step room.spec (read_of room) p ≤ room.spec.rounds
   unfolding read_of
-  low_greatest p = merged_below room.spec.simulators (step_in (sizes_in room.spec) (word_at (sizes_in room.spec) room.words places.Steps)) p room.spec.rounds (λ i below. step_below (sizes_in room.spec) (word_at (sizes_in room.spec) room.words places.Steps) i p)
+  low_greatest p = merged_below room.spec.simulators (step_in (sizes_in room.spec) (words_from (sizes_in room.spec) room.words places.Memory)) p room.spec.rounds (λ i below. step_below (sizes_in room.spec) (words_from (sizes_in room.spec) room.words places.Memory) i p)
 
   pub read_agrees : (fields : Fields) → IsWithinLimits room.spec → AreFieldsOf room fields → AgreeIn (sizes_in room.spec) (read_of room) fields
   unfolding read_of

@@ -6,19 +6,17 @@ use Rattle.std.specs.Ordering.{match_ordering}
 use Rattle.std.specs.Prelude.{max, replicate, ⊤}
 use Rattle.std.specs.List.{range_with_len}
 use Rattle.room_spec.specs.Rooms.{processes}
-use Rattle.room_spec.specs.Sizes.{sizes_in}
-use Rattle.sim_memory.specs.Steps.{row_of, step_in}
+use Rattle.sim_memory.specs.Steps.{row_of}
 use Rattle.sim_memory.proofs.Rows.{row_length}
 use Rattle.sim_memory.proofs.Rows.{row_at as row_entry}
 use Rattle.transcript.specs.declared.event.Event.{Event}
 use Rattle.transcript.specs.declared.event.Event.TheVariants.{Snap}
 use Rattle.room_core.specs.Agreements.{is_passed, row_at, shown, shown_by}
 use Rattle.room_core.specs.Calls.{RoomState}
-use Rattle.ws_history.specs.declared.snapshots.Agreed.{Agreed}
 use Rattle.ws_history.specs.Histories.{Snapshot, Source, block, blocks, by_process, decided, last_writes, new_writes, shown_before}
 use Rattle.ws_history.specs.Orders.{all_passed, inserted, key_cmp, key_of, passed_of}
 use Rattle.ws_history.specs.Placing.{agreed_at, shown_with}
-use Rattle.ws_history.specs.Readings.{read_of, view_word}
+use Rattle.ws_history.specs.Readings.{read_of}
 use Rattle.ws_history.specs.Running.{IsSnapshotOf, block_on}
 use Rattle.ws_history.specs.Sources.{decision_after, source_of}
 
@@ -63,46 +61,52 @@ take_past [] (suc i) past = refl
 take_past (x ∷ xs) zero past = absurd (omega arith)
 take_past {A = A} (x ∷ xs) (suc i) past = ap (λ (l : List A). x ∷ l) (take_past xs i (omega arith))
 
--- ---- whose snapshots they are
+-- ---- whose snapshots they are, and after which rounds
 
-abbrev pub Low : ℕ → List Snapshot → Type 0
-Low n [] = ⊤
-Low n (s ∷ rest) = (s.process < n) × Low n rest
+pub record IsLow (n rounds : ℕ) (s : Snapshot) : Type 0 where
+  pub process : s.process < n
+  pub first : 1 ≤ s.round
+  pub within : s.round ≤ rounds
 
-low_append : (n : ℕ) (xs ys : List Snapshot) → Low n xs → Low n ys → Low n (xs ++ ys)
-low_append n [] ys low other = other
-low_append n (s ∷ xs) ys low other = (low.0, low_append n xs ys low.1 other)
+abbrev pub Low : ℕ → ℕ → List Snapshot → Type 0
+Low n rounds [] = ⊤
+Low n rounds (s ∷ rest) = IsLow n rounds s × Low n rounds rest
 
-low_put : (n : ℕ) (o : Ordering) (x y z : List Snapshot) → Low n x → Low n y → Low n z → Low n (match_ordering o x y z)
-low_put n Less x y z a b c = a
-low_put n Equal x y z a b c = b
-low_put n Greater x y z a b c = c
+low_append : (n rounds : ℕ) (xs ys : List Snapshot) → Low n rounds xs → Low n rounds ys → Low n rounds (xs ++ ys)
+low_append n rounds [] ys low other = other
+low_append n rounds (s ∷ xs) ys low other = (low.0, low_append n rounds xs ys low.1 other)
 
-low_inserted : (n : ℕ) (row : ℕ → ℕ → List ℕ) (xs : List Snapshot) (s : Snapshot) → Low n xs → s.process < n → Low n (inserted row xs s)
-low_inserted n row [] s low below = (below, tt)
-low_inserted n row (t ∷ rest) s low below =
-    low_put n (key_cmp (key_of row s) (key_of row t)) (s ∷ t ∷ rest) (s ∷ rest) (t ∷ inserted row rest s) (below, low) (below, low.1) (low.0, low_inserted n row rest s low.1 below)
+low_put : (n rounds : ℕ) (o : Ordering) (x y z : List Snapshot) → Low n rounds x → Low n rounds y → Low n rounds z → Low n rounds (match_ordering o x y z)
+low_put n rounds Less x y z a b c = a
+low_put n rounds Equal x y z a b c = b
+low_put n rounds Greater x y z a b c = c
 
-low_fold : (n : ℕ) (row : ℕ → ℕ → List ℕ) (xs before : List Snapshot) → Low n before → Low n xs → Low n (fold (inserted row) before xs)
-low_fold n row [] before low all = low
-low_fold n row (s ∷ xs) before low all = low_fold n row xs (inserted row before s) (low_inserted n row before s low all.0) all.1
+low_inserted : (n rounds : ℕ) (row : ℕ → ℕ → List ℕ) (xs : List Snapshot) (s : Snapshot) → Low n rounds xs → IsLow n rounds s → Low n rounds (inserted row xs s)
+low_inserted n rounds row [] s low below = (below, tt)
+low_inserted n rounds row (t ∷ rest) s low below =
+    low_put n rounds (key_cmp (key_of row s) (key_of row t)) (s ∷ t ∷ rest) (s ∷ rest) (t ∷ inserted row rest s) (below, low) (below, low.1) (low.0, low_inserted n rounds row rest s low.1 below)
 
-low_if : (n p r : ℕ) (b : Bool) → p < n → Low n (cond b (record { process = p; round = r } ∷ []) [])
-low_if n p r true below = (below, tt)
-low_if n p r false below = tt
+low_fold : (n rounds : ℕ) (row : ℕ → ℕ → List ℕ) (xs before : List Snapshot) → Low n rounds before → Low n rounds xs → Low n rounds (fold (inserted row) before xs)
+low_fold n rounds row [] before low all = low
+low_fold n rounds row (s ∷ xs) before low all = low_fold n rounds row xs (inserted row before s) (low_inserted n rounds row before s low all.0) all.1
 
-low_passed : (n p r : ℕ) (passed : ℕ → ℕ → Bool) → p < n → Low n (passed_of passed p r)
-low_passed n p zero passed below = tt
-low_passed n p (suc r) passed below = low_append n (passed_of passed p r) _ (low_passed n p r passed below) (low_if n p (r + 1) (passed p (r + 1)) below)
+low_if : (n rounds p r : ℕ) (b : Bool) → p < n → 1 ≤ r → r ≤ rounds → Low n rounds (cond b (record { process = p; round = r } ∷ []) [])
+low_if n rounds p r true below first within = (record { process = below; first = first; within = within }, tt)
+low_if n rounds p r false below first within = tt
 
-low_all : (n k r : ℕ) (passed : ℕ → ℕ → Bool) → k ≤ n → Low n (all_passed passed k r)
-low_all n zero r passed within = tt
-low_all n (suc k) r passed within = low_append n (all_passed passed k r) (passed_of passed k r) (low_all n k r passed (omega arith)) (low_passed n k r passed (omega arith))
+low_passed : (n rounds p r : ℕ) (passed : ℕ → ℕ → Bool) → p < n → r ≤ rounds → Low n rounds (passed_of passed p r)
+low_passed n rounds p zero passed below within = tt
+low_passed n rounds p (suc r) passed below within =
+    low_append n rounds (passed_of passed p r) _ (low_passed n rounds p r passed below (omega arith)) (low_if n rounds p (r + 1) (passed p (r + 1)) below (omega arith) (omega arith))
 
-low_at : (n : ℕ) (xs : List Snapshot) (i : ℕ) (d : Snapshot) → Low n xs → i < length xs → (get_or xs i d).process < n
-low_at n [] i d low less = absurd (omega arith)
-low_at n (s ∷ xs) zero d low less = low.0
-low_at n (s ∷ xs) (suc i) d low less = low_at n xs i d low.1 (omega arith)
+low_all : (n rounds k : ℕ) (passed : ℕ → ℕ → Bool) → k ≤ n → Low n rounds (all_passed passed k rounds)
+low_all n rounds zero passed within = tt
+low_all n rounds (suc k) passed within = low_append n rounds (all_passed passed k rounds) (passed_of passed k rounds) (low_all n rounds k passed (omega arith)) (low_passed n rounds k rounds passed (omega arith) (omega arith))
+
+low_at : (n rounds : ℕ) (xs : List Snapshot) (i : ℕ) (d : Snapshot) → Low n rounds xs → i < length xs → IsLow n rounds (get_or xs i d)
+low_at n rounds [] i d low less = absurd (omega arith)
+low_at n rounds (s ∷ xs) zero d low less = low.0
+low_at n rounds (s ∷ xs) (suc i) d low less = low_at n rounds xs i d low.1 (omega arith)
 
 -- ---- what is shown
 
@@ -121,14 +125,6 @@ shown_more src (t ∷ earlier) s p =
 module _ (room : RoomState) where
   abbrev pub source : Source
   source = source_of room.spec (read_of room)
-
-  view_row : (j k : ℕ) → row_of room.spec.simulators (processes room.spec) (step_in (sizes_in room.spec) (view_word room j k)) ≡ row_at room.spec (read_of room) j k
-  unfolding read_of
-  view_row j k = refl
-
-  pub row_read : (agreed : Agreed) → IsSnapshotOf room agreed → row_of room.spec.simulators (processes room.spec) (step_in (sizes_in room.spec) agreed.word) ≡ row_at room.spec (read_of room) agreed.process agreed.round
-  row_read agreed of =
-      ap (λ (a : Agreed). row_of room.spec.simulators (processes room.spec) (step_in (sizes_in room.spec) a.word)) of.is ∙ view_row agreed.process agreed.round
 
   width : (j k : ℕ) → length (row_at room.spec (read_of room) j k) ≡ processes room.spec
   width j k = row_length room.spec.simulators (processes room.spec) _
@@ -158,12 +154,12 @@ module _ (room : RoomState) where
       ∙ ap (λ (l : List (Option ℕ)). (by_process (λ (p : ℕ). new_writes source p (shown_before source earlier p) (get_or row p 0)) n ++ Snap s.process (record { items = l }) ∷ []) ++ end) (sym all)
 
   pub is_snapshot : (i : ℕ) (d : Snapshot) → i < length source.order → IsSnapshotOf room (agreed_at room (get_or source.order i d))
-  is_snapshot i d less = record {
-    process = low_at (processes room.spec) source.order i d
-        (low_fold (processes room.spec) source.row (all_passed (is_passed room.spec (read_of room)) (processes room.spec) room.spec.rounds) [] tt
-        (low_all (processes room.spec) (processes room.spec) room.spec.rounds (is_passed room.spec (read_of room)) (omega arith))) less;
-    is = refl;
-  }
+  is_snapshot i d less =
+      let n = processes room.spec in
+      let rounds = room.spec.rounds in
+      let passed = is_passed room.spec (read_of room) in
+      let at = low_at n rounds source.order i d (low_fold n rounds source.row (all_passed passed n rounds) [] tt (low_all n rounds n passed (omega arith))) less in
+      record { process = at.process; round = (at.first, at.within) }
 
   pub walk_on : (events : List Event) (i : ℕ) (d : Snapshot) → i < length source.order
       → events ++ blocks source (processes room.spec) (take i source.order) (drop i source.order)

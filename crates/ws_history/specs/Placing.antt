@@ -5,10 +5,10 @@ use Rattle.room_core.specs.Agreements.{row_at}
 use Rattle.room_core.specs.Calls.{RoomState}
 use Rattle.ws_history.specs.declared.snapshots.Agreed.{Agreed}
 use Rattle.ws_history.specs.Histories.{Snapshot}
-use Rattle.ws_history.specs.Readings.{read_of, view_word}
+use Rattle.ws_history.specs.Readings.{read_of}
 
 abbrev pub blank : Agreed
-blank = record { sum = 0; process = 0; round = 0; word = 0 }
+blank = record { sum = 0; process = 0; round = 0 }
 
 -- what a room has of a snapshot
 abbrev pub agreed_at : RoomState → Snapshot → Agreed
@@ -16,7 +16,6 @@ agreed_at room s = record {
   sum = sum (row_at room.spec (read_of room) s.process s.round);
   process = s.process;
   round = s.round;
-  word = view_word room s.process s.round;
 }
 
 -- what is shown once this row is shown too

@@ -2,7 +2,7 @@
 use Rattle.std.specs.Prelude.{ℕ, ◌+◌, min}
 use Rattle.protocol_lang.specs.Numbers.{greatest}
 use Rattle.room_spec.specs.Sizes.{sizes_in}
-use Rattle.view_table.specs.Words.{word_at}
+use Rattle.view_table.specs.Places.{index_of}
 use Rattle.view_table.specs.declared.place.Place.TheVariants as places
 use Rattle.room_core.specs.Calls.{RoomState}
 use Rattle.room_core.specs.Fields.{Fields}
@@ -16,6 +16,6 @@ small_fields fields = record fields { value = λ i j k. min (fields.value i j k)
 unfoldable pub read_of : RoomState → Fields
 read_of room = small_fields (fields_in room)
 
--- the memory word that the agreement on process j's snapshot in round k shows
-abbrev pub view_word : RoomState → ℕ → ℕ → ℕ
-view_word room j k = word_at (sizes_in room.spec) room.words (places.View (shown_of room.spec (read_of room) j k) j k)
+-- where among its words the view begins that the agreement on process j's snapshot in round k shows
+abbrev pub view_start : RoomState → ℕ → ℕ → ℕ
+view_start room j k = index_of (sizes_in room.spec) (places.View (shown_of room.spec (read_of room) j k) j k 0)

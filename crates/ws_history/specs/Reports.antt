@@ -35,6 +35,10 @@ abbrev pub is_held : ProcessState → Bool
 is_held (Held i) = true
 is_held state = false
 
+abbrev pub is_decided : ProcessState → Bool
+is_decided (Decided v) = true
+is_decided state = false
+
 -- nothing is left to do for it
 abbrev pub is_over : ProcessState → Bool
 is_over (Decided v) = true

@@ -1,20 +1,21 @@
 -- The history of a room as it is gone through with one running row: for each process how many writes have been shown.
-use Rattle.std.specs.Prelude.{◌≡◌, ℕ, ◌<◌, List, [], ◌∷◌, ◌++◌, slice_index}
+use Rattle.std.specs.Prelude.{ℕ, List, [], ◌∷◌, ◌++◌, slice_index}
 use Rattle.room_spec.specs.Rooms.{processes}
+use Rattle.room_spec.specs.Sizes.{sizes_in}
+use Rattle.view_table.specs.Places.{IsProcess, IsRound}
 use Rattle.transcript.specs.declared.event.Event.{Event}
 use Rattle.transcript.specs.declared.event.Event.TheVariants.{Snap}
 use Rattle.room_core.specs.Agreements.{row_at, shown_by}
 use Rattle.room_core.specs.Calls.{RoomState}
 use Rattle.ws_history.specs.declared.snapshots.Agreed.{Agreed}
 use Rattle.ws_history.specs.Histories.{by_process, decided, new_writes}
-use Rattle.ws_history.specs.Placing.{agreed_at}
 use Rattle.ws_history.specs.Readings.{read_of}
 use Rattle.ws_history.specs.Sources.{decision_after, source_of}
 
--- it is a snapshot of the room
+-- it is a snapshot of one of the room's processes, after one of its rounds
 pub record IsSnapshotOf (room : RoomState) (agreed : Agreed) : Type 0 where
-  pub process : agreed.process < processes room.spec
-  pub is : agreed ≡ agreed_at room (record { process = agreed.process; round = agreed.round })
+  pub process : IsProcess (sizes_in room.spec) agreed.process
+  pub round : IsRound (sizes_in room.spec) agreed.round
 
 -- the writes that the snapshot is the first to show, the snapshot, and the decision after it if there is one
 abbrev pub block_on : RoomState → List ℕ → Agreed → List Event

@@ -14,7 +14,7 @@ ghost use Rattle.ws_history.specs.Running.{IsSnapshotOf, block_on};
 
 use crate::reading::{
     Row, decided_in, greatest_step, greatest_steps, number_of, process_count, round_count, row_of,
-    shape_of, shown_by, written,
+    shape_of, shown_by, view_at, written,
 };
 use crate::snapshots::{Agreed, in_order, sum};
 use room_core::RoomCore;
@@ -95,7 +95,7 @@ fn push_block(
     ensures events { OnOk result (events.new.items ≡ events.old.items ++ block_on room.now shown.old.items snapshot.now) }
     ensures shown { OnOk result (shown.new.items ≡ shown_with shown.old.items (row_at room.now.spec (read_of room.now) snapshot.now.process snapshot.now.round)) }
 {
-    let row = row_of(room.spec(), snapshot.word);
+    let row = row_of(room.spec(), view_at(room, snapshot.process, snapshot.round));
     push_writes(events, room, shown.as_slice(), row.as_slice())?;
     *shown = with_row(shown.as_slice(), row.as_slice());
     push_snap(events, room, snapshot.process, row.as_slice())?;

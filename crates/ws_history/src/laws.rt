@@ -1,7 +1,7 @@
 //! Laws of histories that are made from the snapshots that were agreed on.
-ghost use Rattle.std.specs.Prelude.{◌≡◌, ◌<◌, ◌≤◌, ◌↔◌, ◌+◌, ◌==◌, ℕ, Bool, length};
+ghost use Rattle.std.specs.Prelude.{◌≢◌, ◌≡◌, ◌<◌, ◌≤◌, ◌↔◌, ◌+◌, ◌==◌, ℕ, Bool, length};
 ghost use Rattle.std.specs.List.{count_by, Contains};
-ghost use Rattle.room_spec.specs.Rooms.{RoomSpec, IsWithinLimits, processes};
+ghost use Rattle.room_spec.specs.Rooms.{IsCertified, RoomSpec, IsWithinLimits, processes};
 ghost use Rattle.transcript.specs.Runs.{IsRun, is_write_by, is_snap_by};
 ghost use Rattle.transcript.specs.declared.event.Event.TheVariants.{Decide};
 ghost use Rattle.room_core.specs.Calls.{RoomState};
@@ -9,8 +9,8 @@ ghost use Rattle.room_core.specs.Fields.{Fields};
 ghost use Rattle.room_core.specs.Reading.{AreFieldsOf};
 ghost use Rattle.room_core.specs.Agreements.{HasAgreed};
 ghost use Rattle.room_core.specs.Settled.{IsSettledFor};
-ghost use Rattle.ws_history.specs.Reports.{crashed_in, held_in, is_held, is_over, state_of, states_of};
-ghost use Rattle.ws_history.specs.declared.states.ProcessState.TheVariants.{Decided};
+ghost use Rattle.ws_history.specs.Reports.{crashed_in, held_in, is_decided, is_held, is_over, state_of, states_of};
+ghost use Rattle.ws_history.specs.declared.states.ProcessState.TheVariants.{Decided, Spent};
 ghost use Rattle.ws_history.specs.Sources.{history_of};
 ghost use Rattle.ws_history.specs.Histories.{Snapshot, Source, IsSource, history_from};
 ghost use Rattle.ws_history.specs.Passed.{IsOfPassed, IsDecided};
@@ -63,4 +63,12 @@ pub fn decided_in_history()
 /// as simulators have crashed.
 pub fn settled_rooms()
     ensures { (room : RoomState) (fields : Fields) → IsWithinLimits room.spec → AreFieldsOf room fields → ((j : ℕ) → j < processes room.spec → IsSettledFor room.spec fields j) → processes room.spec ≤ count_by is_over (states_of room.spec fields) + length (crashed_in room.spec fields) }
+{}
+
+/// In a room of a protocol that waits for all but f processes, and has two rounds or more, no process is ever
+/// spent. So once it has settled all have decided but for at most as many as simulators have
+/// crashed.
+pub fn certified_rooms()
+    ensures unspent { (room : RoomState) (fields : Fields) → IsWithinLimits room.spec → AreFieldsOf room fields → (f : ℕ) → IsCertified room.spec f → 2 ≤ room.spec.rounds → (j : ℕ) → j < processes room.spec → state_of room.spec fields j ≢ Spent }
+    ensures settled { (room : RoomState) (fields : Fields) → IsWithinLimits room.spec → AreFieldsOf room fields → (f : ℕ) → IsCertified room.spec f → 2 ≤ room.spec.rounds → ((j : ℕ) → j < processes room.spec → IsSettledFor room.spec fields j) → processes room.spec ≤ count_by is_decided (states_of room.spec fields) + length (crashed_in room.spec fields) }
 {}

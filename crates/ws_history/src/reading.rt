@@ -1,9 +1,9 @@
 //! What the words of a room say.
-ghost use Rattle.std.specs.Prelude.{◌≡◌, ℕ, ◌<◌, ◌≤◌, IfSome, length, min, slice_index};
+ghost use Rattle.std.specs.Prelude.{◌≡◌, ℕ, ◌+◌, ◌<◌, ◌≤◌, IfSome, drop, length, min, slice_index};
 ghost use Rattle.protocol_lang.specs.Numbers.{greatest};
 ghost use Rattle.room_spec.specs.Rooms.{IsWithinLimits, processes};
-ghost use Rattle.room_spec.specs.Sizes.{sizes_in};
-ghost use Rattle.view_table.specs.Places.{IsPlace, IsRound};
+ghost use Rattle.room_spec.specs.Sizes.{memory_words, sizes_in};
+ghost use Rattle.view_table.specs.Places.{IsPlace, IsRound, words_of};
 ghost use Rattle.view_table.specs.Words.{word_at};
 ghost use Rattle.safe_agreement.specs.Levels.{least_two};
 ghost use Rattle.sim_memory.specs.Steps.{merged_of, row_of, step_in};
@@ -11,14 +11,14 @@ ghost use Rattle.room_core.specs.Agreements.{asks, decided_in, first_with, great
 ghost use Rattle.room_core.specs.Calls.{configuration_of};
 ghost use Rattle.room_core.specs.Fields.{Fields, levels_at};
 ghost use Rattle.room_core.specs.Reading.{AreFieldsOf, Reads};
-ghost use Rattle.ws_history.specs.Readings.{read_of, view_word};
+ghost use Rattle.ws_history.specs.Readings.{read_of, view_start};
 
 use arrayvec::ArrayVec;
 use level_cells::levels;
 use protocol_lang::{Action, View, next};
 use room_core::RoomCore;
 use room_spec::{Shape, Spec};
-use sim_memory::{merged, step_of};
+use sim_memory::{last_writes, merged, step_of};
 use view_table::{Place, index};
 
 /// How many writes of each process something shows.
@@ -89,16 +89,17 @@ fn step(room: &RoomCore, i: usize, p: usize) -> usize
     ensures value { result ≡ (read_of room.now).step i p }
     ensures range { result ≤ room.now.spec.rounds }
 {
-    step_of(&room.spec().shape(), word_at(room, Place::Steps), i, p)
+    step_of(&room.spec().shape(), memory(room), i, p)
 }
 
-/// How many writes of process `p` a memory word shows.
-fn merged_in(spec: &Spec, word: u64, p: usize) -> usize
-    requires { p < processes spec.now }
-    ensures value { result ≡ merged_of spec.now.simulators (step_in (sizes_in spec.now) word) p }
-    ensures range { result ≤ spec.now.rounds }
+/// The room's words from the first memory word on.
+fn memory(room: &RoomCore) -> &[u64]
+    ensures value { result.now ≡ room.now.words }
+    ensures count { memory_words (sizes_in room.now.spec) ≤ length result.now }
+    ensures limits { IsWithinLimits room.now.spec }
 {
-    merged(&spec.shape(), word, p)
+    let _shape = shape_of(room);
+    room.words()
 }
 
 /// How many writes of process `p` have been made.
@@ -108,18 +109,20 @@ pub(crate) fn greatest_step(room: &RoomCore, p: usize) -> usize
     ensures value { result ≡ greatest_step room.now.spec (read_of room.now) p }
     ensures range { result ≤ room.now.spec.rounds }
 {
-    merged_in(room.spec(), word_at(room, Place::Steps), p)
+    merged(&room.spec().shape(), memory(room), p)
 }
 
-/// How many writes of each process a memory word shows.
-pub(crate) fn row_of(spec: &Spec, word: u64) -> Row
-    ensures value { result.items ≡ row_of spec.now.simulators (processes spec.now) (step_in (sizes_in spec.now) word) }
+/// How many writes of each process memory words show.
+pub(crate) fn row_of(spec: &Spec, words: &[u64]) -> Row
+    requires { memory_words (sizes_in spec.now) ≤ length words.now }
+    ensures value { result.items ≡ row_of spec.now.simulators (processes spec.now) (step_in (sizes_in spec.now) words.now) }
     ensures count { length result.items ≡ processes spec.now }
     ensures range { (p : ℕ) → slice_index result.items p ≤ spec.now.rounds }
 {
+    let last = last_writes(&spec.shape(), words);
     let mut row = Row::new();
     for p in 0..spec.n() {
-        row.push(merged_in(spec, word, p));
+        row.push(usize::from(last.rounds[p]));
     }
     row
 }
@@ -131,7 +134,7 @@ pub(crate) fn greatest_steps(room: &RoomCore) -> Row
     ensures count { length result.items ≡ processes room.now.spec }
     ensures range { (p : ℕ) → slice_index result.items p ≤ room.now.spec.rounds }
 {
-    row_of(room.spec(), word_at(room, Place::Steps))
+    row_of(room.spec(), memory(room))
 }
 
 /// The levels in the agreement on process `j` and round `k`.
@@ -276,23 +279,35 @@ fn shown_of(room: &RoomCore, j: usize, k: usize) -> usize
     }
 }
 
-/// The memory word that this agreement shows.
-#[tactic(auto, unfolding(crate::specs::Readings::read_of))]
-pub(crate) fn view_at(room: &RoomCore, j: usize, k: usize) -> u64
+/// Where among the room's words the view begins that this agreement shows.
+fn view_start(room: &RoomCore, j: usize, k: usize) -> usize
     requires process { j < processes room.now.spec }
     requires round { IsRound (sizes_in room.now.spec) k }
-    ensures word { result ≡ view_word room.now j k }
-    ensures row { row_of room.now.spec.simulators (processes room.now.spec) (step_in (sizes_in room.now.spec) result) ≡ row_at room.now.spec (read_of room.now) j k }
+    ensures value { result ≡ view_start room.now j k }
+    ensures fits { result + memory_words (sizes_in room.now.spec) ≤ words_of (sizes_in room.now.spec) }
+    ensures few { result ≤ 5108 }
+    ensures limits { IsWithinLimits room.now.spec }
 {
-    let simulator = shown_of(room, j, k);
-    word_at(
-        room,
-        Place::View {
-            simulator,
-            process: j,
-            round: k,
-        },
-    )
+    let _shape = shape_of(room);
+    let view = Place::View {
+        simulator: shown_of(room, j, k),
+        process: j,
+        round: k,
+        word: 0,
+    };
+    index(&room.spec().shape(), view)
+}
+
+/// The room's words from the first of the view on that this agreement shows.
+#[tactic(auto, unfolding(crate::specs::Readings::read_of))]
+pub(crate) fn view_at(room: &RoomCore, j: usize, k: usize) -> &[u64]
+    requires process { j < processes room.now.spec }
+    requires round { IsRound (sizes_in room.now.spec) k }
+    ensures words { result.now ≡ drop (view_start room.now j k) room.now.words }
+    ensures count { memory_words (sizes_in room.now.spec) ≤ length result.now }
+    ensures row { row_of room.now.spec.simulators (processes room.now.spec) (step_in (sizes_in room.now.spec) result.now) ≡ row_at room.now.spec (read_of room.now) j k }
+{
+    &room.words()[view_start(room, j, k)..]
 }
 
 /// The least simulator that has counted write `r` of process `p`, or 0.

@@ -14,15 +14,13 @@ use crate::reading::{is_passed, process_count, round_count, row_of, shape_of, vi
 use room_core::RoomCore;
 use std::alloc::{AllocError, Global};
 
-/// The snapshot of a process after so many writes of its own: how many writes of all processes it
-/// shows, and the memory word that shows them. Snapshots go by that sum, and then by process; no two
-/// that a room has passed share both.
+/// The snapshot of a process after so many writes of its own, and how many writes of all processes it
+/// shows. Snapshots go by that sum, and then by process; no two that a room has passed share both.
 #[derive(Clone, Copy, Default, PartialEq, Eq, PartialOrd, Ord)]
 pub(crate) struct Agreed {
     pub(crate) sum: usize,
     pub(crate) process: usize,
     pub(crate) round: usize,
-    pub(crate) word: u64,
 }
 
 /// The passed snapshots of a room, by the sum of their rows, and then by process.
@@ -79,15 +77,13 @@ fn snapshot_at(room: &RoomCore, process: usize, round: usize) -> Agreed
     requires round { IsRound (sizes_in room.now.spec) round }
     ensures { result ≡ agreed_at room.now (record { process = process; round = round }) }
 {
-    let word = view_at(room, process, round);
-    let row = row_of(room.spec(), word);
+    let row = row_of(room.spec(), view_at(room, process, round));
     let rounds = round_count(room);
     prove!(rounds <= 15);
     Agreed {
         sum: sum(row.as_slice()),
         process,
         round,
-        word,
     }
 }
 

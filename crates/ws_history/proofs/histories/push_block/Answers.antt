@@ -10,7 +10,6 @@ use Rattle.ws_history.specs.Histories.{by_process, decided, new_writes}
 use Rattle.ws_history.specs.Placing.{shown_with}
 use Rattle.ws_history.specs.Readings.{read_of}
 use Rattle.ws_history.specs.Sources.{decision_after, source_of}
-use Rattle.ws_history.proofs.Walking.{row_read}
 use Rattle.ws_history.proofs.histories.push_block.Goals as goal
 
 pub returns-clause-events : goal.returns-clause-events
@@ -24,8 +23,8 @@ returns-clause-events c =
     let shown = c.args.shown.now.items in
     let all = row_at room.spec F s.process s.round in
     let row = c.row_of-row.ensures.value
-    ∙ ap (λ (q : RoomSpec). row_of q.simulators (processes q) (step_in (sizes_in q) s.word)) c.spec.ensures.value
-    ∙ row_read room s c.requires.is in
+    ∙ ap (λ (q : RoomSpec). row_of q.simulators (processes q) (step_in (sizes_in q) c.view_at.result.now)) c.spec.ensures.value
+    ∙ c.view_at.ensures.row in
     let writes = by_process (λ (p : ℕ). new_writes src p (get_or shown p 0) (get_or all p 0)) n in
     let snap : List Event = Snap s.process (record { items = shown_by room.spec F all }) ∷ [] in
     let end = decided s.process (decision_after room.spec F s.process s.round) in
@@ -44,8 +43,8 @@ returns-clause-shown c =
     let room = c.args.room.now in
     let s = c.args.snapshot.now in
     let row = c.row_of-row.ensures.value
-    ∙ ap (λ (q : RoomSpec). row_of q.simulators (processes q) (step_in (sizes_in q) s.word)) c.spec.ensures.value
-    ∙ row_read room s c.requires.is in
+    ∙ ap (λ (q : RoomSpec). row_of q.simulators (processes q) (step_in (sizes_in q) c.view_at.result.now)) c.spec.ensures.value
+    ∙ c.view_at.ensures.row in
     c.with_row.ensures
     ∙ ap (λ (l : List ℕ). shown_with l c.as_slice-4.result.now) c.as_slice-3.ensures.value
     ∙ ap (λ (l : List ℕ). shown_with c.args.shown.now.items l) (c.as_slice-4.ensures.value ∙ row)

@@ -13,7 +13,7 @@ returns c =
     let room = c.args.room.now in
     let same = c.spec-spec.ensures.value in
     let row = c.row_of-row.ensures.value
-    ∙ ap (λ (s : RoomSpec). row_of s.simulators (processes s) (step_in (sizes_in s) c.view_at.result)) same
+    ∙ ap (λ (s : RoomSpec). row_of s.simulators (processes s) (step_in (sizes_in s) c.view_at.result.now)) same
     ∙ c.view_at.ensures.row in
     let view = c.shown_by-view.ensures.value ∙ ap (λ (l : List ℕ). shown_by room.spec (read_of room) l) (c.as_slice.ensures.value ∙ row) in
     c.next.ensures

@@ -7,10 +7,12 @@ use Rattle.transcript.specs.declared.event.Event.TheVariants.{Decide}
 use Rattle.transcript.specs.Runs.{IsRun}
 use Rattle.ws_history.specs.declared.states.ProcessState.{ProcessState}
 use Rattle.ws_history.specs.declared.states.ProcessState.TheVariants.{Going}
-use Rattle.ws_history.specs.Reports.{is_held, state_of}
+use Rattle.ws_history.specs.Reports.{is_decided, is_held, is_over, state_of}
+use Rattle.ws_history.proofs.Certified.{most_are_decided, not_spent}
 use Rattle.ws_history.proofs.Deciders.{decided_there}
-use Rattle.ws_history.proofs.Held.{held_at_most, inside_at_most}
+use Rattle.ws_history.proofs.Held.{held_among, held_at_most, inside_at_most}
 use Rattle.ws_history.proofs.RoomFields.{crashed_are, states_in}
+use Rattle.ws_history.proofs.Settled.{most_are_over}
 use Rattle.ws_history.proofs.reports.report.Goals as goal
 
 pub returns-clause-fields : goal.returns-clause-fields
@@ -55,3 +57,38 @@ returns-clause-decided c = λ j v low.
       λ is. subst (λ (events : List Event). Contains events (Decide j v)) (sym history) (both.0 (sym there ∙ is)),
       λ has. there ∙ both.1 (subst (λ (events : List Event). Contains events (Decide j v)) history has),
     )
+
+pub returns-clause-unspent : goal.returns-clause-unspent
+returns-clause-unspent c = λ f certified two j low is.
+    let room = c.args.room.now in
+    let limits = c.shape_of-shape.ensures.limits in
+    let at = c.shape_of-shape.ensures.fields in
+    let states = ap (λ (l : List ProcessState). get_or l j Going) (c.states_of.ensures ∙ states_in room at.0 limits at.1) in
+    let there = states ∙ get_or-map-range_with_len (state_of room.spec at.0) 0 (processes room.spec) j j Going low (omega arith) in
+    not_spent room at.0 limits at.1 f certified two j low (sym there ∙ is)
+
+pub returns-clause-among : goal.returns-clause-among
+returns-clause-among c = λ fields are j i low is.
+    let room = c.args.room.now in
+    let limits = c.shape_of-shape.ensures.limits in
+    let states = ap (λ (l : List ProcessState). get_or l j Going) (c.states_of.ensures ∙ states_in room fields limits are) in
+    let there = states ∙ get_or-map-range_with_len (state_of room.spec fields) 0 (processes room.spec) j j Going low (omega arith) in
+    held_among room.spec fields j i low (sym there ∙ is)
+
+pub returns-clause-settled : goal.returns-clause-settled
+returns-clause-settled c = λ fields are each.
+    let room = c.args.room.now in
+    let limits = c.shape_of-shape.ensures.limits in
+    let states = ap (λ (l : List ProcessState). count_by is_over l) (c.states_of.ensures ∙ states_in room fields limits are) in
+    let crashed = ap (λ (l : List ℕ). length l) (c.crashed_in.ensures ∙ crashed_are room fields limits are) in
+    let most = most_are_over room fields limits are each in
+    omega (arith, states, crashed, most)
+
+pub returns-clause-certified : goal.returns-clause-certified
+returns-clause-certified c = λ fields are f certified two each.
+    let room = c.args.room.now in
+    let limits = c.shape_of-shape.ensures.limits in
+    let states = ap (λ (l : List ProcessState). count_by is_decided l) (c.states_of.ensures ∙ states_in room fields limits are) in
+    let crashed = ap (λ (l : List ℕ). length l) (c.crashed_in.ensures ∙ crashed_are room fields limits are) in
+    let most = most_are_decided room fields limits are f certified two each in
+    omega (arith, states, crashed, most)
