@@ -15,15 +15,15 @@
 //! | Operation | Word | When | Seat, and what becomes of its view |
 //! |---|---|---|---|
 //! | store | own value, own decision | first line of a turn that writes; line out | the simulator's: its mind goes one line on |
-//! | add 1 to own field | the step numbers | line raise | the same |
-//! | load | the step numbers | line snap | the same: the mind goes on by the word that was found |
-//! | store | own view for the agreement | line show | the same |
+//! | add 1 to own field | a memory word | line raise | the same |
+//! | load | a memory word | line snap | the same: the mind goes on by the word that was found |
+//! | store | a word of own view for the agreement | line show | the same |
 //! | add 1 to own field, subtract 1 from it | the levels of the agreement | lines enter and leave | the same |
 //! | load | the levels of the agreement | lines look and ask; first line of a turn that asks | the same, by the word that was found |
-//! | load | the view that was agreed on | line get view | the same, by the word that was found |
+//! | load | a word of the view that was agreed on | line get view | the same, by the word that was found |
 //! | load | a value that this view shows | line values | the same, by the word that was found |
-//! | load | the step numbers | a simulator is given | the keeper's: the mind and its operations leave it, and a new seat has them |
-//! | load | the step numbers | a simulator is taken back | the keeper's: it has them again, and the other seat has none |
+//! | load | the first memory word | a simulator is given | the keeper's: the mind and its operations leave it, and a new seat has them |
+//! | load | the first memory word | a simulator is taken back | the keeper's: it has them again, and the other seat has none |
 //! | swap in 1 | the last | the room begins | the keeper's: where the swap found 0, it gets all opening minds |
 //!
 //! The first eight rows are the atomic steps of a simulator. There the view also notes the operation

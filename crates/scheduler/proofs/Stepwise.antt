@@ -9,7 +9,8 @@ use Rattle.simulator.specs.declared.sweep.Ready.TheVariants as ready
 use Rattle.simulator.specs.Minds.{MindState, unfinished_in}
 use Rattle.simulator.proofs.Counting.{idle_waits}
 use Rattle.simulator.proofs.Keeping.{kept}
-use Rattle.simulator.proofs.Stepping.{moves, steps_by_one}
+use Rattle.simulator.specs.Ranges.{turn_limit}
+use Rattle.simulator.proofs.Stepping.{bounded, moves, stays_in_turn, steps_by_one}
 use Rattle.room_core.specs.Calls.{most_steps}
 use Rattle.room_core.proofs.Alone.{steps_within}
 use Rattle.ruled_room.specs.Parts.{IsSweepOf, RoomName, SimulatorData, stepped_with}
@@ -154,9 +155,11 @@ pub record IsOnWay (fuse : Option ℕ) (start at : SimulatorData) : Type 0 where
   pub reaches : (result : Option Stop) (new : SimulatorData) → TakesTurn fuse at result new → TakesTurn fuse start result new
   pub within : IsWithinFuse fuse start.sweep.mind.steps → IsWithinFuse fuse at.sweep.mind.steps
   pub more : start.sweep.mind.steps ≤ at.sweep.mind.steps
+  -- its steps are those of the turn
+  pub in_turn : at.sweep.mind.steps + start.sweep.mind.turn_steps ≡ start.sweep.mind.steps + at.sweep.mind.turn_steps
 
 pub begins : (fuse : Option ℕ) (start : SimulatorData) → IsOnWay fuse start start
-begins fuse start = record { room = refl; number = refl; reaches = λ result new takes. takes; within = λ is. is; more = omega arith }
+begins fuse start = record { room = refl; number = refl; reaches = λ result new takes. takes; within = λ is. is; more = omega arith; in_turn = refl }
 
 -- how many steps it may still take
 abbrev pub left : SimulatorData → ℕ
@@ -165,6 +168,7 @@ left at = most_steps at.room.spec - at.sweep.mind.steps
 -- one step more
 record HasStepped (fuse : Option ℕ) (at next : SimulatorData) : Type 0 where
   steps : next.sweep.mind.steps ≡ at.sweep.mind.steps + 1
+  stays : is_resting next.sweep.mind.line ≡ false → next.sweep.mind.turn_steps ≡ at.sweep.mind.turn_steps + 1
   most : next.sweep.mind.steps ≤ most_steps at.room.spec
   within : IsWithinFuse fuse at.sweep.mind.steps → IsWithinFuse fuse next.sweep.mind.steps
 
@@ -175,6 +179,7 @@ steps_one fuse at answer is none =
     let one = steps_by_one at.room.spec at.sweep.mind answer in
     record {
       steps = one;
+      stays = stays_in_turn at.room.spec at.sweep.mind answer;
       most = steps_within at.room.spec (stepped_with at answer).sweep.mind next;
       within = fuse_more fuse at.sweep.mind.steps (stepped_with at answer).sweep.mind.steps may.0 one;
     }
@@ -191,9 +196,13 @@ steps_on fuse start at next answer way is none to still =
         reaches = λ result new takes. way.reaches result new (turn_more fuse at answer result new none here takes);
         within = λ is. one.within (way.within is);
         more = omega (arith, way.more, one.steps);
+        in_turn = omega (arith, way.in_turn, one.steps, one.stays here);
       },
       omega (arith, one.steps, one.most),
     )) still
+
+limit_here : (fuse : Option ℕ) (start at : SimulatorData) → IsOnWay fuse start at → IsSweepOf at.room.spec at.number at.sweep → at.sweep.mind.turn_steps < turn_limit start.room.spec
+limit_here fuse start at way is = subst (λ (spec : RoomSpec). at.sweep.mind.turn_steps < turn_limit spec) (ap (λ (room : RoomName). room.spec) way.room) (bounded at.room.spec at.sweep.mind is.is_mind)
 
 -- what is known at the end of a turn
 pub record HasTurned (fuse : Option ℕ) (start new : SimulatorData) : Type 0 where
@@ -203,6 +212,7 @@ pub record HasTurned (fuse : Option ℕ) (start new : SimulatorData) : Type 0 wh
   pub number : new.number ≡ start.number
   pub more : start.sweep.mind.steps < new.sweep.mind.steps
   pub most : new.sweep.mind.steps ≤ most_steps start.room.spec
+  pub bound : new.sweep.mind.steps + start.sweep.mind.turn_steps ≤ start.sweep.mind.steps + turn_limit start.room.spec
 
 pub ends_turn : (fuse : Option ℕ) (start at new : SimulatorData) (answer : ℕ) → IsOnWay fuse start at → IsSweepOf at.room.spec at.number at.sweep → stop_at fuse at ≡ None → new ≡ stepped_with at answer → is_resting new.sweep.mind.line ≡ true → HasTurned fuse start new
 ends_turn fuse start at new answer way is none to rests =
@@ -215,6 +225,7 @@ ends_turn fuse start at new answer way is none to rests =
       number = way.number;
       more = omega (arith, way.more, one.steps);
       most = subst (λ (spec : RoomSpec). (stepped_with at answer).sweep.mind.steps ≤ most_steps spec) (ap (λ (room : RoomName). room.spec) way.room) one.most;
+      bound = omega (arith, way.in_turn, one.steps, limit_here fuse start at way is);
     }) rests
 
 -- and where it stops
@@ -224,6 +235,7 @@ pub record StopsTurn (fuse : Option ℕ) (start : SimulatorData) (stop : Stop) (
   pub within : IsWithinFuse fuse start.sweep.mind.steps → IsWithinFuse fuse new.sweep.mind.steps
   pub room : new.room ≡ start.room
   pub number : new.number ≡ start.number
+  pub bound : new.sweep.mind.steps + start.sweep.mind.turn_steps ≤ start.sweep.mind.steps + turn_limit start.room.spec
 
 pub stops_turn : (fuse : Option ℕ) (start at new : SimulatorData) (stop : Stop) → IsOnWay fuse start at → IsSweepOf at.room.spec at.number at.sweep → stop_at fuse at ≡ Some stop → new ≡ stopped stop at → StopsTurn fuse start stop new
 stops_turn fuse start at new stop way is stops to =
@@ -235,6 +247,7 @@ stops_turn fuse start at new stop way is stops to =
       within = λ is. subst (λ (mind : MindState). IsWithinFuse fuse mind.steps) (sym new_mind) (way.within is);
       room = ap (λ (n : SimulatorData). n.room) to ∙ same.0 ∙ way.room;
       number = ap (λ (n : SimulatorData). n.number) to ∙ same.1 ∙ way.number;
+      bound = omega (arith, way.in_turn, ap (λ (mind : MindState). mind.steps) new_mind, limit_here fuse start at way is);
     }
 
 -- ---- what a step was, by what it answered

@@ -1,6 +1,7 @@
 //! A simulator that takes step after step.
 ghost use Rattle.std.specs.Prelude.{◌≡◌, ◌+◌, ◌*◌, ◌<◌, ◌≤◌, IfNone, IfSome};
 ghost use Rattle.room_spec.specs.Rooms.{processes};
+ghost use Rattle.simulator.specs.Ranges.{turn_limit};
 ghost use Rattle.room_core.specs.Calls.{most_steps};
 ghost use Rattle.ruled_room.specs.Parts.{IsSweepOf};
 ghost use Rattle.scheduler.specs.Drives.{Advances, Drives, HasStopped, IsWithinFuse, TakesTurn, stop_at};
@@ -21,6 +22,8 @@ pub fn turn(simulator: &mut Simulator, room: &RuledRoom, fuse: &Fuse) -> Option<
     ensures same { (simulator.new.room ≡ simulator.old.room) × (simulator.new.number ≡ simulator.old.number) }
     // Steps are taken before a turn's end, and never more in all than all turns have.
     ensures more { IfNone result ((simulator.old.sweep.mind.steps < simulator.new.sweep.mind.steps) × (simulator.new.sweep.mind.steps ≤ most_steps room.now.spec)) }
+    // With those that its open turn had taken these are no more than a turn may take.
+    ensures bound { simulator.new.sweep.mind.steps + simulator.old.sweep.mind.turn_steps ≤ simulator.old.sweep.mind.steps + turn_limit room.now.spec }
 {
     loop {
         if let Some(stop) = advance(simulator, room, fuse) {
@@ -42,9 +45,9 @@ pub fn drive(simulator: &mut Simulator, room: &RuledRoom, fuse: &Fuse, gate: &im
     ensures stop { HasStopped fuse.now room.now.spec result simulator.new.sweep }
     ensures fuse { IsWithinFuse fuse.now simulator.old.sweep.mind.steps → IsWithinFuse fuse.now simulator.new.sweep.mind.steps }
     ensures same { (simulator.new.room ≡ simulator.old.room) × (simulator.new.number ≡ simulator.old.number) }
-    // Whatever others do, it begins at most `(n * rounds + 1) * n` turns, of at most n + 10 steps each.
+    // Whatever others do, it begins at most `(n * rounds + 1) * n` turns, each of no more steps than a turn may take.
     ensures turns { simulator.new.sweep.mind.turns ≤ simulator.old.sweep.mind.turns + (processes room.now.spec * room.now.spec.rounds + 1) * processes room.now.spec }
-    ensures bound { simulator.new.sweep.mind.steps ≤ simulator.old.sweep.mind.steps + (processes room.now.spec * room.now.spec.rounds + 1) * processes room.now.spec * (processes room.now.spec + 10) }
+    ensures bound { simulator.new.sweep.mind.steps ≤ simulator.old.sweep.mind.steps + (processes room.now.spec * room.now.spec.rounds + 1) * processes room.now.spec * turn_limit room.now.spec }
 {
     let worker = simulator.number() as u8;
     let mut visit: u64 = 0;

@@ -1,5 +1,5 @@
 use Rattle.std.proofs.Common.{◌+◌, ◌*◌, ◌≤◌, ◌∙◌, subst}
-use Rattle.room_spec.specs.Rooms.{processes}
+use Rattle.simulator.specs.Ranges.{turn_limit}
 use Rattle.ruled_room.specs.Parts.{RoomName}
 use Rattle.scheduler.proofs.Bounds.{drive_turns, drives_on, ends_drive, left_less, most_turns}
 use Rattle.scheduler.proofs.Costs.{drive_steps}
@@ -18,7 +18,7 @@ pub returns-in-Some-clause-bound : goal.returns-in-Some-clause-bound
 returns-in-Some-clause-bound g c =
     let drives = ends_drive c.args.fuse.now c.args.simulator.now c.loop-stop.simulator c.turn.new.simulator c.turn.result c.in-Some.stop c.loop-stop.invariant c.in-Some.is c.turn.ensures.steps in
     let steps = drive_steps c.args.fuse.now c.args.simulator.now c.in-Some.stop c.turn.new.simulator c.number-worker.ensures.sweep drives in
-    subst (λ (room : RoomName). c.turn.new.simulator.sweep.mind.steps ≤ c.args.simulator.now.sweep.mind.steps + most_turns room.spec * (processes room.spec + 10)) c.requires steps
+    subst (λ (room : RoomName). c.turn.new.simulator.sweep.mind.steps ≤ c.args.simulator.now.sweep.mind.steps + most_turns room.spec * turn_limit room.spec) c.requires steps
 
 pub loop-stop-smaller : goal.loop-stop-smaller
 loop-stop-smaller g c =

@@ -1,4 +1,5 @@
-use Rattle.std.proofs.Common.{◌≤◌, sym, ◌∙◌, subst}
+use Rattle.std.proofs.Common.{◌+◌, ◌≤◌, sym, ◌∙◌, subst}
+use Rattle.simulator.specs.Ranges.{turn_limit}
 use Rattle.room_core.specs.Calls.{most_steps}
 use Rattle.ruled_room.specs.Parts.{RoomName}
 use Rattle.scheduler.specs.Drives.{HasStopped}
@@ -32,3 +33,13 @@ loop-stop-smaller c =
 pub loop-stop-preserved : goal.loop-stop-preserved
 loop-stop-preserved c =
     (told_on c.args.fuse.now c.args.simulator.now c.loop-stop.simulator c.advance.new.simulator c.advance.result c.loop-stop.invariant c.advance.ensures.sweep c.in_default.is c.advance.ensures.stop c.advance.ensures.step (sym c.resting.ensures ∙ c.if-resting.false)).0
+
+pub returns-in-Some-clause-bound : goal.returns-in-Some-clause-bound
+returns-in-Some-clause-bound c =
+    let at = told_stop c.args.fuse.now c.args.simulator.now c.loop-stop.simulator c.advance.new.simulator c.advance.result c.in-Some.stop c.loop-stop.invariant c.advance.ensures.sweep c.in-Some.is c.advance.ensures.stop c.advance.ensures.step in
+    subst (λ (room : RoomName). c.advance.new.simulator.sweep.mind.steps + c.args.simulator.now.sweep.mind.turn_steps ≤ c.args.simulator.now.sweep.mind.steps + turn_limit room.spec) c.requires at.bound
+
+pub returns-then-resting-clause-bound : goal.returns-then-resting-clause-bound
+returns-then-resting-clause-bound c =
+    let at = told_end c.args.fuse.now c.args.simulator.now c.loop-stop.simulator c.advance.new.simulator c.advance.result c.loop-stop.invariant c.advance.ensures.sweep c.in_default.is c.advance.ensures.stop c.advance.ensures.step (sym c.resting.ensures ∙ c.if-resting.true) in
+    subst (λ (room : RoomName). c.advance.new.simulator.sweep.mind.steps + c.args.simulator.now.sweep.mind.turn_steps ≤ c.args.simulator.now.sweep.mind.steps + turn_limit room.spec) c.requires at.bound
