@@ -7,6 +7,7 @@ use Rattle.room_core.specs.Fields.{Fields}
 use Rattle.room_core.specs.Reading.{AreFieldsOf}
 use Rattle.room_core.proofs.FieldCalls.{opening_in_fields}
 use Rattle.ws_history.specs.declared.states.Report.{Report as ReportData}
+use Rattle.service_core.specs.declared.command.Command.{Command}
 use Rattle.service_core.specs.declared.command.Command.TheVariants as commands
 use Rattle.service_core.specs.declared.reply.Reply.{Reply}
 use Rattle.service_core.specs.declared.reply.Reply.TheVariants.{Begun, Closed, Report, Refused}
@@ -50,37 +51,22 @@ closes_room name before after core there changes = record {
     from None is = absurd is
     from (Some room) is = (refl, subst (λ (core : Option RoomState). IsStateOf core None) (sym (changed_here before after name None changes)) tt)
 
-pub name_for : (name : List ℕ) (what : Act) → name_in (command_for name what) ≡ name
-name_for name (acts.Step sim count) = refl
-name_for name (acts.Crash sim) = refl
-name_for name acts.Settle = refl
-name_for name acts.Report = refl
-
-stays_open : (name : List ℕ) (what : Act) (room : OpenRoom) → room_after_open room (command_for name what) ≡ Some (room_in room (command_for name what))
-stays_open name (acts.Step sim count) room = refl
-stays_open name (acts.Crash sim) room = refl
-stays_open name acts.Settle room = refl
-stays_open name acts.Report room = refl
-
-wants_report : (name : List ℕ) (what : Act) (core : RoomState) → what ≡ acts.Report → IsWant (Some core) (command_for name what)
-wants_report name what core is = subst (λ (w : Act). IsWant (Some core) (command_for name w)) (sym is) tt
-
 -- where there is a room, and it stays open
-module _ (name : List ℕ) (what : Act) (reply : Reply) (before after : Entries) (core core' : RoomState) (there : room_at before name ≡ Some core) (changes : Changes before after name (Some core'))
-    (answers : reply ≢ Refused OutOfMemory → (of : List ℕ) (room : OpenRoom) → IsOpenAs core room → Answers room (command_for of what) reply core')
-    (reports : (report : ReportData) → reply ≡ Report report → (fields : Fields) → AreFieldsOf core fields → IsTrueReport core.spec fields report)
-    (wants : reply ≡ Refused OutOfMemory → what ≡ acts.Report) (refused : IsRefusal reply → core' ≡ core) where
-  here : room_at before (name_in (command_for name what)) ≡ Some core
-  here = ap (room_at before) (name_for name what) ∙ there
+module _ (name : List ℕ) (command : Command) (reply : Reply) (before after : Entries) (core core' : RoomState) (own : name_in command ≡ name) (stays : (room : OpenRoom) → room_after_open room command ≡ Some (room_in room command))
+    (there : room_at before name ≡ Some core) (changes : Changes before after name (Some core')) (answers : reply ≢ Refused OutOfMemory → (room : OpenRoom) → IsOpenAs core room → Answers room command reply core')
+    (reports : (report : ReportData) → reply ≡ Report report → (fields : Fields) → AreFieldsOf core fields → IsTrueReport core.spec fields report) (wants : reply ≡ Refused OutOfMemory → IsWant (Some core) command)
+    (refused : IsRefusal reply → core' ≡ core) where
+  here : room_at before (name_in command) ≡ Some core
+  here = ap (room_at before) own ∙ there
 
-  here_after : room_at after (name_in (command_for name what)) ≡ Some core'
-  here_after = ap (room_at after) (name_for name what) ∙ changed_here before after name (Some core') changes
+  here_after : room_at after (name_in command) ≡ Some core'
+  here_after = ap (room_at after) own ∙ changed_here before after name (Some core') changes
 
-  answered : reply ≢ Refused OutOfMemory → (room : Option OpenRoom) → IsStateOf (Some core) room → (reply ≡ reply_to room (command_for name what)) × IsStateOf (Some core') (room_after room (command_for name what))
+  answered : reply ≢ Refused OutOfMemory → (room : Option OpenRoom) → IsStateOf (Some core) room → (reply ≡ reply_to room command) × IsStateOf (Some core') (room_after room command)
   answered granted None is = absurd is
   answered granted (Some room) is =
-      let at = answers granted name room is in
-      (at.0, subst (λ (state : Option OpenRoom). IsStateOf (Some core') state) (sym (stays_open name what room)) at.1)
+      let at = answers granted room is in
+      (at.0, subst (λ (state : Option OpenRoom). IsStateOf (Some core') state) (sym (stays room)) at.1)
 
   reported : (report : ReportData) → reply ≡ Report report → (room : Option OpenRoom) → IsStateOf (Some core) room → IsReportOf room report
   reported report is None at = absurd at
@@ -94,13 +80,44 @@ module _ (name : List ℕ) (what : Act) (reply : Reply) (before after : Entries)
           changes other ∙ ap (λ (b : Bool). cond b (Some core') (room_at before other)) same ∙ ap Some (refused is) ∙ sym there ∙ ap (room_at before) (same_name name other same)
       by false differs = changes other ∙ ap (λ (b : Bool). cond b (Some core') (room_at before other)) differs
 
-  pub asks_room : Applies before (command_for name what) reply after
-  asks_room = record {
+  stays_open : Applies before command reply after
+  stays_open = record {
     answer = λ granted room is.
         let at = answered granted room (subst (λ (core : Option RoomState). IsStateOf core room) here is) in
-        (at.0, subst (λ (core : Option RoomState). IsStateOf core (room_after room (command_for name what))) (sym here_after) at.1);
-    others = λ other differs. changed_other before after name other (Some core') changes (ap (bytes_eq other) (sym (name_for name what)) ∙ differs);
+        (at.0, subst (λ (core : Option RoomState). IsStateOf core (room_after room command)) (sym here_after) at.1);
+    others = λ other differs. changed_other before after name other (Some core') changes (ap (bytes_eq other) (sym own) ∙ differs);
     report = λ report is room at. reported report is room (subst (λ (core : Option RoomState). IsStateOf core room) here at);
-    want = λ is. subst (λ (core : Option RoomState). IsWant core (command_for name what)) (sym here) (wants_report name what core (wants is));
+    want = λ is. subst (λ (core : Option RoomState). IsWant core command) (sym here) (wants is);
     refused = unchanged;
   }
+
+name_for : (name : List ℕ) (what : Act) → name_in (command_for name what) ≡ name
+name_for name (acts.Step sim count) = refl
+name_for name (acts.Crash sim) = refl
+name_for name acts.Settle = refl
+
+open_after : (name : List ℕ) (what : Act) (room : OpenRoom) → room_after_open room (command_for name what) ≡ Some (room_in room (command_for name what))
+open_after name (acts.Step sim count) room = refl
+open_after name (acts.Crash sim) room = refl
+open_after name acts.Settle room = refl
+
+-- it does something
+pub asks_room : (name : List ℕ) (what : Act) (reply : Reply) (before after : Entries) (core core' : RoomState) → room_at before name ≡ Some core → Changes before after name (Some core')
+    → ((of : List ℕ) (room : OpenRoom) → IsOpenAs core room → Answers room (command_for of what) reply core') → reply ≢ Refused OutOfMemory → ((report : ReportData) → reply ≢ Report report) → (IsRefusal reply → core' ≡ core)
+    → Applies before (command_for name what) reply after
+asks_room name what reply before after core core' there changes answers granted none refused =
+    stays_open name (command_for name what) reply before after core core' (name_for name what) (open_after name what) there changes (λ _ room is. answers name room is) (λ report is. absurd (none report is)) (λ is. absurd (granted is)) refused
+
+-- it is reported, and nothing changes
+pub reports_room : (name : List ℕ) (reply : Reply) (entries : Entries) (core : RoomState) → room_at entries name ≡ Some core
+    → (reply ≢ Refused OutOfMemory → (of : List ℕ) (room : OpenRoom) → IsOpenAs core room → Answers room (commands.Report of) reply core)
+    → ((report : ReportData) → reply ≡ Report report → (fields : Fields) → AreFieldsOf core fields → IsTrueReport core.spec fields report) → Applies entries (commands.Report name) reply entries
+reports_room name reply entries core there answers reports =
+    stays_open name (commands.Report name) reply entries entries core core refl (λ room. refl) there same (λ granted room is. answers granted name room is) reports (λ is. tt) (λ is. refl)
+  where
+    same : Changes entries entries name (Some core)
+    same other = by (bytes_eq name other) refl
+      where
+        by : (b : Bool) → bytes_eq name other ≡ b → room_at entries other ≡ cond (bytes_eq name other) (Some core) (room_at entries other)
+        by true is = ap (room_at entries) (sym (same_name name other is)) ∙ there ∙ sym (ap (λ (b : Bool). cond b (Some core) (room_at entries other)) is)
+        by false is = sym (ap (λ (b : Bool). cond b (Some core) (room_at entries other)) is)

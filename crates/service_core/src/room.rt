@@ -1,6 +1,6 @@
 //! What a command does to one open room.
 ghost use Rattle.std.specs.Prelude.{◌≡◌, ◌≢◌, ℕ, List, nat_lt};
-ghost use Rattle.service_core.specs.declared.command.Command.TheVariants.{Crash, Step};
+ghost use Rattle.service_core.specs.declared.command.Command.TheVariants.{Crash, Report, Step};
 ghost use Rattle.room_core.specs.Fields.{Fields};
 ghost use Rattle.room_core.specs.Reading.{AreFieldsOf};
 ghost use Rattle.service_core.specs.Replies.{OpenRoom, stepping};
@@ -8,28 +8,38 @@ ghost use Rattle.ws_history.specs.declared.states.Report.{Report as ReportData};
 ghost use Rattle.service_core.specs.Rooms.{Answers, IsOpenAs, IsRefusal, IsSteppedTo, IsTrueReport, command_for};
 ghost use Rattle.service_core.specs.declared.reply.Reply.TheVariants.{Refused, Report as ReportReply};
 ghost use Rattle.service_core.specs.declared.reply.Refusal.TheVariants.{OutOfMemory};
-ghost use Rattle.service_core.specs.declared.room.Act.TheVariants as acts;
 
 use crate::reply::{Refusal, Reply};
 use room_core::{RoomCore, StepReply};
 use std::alloc::Global;
 use ws_history::report;
 
-/// What a command asks of a room that stays open.
+/// What a command does to a room that stays open.
 #[derive(Clone, Copy)]
 pub(crate) enum Act {
     Step { sim: u8, count: u16 },
     Crash(u8),
     Settle,
-    Report,
 }
 
-/// Does what the command asks, and answers it.
-pub(crate) fn answer(alloc: Global, room: &mut RoomCore, what: Act) -> Reply
+/// The report of a room, unless memory is refused to it.
+pub(crate) fn answer_report(alloc: Global, room: &RoomCore) -> Reply
+    // What it answers rests on the room alone.
+    ensures reply { result ≢ Refused OutOfMemory → (name : List ℕ) (state : OpenRoom) → IsOpenAs room.now state → Answers state (Report name) result room.now }
+    ensures report { (report : ReportData) → result ≡ ReportReply report → (fields : Fields) → AreFieldsOf room.now fields → IsTrueReport room.now.spec fields report }
+{
+    match report(alloc, room) {
+        Ok(report) => Reply::Report(report),
+        Err(_) => Reply::Refused(Refusal::OutOfMemory),
+    }
+}
+
+/// Does what the command asks, and answers it. It takes no memory.
+pub(crate) fn answer(room: &mut RoomCore, what: Act) -> Reply
     // What it does rests on the room alone.
-    ensures reply { result ≢ Refused OutOfMemory → (name : List ℕ) (state : OpenRoom) → IsOpenAs room.old state → Answers state (command_for name what) result room.new }
-    ensures report { (report : ReportData) → result ≡ ReportReply report → (fields : Fields) → AreFieldsOf room.old fields → IsTrueReport room.old.spec fields report }
-    ensures want { result ≡ Refused OutOfMemory → what ≡ acts.Report }
+    ensures reply { (name : List ℕ) (state : OpenRoom) → IsOpenAs room.old state → Answers state (command_for name what) result room.new }
+    ensures granted { result ≢ Refused OutOfMemory }
+    ensures no_report { (report : ReportData) → result ≢ ReportReply report }
     ensures refused { IsRefusal result → room.new ≡ room.old }
     ensures spec { room.new.spec ≡ room.old.spec }
 {
@@ -40,10 +50,6 @@ pub(crate) fn answer(alloc: Global, room: &mut RoomCore, what: Act) -> Reply
             room.settle();
             Reply::Settled
         }
-        Act::Report => match report(alloc, room) {
-            Ok(report) => Reply::Report(report),
-            Err(_) => Reply::Refused(Refusal::OutOfMemory),
-        },
     }
 }
 

@@ -1,10 +1,11 @@
 //! The service: rooms by their names.
-ghost use Rattle.std.specs.Prelude.{◌≡◌, ◌≢◌, ℕ, List, [], Option, None, Some, false, length, IfOk, OnOk, OnErr, if◌then◌else◌};
+ghost use Rattle.std.specs.Prelude.{◌≡◌, ◌≢◌, ◌≤◌, ℕ, List, [], Option, None, Some, false, length, IfOk, OnOk, OnErr, if◌then◌else◌};
+ghost use Rattle.std.specs.Vec.{vec_capacity, vec_len};
 ghost use Rattle.std.specs.Str.{bytes_eq};
 ghost use Rattle.indexmap.specs.IndexMap.{get};
 ghost use Rattle.room_core.specs.Calls.{opening_state};
 ghost use Rattle.ws_history.specs.declared.states.Report.{Report as ReportData};
-ghost use Rattle.service_core.specs.declared.command.Command.TheVariants.{Begin, Close};
+ghost use Rattle.service_core.specs.declared.command.Command.TheVariants.{Begin, Close, Report};
 ghost use Rattle.service_core.specs.declared.reply.Reply.TheVariants.{Report as ReportReply};
 ghost use Rattle.service_core.specs.Replies.{OpenRoom, name_in, part, replies_from, reply_to, room_after};
 ghost use Rattle.service_core.specs.Rooms.{Applies, HasOwnNames, IsRefusal, IsReportOf, IsStateOf, IsWant, command_for, room_at};
@@ -14,7 +15,7 @@ ghost use Rattle.service_core.specs.declared.reply.Refusal.TheVariants.{OutOfMem
 
 use crate::command::Command;
 use crate::reply::{Refusal, Reply};
-use crate::room::{Act, answer};
+use crate::room::{Act, answer, answer_report};
 use indexmap::IndexMap;
 use room_core::RoomCore;
 use room_spec::{Name, Spec};
@@ -65,12 +66,10 @@ impl Service {
     {
         match command {
             Command::Begin(spec) => self.begin(alloc, spec),
-            Command::Step { name, sim, count } => {
-                self.ask(alloc, &name, Act::Step { sim, count })
-            }
-            Command::Crash { name, sim } => self.ask(alloc, &name, Act::Crash(sim)),
-            Command::Settle(name) => self.ask(alloc, &name, Act::Settle),
-            Command::Report(name) => self.ask(alloc, &name, Act::Report),
+            Command::Step { name, sim, count } => self.ask(&name, Act::Step { sim, count }),
+            Command::Crash { name, sim } => self.ask(&name, Act::Crash(sim)),
+            Command::Settle(name) => self.ask(&name, Act::Settle),
+            Command::Report(name) => self.report(alloc, &name),
             Command::Close(name) => self.close(&name),
         }
     }
@@ -128,8 +127,18 @@ impl Service {
         Ok(())
     }
 
-    /// Asks the room of this name for something, if there is one.
-    fn ask(&mut self, alloc: Global, name: &Name, what: Act) -> Reply
+    /// The report of the room of this name, if there is one.
+    fn report(&self, alloc: Global, name: &Name) -> Reply
+        ensures { Applies self.now (Report name.now) result self.now }
+    {
+        match self.rooms.get(name) {
+            Some(room) => answer_report(alloc, room),
+            None => Reply::Refused(Refusal::NoRoom),
+        }
+    }
+
+    /// Asks the room of this name for something, if there is one. It takes no memory.
+    fn ask(&mut self, name: &Name, what: Act) -> Reply
         ensures { Applies self.old (command_for name.now what) result self.new }
     {
         let Some(index) = self.rooms.get_index_of(name) else {
@@ -138,7 +147,7 @@ impl Service {
         let Some(room) = self.rooms.get_index_mut(index) else {
             unreachable!() // the index was found just now
         };
-        answer(alloc, room, what)
+        answer(room, what)
     }
 
     /// Closes the room of this name, if there is one.
@@ -159,11 +168,23 @@ fn run_all(alloc: Global, commands: Vec<Command>) -> Result<Vec<Reply>, AllocErr
     ensures refused { IfOk result (λ replies. (name : List ℕ) → without_wants (replies_of name commands.items replies.items) ≡ replies_from None (part name (granted commands.items replies.items))) }
     ensures wants { IfOk result (λ replies. AreWants commands.items replies.items) }
 {
+    let replies = Vec::with_capacity(alloc, commands.len())?;
+    Ok(reply_to_all(alloc, commands, replies))
+}
+
+/// Puts the replies of a fresh service to these commands into a list that has room for them.
+fn reply_to_all(alloc: Global, commands: Vec<Command>, mut replies: Vec<Reply>) -> Vec<Reply>
+    requires empty { (replies.items ≡ []) × (vec_len replies ≡ 0) }
+    requires room { length commands.items ≤ vec_capacity replies }
+    ensures count { length result.items ≡ length commands.items }
+    ensures reports { AreTrueReports commands.items result.items }
+    ensures refused { (name : List ℕ) → without_wants (replies_of name commands.items result.items) ≡ replies_from None (part name (granted commands.items result.items)) }
+    ensures wants { AreWants commands.items result.items }
+{
     let mut service = Service::new(alloc);
-    let mut replies = Vec::with_capacity(alloc, commands.len())?;
     for command in commands {
         let reply = service.apply(alloc, command);
-        replies.push(reply)?;
+        replies.push_reserved(reply);
     }
-    Ok(replies)
+    replies
 }
