@@ -1,5 +1,5 @@
 -- What was read of an input.
-use Rattle.std.specs.Prelude.{◌≡◌, ℕ, ◌+◌, ◌<◌, List, ◌++◌, length, Option, Result, Ok, Err}
+use Rattle.std.specs.Prelude.{◌≡◌, ℕ, ◌+◌, ◌<◌, ◌==◌, Bool, false, ◌&&◌, nat_lt, List, ◌++◌, length, Option, Result, Ok, Err}
 use Rattle.std.specs.Global.{Vec}
 use Rattle.std.specs.Io.KnownBytes.{Consumes, IsAtEnd}
 use Rattle.bgsim_console.specs.declared.fault.IoFault.{IoFault}
@@ -7,6 +7,11 @@ use Rattle.bgsim_console.specs.declared.fault.IoFault.TheVariants.{Read, Write, 
 
 abbrev pub most_bytes : ℕ
 most_bytes = 16777216
+
+-- a read into so much room says that nothing is left
+abbrev pub is_end : {E : Type 0} → Result ℕ E → ℕ → Bool
+is_end (Ok count) room = (count == 0) && nat_lt 0 room
+is_end (Err fault) room = false
 
 -- the next bytes of the reader, so many, went behind the text; there are none only at its end
 pub record IsPiece (old new : Option (List ℕ)) (before after : List ℕ) (count : ℕ) : Type 0 where

@@ -1,7 +1,8 @@
 //! Readers and writers that know whether they failed.
-ghost use Rattle.std.specs.Prelude.{◌≡◌, ◌+◌, ◌-◌, ◌^◌, ◌<◌, ◌||◌, min, true, false, is_err, IfOk, OnOk};
+ghost use Rattle.std.specs.Prelude.{◌≡◌, ◌+◌, ◌-◌, ◌^◌, ◌<◌, ◌||◌, min, true, false, is_err, length, IfOk, OnOk};
 ghost use Rattle.std.specs.Io.{ReadsAtMost, WritesAtMost};
 ghost use Rattle.std.specs.Io.KnownBytes.{Appends, Keeps, ReadConsumes, WriteAppends};
+ghost use Rattle.bgsim_console.specs.Reading.{is_end};
 
 use std::io::{Read, Write};
 
@@ -9,25 +10,30 @@ use std::io::{Read, Write};
 #[derive(Clone, Copy, Debug, PartialEq, Eq)]
 pub struct DeviceFailed;
 
-/// A reader or a writer that counts its reads or writes and remembers whether one failed, and whether
+/// A reader or a writer that counts its reads or writes and remembers whether one failed. Of a reader
+/// it remembers whether it was asked for more after it said that nothing is left, of a writer whether
 /// what was written was flushed.
 #[derive(Drop)]
 pub struct Device<D> {
     inner: D,
     calls: u64,
     failed: bool,
+    ended: bool,
+    asked_past_end: bool,
     flushed: bool,
 }
 
 impl<D> Device<D> {
     /// The device before its first call.
     pub fn new(inner: D) -> Device<D>
-        ensures { result ≡ record { inner = inner; calls = 0; failed = false; flushed = true } }
+        ensures { result ≡ record { inner = inner; calls = 0; failed = false; ended = false; asked_past_end = false; flushed = true } }
     {
         Device {
             inner,
             calls: 0,
             failed: false,
+            ended: false,
+            asked_past_end: false,
             flushed: true,
         }
     }
@@ -37,6 +43,20 @@ impl<D> Device<D> {
         ensures { result ≡ self.now.failed }
     {
         self.failed
+    }
+
+    /// Whether a read gave nothing although there was room: the reader said that nothing is left.
+    pub fn has_ended(&self) -> bool
+        ensures { result ≡ self.now.ended }
+    {
+        self.ended
+    }
+
+    /// Whether a read was made after one that said that nothing is left.
+    pub fn was_asked_past_end(&self) -> bool
+        ensures { result ≡ self.now.asked_past_end }
+    {
+        self.asked_past_end
     }
 
     /// Whether the device was flushed after its last write.
@@ -65,10 +85,16 @@ impl<R: Read> Device<R> {
         ensures bytes { ReadConsumes (R.remaining self.old.inner) (R.remaining self.new.inner) result buffer.new }
         ensures failed { self.new.failed ≡ (self.old.failed || is_err result) }
         ensures calls { self.new.calls ≡ min (self.old.calls + 1) (2 ^ 64 - 1) }
+        ensures ended { self.new.ended ≡ (self.old.ended || is_end result (length buffer.old)) }
+        ensures asked_past_end { self.new.asked_past_end ≡ (self.old.asked_past_end || self.old.ended) }
     {
         self.calls = self.calls.saturating_add(1);
+        self.asked_past_end |= self.ended;
         match self.inner.read(buffer) {
-            Ok(count) => Ok(count),
+            Ok(count) => {
+                self.ended |= count == 0 && !buffer.is_empty();
+                Ok(count)
+            }
             Err(_) => {
                 self.failed = true;
                 Err(DeviceFailed)

@@ -36,13 +36,17 @@ pub fn check_io<R: Read, W: Write>(
     ensures text { IfSome (R.remaining reader.old.inner) (λ input. (output : List ℕ) × IsAnswer input result output
         × Appends (W.contents writer.old.inner) (W.contents writer.new.inner) output
         × (writer.new.calls ≤ writer.old.calls + length output + failed_writes result)) }
-    // What is written has left the writer's hands.
+    // What is written has left the writer's hands,
     ensures flushed { OnOk result (writer.new.flushed ≡ true) }
+    // also where it ends with a fault, unless that is of the writer.
+    ensures handed_on { is_write_failed result ≡ false → writer.old.flushed ≡ true → writer.new.flushed ≡ true }
     ensures read_failed { reader.new.failed ≡ is_read_failed result }
     ensures write_failed { writer.new.failed ≡ is_write_failed result }
     ensures reads { reader.new.calls ≤ reader.old.calls + 16777217 }
-    // Once the reader is at its end it is not asked again.
-    ensures once { IfSome (R.remaining reader.old.inner) (λ input. reader.new.calls ≤ reader.old.calls + length input + 1) }
+    // Each read but the last gives a byte at least.
+    ensures few { IfSome (R.remaining reader.old.inner) (λ input. reader.new.calls ≤ reader.old.calls + length input + 1) }
+    // Once the reader has said that nothing is left it is not asked again.
+    ensures once { reader.old.ended ≡ false → reader.new.asked_past_end ≡ reader.old.asked_past_end }
 {
     let input = read_input(alloc, reader)?;
     let answer = judge(alloc, &input)?;
@@ -68,13 +72,17 @@ pub fn play_io<R: Read, W: Write>(
     ensures text { IfSome (R.remaining reader.old.inner) (λ input. (output : List ℕ) × IsPlayed input result output
         × Appends (W.contents writer.old.inner) (W.contents writer.new.inner) output
         × (writer.new.calls ≤ writer.old.calls + length output + failed_writes result)) }
-    // What is written has left the writer's hands.
+    // What is written has left the writer's hands,
     ensures flushed { OnOk result (writer.new.flushed ≡ true) }
+    // also where it ends with a fault, unless that is of the writer.
+    ensures handed_on { is_write_failed result ≡ false → writer.old.flushed ≡ true → writer.new.flushed ≡ true }
     ensures read_failed { reader.new.failed ≡ is_read_failed result }
     ensures write_failed { writer.new.failed ≡ is_write_failed result }
     ensures reads { reader.new.calls ≤ reader.old.calls + 16777217 }
-    // Once the reader is at its end it is not asked again.
-    ensures once { IfSome (R.remaining reader.old.inner) (λ input. reader.new.calls ≤ reader.old.calls + length input + 1) }
+    // Each read but the last gives a byte at least.
+    ensures few { IfSome (R.remaining reader.old.inner) (λ input. reader.new.calls ≤ reader.old.calls + length input + 1) }
+    // Once the reader has said that nothing is left it is not asked again.
+    ensures once { reader.old.ended ≡ false → reader.new.asked_past_end ≡ reader.old.asked_past_end }
 {
     let script = read_input(alloc, reader)?;
     let played = play(alloc, &script)?;
@@ -104,13 +112,17 @@ pub fn run_io<H: Threads + Wait + Sync, R: Read, W: Write, G: Gate + Sync>(
     ensures text { IfSome (R.remaining reader.old.inner) (λ input. (output : List ℕ) × IsRan workers input result output
         × Appends (W.contents writer.old.inner) (W.contents writer.new.inner) output
         × (writer.new.calls ≤ writer.old.calls + length output + failed_writes result)) }
-    // What is written has left the writer's hands.
+    // What is written has left the writer's hands,
     ensures flushed { OnOk result (writer.new.flushed ≡ true) }
+    // also where it ends with a fault, unless that is of the writer.
+    ensures handed_on { is_write_failed result ≡ false → writer.old.flushed ≡ true → writer.new.flushed ≡ true }
     ensures read_failed { reader.new.failed ≡ is_read_failed result }
     ensures write_failed { writer.new.failed ≡ is_write_failed result }
     ensures reads { reader.new.calls ≤ reader.old.calls + 16777217 }
-    // Once the reader is at its end it is not asked again.
-    ensures once { IfSome (R.remaining reader.old.inner) (λ input. reader.new.calls ≤ reader.old.calls + length input + 1) }
+    // Each read but the last gives a byte at least.
+    ensures few { IfSome (R.remaining reader.old.inner) (λ input. reader.new.calls ≤ reader.old.calls + length input + 1) }
+    // Once the reader has said that nothing is left it is not asked again.
+    ensures once { reader.old.ended ≡ false → reader.new.asked_past_end ≡ reader.old.asked_past_end }
 {
     let input = read_input(alloc, reader)?;
     let ran = run_blocks(rt, alloc, input, workers, gate)?;

@@ -22,8 +22,10 @@ pub fn read_input<R: Read>(alloc: Global, reader: &mut Device<R>) -> Result<Vec<
     ensures err { IfErr result IsReadFault }
     ensures failed { reader.new.failed ≡ is_read_failed result }
     ensures reads { reader.new.calls ≤ reader.old.calls + 16777217 }
-    // Once the reader is at its end it is not asked again.
-    ensures once { IfSome (R.remaining reader.old.inner) (λ input. reader.new.calls ≤ reader.old.calls + length input + 1) }
+    // Each read but the last gives a byte at least.
+    ensures few { IfSome (R.remaining reader.old.inner) (λ input. reader.new.calls ≤ reader.old.calls + length input + 1) }
+    // Once the reader has said that nothing is left it is not asked again.
+    ensures once { reader.old.ended ≡ false → reader.new.asked_past_end ≡ reader.old.asked_past_end }
 {
     let mut piece = empty_piece(alloc)?;
     let mut text = Vec::new(alloc);
@@ -51,6 +53,8 @@ fn read_piece<R: Read>(
     ensures failed { reader.new.failed ≡ (reader.old.failed || is_read_failed result) }
     ensures grows { IfOk result (λ count. length text.new.items ≡ length text.old.items + count) }
     ensures reads { reader.new.calls ≤ reader.old.calls + 1 }
+    ensures goes_on { IfOk result (λ count. 0 < count → reader.new.ended ≡ reader.old.ended) }
+    ensures asked { reader.new.asked_past_end ≡ (reader.old.asked_past_end || reader.old.ended) }
 {
     let Ok(count) = reader.read(piece) else {
         return Err(IoFault::Read);

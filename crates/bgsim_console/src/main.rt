@@ -1,13 +1,16 @@
 //! Simulates rooms of protocols on write-snapshot memory, and judges their transcripts.
 #![tactic(auto)]
 
-ghost use Rattle.std.specs.Prelude.{◌≡◌, ◌≤◌, List, ℕ, IfSome};
+ghost use Rattle.std.specs.Prelude.{◌≡◌, ◌≤◌, Bool, List, ℕ, IfSome};
+ghost use Rattle.std.specs.IoError.{error_kind};
 ghost use Rattle.clap.specs.Values.{kind_of};
-ghost use Rattle.bgsim_console.specs.Ends.{ending_status, fault_status, words_status};
+ghost use Rattle.bgsim_console.specs.Ends.{ending_status, fault_status, unread_status, words_status};
 ghost use Rattle.bgsim_console.specs.Modes.{IsAnswerIn};
 
 mod command_line;
 mod device;
+#[cfg(test)]
+mod device_tests;
 mod engine;
 mod events;
 mod fault;
@@ -27,8 +30,6 @@ mod run;
 #[cfg(test)]
 mod run_tests;
 mod script;
-#[cfg(test)]
-mod script_tests;
 mod setup;
 #[cfg(test)]
 mod tests;
@@ -55,8 +56,9 @@ fn main(rt: HostRuntime) -> ExitCode {
 fn status<H: Threads + Wait + Sync>(rt: &HostRuntime, threads: &H) -> u8
     ensures { result ≤ 3 }
 {
-    let Ok(words) = words(rt) else {
-        return fault_status(rt, IoFault::Memory);
+    let words = match words(rt) {
+        Ok(words) => words,
+        Err(error) => return unread_status(rt, &error),
     };
     match line(rt.alloc(), words.as_slice()) {
         Ok(line) => ending_status(rt, ending(rt, threads, &line)),
@@ -64,7 +66,7 @@ fn status<H: Threads + Wait + Sync>(rt: &HostRuntime, threads: &H) -> u8
     }
 }
 
-/// The words after the program's name.
+/// The words after the program's name. One that is not UTF-8 is an error.
 fn words(rt: &HostRuntime) -> io::Result<Vec<String>> {
     Ok(std::env::args(rt)?.skip(1).collect(rt.alloc())?)
 }
@@ -76,27 +78,26 @@ fn ending<H: Threads + Wait + Sync>(
     line: &Line<'_>,
 ) -> Result<Outcome, IoFault> {
     match line.file {
-        None => answer(rt, threads, line.command, line.workers, rt.stdin()),
+        None => answer(rt, threads, line, rt.stdin()),
         Some(path) => match File::open(rt, path) {
-            Ok(input) => answer(rt, threads, line.command, line.workers, input),
+            Ok(input) => answer(rt, threads, line, input),
             Err(_) => Err(IoFault::Read),
         },
     }
 }
 
-/// The mode's answer to an input, whose text goes to standard output.
+/// The answer that the line asks for to an input, whose text goes to standard output.
 fn answer<H: Threads + Wait + Sync, R: Read + Drop>(
     rt: &HostRuntime,
     threads: &H,
-    mode: Mode,
-    workers: u8,
+    line: &Line<'_>,
     input: R,
 ) -> Result<Outcome, IoFault>
-    ensures { IfSome (R.remaining input) (λ bytes. (output : List ℕ) × IsAnswerIn mode workers bytes result output) }
+    ensures { IfSome (R.remaining input) (λ bytes. (output : List ℕ) × IsAnswerIn line.now.command line.now.workers bytes result output) }
 {
     let mut reader = Device::new(input);
     let mut writer = Device::new(rt.stdout());
-    match mode {
+    match line.command {
         Mode::Check => engine::check_io(rt.alloc(), &mut reader, &mut writer),
         Mode::Play => engine::play_io(rt.alloc(), &mut reader, &mut writer),
         Mode::Run => engine::run_io(
@@ -104,7 +105,7 @@ fn answer<H: Threads + Wait + Sync, R: Read + Drop>(
             rt.alloc(),
             &mut reader,
             &mut writer,
-            workers,
+            line.workers,
             &FreeGate,
         ),
     }
@@ -127,13 +128,27 @@ fn fault_status(rt: &HostRuntime, fault: IoFault) -> u8
     fault.status()
 }
 
+/// The status where the words could not be taken over, once that is told on standard error.
+fn unread_status(rt: &HostRuntime, error: &io::Error) -> u8
+    ensures { result ≡ unread_status (error_kind error.now) }
+{
+    if error.kind() == io::ErrorKind::OutOfMemory {
+        return fault_status(rt, IoFault::Memory);
+    }
+    let _ = eprintln!(rt; "bgsim: a word of the command line is not UTF-8");
+    2
+}
+
 /// The status where the words gave no line, once `clap`'s text is printed.
 fn words_status(rt: &HostRuntime, error: &clap::Error) -> u8
-    ensures { result ≡ words_status (kind_of error.now) }
+    ensures { (is_printed : Bool) × (result ≡ words_status (kind_of error.now) is_printed) }
 {
     if error.kind() == ErrorKind::OutOfMemory {
         return fault_status(rt, IoFault::Memory);
     }
-    let _ = error.print(rt);
-    error.exit_code() as u8
+    let is_printed = error.print(rt).is_ok();
+    if error.use_stderr() || is_printed {
+        return error.exit_code() as u8;
+    }
+    fault_status(rt, IoFault::Write)
 }

@@ -3,11 +3,17 @@ use crate::device::Device;
 use crate::engine::run_io;
 use crate::fault::{IoFault, Outcome};
 use crate::tests::{ONE, Trickle};
-use scheduler::{FreeGate, RunFault};
+use scheduler::{FreeGate, Gate, RunFault};
 use std::alloc::Global;
+use std::fmt::Write;
 use std::sync::Wait;
+use std::sync::atomic::{AtomicU64, Ordering};
 use std::test::*;
 use std::thread::Threads;
+
+/// A block of one simulator, behind its name.
+const REST: &str =
+    "inputs 5\nsimulators 1\nrounds 1\nturns 10\nprotocol\nfirst input;\nelse decide mine;\nend\n";
 
 const PAIR: &str = "bgsim 1\nroom pair\ninputs 7 3\nsimulators 2\nrounds 1\nturns 100\n";
 
@@ -45,11 +51,50 @@ fn failing_reader(rt: HostRuntime) {
     assert_eq!(rt; writer.calls(), 0);
 }
 
+/// It notes the numbers of the workers that come to it, each as a bit.
+#[derive(Drop)]
+struct Noting {
+    came: AtomicU64,
+}
+
+impl Gate for Noting {
+    fn pass(&self, worker: u8, _visit: u64) {
+        let bit = 1u64.checked_shl(u32::from(worker)).unwrap_or(0);
+        self.came.fetch_or(bit, Ordering::SeqCst);
+    }
+}
+
+/// So many blocks, each of a room of its own with one simulator.
+fn rooms(alloc: Global, count: u64) -> Result<String, Fail> {
+    let mut text = String::new(alloc);
+    for number in 0..count {
+        write!(text, "bgsim 1\nroom r{number}\n{REST}")?;
+    }
+    Ok(text)
+}
+
+/// What a run by so many workers answers, and who came to its gate.
+fn gated<H: Threads + Wait + Sync>(
+    threads: &H,
+    alloc: Global,
+    input: &str,
+    workers: u8,
+) -> (Result<Outcome, IoFault>, u64) {
+    let gate = Noting {
+        came: AtomicU64::new(0),
+    };
+    let mut reader = Device::new(input.as_bytes());
+    let mut writer = Device::new(Trickle::new(&[], usize::MAX));
+    let found = run_io(threads, alloc, &mut reader, &mut writer, workers, &gate);
+    (found, gate.came.load(Ordering::SeqCst))
+}
+
 #[test]
-fn failing_writer(rt: HostRuntime) {
-    let mut reader = Device::new(ONE.as_bytes());
-    let mut writer = Device::new(Trickle::new(&[], 3));
-    let found = run_io(&rt, rt.alloc(), &mut reader, &mut writer, 1, &FreeGate);
-    assert_eq!(rt; found, Err(IoFault::Write));
-    assert_eq!(rt; writer.calls(), 4);
+fn all_workers_come_to_the_gate(rt: HostRuntime) -> Result<(), Fail> {
+    let input = rooms(rt.alloc(), 16)?;
+    for (workers, all) in [(1, 1), (3, 7), (16, 65535)] {
+        let found = gated(&rt, rt.alloc(), &input, workers);
+        assert_eq!(rt; found, (Ok(Outcome::AllWell), all), "by {workers} workers");
+    }
+    Ok(())
 }

@@ -1,7 +1,7 @@
 //! What the blocks of an input say.
 ghost use Rattle.std.specs.Prelude.{◌≡◌, ◌+◌, ◌<◌, ◌^◌, ◌≤◌, [], Ok, IfOk, IfErr, OnOk, length, string_bytes, codes, decimal};
 ghost use Rattle.bgsim_console.specs.declared.fault.IoFault.TheVariants.{Memory};
-ghost use Rattle.room_spec.specs.Blocks.{block_in, room_in};
+ghost use Rattle.room_spec.specs.Blocks.{IsHeadRight, block_in, room_in};
 ghost use Rattle.bgsim_console.specs.Run.{all_blocks};
 ghost use Rattle.bgsim_console.specs.Check.{no_blocks, refuse, open_room, after_block, pass_lines, blocks_in, fault_text, BeginsWithBlock, IsEnded, IsFaultOr};
 
@@ -142,7 +142,9 @@ pub fn read_room(
     alloc: Global,
     block: &[u8],
 ) -> Result<Result<(Spec, usize), SpecFault>, AllocError>
-    ensures { IfOk result (λ read. read ≡ block_in block.now) }
+    ensures read { IfOk result (λ read. read ≡ block_in block.now) }
+    // Want of memory hides no fault of a line before the protocol's text.
+    ensures head { IfErr result (λ _. IsHeadRight (block_in block.now)) }
 {
     match read_block(alloc, block) {
         Err(SpecFault::BadProtocol(ParseFault::OutOfMemory)) => Err(AllocError),
@@ -156,7 +158,9 @@ fn read_room_with<'a>(
     block: &'a [u8],
     protocols: &mut Protocols<'a>,
 ) -> Result<Result<(Spec, usize), SpecFault>, AllocError>
-    ensures { IfOk result (λ read. read ≡ block_in block.now) }
+    ensures read { IfOk result (λ read. read ≡ block_in block.now) }
+    // Want of memory hides no fault of a line before the protocol's text.
+    ensures head { IfErr result (λ _. IsHeadRight (block_in block.now)) }
 {
     match read_block_with(alloc, block, protocols) {
         Err(SpecFault::BadProtocol(ParseFault::OutOfMemory)) => Err(AllocError),
@@ -171,7 +175,9 @@ fn read_lines<'a>(
     body: &'a [u8],
     protocols: &mut Protocols<'a>,
 ) -> Result<Result<Spec, SpecFault>, AllocError>
-    ensures { IfOk result (λ read. read ≡ room_in body.now) }
+    ensures read { IfOk result (λ read. read ≡ room_in body.now) }
+    // Want of memory hides no fault of a line before the protocol's text.
+    ensures head { IfErr result (λ _. IsHeadRight (room_in body.now)) }
 {
     match read_body_with(alloc, body, protocols) {
         Err(SpecFault::BadProtocol(ParseFault::OutOfMemory)) => Err(AllocError),

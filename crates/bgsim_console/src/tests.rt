@@ -40,8 +40,8 @@ fn words_of_run(rt: HostRuntime) -> Result<(), Fail> {
 
 /// It fails its second call and gives or takes no bytes from the third on.
 #[derive(Drop)]
-struct Flaky {
-    calls: u8,
+pub struct Flaky {
+    pub calls: u8,
 }
 
 impl Flaky {
@@ -171,21 +171,6 @@ impl<'a> Write for Trickle<'a> {
     }
 }
 
-#[test]
-fn slow_and_failing_devices(rt: HostRuntime) {
-    let never = usize::MAX;
-    for (fails_reading, fails_writing, answer) in [
-        (never, never, Ok(Outcome::AllWell)),
-        (40, never, Err(IoFault::Read)),
-        (never, 3, Err(IoFault::Write)),
-    ] {
-        let mut reader = Device::new(Trickle::new(ONE_WRITE.as_bytes(), fails_reading));
-        let mut writer = Device::new(Trickle::new(&[], fails_writing));
-        let found = engine::check_io(rt.alloc(), &mut reader, &mut writer);
-        assert_eq!(rt; found, answer);
-    }
-}
-
 /// It takes all bytes, and fails when it is to hand them on.
 #[derive(Drop)]
 struct Unflushed {}
@@ -217,34 +202,44 @@ fn output_that_is_not_flushed(rt: HostRuntime) {
     assert_eq!(rt; found, Err(IoFault::Write));
 }
 
-/// It gives its bytes, then no bytes once, and then more: who asks past the end is found out.
+/// It gives so many bytes at once, then no bytes once, and then more: who asks past the end is found
+/// out.
 #[derive(Drop)]
 struct Resuming {
+    first: usize,
     calls: u8,
 }
 
 impl Read for Resuming {
     fn read(&mut self, buffer: &mut [u8]) -> io::Result<usize> {
         self.calls = self.calls.saturating_add(1);
-        if self.calls == 2 || buffer.is_empty() {
+        if self.calls == 2 {
             return Ok(0);
         }
-        buffer[0] = b'x';
-        Ok(1)
+        let count = self.first.min(buffer.len());
+        buffer[..count].fill(b'x');
+        Ok(count)
     }
+}
+
+/// What `check` answers where the reader gives so many bytes before its end, how many reads it makes
+/// by both accounts, and whether one of them is past the end.
+fn resumed(alloc: Global, first: usize) -> (Result<Outcome, IoFault>, (u64, u8), bool) {
+    let mut inner = Resuming { first, calls: 0 };
+    let mut reader = Device::new(&mut inner);
+    let mut writer = Device::new(Unflushed {});
+    let answer = engine::check_io(alloc, &mut reader, &mut writer);
+    let calls = reader.calls();
+    let is_past_end = reader.was_asked_past_end() || !reader.has_ended();
+    (answer, (calls, inner.calls), is_past_end)
 }
 
 #[test]
 fn end_of_input(rt: HostRuntime) {
-    let mut inner = Resuming { calls: 0 };
-    let mut reader = Device::new(&mut inner);
-    let mut writer = Device::new(Unflushed {});
-    let answer = engine::check_io(rt.alloc(), &mut reader, &mut writer);
-    let calls = (reader.calls(), inner.calls);
-    assert_eq!(rt;
-        (answer, calls),
-        (Err(IoFault::BadInput { line: 2, code: 61 }), (2, 2))
-    );
+    let answer = Err(IoFault::BadInput { line: 2, code: 61 });
+    for first in [1, 2000] {
+        assert_eq!(rt; resumed(rt.alloc(), first), (answer, (2, 2), false));
+    }
 }
 
 /// It counts its calls, and is interrupted at its first write where that is asked for.
@@ -284,19 +279,23 @@ impl Write for Counting {
     }
 }
 
-/// What `check` answers, whether its output was flushed by its own account, how many writes it made,
-/// and whether the writer was flushed after them.
+/// What `check` answers, whether its output was flushed by its own account, how many writes and how
+/// many flushes it made, and whether the writer was flushed after its writes.
 fn counted(
     alloc: Global,
     input: &str,
     interrupted: bool,
-) -> (Result<Outcome, IoFault>, bool, (u8, bool)) {
+) -> (Result<Outcome, IoFault>, bool, (u8, u8, bool)) {
     let mut inner = Counting::new(interrupted);
     let mut reader = Device::new(input.as_bytes());
     let mut writer = Device::new(&mut inner);
     let found = engine::check_io(alloc, &mut reader, &mut writer);
     let is_flushed = writer.is_flushed();
-    (found, is_flushed, (inner.writes, inner.flushed))
+    (
+        found,
+        is_flushed,
+        (inner.writes, inner.flushes, inner.flushed),
+    )
 }
 
 /// So many blocks of one line, and no events: each has a line of its own in the output.
@@ -323,7 +322,8 @@ fn calls_of_writers(rt: HostRuntime) {
             false,
         ),
     ] {
-        let wanted = (answer, flushed || writes == 0, (writes, flushed));
+        let called = (writes, u8::from(flushed), flushed);
+        let wanted = (answer, flushed || writes == 0, called);
         assert_eq!(rt;
             counted(rt.alloc(), input, interrupted),
             wanted,
@@ -335,7 +335,7 @@ fn calls_of_writers(rt: HostRuntime) {
 #[test]
 fn large_output_in_one_write(rt: HostRuntime) -> Result<(), Fail> {
     let input = refused_blocks(rt.alloc(), 300)?;
-    let wanted = (Ok(Outcome::SomeRefused), true, (1, true));
+    let wanted = (Ok(Outcome::SomeRefused), true, (1, 1, true));
     assert_eq!(rt; counted(rt.alloc(), &input, false), wanted);
     Ok(())
 }
@@ -349,9 +349,27 @@ fn trickled(alloc: Global, input: &[u8]) -> (Result<Outcome, IoFault>, u64) {
 }
 
 #[test]
-fn more_than_1000_small_reads(rt: HostRuntime) {
-    let wanted = (Err(IoFault::BadInput { line: 2, code: 61 }), 1101);
-    assert_eq!(rt; trickled(rt.alloc(), &[b'x'; 1100]), wanted);
+fn many_small_reads(rt: HostRuntime) {
+    let wanted = (Err(IoFault::BadInput { line: 2, code: 61 }), 20001);
+    assert_eq!(rt; trickled(rt.alloc(), &[b'x'; 20000]), wanted);
+}
+
+/// What `check` answers where each write takes one byte, and how many writes it makes.
+fn trickling(alloc: Global, input: &str) -> (Result<Outcome, IoFault>, u64) {
+    let mut reader = Device::new(input.as_bytes());
+    let mut writer = Device::new(Trickle::new(&[], usize::MAX));
+    let found = engine::check_io(alloc, &mut reader, &mut writer);
+    (found, writer.calls())
+}
+
+#[test]
+fn many_small_writes(rt: HostRuntime) -> Result<(), Fail> {
+    let input = refused_blocks(rt.alloc(), 1100)?;
+    assert_eq!(rt;
+        trickling(rt.alloc(), &input),
+        (Ok(Outcome::SomeRefused), 24193)
+    );
+    Ok(())
 }
 
 /// The faults that no case of the folder `program` can bring about.
@@ -361,5 +379,6 @@ fn faults_of_a_run(rt: HostRuntime) -> Result<(), Fail> {
     let memory = IoFault::Run(RunFault::OutOfMemory);
     let found = format!(in rt.alloc(); "{workers}, {memory}")?;
     assert_eq!(rt; found.as_str(), "bad number of workers, out of memory");
+    assert!(rt; Outcome::AllWell != Outcome::SomeRefused);
     Ok(())
 }

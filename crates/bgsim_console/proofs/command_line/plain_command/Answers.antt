@@ -1,5 +1,4 @@
-use Rattle.std.proofs.Common.{ap, ◌≡◌, ◌∙◌, true, []}
-use Rattle.clap.specs.Words.{App, app_of}
+use Rattle.std.proofs.Common.{ap, ◌∙◌, true}
 use Rattle.clap.specs.Simple.{app_of_fields, on_top}
 use Rattle.bgsim_console.proofs.command_line.plain_command.Goals as goal
 

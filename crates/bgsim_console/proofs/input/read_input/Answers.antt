@@ -8,8 +8,8 @@ returns-clause-whole c = search rules
 pub returns-clause-reads : goal.returns-clause-reads
 returns-clause-reads c = search rules
 
-pub returns-clause-once : goal.returns-clause-once
-returns-clause-once c = search rules
+pub returns-clause-few : goal.returns-clause-few
+returns-clause-few c = search rules
 
 pub loop-text-preserved : goal.loop-text-preserved
 loop-text-preserved c = grind (arith, common_steps)
@@ -17,5 +17,5 @@ loop-text-preserved c = grind (arith, common_steps)
 pub returns-in_err-read_piece-clause-whole : goal.returns-in_err-read_piece-clause-whole
 returns-in_err-read_piece-clause-whole c = grind (arith, common_steps)
 
-pub returns-in_err-read_piece-clause-once : goal.returns-in_err-read_piece-clause-once
-returns-in_err-read_piece-clause-once c = grind (arith, common_steps)
+pub returns-in_err-read_piece-clause-few : goal.returns-in_err-read_piece-clause-few
+returns-in_err-read_piece-clause-few c = grind (arith, common_steps)

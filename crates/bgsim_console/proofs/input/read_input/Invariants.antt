@@ -9,6 +9,8 @@ invariant-loop-text g l = record {
   piece : 0 < length l.piece.items;
   sound : l.reader.failed ≡ false;
   reads : l.reader.calls ≤ l.initial.reader.calls + length l.text.items;
+  ended : l.reader.ended ≡ l.initial.reader.ended;
+  once : l.initial.reader.ended ≡ false → l.reader.asked_past_end ≡ l.initial.reader.asked_past_end;
 }
 
 abbrev pub decreases-loop-text : goal.decreases-loop-text

@@ -12,7 +12,7 @@ returns-in-Ok-Err c =
     where_ok c.refuse.result _ _
     (λ text. λ all played. (
       done,
-      (refl, sym (rw c.in-Ok-Err.field-0-is at c.in-Ok-Err.ensures)),
+      (refl, sym (rw c.in-Ok-Err.field-0-is at c.in-Ok-Err.ensures.read)),
       refused_one done all old.service c.refuse.new.self.service (string_bytes old.output) (string_bytes c.refuse.new.self.output) old.refused c.refuse.new.self.refused old.lacking
           c.refuse.new.self.lacking refl refl refl c.refuse.ensures.service text c.refuse.ensures.refused (c.refuse.ensures.lacking ∙ or_no old.lacking) played,
     ))
@@ -25,7 +25,7 @@ returns-in-Err c =
     where_ok c.lack.result _ _
     (λ text. λ all played. (
       done,
-      refl,
+      (refl, c.in-Err.ensures.head),
       refused_one done all old.service c.lack.new.self.service (string_bytes old.output) (string_bytes c.lack.new.self.output) old.refused c.lack.new.self.refused old.lacking
           c.lack.new.self.lacking refl refl refl c.lack.ensures.service (text ∙ ap (λ t. string_bytes old.output ++ refused_line c.args.number t) (decimal_digit 8 (omega arith))) c.lack.ensures.refused (c.lack.ensures.lacking ∙ or_yes old.lacking) played,
     ))
