@@ -305,3 +305,48 @@ fn rooms_that_are_left(rt: HostRuntime) -> Result<(), Fail> {
     assert!(rt; are_half(&left_rooms(rt.alloc())?));
     Ok(())
 }
+
+/// Each refusal, and its text.
+const REFUSALS: [(Refusal, &str); 4] = [
+    (Refusal::NoRoom, "no room has this name"),
+    (Refusal::NameTaken, "a room has this name already"),
+    (Refusal::NoSimulator, "the room has no such simulator"),
+    (Refusal::OutOfMemory, "out of memory"),
+];
+
+#[test]
+fn texts_of_refusals(rt: HostRuntime) -> Result<(), Fail> {
+    for (refusal, text) in REFUSALS {
+        let told = format!(in rt.alloc(); "{refusal}")?;
+        assert_eq!(rt; told.as_str(), text);
+    }
+    Ok(())
+}
+
+#[test]
+fn refusals_differ(rt: HostRuntime) {
+    for (i, (one, _)) in REFUSALS.iter().enumerate() {
+        for (j, (other, _)) in REFUSALS.iter().enumerate() {
+            assert_eq!(rt; one == other, i == j);
+        }
+    }
+}
+
+/// How many replies of a service to so many commands are to a step of a room that isn't there.
+fn refused_steps(alloc: Global, count: u64) -> Result<(usize, usize), Fail> {
+    let mut commands = Vec::new(alloc);
+    for _ in 0..count {
+        commands.push(asked(alloc, ONE, "nobody", Ask::Step(0, 1))?)?;
+    }
+    let replies = Service::run(alloc, commands)?;
+    let refused = replies
+        .iter()
+        .filter(|reply| told(reply) == ("refused", 40));
+    Ok((refused.count(), replies.len()))
+}
+
+#[test]
+fn many_commands(rt: HostRuntime) -> Result<(), Fail> {
+    assert_eq!(rt; refused_steps(rt.alloc(), 2000)?, (2000, 2000));
+    Ok(())
+}

@@ -324,5 +324,6 @@ fn codes(rt: HostRuntime) -> Result<(), Fail> {
     assert_eq!(rt; RunFault::Workers.code(), 50);
     assert_eq!(rt; RunFault::Spawn.code(), 51);
     assert_eq!(rt; RunFault::OutOfMemory.code(), 8);
+    assert!(rt; RunFault::Workers != RunFault::Spawn && RunFault::Spawn != RunFault::OutOfMemory);
     Ok(())
 }
