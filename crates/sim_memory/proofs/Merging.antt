@@ -105,7 +105,7 @@ holder_more_of (suc m) steps p = holder_more_by (suc m) steps p (omega arith) (c
 
 -- ---- the last writes
 
-pub none_last : (sizes : Sizes) (words : List ℕ) → sizes.n ≤ 16 → AreLast sizes words 0 (replicate 16 0) (replicate 16 0)
+none_last : (sizes : Sizes) (words : List ℕ) → sizes.n ≤ 16 → AreLast sizes words 0 (replicate 16 0) (replicate 16 0)
 none_last sizes words few = record {
   holder = λ p below. get_or-replicate 16 p 0 0 (omega arith);
   round = λ p below. get_or-replicate 16 p 0 0 (omega arith);
@@ -208,3 +208,11 @@ one_more_step sizes words i p step steps within so_far is = record {
 
 pub all_steps : (sizes : Sizes) (words : List ℕ) (i count : ℕ) (steps : List ℕ) → count ≤ sizes.n → sizes.n ≤ count → AreFirstSteps sizes words i count steps → AreSteps sizes words i steps
 all_steps sizes words i count steps most all are = record { own = λ p below. are.own p (omega arith); behind = λ p after within. are.behind p (omega arith) within }
+
+pub none_of : (sizes : Sizes) (words holders rounds : List ℕ) → sizes.n ≤ 16 → holders ≡ replicate 16 0 → rounds ≡ replicate 16 0 → AreLast sizes words 0 holders rounds
+none_of sizes words holders rounds few holders_are rounds_are =
+    subst (λ (l : List ℕ). AreLast sizes words 0 l rounds) (sym holders_are) (subst (λ (l : List ℕ). AreLast sizes words 0 (replicate 16 0) l) (sym rounds_are) (none_last sizes words few))
+
+-- after the last simulator
+pub all_of : (sizes : Sizes) (words : List ℕ) (m : ℕ) (holders rounds : List ℕ) → m ≤ sizes.m → sizes.m ≤ m → AreLast sizes words m holders rounds → AreLast sizes words sizes.m holders rounds
+all_of sizes words m holders rounds most all is = let same : m ≡ sizes.m = omega arith in subst (λ (k : ℕ). AreLast sizes words k holders rounds) same is

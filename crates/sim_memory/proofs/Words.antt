@@ -9,7 +9,7 @@ use Rattle.std.proofs.lemmas.Grind.{same_number_lists}
 use Rattle.std.proofs.lemmas.Nat.{mul-add-lt, mul-le, div-mul-add, mod-mul-add, same_from_place, div_below, mod_below, div-add-mod', row_fits}
 use Rattle.room_spec.specs.Rooms.{bits_of}
 use Rattle.room_spec.specs.Sizes.{Sizes, AreSizes, fields_in_word, memory_words}
-use Rattle.room_spec.proofs.MemoryWords.{are_memory_words}
+use Rattle.room_spec.proofs.MemoryWords.{are_memory_words, by_bits}
 use Rattle.level_cells.specs.Fields.{field_of, AreApart}
 use Rattle.level_cells.specs.Packing.{FitFields}
 use Rattle.level_cells.proofs.FieldLemmas.{added_field, added_others}
@@ -56,6 +56,21 @@ one_word sizes i p limits one below within =
     let less : number < fields = omega (arith, words.room, room, number_below sizes i p below within) in
     let is : number ≡ 0 * fields + number = omega arith in
     (ap (λ x. x / fields) is ∙ div-mul-add 0 fields number less, ap (λ x. x % fields * sizes.bits) is ∙ ap (λ x. x * sizes.bits) (mod-mul-add 0 fields number less))
+
+-- and a simulator's step numbers have their places there
+pub one_row : (sizes : Sizes) (i : ℕ) → AreSizes sizes → memory_words sizes ≡ 1 → i < sizes.m → (word_of sizes i 0 ≡ 0) × (place_of sizes i 0 ≡ i * sizes.n * sizes.bits) × (i * sizes.n * sizes.bits + sizes.n * sizes.bits ≤ 64) × (i * sizes.n * sizes.bits < 64)
+one_row sizes i limits one below =
+    let words = are_memory_words sizes limits in
+    let here = one_word sizes i 0 limits one below limits.n_range.0 in
+    let room : memory_words sizes * fields_in_word sizes ≡ fields_in_word sizes = ap (λ (w : ℕ). w * fields_in_word sizes) one ∙ omega arith in
+    let rows : suc i * sizes.n ≤ sizes.m * sizes.n = mul-le (suc i) sizes.n sizes.m sizes.n below (omega arith) in
+    let inside : suc i * sizes.n * sizes.bits ≤ fields_in_word sizes * sizes.bits = mul-le (suc i * sizes.n) sizes.bits (fields_in_word sizes) sizes.bits (omega (arith, rows, words.room, room)) (omega arith) in
+    let more : suc i * sizes.n * sizes.bits ≡ i * sizes.n * sizes.bits + sizes.n * sizes.bits = grind arith in
+    let first : field_number sizes i 0 ≡ i * sizes.n = omega arith in
+    let wide : 1 ≤ sizes.bits = by_bits sizes.rounds sizes.bits (λ bits. 1 ≤ bits) limits.width (omega arith) (omega arith) (omega arith) (omega arith) in
+    let some : 1 ≤ sizes.n * sizes.bits = mul-le 1 1 sizes.n sizes.bits limits.n_range.0 wide in
+    let narrow : i * sizes.n * sizes.bits + sizes.n * sizes.bits ≤ 64 = omega (arith, inside, more, words.bits) in
+    (here.0, here.1 ∙ ap (λ (number : ℕ). number * sizes.bits) first, narrow, omega (arith, narrow, some))
 
 index_apart : (width x y : ℕ) → (x ≡ y) ⊎ ((x < y) ⊎ (y < x)) → x ≢ y → AreApart (x * width) width (y * width) width
 index_apart width x y (inl e) other = absurd (other e)

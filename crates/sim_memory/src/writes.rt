@@ -1,5 +1,5 @@
 //! The last writes of all processes at once.
-ghost use Rattle.std.specs.Prelude.{◌≡◌, ℕ, ◌+◌, ◌*◌, ◌/◌, ◌%◌, ◌^◌, ◌<◌, ◌≤◌, length, max, min, slice_index, nat_lt, if◌then◌else◌};
+ghost use Rattle.std.specs.Prelude.{replicate, ◌≡◌, ℕ, ◌+◌, ◌*◌, ◌/◌, ◌%◌, ◌^◌, ◌<◌, ◌≤◌, length, max, min, slice_index, nat_lt, if◌then◌else◌};
 ghost use Rattle.room_spec.specs.Sizes.{memory_words};
 ghost use Rattle.room_spec.specs.Shapes.{sizes_of};
 ghost use Rattle.sim_memory.specs.Steps.{holder_of, merged_of, step_in};
@@ -29,10 +29,38 @@ pub fn last_writes(shape: &Shape, words: &[u64]) -> LastWrites
     ensures range { (p : ℕ) → p < shape.now.n → (slice_index result.holders p < shape.now.m) × (slice_index result.rounds p ≤ shape.now.rounds) }
     ensures behind { (p : ℕ) → shape.now.n ≤ p → p < 16 → (slice_index result.holders p ≡ 0) × (slice_index result.rounds p ≡ 0) }
 {
-    let mut last = LastWrites {
-        holders: [0; 16],
-        rounds: [0; 16],
-    };
+    of_all(shape, words)
+}
+
+fn of_all(shape: &Shape, words: &[u64]) -> LastWrites
+    requires { memory_words (sizes_of shape.now) ≤ length words.now }
+    ensures { AreLast (sizes_of shape.now) words.now shape.now.m result.holders result.rounds }
+{
+    if shape.memory_words() == 1 {
+        in_one_word(shape, words)
+    } else {
+        in_words(shape, words)
+    }
+}
+
+/// Where each simulator's step numbers stand in the one memory word.
+fn in_one_word(shape: &Shape, words: &[u64]) -> LastWrites
+    requires words { memory_words (sizes_of shape.now) ≤ length words.now }
+    requires one { memory_words (sizes_of shape.now) ≡ 1 }
+    ensures { AreLast (sizes_of shape.now) words.now shape.now.m result.holders result.rounds }
+{
+    let mut last = LastWrites::none();
+    for i in 0..shape.m {
+        last = last.after_row(shape, words, i);
+    }
+    last
+}
+
+fn in_words(shape: &Shape, words: &[u64]) -> LastWrites
+    requires { memory_words (sizes_of shape.now) ≤ length words.now }
+    ensures { AreLast (sizes_of shape.now) words.now shape.now.m result.holders result.rounds }
+{
+    let mut last = LastWrites::none();
     for i in 0..shape.m {
         last = last.after(shape, words, i);
     }
@@ -40,6 +68,33 @@ pub fn last_writes(shape: &Shape, words: &[u64]) -> LastWrites
 }
 
 impl LastWrites {
+    /// Of no simulator.
+    fn none() -> LastWrites
+        ensures holders { result.holders ≡ replicate 16 0 }
+        ensures rounds { result.rounds ≡ replicate 16 0 }
+    {
+        LastWrites {
+            holders: [0; 16],
+            rounds: [0; 16],
+        }
+    }
+
+    /// With the step numbers of the next simulator, in the one memory word.
+    #[inline(always)]
+    fn after_row(self, shape: &Shape, words: &[u64], i: usize) -> LastWrites
+        requires words { memory_words (sizes_of shape.now) ≤ length words.now }
+        requires one { memory_words (sizes_of shape.now) ≡ 1 }
+        requires simulator { i < shape.now.m }
+        requires last { AreLast (sizes_of shape.now) words.now i self.holders self.rounds }
+        ensures { AreLast (sizes_of shape.now) words.now (i + 1) result.holders result.rounds }
+    {
+        let row = words[0] >> (i * shape.n * shape.bits);
+        if row == 0 {
+            return self;
+        }
+        self.later(i as u8, lowest_steps(shape, row))
+    }
+
     /// With the step numbers of the next simulator, which mostly stand in one word.
     #[inline(always)]
     fn after(self, shape: &Shape, words: &[u64], i: usize) -> LastWrites

@@ -22,7 +22,7 @@ pub enum Line {
     /// Load the levels of the agreement, to learn whose proposal was chosen.
     Ask,
     /// Load the proposal of the chosen simulator, one word after the other.
-    GetView { chosen: u8 },
+    GetView { chosen: u16 },
     /// Load the value of the next process that the chosen proposal shows.
     Values,
     /// Store the decision.

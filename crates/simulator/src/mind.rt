@@ -29,7 +29,7 @@ pub struct Mind {
     pub(crate) goals: ArrayVec<Goal, 16>,
     pub(crate) sweep: u8,
     pub(crate) turns: u16,
-    pub(crate) steps: u64,
+    pub(crate) steps: u32,
     pub(crate) turn_steps: u16,
     pub(crate) line: Line,
     pub(crate) word: u8,
@@ -153,7 +153,7 @@ impl Mind {
     pub fn steps_taken(&self) -> u64
         ensures { result ≡ self.now.steps }
     {
-        self.steps
+        u64::from(self.steps)
     }
 
     /// How many turns it has begun, at most those that the room gives to each simulator.

@@ -113,7 +113,7 @@ impl Mind {
         }
     }
 
-    fn view_move(&self, spec: &Spec, chosen: u8) -> Move
+    fn view_move(&self, spec: &Spec, chosen: u16) -> Move
         requires is_mind { IsMind spec.now self.now }
         requires open { is_unfinished (current_goal self.now) ≡ true }
         requires simulator { chosen < spec.now.simulators }

@@ -81,7 +81,8 @@ impl Mind {
         let at = self.word();
         self.snapshot.put(at, word);
         if self.has_next_word(spec) {
-            return self.next_word(Line::Snap);
+            self.next_word();
+            return self.go_on(Line::Snap);
         }
         self.word = 0;
         self.scan(spec)
@@ -101,6 +102,7 @@ impl Mind {
     }
 
     /// The same, after it was counted.
+    #[inline(never)]
     fn collect(&mut self, spec: &Spec) -> Turn
         ensures mind { self.new ≡ (collected spec.now (is_again self.old) self.old).mind }
         ensures turn { result ≡ (collected spec.now (is_again self.old) self.old).turn }
@@ -130,7 +132,8 @@ impl Mind {
         ensures turn { result ≡ (showed spec.now self.old).turn }
     {
         if self.has_next_word(spec) {
-            return self.next_word(Line::Show);
+            self.next_word();
+            return self.go_on(Line::Show);
         }
         self.word = 0;
         self.go_on(Line::Enter)
@@ -144,16 +147,15 @@ impl Mind {
         self.word() + 1 < spec.shape().memory_words()
     }
 
-    fn next_word(&mut self, line: Line) -> Turn
+    #[inline(never)]
+    fn next_word(&mut self)
         requires { self.old.word < 4 }
-        ensures mind { self.new ≡ (goes_on line (record self.old { word = self.old.word + 1 })).mind }
-        ensures turn { result ≡ (goes_on line (record self.old { word = self.old.word + 1 })).turn }
+        ensures { self.new ≡ record self.old { word = self.old.word + 1 } }
     {
         self.word += 1;
-        self.go_on(line)
     }
 
-    pub(crate) fn ask(&mut self, chosen: Option<u8>) -> Turn
+    pub(crate) fn ask(&mut self, chosen: Option<u16>) -> Turn
         requires { self.old.sweep < length self.old.goals }
         ensures mind { self.new ≡ (asked chosen self.old).mind }
         ensures turn { result ≡ (asked chosen self.old).turn }
@@ -168,7 +170,7 @@ impl Mind {
     }
 
     /// Takes in a word of the chosen proposal.
-    pub(crate) fn get_view(&mut self, spec: &Spec, chosen: u8, word: u64) -> Turn
+    pub(crate) fn get_view(&mut self, spec: &Spec, chosen: u16, word: u64) -> Turn
         requires word { self.old.word < 4 }
         requires sweep { self.old.sweep < length self.old.goals }
         requires goals { length self.old.goals ≡ processes spec.now }
@@ -178,7 +180,8 @@ impl Mind {
         let at = self.word();
         self.snapshot.put(at, word);
         if self.has_next_word(spec) {
-            return self.next_word(Line::GetView { chosen });
+            self.next_word();
+            return self.go_on(Line::GetView { chosen });
         }
         self.word = 0;
         self.snapshot.note(spec);

@@ -29,14 +29,14 @@ pub(crate) fn saw_two(spec: &Spec, word: u64) -> bool
 /// The simulator whose proposal was chosen, by a word of levels: the least at level 2, where none is
 /// at level 1.
 #[tactic(auto, using(crate::proofs::Levels::some_level))]
-pub(crate) fn chosen_in(spec: &Spec, word: u64) -> Option<u8>
+pub(crate) fn chosen_in(spec: &Spec, word: u64) -> Option<u16>
     ensures { result ≡ chosen_in spec.now word }
 {
     if least_at(word, spec.m(), 1).is_some() {
         return None;
     }
     match least_at(word, spec.m(), 2) {
-        Some(least) => Some(least as u8),
+        Some(least) => Some(least as u16),
         None => None,
     }
 }
