@@ -143,7 +143,7 @@ pub fn read_room(
     block: &[u8],
 ) -> Result<Result<(Spec, usize), SpecFault>, AllocError>
     ensures read { IfOk result (λ read. read ≡ block_in block.now) }
-    // Want of memory hides no fault of a line before the protocol's text.
+    // Want of memory hides no fault of a line before the protocol's text, nor that this text is too long.
     ensures head { IfErr result (λ _. IsHeadRight (block_in block.now)) }
 {
     match read_block(alloc, block) {
@@ -159,7 +159,7 @@ fn read_room_with<'a>(
     protocols: &mut Protocols<'a>,
 ) -> Result<Result<(Spec, usize), SpecFault>, AllocError>
     ensures read { IfOk result (λ read. read ≡ block_in block.now) }
-    // Want of memory hides no fault of a line before the protocol's text.
+    // Want of memory hides no fault of a line before the protocol's text, nor that this text is too long.
     ensures head { IfErr result (λ _. IsHeadRight (block_in block.now)) }
 {
     match read_block_with(alloc, block, protocols) {
@@ -176,7 +176,7 @@ fn read_lines<'a>(
     protocols: &mut Protocols<'a>,
 ) -> Result<Result<Spec, SpecFault>, AllocError>
     ensures read { IfOk result (λ read. read ≡ room_in body.now) }
-    // Want of memory hides no fault of a line before the protocol's text.
+    // Want of memory hides no fault of a line before the protocol's text, nor that this text is too long.
     ensures head { IfErr result (λ _. IsHeadRight (room_in body.now)) }
 {
     match read_body_with(alloc, body, protocols) {

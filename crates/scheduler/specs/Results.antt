@@ -1,6 +1,5 @@
 -- What comes of a room whose simulators run until each of them stops.
-use Rattle.std.specs.Prelude.{◌≡◌, ℕ, ◌<◌, ◌≤◌, ◌⊎◌, Bool, true, false, List, [], ◌∷◌, length, Option, Some, None, ⊤}
-use Rattle.std.specs.List.{count_by}
+use Rattle.std.specs.Prelude.{◌≡◌, ℕ, ◌<◌, ◌⊎◌, Bool, true, false, List, [], ◌∷◌, Option, Some, None, ⊤}
 use Rattle.room_spec.specs.Rooms.{RoomSpec, fuse_of}
 use Rattle.simulator.specs.Minds.{goal_at}
 use Rattle.simulator.specs.Quiet.{HasNoWrite}
@@ -9,9 +8,7 @@ use Rattle.room_core.specs.Calls.{RoomState, configuration_of, has_crashed, room
 use Rattle.room_core.specs.Fields.{Fields}
 use Rattle.room_core.specs.Reading.{AreFieldsOf}
 use Rattle.room_core.specs.Rooms.{IsOneInterleaving}
-use Rattle.transcript.specs.Runs.{IsRun}
-use Rattle.ws_history.specs.Reports.{is_held, report_of}
-use Rattle.ws_history.specs.declared.states.Report.{Report}
+use Rattle.ws_history.specs.Reports.{IsTrueReport, report_of}
 use Rattle.scheduler.specs.declared.rooms.RoomResult.{RoomResult}
 use Rattle.scheduler.specs.declared.rooms.RunFault.{RunFault}
 use Rattle.scheduler.specs.declared.rooms.RunFault.TheVariants.{Workers, Spawn, OutOfMemory}
@@ -28,13 +25,6 @@ HasEnded fuse spec sweep true = fuse ≡ Some sweep.mind.steps
 HasEnded fuse spec sweep false =
     IsBelowFuse fuse sweep.mind.steps × (is_resting sweep.mind.line ≡ true) × ((sweep.mind.turns ≡ spec.turns) ⊎ ((process : ℕ) → HasNoWrite (goal_at sweep.mind.goals process)))
 
--- The report of a room: of any fields that the room stands for. Its history is a run of the processes, and at most as many
--- processes are held as simulators have crashed.
-pub record IsReportOf (core : RoomState) (report : Report) : Type 0 where
-  pub fields : (fields : Fields) → AreFieldsOf core fields → report ≡ report_of core.spec fields
-  pub run : IsRun core.spec report.history
-  pub held : count_by is_held report.states.items ≤ length report.crashed.items
-
 -- What a room of this spec may come to, whatever the schedule of its simulators: some interleaving of their steps leads to a
 -- room in which each of them has ended; this room is then settled and reported.
 pub record IsRoomRun (spec : RoomSpec) (result : RoomResult) : Type 0 where
@@ -43,7 +33,7 @@ pub record IsRoomRun (spec : RoomSpec) (result : RoomResult) : Type 0 where
   pub run : IsOneInterleaving (configuration_of ended)
   pub each : (i : ℕ) → i < spec.simulators → HasEnded (fuse_of spec.fuses i) spec (sweep_at ended i) (has_crashed ended i)
   pub settled : result.core ≡ room_after_settle ended
-  pub reported : IsReportOf result.core result.report
+  pub reported : (fields : Fields) → AreFieldsOf result.core fields → (result.report ≡ report_of result.core.spec fields) × IsTrueReport result.core.spec fields result.report
 
 -- a result for each spec, in order, each by its own spec alone
 abbrev pub AreRoomRuns : List RoomSpec → List RoomResult → Type 0

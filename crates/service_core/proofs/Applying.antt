@@ -15,7 +15,8 @@ use Rattle.service_core.specs.declared.reply.Refusal.TheVariants.{OutOfMemory}
 use Rattle.service_core.specs.declared.room.Act.{Act}
 use Rattle.service_core.specs.declared.room.Act.TheVariants as acts
 use Rattle.service_core.specs.Replies.{OpenRoom, name_in, opened, reply_to, room_after, room_after_open, room_in}
-use Rattle.service_core.specs.Rooms.{Answers, Applies, Entries, IsOpenAs, IsRefusal, IsReportOf, IsStateOf, IsTrueReport, IsWant, command_for, room_at}
+use Rattle.service_core.specs.Rooms.{Answers, Applies, Entries, IsOpenAs, IsRefusal, IsReportOf, IsStateOf, IsWant, command_for, room_at}
+use Rattle.ws_history.specs.Reports.{IsTrueReport}
 use Rattle.service_core.proofs.Lookups.{Changes, changed_here, changed_other, same_name}
 
 opened_state : (spec : RoomSpec) (before after : Entries) → Changes before after spec.name (Some (opening_state spec)) → IsStateOf (room_at after spec.name) (Some (opened spec))

@@ -16,7 +16,8 @@ use Rattle.service_core.specs.declared.reply.Reply.{Reply}
 use Rattle.service_core.specs.declared.reply.Reply.TheVariants as replies
 use Rattle.service_core.specs.declared.reply.Refusal.TheVariants as refusals
 use Rattle.service_core.specs.Replies.{OpenRoom, name_in, part, replies_from, reply_to, room_after, room_after_all}
-use Rattle.service_core.specs.Rooms.{Applies, Entries, IsRefusal, IsReportOf, IsStateOf, IsTrueReport, IsWant, room_at}
+use Rattle.service_core.specs.Rooms.{Applies, Entries, IsRefusal, IsReportOf, IsStateOf, IsWant, room_at}
+use Rattle.ws_history.specs.Reports.{IsTrueReport}
 use Rattle.service_core.specs.Runs.{AreTrueReports, AreWants, HasNoWant, MayWant, granted, is_want, replies_of, room_then, without_wants}
 use Rattle.service_core.proofs.Lookups.{same_name}
 

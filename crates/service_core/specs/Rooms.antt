@@ -1,18 +1,12 @@
 -- The rooms that a service keeps, and what they stand for.
-use Rattle.std.specs.Prelude.{◌≡◌, ◌≢◌, ℕ, ◌<◌, ◌≤◌, ◌↔◌, false, List, Option, Some, None, length, slice_index_or, ⊤}
-use Rattle.std.specs.List.{Contains, count_by}
+use Rattle.std.specs.Prelude.{◌≡◌, ◌≢◌, ℕ, false, List, Option, Some, None, ⊤}
 use Rattle.std.specs.Str.{bytes_eq}
 use Rattle.std.specs.Map.{lookup}
-use Rattle.room_spec.specs.Rooms.{RoomSpec, processes}
-use Rattle.transcript.specs.Runs.{IsRun}
-use Rattle.transcript.specs.declared.event.Event.TheVariants.{Decide}
 use Rattle.room_core.specs.declared.reply.StepReply.{StepReply}
 use Rattle.room_core.specs.Calls.{RoomState}
-use Rattle.room_core.specs.Fields.{Fields}
 use Rattle.room_core.specs.Reading.{AreFieldsOf}
-use Rattle.ws_history.specs.Reports.{held_in, is_held}
+use Rattle.ws_history.specs.Reports.{IsTrueReport}
 use Rattle.ws_history.specs.declared.states.Report.{Report}
-use Rattle.ws_history.specs.declared.states.ProcessState.TheVariants.{Decided, Going}
 use Rattle.service_core.specs.declared.command.Command.{Command}
 use Rattle.service_core.specs.declared.command.Command.TheVariants as commands
 use Rattle.service_core.specs.declared.reply.Reply.{Reply}
@@ -59,15 +53,7 @@ IsWant None (commands.Begin spec) = ⊤
 IsWant (Some room) (commands.Report name) = ⊤
 IsWant room command = ⊥
 
--- What a report of a room with these fields says: its history is a run of the room's protocol, with each process's decision and no
--- other; and no more processes are held than simulators have crashed.
-pub record IsTrueReport (spec : RoomSpec) (fields : Fields) (report : Report) : Type 0 where
-  pub run : IsRun spec report.history
-  pub decided : (j v : ℕ) → j < processes spec → (slice_index_or report.states.items j Going ≡ Decided v) ↔ Contains report.history (Decide j v)
-  pub held : count_by is_held report.states.items ≤ length report.crashed.items
-  pub inside : length (held_in spec fields) ≤ length report.crashed.items
-
--- the same of a room that has to be open
+-- a report is a true one of a room that has to be open
 abbrev pub IsReportOf : Option OpenRoom → Report → Type 0
 IsReportOf None report = ⊥
 IsReportOf (Some room) report = IsTrueReport room.spec room.fields report

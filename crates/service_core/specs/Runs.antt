@@ -9,7 +9,7 @@ use Rattle.service_core.specs.declared.reply.Reply.{Reply}
 use Rattle.service_core.specs.declared.reply.Reply.TheVariants.{Report, Refused}
 use Rattle.service_core.specs.declared.reply.Refusal.TheVariants.{OutOfMemory}
 use Rattle.service_core.specs.Replies.{OpenRoom, name_in, part, room_after_all}
-use Rattle.service_core.specs.Rooms.{IsTrueReport}
+use Rattle.ws_history.specs.Reports.{IsTrueReport}
 
 -- the replies to the commands of one name, in order
 abbrev pub replies_of : List ℕ → List Command → List Reply → List Reply

@@ -5,7 +5,8 @@ ghost use Rattle.room_core.specs.Fields.{Fields};
 ghost use Rattle.room_core.specs.Reading.{AreFieldsOf};
 ghost use Rattle.service_core.specs.Replies.{OpenRoom, stepping};
 ghost use Rattle.ws_history.specs.declared.states.Report.{Report as ReportData};
-ghost use Rattle.service_core.specs.Rooms.{Answers, IsOpenAs, IsRefusal, IsSteppedTo, IsTrueReport, command_for};
+ghost use Rattle.service_core.specs.Rooms.{Answers, IsOpenAs, IsRefusal, IsSteppedTo, command_for};
+ghost use Rattle.ws_history.specs.Reports.{IsTrueReport};
 ghost use Rattle.service_core.specs.declared.reply.Reply.TheVariants.{Refused, Report as ReportReply};
 ghost use Rattle.service_core.specs.declared.reply.Refusal.TheVariants.{OutOfMemory};
 

@@ -1,9 +1,11 @@
 -- The report of a room: where each process stands, which simulators have crashed, and the history.
-use Rattle.std.specs.Prelude.{ℕ, Bool, true, false, not, List, Option, Some, None, is_some, map, ◌==◌, ◌&&◌, if◌then◌else◌}
-use Rattle.std.specs.List.{filter, find, list_any, range_with_len}
+use Rattle.std.specs.Prelude.{◌≡◌, ◌<◌, ◌≤◌, ◌↔◌, ℕ, Bool, true, false, not, List, Option, Some, None, is_some, length, map, slice_index_or, ◌==◌, ◌&&◌, if◌then◌else◌}
+use Rattle.std.specs.List.{Contains, count_by, filter, find, list_any, range_with_len}
 use Rattle.protocol_lang.specs.declared.meaning.Action.{Action}
 use Rattle.protocol_lang.specs.declared.meaning.Action.TheVariants as actions
 use Rattle.room_spec.specs.Rooms.{RoomSpec, processes}
+use Rattle.transcript.specs.Runs.{IsRun}
+use Rattle.transcript.specs.declared.event.Event.TheVariants.{Decide}
 use Rattle.room_core.specs.Fields.{Fields}
 use Rattle.room_core.specs.Agreements.{asks, decided_in, has_out, is_clean}
 use Rattle.ws_history.specs.Sources.{history_of}
@@ -71,3 +73,12 @@ report_of spec fields = record {
   crashed = record { items = crashed_in spec fields };
   history = history_of spec fields;
 }
+
+-- What a report of a room with these fields says: its history is a run of the processes, with each process's decision and no other;
+-- and no more processes are held than simulators have crashed, nor are they with all that have no decision and an agreement inside
+-- which a simulator has crashed.
+pub record IsTrueReport (spec : RoomSpec) (fields : Fields) (report : Report) : Type 0 where
+  pub run : IsRun spec report.history
+  pub decided : (j v : ℕ) → j < processes spec → (slice_index_or report.states.items j Going ≡ Decided v) ↔ Contains report.history (Decide j v)
+  pub held : count_by is_held report.states.items ≤ length report.crashed.items
+  pub inside : length (held_in spec fields) ≤ length report.crashed.items

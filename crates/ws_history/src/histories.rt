@@ -1,5 +1,6 @@
 //! The history of a room.
-ghost use Rattle.std.specs.Prelude.{◌≡◌, ℕ, ◌<◌, ◌≤◌, [], ◌∷◌, ◌++◌, IfOk, OnOk, length, replicate, slice_index};
+ghost use Rattle.std.specs.Prelude.{◌≡◌, ℕ, ◌+◌, ◌<◌, ◌≤◌, [], ◌∷◌, ◌++◌, IfOk, OnOk, length, replicate, slice_index};
+ghost use Rattle.std.specs.List.{sum};
 ghost use Rattle.room_spec.specs.Rooms.{processes};
 ghost use Rattle.ws_history.specs.Histories.{by_process, decided, new_writes};
 ghost use Rattle.room_core.specs.Fields.{Fields};
@@ -63,6 +64,7 @@ fn read_history(alloc: Global, room: &RoomCore) -> Result<Vec<Event>, AllocError
 fn most_events(room: &RoomCore, order: &[Agreed], greatest: &[usize]) -> usize
     requires count { length greatest.now ≡ processes room.now.spec }
     requires range { (p : ℕ) → slice_index greatest.now p ≤ room.now.spec.rounds }
+    ensures { result ≡ sum greatest.now + length order.now + processes room.now.spec }
 {
     let processes = process_count(room);
     let rounds = round_count(room);

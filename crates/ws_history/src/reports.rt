@@ -1,15 +1,13 @@
 //! The report of a room.
-ghost use Rattle.std.specs.Prelude.{◌≡◌, ◌≢◌, ◌↔◌, ◌+◌, ◌<◌, ◌≤◌, ℕ, IfOk, length, slice_index_or};
+ghost use Rattle.std.specs.Prelude.{◌≡◌, ◌≢◌, ◌+◌, ◌<◌, ◌≤◌, ℕ, IfOk, length, slice_index_or};
 ghost use Rattle.std.specs.List.{Contains, count_by};
 ghost use Rattle.room_spec.specs.Rooms.{IsCertified, processes};
 ghost use Rattle.room_core.specs.Fields.{Fields};
 ghost use Rattle.room_core.specs.Reading.{AreFieldsOf};
 ghost use Rattle.room_core.specs.Settled.{IsSettledFor};
-ghost use Rattle.transcript.specs.Runs.{IsRun};
-ghost use Rattle.transcript.specs.declared.event.Event.TheVariants.{Decide};
-ghost use Rattle.ws_history.specs.declared.states.ProcessState.TheVariants.{Decided, Going, Held, Spent};
+ghost use Rattle.ws_history.specs.declared.states.ProcessState.TheVariants.{Going, Held, Spent};
 ghost use Rattle.ws_history.specs.Readings.{read_of};
-ghost use Rattle.ws_history.specs.Reports.{crashed_in, held_by, held_in, is_decided, is_held, is_inside, is_over, is_spent, report_of, state_of, states_of};
+ghost use Rattle.ws_history.specs.Reports.{IsTrueReport, crashed_in, held_by, held_in, is_decided, is_inside, is_over, is_spent, report_of, state_of, states_of};
 
 use crate::histories::history;
 use crate::reading::{
@@ -32,13 +30,10 @@ use std::alloc::{AllocError, Global};
 pub fn report(alloc: Global, room: &RoomCore) -> Result<Report, AllocError>
     // It is that of any fields that the room stands for.
     ensures fields { (fields : Fields) → AreFieldsOf room.now fields → IfOk result (λ report. report ≡ report_of room.now.spec fields) }
-    // The history is a run of the processes on write-snapshot memory.
-    ensures run { IfOk result (λ report. IsRun room.now.spec report.history) }
-    // At most as many processes are held as simulators have crashed.
-    ensures held { IfOk result (λ report. count_by is_held report.states.items ≤ length report.crashed.items) }
-    // So it is with all that have no decision and an agreement inside which a simulator has crashed, and those that are held are
-    // among these.
-    ensures inside { (fields : Fields) → AreFieldsOf room.now fields → IfOk result (λ report. length (held_in room.now.spec fields) ≤ length report.crashed.items) }
+    // The history is a run of the processes on write-snapshot memory, with each process's decision and no other; and at most as
+    // many processes are held as simulators have crashed.
+    ensures truth { (fields : Fields) → AreFieldsOf room.now fields → IfOk result (IsTrueReport room.now.spec fields) }
+    // Those that are held are among all that have no decision and an agreement inside which a simulator has crashed.
     ensures among { (fields : Fields) → AreFieldsOf room.now fields → IfOk result (λ report. (j i : ℕ) → j < processes room.now.spec → slice_index_or report.states.items j Going ≡ Held i → Contains (held_in room.now.spec fields) j) }
     // Where each process has settled, all have decided or are spent but for at most as many as simulators have crashed.
     ensures settled { (fields : Fields) → AreFieldsOf room.now fields → ((j : ℕ) → j < processes room.now.spec → IsSettledFor room.now.spec fields j) → IfOk result (λ report. processes room.now.spec ≤ count_by is_over report.states.items + length report.crashed.items) }
@@ -46,8 +41,6 @@ pub fn report(alloc: Global, room: &RoomCore) -> Result<Report, AllocError>
     // settled, all have decided but for at most as many as simulators have crashed.
     ensures unspent { (f : ℕ) → IsCertified room.now.spec f → 2 ≤ room.now.spec.rounds → IfOk result (λ report. (j : ℕ) → j < processes room.now.spec → slice_index_or report.states.items j Going ≢ Spent) }
     ensures certified { (fields : Fields) → AreFieldsOf room.now fields → (f : ℕ) → IsCertified room.now.spec f → 2 ≤ room.now.spec.rounds → ((j : ℕ) → j < processes room.now.spec → IsSettledFor room.now.spec fields j) → IfOk result (λ report. processes room.now.spec ≤ count_by is_decided report.states.items + length report.crashed.items) }
-    // The history has each process's decision, and no other.
-    ensures decided { IfOk result (λ report. (j v : ℕ) → j < processes room.now.spec → (slice_index_or report.states.items j Going ≡ Decided v) ↔ Contains report.history (Decide j v)) }
 {
     let _shape = shape_of(room);
     let history = history(alloc, room)?;

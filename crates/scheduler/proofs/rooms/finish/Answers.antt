@@ -15,5 +15,5 @@ returns c =
       run = c.in-Ok.ensures.run.one;
       each = each_ended c.args.room c.args.keeper c.in-Ok.core c.requires.room c.requires.kept core.0 core.1 core.2;
       settled = search rules;
-      reported = record { fields = c.in_ok-report.ensures.fields; run = c.in_ok-report.ensures.run; held = c.in_ok-report.ensures.held };
+      reported = λ fields are. (c.in_ok-report.ensures.fields fields are, c.in_ok-report.ensures.truth fields are);
     }

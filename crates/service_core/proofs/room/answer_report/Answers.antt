@@ -1,7 +1,7 @@
 use Rattle.std.proofs.Common.{◌≡◌, subst}
 use Rattle.ws_history.specs.declared.states.Report.{Report as ReportData}
 use Rattle.service_core.specs.declared.reply.Reply.TheVariants as replies
-use Rattle.service_core.specs.Rooms.{IsTrueReport}
+use Rattle.ws_history.specs.Reports.{IsTrueReport}
 use Rattle.service_core.proofs.Answering.{report_answers}
 use Rattle.service_core.proofs.room.answer_report.Goals as goal
 
@@ -14,4 +14,4 @@ same_report one other is = cc
 pub returns-in-Ok-clause-report : goal.returns-in-Ok-clause-report
 returns-in-Ok-clause-report c = λ report is fields are.
     subst (λ (r : ReportData). IsTrueReport c.args.room.now.spec fields r) (same_report c.in-Ok.report report is)
-    (record { run = c.in-Ok.ensures.run; decided = c.in-Ok.ensures.decided; held = c.in-Ok.ensures.held; inside = c.in-Ok.ensures.inside fields are })
+    (c.in-Ok.ensures.truth fields are)

@@ -1,4 +1,4 @@
-use Rattle.std.proofs.Common.{List, Contains, length, get_or, ℕ, sym, ap, ◌∙◌, subst, arith}
+use Rattle.std.proofs.Common.{◌≡◌, ◌<◌, List, Contains, length, get_or, ℕ, sym, ap, ◌∙◌, subst, arith}
 use Rattle.std.specs.List.{count_by}
 use Rattle.std.proofs.lemmas.List.FromFn.{get_or-map-range_with_len}
 use Rattle.room_spec.specs.Rooms.{processes}
@@ -24,39 +24,25 @@ returns-clause-fields c = λ fields are.
     let history = c.new.ensures ∙ c.in_ok-history.ensures.fields fields are in
     λ p. record { states = record { items = states p }; crashed = record { items = crashed p }; history = history p }
 
-pub returns-clause-run : goal.returns-clause-run
-returns-clause-run c = subst (λ (events : List Event). IsRun c.args.room.now.spec events) (sym c.new.ensures) c.in_ok-history.ensures.run
-
-pub returns-clause-held : goal.returns-clause-held
-returns-clause-held c =
+pub returns-clause-truth : goal.returns-clause-truth
+returns-clause-truth c = λ fields are.
     let room = c.args.room.now in
     let limits = c.shape_of-shape.ensures.limits in
-    let at = c.shape_of-shape.ensures.fields in
-    let states = ap (λ (l : List ProcessState). count_by is_held l) (c.states_of.ensures ∙ states_in room at.0 limits at.1) in
-    let crashed = ap (λ (l : List ℕ). length l) (c.crashed_in.ensures ∙ crashed_are room at.0 limits at.1) in
-    let most = held_at_most room at.0 limits at.1 in
-    omega (arith, states, crashed, most)
-
-pub returns-clause-inside : goal.returns-clause-inside
-returns-clause-inside c = λ fields are.
-    let room = c.args.room.now in
-    let limits = c.shape_of-shape.ensures.limits in
+    let states = c.states_of.ensures ∙ states_in room fields limits are in
     let crashed = ap (λ (l : List ℕ). length l) (c.crashed_in.ensures ∙ crashed_are room fields limits are) in
-    let most = inside_at_most room fields limits are in
-    omega (arith, crashed, most)
-
-pub returns-clause-decided : goal.returns-clause-decided
-returns-clause-decided c = λ j v low.
-    let room = c.args.room.now in
-    let limits = c.shape_of-shape.ensures.limits in
-    let at = c.shape_of-shape.ensures.fields in
-    let states = ap (λ (l : List ProcessState). get_or l j Going) (c.states_of.ensures ∙ states_in room at.0 limits at.1) in
-    let there = states ∙ get_or-map-range_with_len (state_of room.spec at.0) 0 (processes room.spec) j j Going low (omega arith) in
-    let history = c.new.ensures ∙ c.in_ok-history.ensures.fields at.0 at.1 in
-    let both = decided_there room at.0 limits at.1 j v low in (
-      λ is. subst (λ (events : List Event). Contains events (Decide j v)) (sym history) (both.0 (sym there ∙ is)),
-      λ has. there ∙ both.1 (subst (λ (events : List Event). Contains events (Decide j v)) history has),
-    )
+    let history = c.new.ensures ∙ c.in_ok-history.ensures.fields fields are in
+    let there : (j : ℕ) → j < processes room.spec → get_or c.states_of.result.items j Going ≡ state_of room.spec fields j = λ j low.
+    ap (λ (l : List ProcessState). get_or l j Going) states ∙ get_or-map-range_with_len (state_of room.spec fields) 0 (processes room.spec) j j Going low (omega arith) in
+    record {
+      run = subst (λ (events : List Event). IsRun room.spec events) (sym c.new.ensures) c.in_ok-history.ensures.run;
+      decided = λ j v low.
+          let both = decided_there room fields limits are j v low in (
+            λ is. subst (λ (events : List Event). Contains events (Decide j v)) (sym history) (both.0 (sym (there j low) ∙ is)),
+            λ has. there j low ∙ both.1 (subst (λ (events : List Event). Contains events (Decide j v)) history has),
+          );
+      held = let count = ap (λ (l : List ProcessState). count_by is_held l) states in let most = held_at_most room fields limits are in omega (arith, count, crashed, most);
+      inside = let most = inside_at_most room fields limits are in omega (arith, crashed, most);
+    }
 
 pub returns-clause-unspent : goal.returns-clause-unspent
 returns-clause-unspent c = λ f certified two j low is.
