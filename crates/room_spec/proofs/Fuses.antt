@@ -98,26 +98,26 @@ unrepeated_ok false fault read fuse e = (refl, cc)
 some_same : (read fuse : ℕ × ℕ) → Some fuse ≡ Some read → read ≡ fuse
 some_same read fuse e = cc
 
-told_some : (m : ℕ) (fuses : List (ℕ × ℕ)) (line : List ℕ) (found : Option (List ℕ)) (fuse : ℕ × ℕ) → value_after (codes "crash ") line ≡ found → said m fuses line found ≡ Ok (Some fuse) → TellsFuse m fuses line fuse
-told_some m fuses line None fuse begins e = absurd (let h = (guard_ok (is_protocol line) (BadLine (line_behind fuses)) None (Some fuse) e).1 in cc)
-told_some m fuses line (Some words) fuse begins e =
-    let step = bind_ok (of_simulator (line_behind fuses) m (fuse_in (fields_of words))) (unrepeated (line_behind fuses) fuses) (Some fuse) e in
-    let own = of_simulator_ok (line_behind fuses) m (fuse_in (fields_of words)) step.0 step.1 in
-    let new = unrepeated_ok (has_fuse fuses step.0.0) (Repeated (line_behind fuses)) step.0 (Some fuse) step.2 in
+told_some : (from m : ℕ) (fuses : List (ℕ × ℕ)) (line : List ℕ) (found : Option (List ℕ)) (fuse : ℕ × ℕ) → value_after (codes "crash ") line ≡ found → said from m fuses line found ≡ Ok (Some fuse) → TellsFuse m fuses line fuse
+told_some from m fuses line None fuse begins e = absurd (let h = (guard_ok (is_protocol line) (BadLine (line_behind from fuses)) None (Some fuse) e).1 in cc)
+told_some from m fuses line (Some words) fuse begins e =
+    let step = bind_ok (of_simulator (line_behind from fuses) m (fuse_in (fields_of words))) (unrepeated (line_behind from fuses) fuses) (Some fuse) e in
+    let own = of_simulator_ok (line_behind from fuses) m (fuse_in (fields_of words)) step.0 step.1 in
+    let new = unrepeated_ok (has_fuse fuses step.0.0) (Repeated (line_behind from fuses)) step.0 (Some fuse) step.2 in
     let tells : TellsFuse m fuses line step.0 = record { words = words; begins = begins; says = own.0; below = own.1; value = own.2; new = new.0 } in
     subst (λ (f : ℕ × ℕ). TellsFuse m fuses line f) (some_same step.0 fuse new.1) tells
 
-pub tells_fuse : (m : ℕ) (fuses : List (ℕ × ℕ)) (line : List ℕ) (fuse : ℕ × ℕ) → said_next m fuses line ≡ Ok (Some fuse) → TellsFuse m fuses line fuse
-tells_fuse m fuses line fuse e = told_some m fuses line (value_after (codes "crash ") line) fuse refl e
+pub tells_fuse : (from m : ℕ) (fuses : List (ℕ × ℕ)) (line : List ℕ) (fuse : ℕ × ℕ) → said_next from m fuses line ≡ Ok (Some fuse) → TellsFuse m fuses line fuse
+tells_fuse from m fuses line fuse e = told_some from m fuses line (value_after (codes "crash ") line) fuse refl e
 
-told_none : (m : ℕ) (fuses : List (ℕ × ℕ)) (line : List ℕ) (found : Option (List ℕ)) → said m fuses line found ≡ Ok None → line ≡ codes "protocol"
-told_none m fuses line None e = (bytes_eq-Decides line (codes "protocol")).0 (guard_ok (is_protocol line) (BadLine (line_behind fuses)) None None e).0
-told_none m fuses line (Some words) e =
-    let step = bind_ok (of_simulator (line_behind fuses) m (fuse_in (fields_of words))) (unrepeated (line_behind fuses) fuses) None e in
-    absurd (let h = (unrepeated_ok (has_fuse fuses step.0.0) (Repeated (line_behind fuses)) step.0 None step.2).1 in cc)
+told_none : (from m : ℕ) (fuses : List (ℕ × ℕ)) (line : List ℕ) (found : Option (List ℕ)) → said from m fuses line found ≡ Ok None → line ≡ codes "protocol"
+told_none from m fuses line None e = (bytes_eq-Decides line (codes "protocol")).0 (guard_ok (is_protocol line) (BadLine (line_behind from fuses)) None None e).0
+told_none from m fuses line (Some words) e =
+    let step = bind_ok (of_simulator (line_behind from fuses) m (fuse_in (fields_of words))) (unrepeated (line_behind from fuses) fuses) None e in
+    absurd (let h = (unrepeated_ok (has_fuse fuses step.0.0) (Repeated (line_behind from fuses)) step.0 None step.2).1 in cc)
 
-pub tells_protocol : (m : ℕ) (fuses : List (ℕ × ℕ)) (line : List ℕ) → said_next m fuses line ≡ Ok None → line ≡ codes "protocol"
-tells_protocol m fuses line e = told_none m fuses line (value_after (codes "crash ") line) e
+pub tells_protocol : (from m : ℕ) (fuses : List (ℕ × ℕ)) (line : List ℕ) → said_next from m fuses line ≡ Ok None → line ≡ codes "protocol"
+tells_protocol from m fuses line e = told_none from m fuses line (value_after (codes "crash ") line) e
 
 -- ---- its words
 
@@ -150,50 +150,50 @@ crash_line_found m fuses line fuse few tells =
     let words : tells.words ≡ join_with_byte 32 (decimal fuse.0 ∷ codes "after" ∷ decimal fuse.1 ∷ []) = sym (join_with_byte-slice_split 32 tells.words) ∙ ap (join_with_byte 32) pieces in
     value_found (codes "crash ") line tells.words tells.begins ∙ ap (λ (w : List ℕ). codes "crash " ++ w) words
 
-told_again : (m : ℕ) (fuses : List (ℕ × ℕ)) (line words : List ℕ) (fuse : ℕ × ℕ) → fuse_in (fields_of words) ≡ Some fuse → nat_lt fuse.0 m ≡ true → is_value fuse.1 ≡ true → has_fuse fuses fuse.0 ≡ false → said m fuses line (Some words) ≡ Ok (Some fuse)
-told_again m fuses line words fuse says below value new = rw (says, below, value, new) refl
+told_again : (from m : ℕ) (fuses : List (ℕ × ℕ)) (line words : List ℕ) (fuse : ℕ × ℕ) → fuse_in (fields_of words) ≡ Some fuse → nat_lt fuse.0 m ≡ true → is_value fuse.1 ≡ true → has_fuse fuses fuse.0 ≡ false → said from m fuses line (Some words) ≡ Ok (Some fuse)
+told_again from m fuses line words fuse says below value new = rw (says, below, value, new) refl
 
-pub crash_line_again : (m : ℕ) (fuses : List (ℕ × ℕ)) (fuse : ℕ × ℕ) → m ≤ 8 → nat_lt fuse.0 m ≡ true → is_value fuse.1 ≡ true → has_fuse fuses fuse.0 ≡ false → said_next m fuses (crash_line fuse) ≡ Ok (Some fuse)
-crash_line_again m fuses fuse few below value new =
+pub crash_line_again : (from m : ℕ) (fuses : List (ℕ × ℕ)) (fuse : ℕ × ℕ) → m ≤ 8 → nat_lt fuse.0 m ≡ true → is_value fuse.1 ≡ true → has_fuse fuses fuse.0 ≡ false → said_next from m fuses (crash_line fuse) ≡ Ok (Some fuse)
+crash_line_again from m fuses fuse few below value new =
     let under : fuse.0 < m = ltb-true fuse.0 m below in
     let small : fuse.0 < 2 ^ 64 = omega arith in
     let begins = value_again (codes "crash ") (crash_line fuse) (decimal fuse.0 ++ (codes " after " ++ decimal fuse.1)) refl in
     let first : passes_none is_space (decimal fuse.0) ≡ true = decimal_passes _ fuse.0 small digit_no_space in
     let last : passes_none is_space (decimal fuse.1) ≡ true = decimal_passes _ fuse.1 (small_value fuse.1 value) digit_no_space in
     let fields : fields_of (decimal fuse.0 ++ (codes " after " ++ decimal fuse.1)) ≡ decimal fuse.0 ∷ codes "after" ∷ decimal fuse.1 ∷ [] = pieces_again is_space 32 (decimal fuse.0) (codes "after" ∷ decimal fuse.1 ∷ []) refl (rw (first, last) refl) in
-    ap (said m fuses (crash_line fuse)) begins ∙ told_again m fuses (crash_line fuse) (decimal fuse.0 ++ (codes " after " ++ decimal fuse.1)) fuse (ap fuse_in fields ∙ rw (number_from fuse.0 small, number_from fuse.1 (small_value fuse.1 value)) refl) below value new
+    ap (said from m fuses (crash_line fuse)) begins ∙ told_again from m fuses (crash_line fuse) (decimal fuse.0 ++ (codes " after " ++ decimal fuse.1)) fuse (ap fuse_in fields ∙ rw (number_from fuse.0 small, number_from fuse.1 (small_value fuse.1 value)) refl) below value new
 
 -- ---- line by line: behind the crash lines of the fuses so far, `now` is left, of which the first line is said and the others stand behind it
 
-first_told : (most m : ℕ) (fuses : List (ℕ × ℕ)) (now line later : List ℕ) (found : Result (Option (ℕ × ℕ)) SpecFault) → line ≡ first_line now → later ≡ later_lines now → found ≡ said_next m fuses line → fuses_from (suc most) m fuses now ≡ (found >>= onward (fuses_from most m) fuses later)
+first_told : (most from m : ℕ) (fuses : List (ℕ × ℕ)) (now line later : List ℕ) (found : Result (Option (ℕ × ℕ)) SpecFault) → line ≡ first_line now → later ≡ later_lines now → found ≡ said_next from m fuses line → fuses_from (suc most) from m fuses now ≡ (found >>= onward (fuses_from most from m) fuses later)
 unfolding fuses_from
-first_told most m fuses now line later found first rest is =
-    ap (λ (l : List ℕ). said_next m fuses l >>= onward (fuses_from most m) fuses (later_lines now)) (sym first)
-    ∙ ap (λ (r : Result (Option (ℕ × ℕ)) SpecFault). r >>= onward (fuses_from most m) fuses (later_lines now)) (sym is)
-    ∙ ap (λ (l : List ℕ). found >>= onward (fuses_from most m) fuses l) (sym rest)
+first_told most from m fuses now line later found first rest is =
+    ap (λ (l : List ℕ). said_next from m fuses l >>= onward (fuses_from most from m) fuses (later_lines now)) (sym first)
+    ∙ ap (λ (r : Result (Option (ℕ × ℕ)) SpecFault). r >>= onward (fuses_from most from m) fuses (later_lines now)) (sym is)
+    ∙ ap (λ (l : List ℕ). found >>= onward (fuses_from most from m) fuses l) (sym rest)
 
-pub stops_at_fault : (most m : ℕ) (fuses : List (ℕ × ℕ)) (now line later : List ℕ) (fault : SpecFault) (whole : Result (List (ℕ × ℕ) × List ℕ) SpecFault) → line ≡ first_line now → later ≡ later_lines now → Err fault ≡ said_next m fuses line → fuses_from (suc most) m fuses now ≡ whole → whole ≡ Err fault
-stops_at_fault most m fuses now line later fault whole first rest is so_far = sym so_far ∙ first_told most m fuses now line later (Err fault) first rest is
+pub stops_at_fault : (most from m : ℕ) (fuses : List (ℕ × ℕ)) (now line later : List ℕ) (fault : SpecFault) (whole : Result (List (ℕ × ℕ) × List ℕ) SpecFault) → line ≡ first_line now → later ≡ later_lines now → Err fault ≡ said_next from m fuses line → fuses_from (suc most) from m fuses now ≡ whole → whole ≡ Err fault
+stops_at_fault most from m fuses now line later fault whole first rest is so_far = sym so_far ∙ first_told most from m fuses now line later (Err fault) first rest is
 
-pub stops_at_protocol : (most m : ℕ) (fuses : List (ℕ × ℕ)) (now line later : List ℕ) (whole : Result (List (ℕ × ℕ) × List ℕ) SpecFault) → line ≡ first_line now → later ≡ later_lines now → Ok None ≡ said_next m fuses line → fuses_from (suc most) m fuses now ≡ whole → whole ≡ Ok (fuses, later)
-stops_at_protocol most m fuses now line later whole first rest is so_far = sym so_far ∙ first_told most m fuses now line later (Ok None) first rest is
+pub stops_at_protocol : (most from m : ℕ) (fuses : List (ℕ × ℕ)) (now line later : List ℕ) (whole : Result (List (ℕ × ℕ) × List ℕ) SpecFault) → line ≡ first_line now → later ≡ later_lines now → Ok None ≡ said_next from m fuses line → fuses_from (suc most) from m fuses now ≡ whole → whole ≡ Ok (fuses, later)
+stops_at_protocol most from m fuses now line later whole first rest is so_far = sym so_far ∙ first_told most from m fuses now line later (Ok None) first rest is
 
 -- one more fuse, of a simulator that had none
-pub record GoesOn (m : ℕ) (fuses : List (ℕ × ℕ)) (later : List ℕ) (whole : Result (List (ℕ × ℕ) × List ℕ) SpecFault) : Type 0 where
+pub record GoesOn (from m : ℕ) (fuses : List (ℕ × ℕ)) (later : List ℕ) (whole : Result (List (ℕ × ℕ) × List ℕ) SpecFault) : Type 0 where
   pub few : length fuses ≤ m
   pub are : AreFuses fuses m
-  pub so_far : fuses_from (suc (m - length fuses)) m fuses later ≡ whole
+  pub so_far : fuses_from (suc (m - length fuses)) from m fuses later ≡ whole
 
-pub goes_on : (m : ℕ) (fuses : List (ℕ × ℕ)) (now line later : List ℕ) (fuse : ℕ × ℕ) (whole : Result (List (ℕ × ℕ) × List ℕ) SpecFault) → AreFuses fuses m → line ≡ first_line now → later ≡ later_lines now → Ok (Some fuse) ≡ said_next m fuses line → fuses_from (suc (m - length fuses)) m fuses now ≡ whole → GoesOn m (fuses ++ fuse ∷ []) later whole
-goes_on m fuses now line later fuse whole are first rest is so_far =
-    let tells = tells_fuse m fuses line fuse (sym is) in
+pub goes_on : (from m : ℕ) (fuses : List (ℕ × ℕ)) (now line later : List ℕ) (fuse : ℕ × ℕ) (whole : Result (List (ℕ × ℕ) × List ℕ) SpecFault) → AreFuses fuses m → line ≡ first_line now → later ≡ later_lines now → Ok (Some fuse) ≡ said_next from m fuses line → fuses_from (suc (m - length fuses)) from m fuses now ≡ whole → GoesOn from m (fuses ++ fuse ∷ []) later whole
+goes_on from m fuses now line later fuse whole are first rest is so_far =
+    let tells = tells_fuse from m fuses line fuse (sym is) in
     let more : AreFuses (fuses ++ fuse ∷ []) m = fuses_pushed fuses fuse m are tells.below tells.new in
     let few : length (fuses ++ fuse ∷ []) ≤ m = fuses_few (fuses ++ fuse ∷ []) m more in
     let count : suc (m - length (fuses ++ fuse ∷ [])) ≡ m - length fuses = omega (arith, few, length-append fuses (fuse ∷ [])) in
     record {
       few = few;
       are = more;
-      so_far = ap (λ n. fuses_from n m (fuses ++ fuse ∷ []) later) count ∙ sym (first_told (m - length fuses) m fuses now line later (Ok (Some fuse)) first rest is) ∙ so_far;
+      so_far = ap (λ n. fuses_from n from m (fuses ++ fuse ∷ []) later) count ∙ sym (first_told (m - length fuses) from m fuses now line later (Ok (Some fuse)) first rest is) ∙ so_far;
     }
 
 -- ---- more words than a crash line has

@@ -5,7 +5,7 @@ use Rattle.std.specs.List.{join_with_byte, list_all, slice_split, starts_with}
 use Rattle.std.specs.Option.{option_and_then}
 use Rattle.std.specs.Str.{bytes_eq}
 use Rattle.std.specs.Fmt.{decimal}
-use Rattle.std.proofs.lemmas.Bool.{and_parts, and_from, leb-true, le-leb, cond-true}
+use Rattle.std.proofs.lemmas.Bool.{and_parts, and_from, leb-true, le-leb}
 use Rattle.std.proofs.lemmas.Bool.Decides.{Decides-eqb}
 use Rattle.std.proofs.lemmas.List.{drop_at}
 use Rattle.std.proofs.lemmas.List.Splits.{join_with_byte-slice_split}
@@ -15,9 +15,12 @@ use Rattle.protocol_lang.specs.Numbers.{greatest, number_of}
 use Rattle.room_spec.specs.Names.{is_name}
 use Rattle.room_spec.specs.Texts.{is_space, first_line, later_lines, fields_of}
 use Rattle.room_spec.specs.Rooms.{is_value}
-use Rattle.room_spec.specs.Blocks.{◌>>=◌, value_after, version_line, named, name_line, with_number, numbers_of, inputs_of, are_inputs, in_range, inputs_line, up_to, number_line}
+use Rattle.room_spec.specs.Blocks.{◌>>=◌, value_after, version_of, version_line, named, name_line, with_number, numbers_of, inputs_of, are_inputs, in_range, inputs_line, up_to, number_line, agreed, task_of, task_words}
+use Rattle.room_spec.specs.Grammar.{version_text, agree_line, IsTaskLine}
+use Rattle.room_spec.specs.declared.version.Version.{Version}
+use Rattle.room_spec.specs.declared.version.Version.TheVariants.{One, Two}
 use Rattle.room_spec.specs.declared.fault.SpecFault.{SpecFault}
-use Rattle.room_spec.specs.declared.fault.SpecFault.TheVariants.{BadLine, BadName, Inputs}
+use Rattle.room_spec.specs.declared.fault.SpecFault.TheVariants.{BadLine, BadName, Inputs, TaskLine}
 use Rattle.room_spec.proofs.Lines.{passes_none, pass_none, pieces_cut, pieces_one}
 use Rattle.room_spec.proofs.Numerals.{number_to, number_from, decimal_passes, digit_no_space}
 
@@ -43,13 +46,30 @@ with_rest (Err fault) rest y e = absurd cc
 
 -- ---- lines of fixed words
 
-pub version_found : (text rest : List ℕ) → version_line text ≡ Ok rest → (first_line text ≡ codes "bgsim 1") × (later_lines text ≡ rest)
-version_found text rest e =
-    let parts = guard_ok (bytes_eq (first_line text) (codes "bgsim 1")) (BadLine 1) (later_lines text) rest e in
-    ((bytes_eq-Decides (first_line text) (codes "bgsim 1")).0 parts.0, parts.1)
+-- a line of one of the versions
+pub version_said : (line : List ℕ) (version : Version) → version_of line ≡ Ok version → line ≡ version_text version
+version_said line version e = by_one (bytes_eq line (codes "bgsim 1")) refl e
+  where
+    by_two : (b : Bool) → bytes_eq line (codes "bgsim 2") ≡ b → cond b (Ok Two) (Err (BadLine 1)) ≡ Ok version → line ≡ version_text version
+    by_two b is two =
+        let parts = guard_ok b (BadLine 1) Two version two in
+        subst (λ (v : Version). line ≡ version_text v) parts.1 ((bytes_eq-Decides line (codes "bgsim 2")).0 (is ∙ parts.0))
 
-pub version_again : (text : List ℕ) → first_line text ≡ codes "bgsim 1" → version_line text ≡ Ok (later_lines text)
-version_again text is = cond-true _ _ _ ((bytes_eq-Decides (first_line text) (codes "bgsim 1")).1 is)
+    by_one : (b : Bool) → bytes_eq line (codes "bgsim 1") ≡ b → cond b (Ok One) (cond (bytes_eq line (codes "bgsim 2")) (Ok Two) (Err (BadLine 1))) ≡ Ok version → line ≡ version_text version
+    by_one true is one = subst (λ (v : Version). line ≡ version_text v) (ok_is One version one) ((bytes_eq-Decides line (codes "bgsim 1")).0 is)
+    by_one false is other = by_two (bytes_eq line (codes "bgsim 2")) refl other
+
+pub version_known : (version : Version) → version_of (version_text version) ≡ Ok version
+version_known One = refl
+version_known Two = refl
+
+pub version_found : (text : List ℕ) (read : Version × List ℕ) → version_line text ≡ Ok read → (first_line text ≡ version_text read.0) × (later_lines text ≡ read.1)
+version_found text read e =
+    let parts = with_rest (version_of (first_line text)) (later_lines text) read e in
+    (version_said (first_line text) read.0 parts.0, parts.1)
+
+pub version_again : (text : List ℕ) (version : Version) → first_line text ≡ version_text version → version_line text ≡ Ok (version, later_lines text)
+version_again text version is = rw (is, version_known version) refl
 
 -- ---- lines of a word and a value
 
@@ -180,3 +200,31 @@ inputs_again text values line are =
     let all = inputs_are_values values are in
     let fields : fields_of (first_line text) ≡ codes "inputs" ∷ map decimal values = ap fields_of line ∙ pieces_again is_space 32 (codes "inputs") (map decimal values) refl (decimals_pass values all) in
     rw (fields, values_again values all, are) refl
+
+-- ---- the line of a task
+
+-- that a task is told, by the words behind `task`
+pub agreed_found : (found : Option ℕ) (most : ℕ) → agreed found ≡ Ok most → (found ≡ Some most) × (1 ≤ most) × (most ≤ 16)
+agreed_found None most e = absurd cc
+agreed_found (Some read) most e =
+    let parts = guard_ok (nat_le 1 read && nat_le read 16) (TaskLine 7) read most e in
+    let range = and_parts (nat_le 1 read) (nat_le read 16) parts.0 in
+    (ap Some parts.1, omega (arith, leb-true 1 read range.0, parts.1), omega (arith, leb-true read 16 range.1, parts.1))
+
+-- only in version 2 a line is one of a task
+pub words_begin : (version : Version) (line words : List ℕ) → task_words version line ≡ Some words → (version ≡ Two) × (value_after (codes "task ") line ≡ Some words)
+words_begin One line words is = absurd cc
+words_begin Two line words is = (refl, is)
+
+pub task_said : (line words : List ℕ) (most : ℕ) → value_after (codes "task ") line ≡ Some words → task_of words ≡ Ok most → IsTaskLine line most
+task_said line words most begins e =
+    let says = agreed_found (option_and_then number_of (value_after (codes "agree ") words)) most e in
+    let number = decimal_found (value_after (codes "agree ") words) most says.0 (omega (arith, says.2)) in
+    (value_found (codes "task ") line words begins ∙ ap (λ (w : List ℕ). codes "task " ++ w) (value_found (codes "agree ") words (decimal most) number), says.1, says.2)
+
+pub task_again : (most : ℕ) → 1 ≤ most → most ≤ 16 → task_of (codes "agree " ++ decimal most) ≡ Ok most
+task_again most some few =
+    rw (number_from most (omega (arith, few)), le-leb 1 most some, le-leb most 16 few) refl
+
+pub task_begins : (most : ℕ) → value_after (codes "task ") (agree_line most) ≡ Some (codes "agree " ++ decimal most)
+task_begins most = value_again (codes "task ") (agree_line most) (codes "agree " ++ decimal most) refl

@@ -12,17 +12,19 @@ use Rattle.protocol_lang.specs.Numbers.{number_of}
 use Rattle.protocol_lang.specs.Reading.{reading}
 use Rattle.protocol_lang.specs.declared.protocol.Protocol.{Protocol}
 use Rattle.protocol_lang.specs.declared.fault.ParseFault.{ParseFault}
-use Rattle.room_spec.specs.Rooms.{RoomSpec, bits_of, is_value}
+use Rattle.room_spec.specs.Rooms.{RoomSpec, bits_of, is_value, most_bits}
+use Rattle.room_spec.specs.declared.version.Version.{Version}
+use Rattle.room_spec.specs.declared.version.Version.TheVariants.{One, Two}
 use Rattle.room_spec.specs.Names.{is_name}
 use Rattle.room_spec.specs.Texts.{is_line_end, first_line, later_lines, lines_of, fields_of, pieces_of}
-use Rattle.room_spec.specs.Blocks.{◌>>=◌, is_end, body_len, value_after, named, inputs_of, are_inputs, in_range, up_to, fitting, is_protocol, fuse_in, of_simulator, has_fuse, unrepeated, line_behind, said, said_next, onward, fuses_from, protocol_of, room_in, room_before, block_in}
+use Rattle.room_spec.specs.Blocks.{◌>>=◌, is_end, body_len, value_after, version_of, named, inputs_of, are_inputs, in_range, up_to, fitting, agreed, task_of, task_words, task_in, line_behind_task, is_protocol, fuse_in, of_simulator, has_fuse, unrepeated, line_behind, said, said_next, onward, fuses_from, protocol_of, room_in, room_before, block_in}
 use Rattle.room_spec.specs.Grammar.{is_line, text_of, behind_protocol, are_before_end, EndsAt, line_of, IsLocal, IsOfText}
 use Rattle.room_spec.specs.declared.fault.SpecFault.{SpecFault}
-use Rattle.room_spec.specs.declared.fault.SpecFault.TheVariants.{Truncated, BadLine, BadName, BadProtocol, Inputs, Simulators, Rounds, Turns, TooWide, CrashLine, Repeated}
+use Rattle.room_spec.specs.declared.fault.SpecFault.TheVariants.{Truncated, BadLine, BadName, BadProtocol, Inputs, Simulators, Rounds, Turns, TooWide, CrashLine, Repeated, TaskLine}
 use Rattle.room_spec.proofs.Lines.{are_lines, first_line-text_of, later_lines-text_of}
 use Rattle.room_spec.proofs.Ends.{with_line_end, front_to, lines_to_end, end_at, before_line, block_ends, block_nowhere, are_lines-before_end}
 use Rattle.room_spec.proofs.Fuses.{tells_protocol}
-use Rattle.room_spec.proofs.Readings.{from_text, from_fuses, from_turns, from_rounds, from_simulators, from_inputs, from_name}
+use Rattle.room_spec.proofs.Readings.{from_text, from_fuses, from_task, from_turns, from_rounds, from_simulators, from_inputs, from_name}
 
 -- ---- steps that may fail
 
@@ -143,15 +145,19 @@ line_local line said judge next refused judged later =
 
 -- ---- the judgements of lines
 
-abbrev pub word_test : ℕ → Bool → Result ℕ SpecFault
-word_test line is = cond is (Ok 0) (Err (BadLine line))
+pub version_refusal : (line : List ℕ) (fault : SpecFault) → version_of line ≡ Err fault → BadLine 1 ≡ fault
+version_refusal line fault e = by_one (bytes_eq line (codes "bgsim 1")) e
+  where
+    by_two : (b : Bool) → cond b (Ok Two) (Err (BadLine 1)) ≡ Err fault → BadLine 1 ≡ fault
+    by_two true two = absurd cc
+    by_two false two = cc
 
-abbrev pub word_judge : ℕ → List ℕ → List ℕ → Result ℕ SpecFault
-word_judge line word bytes = word_test line (bytes_eq bytes word)
+    by_one : (b : Bool) → cond b (Ok One) (cond (bytes_eq line (codes "bgsim 2")) (Ok Two) (Err (BadLine 1))) ≡ Err fault → BadLine 1 ≡ fault
+    by_one true one = absurd cc
+    by_one false other = by_two (bytes_eq line (codes "bgsim 2")) other
 
-word_fault : (line : ℕ) (is : Bool) (fault : SpecFault) → word_test line is ≡ Err fault → line_of fault ≡ Some line
-word_fault line true fault e = absurd cc
-word_fault line false fault e = let own : BadLine line ≡ fault = cc in ap line_of (sym own)
+version_fault : (line : List ℕ) (fault : SpecFault) → version_of line ≡ Err fault → line_of fault ≡ Some 1
+version_fault line fault e = ap line_of (sym (version_refusal line fault e))
 
 test_fault : {A : Type 0} (line : ℕ) (is : Bool) (x : A) (said fault : SpecFault) → line_of said ≡ Some line → cond is (Ok x) (Err said) ≡ Err fault → line_of fault ≡ Some line
 test_fault line true x said fault of e = absurd cc
@@ -172,16 +178,16 @@ number_fault most said line (Some number) fault of e = test_fault line (nat_le 1
 abbrev pub number_judge : ℕ → List ℕ → ℕ → SpecFault → List ℕ → Result ℕ SpecFault
 number_judge line word most fault bytes = up_to most fault line (option_and_then number_of (value_after word bytes))
 
-abbrev pub fitting_judge : (ℕ → ℕ) → Result ℕ SpecFault → Result ℕ SpecFault
-fitting_judge width rounds = rounds >>= λ n. fitting (width n) >>= λ bits. Ok n
+abbrev pub fitting_judge : ℕ → (ℕ → ℕ) → Result ℕ SpecFault → Result ℕ SpecFault
+fitting_judge most width rounds = rounds >>= λ n. fitting most (width n) >>= λ bits. Ok n
 
 fitting_no : (n bits : ℕ) (fits : Bool) (fault : SpecFault) → (cond fits (Ok bits) (Err TooWide) >>= λ b. Ok n) ≡ Err fault → line_of fault ≡ Some 5
 fitting_no n bits true fault e = absurd cc
 fitting_no n bits false fault e = let same : TooWide ≡ fault = cc in ap line_of (sym same)
 
-fitting_fault : (width : ℕ → ℕ) (rounds : Result ℕ SpecFault) (fault : SpecFault) → ((own : SpecFault) → rounds ≡ Err own → line_of own ≡ Some 5) → fitting_judge width rounds ≡ Err fault → line_of fault ≡ Some 5
-fitting_fault width (Err own) fault of e = let same : own ≡ fault = cc in ap line_of (sym same) ∙ of own refl
-fitting_fault width (Ok n) fault of e = fitting_no n (width n) (nat_le (width n) 64) fault e
+fitting_fault : (most : ℕ) (width : ℕ → ℕ) (rounds : Result ℕ SpecFault) (fault : SpecFault) → ((own : SpecFault) → rounds ≡ Err own → line_of own ≡ Some 5) → fitting_judge most width rounds ≡ Err fault → line_of fault ≡ Some 5
+fitting_fault most width (Err own) fault of e = let same : own ≡ fault = cc in ap line_of (sym same) ∙ of own refl
+fitting_fault most width (Ok n) fault of e = fitting_no n (width n) (nat_le (width n) most) fault e
 
 -- ---- line by line
 
@@ -192,24 +198,20 @@ pub regroup : {A : Type 0} (r : Result A SpecFault) (rest : List ℕ) (next : A 
 regroup (Ok x) rest next = refl
 regroup (Err fault) rest next = refl
 
-pub regroup_word : (line : ℕ) (is : Bool) (rest : List ℕ) (next : List ℕ → Result RoomSpec SpecFault) → (cond is (Ok rest) (Err (BadLine line)) >>= next) ≡ (word_test line is >>= λ x. next rest)
-regroup_word line true rest next = refl
-regroup_word line false rest next = refl
-
 regroup_fitting_at : (n bits : ℕ) (fits : Bool) (rest : List ℕ) (next : ℕ → List ℕ → Result RoomSpec SpecFault) → (cond fits (Ok bits) (Err TooWide) >>= λ b. next n rest) ≡ ((cond fits (Ok bits) (Err TooWide) >>= λ b. Ok n) >>= λ x. next x rest)
 regroup_fitting_at n bits true rest next = refl
 regroup_fitting_at n bits false rest next = refl
 
-pub regroup_fitting : (width : ℕ → ℕ) (rounds : Result ℕ SpecFault) (rest : List ℕ) (next : ℕ → List ℕ → Result RoomSpec SpecFault) → (with_rest rounds rest >>= λ y. fitting (width y.0) >>= λ bits. next y.0 y.1) ≡ (fitting_judge width rounds >>= λ x. next x rest)
-regroup_fitting width (Ok n) rest next = regroup_fitting_at n (width n) (nat_le (width n) 64) rest next
-regroup_fitting width (Err fault) rest next = refl
+pub regroup_fitting : (most : ℕ) (width : ℕ → ℕ) (rounds : Result ℕ SpecFault) (rest : List ℕ) (next : ℕ → List ℕ → Result RoomSpec SpecFault) → (with_rest rounds rest >>= λ y. fitting most (width y.0) >>= λ bits. next y.0 y.1) ≡ (fitting_judge most width rounds >>= λ x. next x rest)
+regroup_fitting most width (Ok n) rest next = regroup_fitting_at n (width n) (nat_le (width n) most) rest next
+regroup_fitting most width (Err fault) rest next = refl
 
 pub protocol_fault : (outcome : Result Protocol ParseFault) (next : Protocol → Result RoomSpec SpecFault) (fault : SpecFault) → ((protocol : Protocol) → next protocol ≡ Err fault → ⊥) → (protocol_of outcome >>= next) ≡ Err fault → (own : ParseFault) × (outcome ≡ Err own) × (BadProtocol own ≡ fault)
 protocol_fault (Ok protocol) next fault never e = absurd (never protocol e)
 protocol_fault (Err own) next fault never e = (own, refl, cc)
 
-local_text : (line : ℕ) (name inputs : List ℕ) (simulators rounds turns : ℕ) (fuses : List (ℕ × ℕ)) → IsLocalFrom line (λ lines. lines) (from_text name inputs simulators rounds turns fuses)
-local_text line name inputs simulators rounds turns fuses = record {
+local_text : (line : ℕ) (version : Version) (name inputs : List ℕ) (simulators rounds turns : ℕ) (task : Option ℕ) (fuses : List (ℕ × ℕ)) → IsLocalFrom line (λ lines. lines) (from_text version name inputs simulators rounds turns task fuses)
+local_text line version name inputs simulators rounds turns task fuses = record {
   own = λ text fault n e h. absurd (let is = protocol_fault (reading text) _ fault (λ protocol same. absurd cc) e in let none : None ≡ Some n = ap line_of is.2 ∙ h in cc);
   protocol = λ lines fault all e. (let is = protocol_fault (reading (text_of lines)) _ (BadProtocol fault) (λ protocol same. absurd cc) e in let same : is.0 ≡ fault = cc in is.1 ∙ ap Err same);
   ends = λ text e. (let is = protocol_fault (reading text) _ Truncated (λ protocol same. absurd cc) e in let same : BadProtocol is.0 ≡ Truncated = is.2 in absurd cc);
@@ -217,21 +219,21 @@ local_text line name inputs simulators rounds turns fuses = record {
 
 -- the crash lines and the line `protocol`, one by one
 
-abbrev pub on_from : ℕ → ℕ → List (ℕ × ℕ) → (List (ℕ × ℕ) → List ℕ → Result RoomSpec SpecFault) → List ℕ → Result RoomSpec SpecFault
-on_from most m fuses next text = fuses_from most m fuses text >>= λ read. next read.0 read.1
+abbrev pub on_from : ℕ → ℕ → ℕ → List (ℕ × ℕ) → (List (ℕ × ℕ) → List ℕ → Result RoomSpec SpecFault) → List ℕ → Result RoomSpec SpecFault
+on_from most from m fuses next text = fuses_from most from m fuses text >>= λ read. next read.0 read.1
 
-abbrev pub on_told : ℕ → ℕ → List (ℕ × ℕ) → (List (ℕ × ℕ) → List ℕ → Result RoomSpec SpecFault) → Option (ℕ × ℕ) → List ℕ → Result RoomSpec SpecFault
-on_told most m fuses next None text = next fuses text
-on_told most m fuses next (Some fuse) text = on_from most m (fuses ++ fuse ∷ []) next text
+abbrev pub on_told : ℕ → ℕ → ℕ → List (ℕ × ℕ) → (List (ℕ × ℕ) → List ℕ → Result RoomSpec SpecFault) → Option (ℕ × ℕ) → List ℕ → Result RoomSpec SpecFault
+on_told most from m fuses next None text = next fuses text
+on_told most from m fuses next (Some fuse) text = on_from most from m (fuses ++ fuse ∷ []) next text
 
-regroup_onward : (most m : ℕ) (fuses : List (ℕ × ℕ)) (next : List (ℕ × ℕ) → List ℕ → Result RoomSpec SpecFault) (found : Result (Option (ℕ × ℕ)) SpecFault) (rest : List ℕ) → ((found >>= onward (fuses_from most m) fuses rest) >>= λ read. next read.0 read.1) ≡ (found >>= λ x. on_told most m fuses next x rest)
-regroup_onward most m fuses next (Err fault) rest = refl
-regroup_onward most m fuses next (Ok None) rest = refl
-regroup_onward most m fuses next (Ok (Some fuse)) rest = refl
+regroup_onward : (most from m : ℕ) (fuses : List (ℕ × ℕ)) (next : List (ℕ × ℕ) → List ℕ → Result RoomSpec SpecFault) (found : Result (Option (ℕ × ℕ)) SpecFault) (rest : List ℕ) → ((found >>= onward (fuses_from most from m) fuses rest) >>= λ read. next read.0 read.1) ≡ (found >>= λ x. on_told most from m fuses next x rest)
+regroup_onward most from m fuses next (Err fault) rest = refl
+regroup_onward most from m fuses next (Ok None) rest = refl
+regroup_onward most from m fuses next (Ok (Some fuse)) rest = refl
 
-pub regroup_fuses : (most m : ℕ) (fuses : List (ℕ × ℕ)) (next : List (ℕ × ℕ) → List ℕ → Result RoomSpec SpecFault) (text : List ℕ) → on_from (suc most) m fuses next text ≡ by_line (said_next m fuses) (on_told most m fuses next) text
+pub regroup_fuses : (most from m : ℕ) (fuses : List (ℕ × ℕ)) (next : List (ℕ × ℕ) → List ℕ → Result RoomSpec SpecFault) (text : List ℕ) → on_from (suc most) from m fuses next text ≡ by_line (said_next from m fuses) (on_told most from m fuses next) text
 unfolding fuses_from
-regroup_fuses most m fuses next text = regroup_onward most m fuses next (said_next m fuses (first_line text)) (later_lines text)
+regroup_fuses most from m fuses next text = regroup_onward most from m fuses next (said_next from m fuses (first_line text)) (later_lines text)
 
 of_simulator_fault : (line m : ℕ) (found : Option (ℕ × ℕ)) (fault : SpecFault) → of_simulator line m found ≡ Err fault → line_of fault ≡ Some line
 of_simulator_fault line m None fault e = let own : CrashLine line ≡ fault = cc in ap line_of (sym own)
@@ -241,80 +243,172 @@ unrepeated_fault : (line : ℕ) (has : Bool) (fuse : Option (ℕ × ℕ)) (fault
 unrepeated_fault line true fuse fault e = let own : Repeated line ≡ fault = cc in ap line_of (sym own)
 unrepeated_fault line false fuse fault e = absurd cc
 
-told_fault : (m : ℕ) (fuses : List (ℕ × ℕ)) (line : List ℕ) (found : Option (List ℕ)) (fault : SpecFault) → said m fuses line found ≡ Err fault → line_of fault ≡ Some (line_behind fuses)
-told_fault m fuses line None fault e = test_fault {A = Option (ℕ × ℕ)} (line_behind fuses) (is_protocol line) None (BadLine (line_behind fuses)) fault refl e
-told_fault m fuses line (Some words) fault e =
-    elim (err_cases (of_simulator (line_behind fuses) m (fuse_in (fields_of words))) (unrepeated (line_behind fuses) fuses) fault e) [
-      | inl here ↦ of_simulator_fault (line_behind fuses) m (fuse_in (fields_of words)) fault here
-      | inr (fuse, found, there) ↦ unrepeated_fault (line_behind fuses) (has_fuse fuses fuse.0) (Some fuse) fault there
+told_fault : (from m : ℕ) (fuses : List (ℕ × ℕ)) (line : List ℕ) (found : Option (List ℕ)) (fault : SpecFault) → said from m fuses line found ≡ Err fault → line_of fault ≡ Some (line_behind from fuses)
+told_fault from m fuses line None fault e = test_fault {A = Option (ℕ × ℕ)} (line_behind from fuses) (is_protocol line) None (BadLine (line_behind from fuses)) fault refl e
+told_fault from m fuses line (Some words) fault e =
+    elim (err_cases (of_simulator (line_behind from fuses) m (fuse_in (fields_of words))) (unrepeated (line_behind from fuses) fuses) fault e) [
+      | inl here ↦ of_simulator_fault (line_behind from fuses) m (fuse_in (fields_of words)) fault here
+      | inr (fuse, found, there) ↦ unrepeated_fault (line_behind from fuses) (has_fuse fuses fuse.0) (Some fuse) fault there
     ]
 
-crash_is_other : (m : ℕ) (fuses : List (ℕ × ℕ)) (line : List ℕ) (fuse : ℕ × ℕ) → said_next m fuses line ≡ Ok (Some fuse) → is_protocol line ≡ false
-crash_is_other m fuses line fuse is =
+crash_is_other : (from m : ℕ) (fuses : List (ℕ × ℕ)) (line : List ℕ) (fuse : ℕ × ℕ) → said_next from m fuses line ≡ Ok (Some fuse) → is_protocol line ≡ false
+crash_is_other from m fuses line fuse is =
     elim (cases_Bool (is_protocol line)) [
-      | inl same ↦ absurd (let e : said_next m fuses (codes "protocol") ≡ Ok (Some fuse) = ap (said_next m fuses) (sym ((bytes_eq-Decides line (codes "protocol")).0 same)) ∙ is in cc)
+      | inl same ↦ absurd (let e : said_next from m fuses (codes "protocol") ≡ Ok (Some fuse) = ap (said_next from m fuses) (sym ((bytes_eq-Decides line (codes "protocol")).0 same)) ∙ is in cc)
       | inr other ↦ other
     ]
 
-protocol_is_itself : (m : ℕ) (fuses : List (ℕ × ℕ)) (line : List ℕ) → said_next m fuses line ≡ Ok None → is_protocol line ≡ true
-protocol_is_itself m fuses line is = (bytes_eq-Decides line (codes "protocol")).1 (tells_protocol m fuses line is)
+protocol_is_itself : (from m : ℕ) (fuses : List (ℕ × ℕ)) (line : List ℕ) → said_next from m fuses line ≡ Ok None → is_protocol line ≡ true
+protocol_is_itself from m fuses line is = (bytes_eq-Decides line (codes "protocol")).1 (tells_protocol from m fuses line is)
 
-local_told : (most m : ℕ) (fuses : List (ℕ × ℕ)) (next : List (ℕ × ℕ) → List ℕ → Result RoomSpec SpecFault) → IsLocalFrom (suc (line_behind fuses)) (λ lines. lines) (next fuses) → ((fuse : ℕ × ℕ) → IsLocalFrom (suc (line_behind fuses)) behind_protocol (on_from most m (fuses ++ fuse ∷ []) next)) → (x : Option (ℕ × ℕ)) → Later (line_behind fuses) behind_protocol (said_next m fuses) (on_told most m fuses next) x
-local_told most m fuses next text more None = (λ lines. lines, text, λ bytes lines is. behind_itself bytes lines (protocol_is_itself m fuses bytes is), refl)
-local_told most m fuses next text more (Some fuse) = (behind_protocol, more fuse, λ bytes lines is. behind_other bytes lines (crash_is_other m fuses bytes fuse is), refl)
+local_told : (most from m : ℕ) (fuses : List (ℕ × ℕ)) (next : List (ℕ × ℕ) → List ℕ → Result RoomSpec SpecFault) → IsLocalFrom (suc (line_behind from fuses)) (λ lines. lines) (next fuses) → ((fuse : ℕ × ℕ) → IsLocalFrom (suc (line_behind from fuses)) behind_protocol (on_from most from m (fuses ++ fuse ∷ []) next)) → (x : Option (ℕ × ℕ)) → Later (line_behind from fuses) behind_protocol (said_next from m fuses) (on_told most from m fuses next) x
+local_told most from m fuses next text more None = (λ lines. lines, text, λ bytes lines is. behind_itself bytes lines (protocol_is_itself from m fuses bytes is), refl)
+local_told most from m fuses next text more (Some fuse) = (behind_protocol, more fuse, λ bytes lines is. behind_other bytes lines (crash_is_other from m fuses bytes fuse is), refl)
 
-no_line_local : (fuses : List (ℕ × ℕ)) (read : List ℕ → Result RoomSpec SpecFault) → ((text : List ℕ) → read text ≡ Err (BadLine (line_behind fuses))) → IsLocalFrom (line_behind fuses) behind_protocol read
-no_line_local fuses read is = record {
-  own = λ text fault n e h. (let same : Err (BadLine (line_behind fuses)) ≡ Err fault = sym (is text) ∙ e in let own : BadLine (line_behind fuses) ≡ fault = cc in let at : line_behind fuses ≡ n = same_Some _ _ (ap line_of own ∙ h) in (omega arith, λ other agree. is other ∙ ap Err own));
-  protocol = λ lines fault all e. absurd (let same : Err (BadLine (line_behind fuses)) ≡ Err (BadProtocol fault) = sym (is (text_of lines)) ∙ e in cc);
-  ends = λ text e. (let same : Err (BadLine (line_behind fuses)) ≡ Err Truncated = sym (is text) ∙ e in absurd cc);
+no_line_local : (from : ℕ) (fuses : List (ℕ × ℕ)) (read : List ℕ → Result RoomSpec SpecFault) → ((text : List ℕ) → read text ≡ Err (BadLine (line_behind from fuses))) → IsLocalFrom (line_behind from fuses) behind_protocol read
+no_line_local from fuses read is = record {
+  own = λ text fault n e h. (let same : Err (BadLine (line_behind from fuses)) ≡ Err fault = sym (is text) ∙ e in let own : BadLine (line_behind from fuses) ≡ fault = cc in let at : line_behind from fuses ≡ n = same_Some _ _ (ap line_of own ∙ h) in (omega arith, λ other agree. is other ∙ ap Err own));
+  protocol = λ lines fault all e. absurd (let same : Err (BadLine (line_behind from fuses)) ≡ Err (BadProtocol fault) = sym (is (text_of lines)) ∙ e in cc);
+  ends = λ text e. (let same : Err (BadLine (line_behind from fuses)) ≡ Err Truncated = sym (is text) ∙ e in absurd cc);
 }
 
-longer_line : (fuses : List (ℕ × ℕ)) (fuse : ℕ × ℕ) → line_behind (fuses ++ fuse ∷ []) ≡ suc (line_behind fuses)
-longer_line fuses fuse = omega (arith, length-append fuses (fuse ∷ []))
+longer_line : (from : ℕ) (fuses : List (ℕ × ℕ)) (fuse : ℕ × ℕ) → line_behind from (fuses ++ fuse ∷ []) ≡ suc (line_behind from fuses)
+longer_line from fuses fuse = omega (arith, length-append fuses (fuse ∷ []))
 
-local_fuses_from : (most m : ℕ) (fuses : List (ℕ × ℕ)) (next : List (ℕ × ℕ) → List ℕ → Result RoomSpec SpecFault) → ((line : ℕ) (all : List (ℕ × ℕ)) → IsLocalFrom line (λ lines. lines) (next all)) → IsLocalFrom (line_behind fuses) behind_protocol (on_from most m fuses next)
+local_fuses_from : (most from m : ℕ) (fuses : List (ℕ × ℕ)) (next : List (ℕ × ℕ) → List ℕ → Result RoomSpec SpecFault) → ((line : ℕ) (all : List (ℕ × ℕ)) → IsLocalFrom line (λ lines. lines) (next all)) → IsLocalFrom (line_behind from fuses) behind_protocol (on_from most from m fuses next)
 unfolding fuses_from
-local_fuses_from zero m fuses next text = no_line_local fuses (on_from zero m fuses next) (λ t. refl)
-local_fuses_from (suc most) m fuses next text =
-    same_reader (line_behind fuses) behind_protocol (on_from (suc most) m fuses next) (by_line (said_next m fuses) (on_told most m fuses next)) (regroup_fuses most m fuses next)
-    (judged_local (line_behind fuses) behind_protocol (said_next m fuses) (on_told most m fuses next) (λ bytes. told_fault m fuses bytes (value_after (codes "crash ") bytes))
-    (local_told most m fuses next (text (suc (line_behind fuses)) fuses) (λ fuse. subst (λ (line : ℕ). IsLocalFrom line behind_protocol (on_from most m (fuses ++ fuse ∷ []) next)) (longer_line fuses fuse) (local_fuses_from most m (fuses ++ fuse ∷ []) next text))))
+local_fuses_from zero from m fuses next text = no_line_local from fuses (on_from zero from m fuses next) (λ t. refl)
+local_fuses_from (suc most) from m fuses next text =
+    same_reader (line_behind from fuses) behind_protocol (on_from (suc most) from m fuses next) (by_line (said_next from m fuses) (on_told most from m fuses next)) (regroup_fuses most from m fuses next)
+    (judged_local (line_behind from fuses) behind_protocol (said_next from m fuses) (on_told most from m fuses next) (λ bytes. told_fault from m fuses bytes (value_after (codes "crash ") bytes))
+    (local_told most from m fuses next (text (suc (line_behind from fuses)) fuses) (λ fuse. subst (λ (line : ℕ). IsLocalFrom line behind_protocol (on_from most from m (fuses ++ fuse ∷ []) next)) (longer_line from fuses fuse) (local_fuses_from most from m (fuses ++ fuse ∷ []) next text))))
 
-local_fuses : (name inputs : List ℕ) (simulators rounds turns : ℕ) → IsLocalFrom 7 behind_protocol (from_fuses name inputs simulators rounds turns)
-local_fuses name inputs simulators rounds turns = local_fuses_from (suc simulators) simulators [] (λ fuses. from_text name inputs simulators rounds turns fuses) (λ line all. local_text line name inputs simulators rounds turns all)
+local_fuses : (version : Version) (name inputs : List ℕ) (simulators rounds turns : ℕ) (task : Option ℕ) → IsLocalFrom (line_behind_task task) behind_protocol (from_fuses version name inputs simulators rounds turns task)
+local_fuses version name inputs simulators rounds turns task =
+    subst (λ (line : ℕ). IsLocalFrom line behind_protocol (from_fuses version name inputs simulators rounds turns task)) (let none : line_behind (line_behind_task task) [] ≡ line_behind_task task = omega arith in none)
+    (local_fuses_from (suc simulators) (line_behind_task task) simulators [] (λ fuses. from_text version name inputs simulators rounds turns task fuses) (λ line all. local_text line version name inputs simulators rounds turns task all))
 
-local_turns : (name inputs : List ℕ) (simulators rounds : ℕ) → IsLocalFrom 6 behind_protocol (from_turns name inputs simulators rounds)
-local_turns name inputs simulators rounds =
-    same_reader 6 behind_protocol (from_turns name inputs simulators rounds) _ (λ text. regroup (number_judge 6 (codes "turns ") 65535 Turns (first_line text)) (later_lines text) (λ turns. from_fuses name inputs simulators rounds turns))
-    (line_local 6 (BadLine 6) (number_judge 6 (codes "turns ") 65535 Turns) (λ turns. from_fuses name inputs simulators rounds turns) refl (λ bytes fault. number_fault 65535 Turns 6 (option_and_then number_of (value_after (codes "turns ") bytes)) fault refl) (λ turns. local_fuses name inputs simulators rounds turns))
+-- ---- the line behind the turns: a task, or what the first line behind the task would tell
 
-local_rounds : (name inputs : List ℕ) (simulators : ℕ) → IsLocalFrom 5 behind_protocol (from_rounds name inputs simulators)
-local_rounds name inputs simulators =
-    same_reader 5 behind_protocol (from_rounds name inputs simulators) _ (λ text. regroup_fitting (λ n. simulators * length inputs * bits_of n) (number_judge 5 (codes "rounds ") 15 Rounds (first_line text)) (later_lines text) (λ rounds. from_turns name inputs simulators rounds))
-    (line_local 5 (BadLine 5) (λ bytes. fitting_judge (λ n. simulators * length inputs * bits_of n) (number_judge 5 (codes "rounds ") 15 Rounds bytes)) (λ rounds. from_turns name inputs simulators rounds) refl
-    (λ bytes fault. fitting_fault (λ n. simulators * length inputs * bits_of n) (number_judge 5 (codes "rounds ") 15 Rounds bytes) fault (λ own. number_fault 15 Rounds 5 (option_and_then number_of (value_after (codes "rounds ") bytes)) own refl)) (λ rounds. local_turns name inputs simulators rounds))
+abbrev pub seventh_by : ℕ → List ℕ → Option (List ℕ) → Result (ℕ ⊎ Option (ℕ × ℕ)) SpecFault
+seventh_by m line None = said_next 7 m [] line >>= λ told. Ok (inr told)
+seventh_by m line (Some words) = task_of words >>= λ most. Ok (inl most)
 
-local_simulators : (name inputs : List ℕ) → IsLocalFrom 4 behind_protocol (from_simulators name inputs)
-local_simulators name inputs =
-    same_reader 4 behind_protocol (from_simulators name inputs) _ (λ text. regroup (number_judge 4 (codes "simulators ") 8 Simulators (first_line text)) (later_lines text) (λ simulators. from_rounds name inputs simulators))
-    (line_local 4 (BadLine 4) (number_judge 4 (codes "simulators ") 8 Simulators) (λ simulators. from_rounds name inputs simulators) refl (λ bytes fault. number_fault 8 Simulators 4 (option_and_then number_of (value_after (codes "simulators ") bytes)) fault refl) (λ simulators. local_rounds name inputs simulators))
+abbrev pub seventh : Version → ℕ → List ℕ → Result (ℕ ⊎ Option (ℕ × ℕ)) SpecFault
+seventh version m line = seventh_by m line (task_words version line)
 
-local_inputs : (name : List ℕ) → IsLocalFrom 3 behind_protocol (from_inputs name)
-local_inputs name =
-    same_reader 3 behind_protocol (from_inputs name) _ (λ text. regroup (in_range (inputs_of (fields_of (first_line text)))) (later_lines text) (λ inputs. from_simulators name inputs))
-    (line_local 3 (BadLine 3) (λ bytes. in_range (inputs_of (fields_of bytes))) (λ inputs. from_simulators name inputs) refl (λ bytes. inputs_fault (inputs_of (fields_of bytes))) (λ inputs. local_simulators name inputs))
+abbrev pub on_seventh : Version → List ℕ → List ℕ → ℕ → ℕ → ℕ → ℕ ⊎ Option (ℕ × ℕ) → List ℕ → Result RoomSpec SpecFault
+on_seventh version name inputs simulators rounds turns (inl most) text = from_fuses version name inputs simulators rounds turns (Some most) text
+on_seventh version name inputs simulators rounds turns (inr told) text = on_told simulators 7 simulators [] (λ fuses. from_text version name inputs simulators rounds turns None fuses) told text
 
-local_name : IsLocalFrom 2 behind_protocol from_name
-local_name =
-    same_reader 2 behind_protocol from_name _ (λ text. regroup (named (value_after (codes "room ") (first_line text))) (later_lines text) (λ name. from_inputs name))
-    (line_local 2 (BadLine 2) (λ bytes. named (value_after (codes "room ") bytes)) (λ name. from_inputs name) refl (λ bytes. name_fault (value_after (codes "room ") bytes)) (λ name. local_inputs name))
+regroup_told : (told : Result (Option (ℕ × ℕ)) SpecFault) (next : ℕ ⊎ Option (ℕ × ℕ) → Result RoomSpec SpecFault) → (told >>= λ x. next (inr x)) ≡ ((told >>= λ x. Ok (inr x)) >>= next)
+regroup_told (Ok x) next = refl
+regroup_told (Err fault) next = refl
+
+regroup_agreed : (most : Result ℕ SpecFault) (rest : List ℕ) (next : Option ℕ → List ℕ → Result RoomSpec SpecFault) (on : ℕ ⊎ Option (ℕ × ℕ) → List ℕ → Result RoomSpec SpecFault) → ((x : ℕ) → next (Some x) rest ≡ on (inl x) rest) → (◌>>=◌ {A = ℕ} {B = Option ℕ × List ℕ} most (λ x. Ok (Some x, rest)) >>= λ y. next y.0 y.1) ≡ (◌>>=◌ {A = ℕ} {B = ℕ ⊎ Option (ℕ × ℕ)} most (λ x. Ok (inl x)) >>= λ x. on x rest)
+regroup_agreed (Ok x) rest next on same = same x
+regroup_agreed (Err fault) rest next on same = refl
+
+regroup_seventh_by : (version : Version) (name inputs : List ℕ) (simulators rounds turns : ℕ) (text : List ℕ) (words : Option (List ℕ)) → (task_in text words >>= λ task. from_fuses version name inputs simulators rounds turns task.0 task.1) ≡ (seventh_by simulators (first_line text) words >>= λ x. on_seventh version name inputs simulators rounds turns x (later_lines text))
+regroup_seventh_by version name inputs simulators rounds turns text None =
+    regroup_fuses simulators 7 simulators [] (λ fuses. from_text version name inputs simulators rounds turns None fuses) text
+    ∙ regroup_told (said_next 7 simulators [] (first_line text)) (λ x. on_seventh version name inputs simulators rounds turns x (later_lines text))
+regroup_seventh_by version name inputs simulators rounds turns text (Some words) =
+    regroup_agreed (task_of words) (later_lines text) (λ task rest. from_fuses version name inputs simulators rounds turns task rest) (λ x rest. on_seventh version name inputs simulators rounds turns x rest) (λ x. refl)
+
+pub regroup_seventh : (version : Version) (name inputs : List ℕ) (simulators rounds turns : ℕ) (text : List ℕ) → from_task version name inputs simulators rounds turns text ≡ by_line (seventh version simulators) (on_seventh version name inputs simulators rounds turns) text
+regroup_seventh version name inputs simulators rounds turns text = regroup_seventh_by version name inputs simulators rounds turns text (task_words version (first_line text))
+
+agreed_fault : (found : Option ℕ) (fault : SpecFault) → agreed found ≡ Err fault → line_of fault ≡ Some 7
+agreed_fault None fault e = let own : TaskLine 7 ≡ fault = cc in ap line_of (sym own)
+agreed_fault (Some most) fault e = test_fault 7 (nat_le 1 most && nat_le most 16) most (TaskLine 7) fault refl e
+
+seventh_fault : (m : ℕ) (line : List ℕ) (words : Option (List ℕ)) (fault : SpecFault) → seventh_by m line words ≡ Err fault → line_of fault ≡ Some 7
+seventh_fault m line None fault e =
+    elim (err_cases (said_next 7 m [] line) (λ told. Ok (inr told)) fault e) [
+      | inl here ↦ told_fault 7 m [] line (value_after (codes "crash ") line) fault here
+      | inr (told, is, there) ↦ absurd cc
+    ]
+seventh_fault m line (Some words) fault e =
+    elim (err_cases (task_of words) (λ most. Ok (inl most)) fault e) [
+      | inl here ↦ agreed_fault (option_and_then number_of (value_after (codes "agree ") words)) fault here
+      | inr (most, is, there) ↦ absurd cc
+    ]
+
+pub told_of : (told : Result (Option (ℕ × ℕ)) SpecFault) (x : Option (ℕ × ℕ)) → ◌≡◌ {A = Result (ℕ ⊎ Option (ℕ × ℕ)) SpecFault} (told >>= λ y. Ok (inr y)) (Ok (inr x)) → told ≡ Ok x
+told_of (Ok y) x e = let same : y ≡ x = cc in ap Ok same
+told_of (Err fault) x e = absurd cc
+
+pub never_task : (told : Result (Option (ℕ × ℕ)) SpecFault) (most : ℕ) → ◌≡◌ {A = Result (ℕ ⊎ Option (ℕ × ℕ)) SpecFault} (told >>= λ y. Ok (inr y)) (Ok (inl most)) → ⊥
+never_task (Ok y) most e = absurd cc
+never_task (Err fault) most e = absurd cc
+
+pub never_told : (agrees : Result ℕ SpecFault) (x : Option (ℕ × ℕ)) → ◌≡◌ {A = Result (ℕ ⊎ Option (ℕ × ℕ)) SpecFault} (agrees >>= λ y. Ok (inl y)) (Ok (inr x)) → ⊥
+never_told (Ok y) x e = absurd cc
+never_told (Err fault) x e = absurd cc
+
+pub seventh_told : (m : ℕ) (line : List ℕ) (words : Option (List ℕ)) (x : Option (ℕ × ℕ)) → seventh_by m line words ≡ Ok (inr x) → said_next 7 m [] line ≡ Ok x
+seventh_told m line None x e = told_of (said_next 7 m [] line) x e
+seventh_told m line (Some words) x e = absurd (never_told (task_of words) x e)
+
+-- the line `protocol` is none of a task
+seventh_protocol : (version : Version) (m most : ℕ) → seventh version m (codes "protocol") ≡ Ok (inl most) → ⊥
+seventh_protocol One m most e = never_task (said_next 7 m [] (codes "protocol")) most e
+seventh_protocol Two m most e = never_task (said_next 7 m [] (codes "protocol")) most e
+
+task_is_other : (version : Version) (m most : ℕ) (line : List ℕ) → seventh version m line ≡ Ok (inl most) → is_protocol line ≡ false
+task_is_other version m most line is =
+    elim (cases_Bool (is_protocol line)) [
+      | inl same ↦ absurd (seventh_protocol version m most (ap (seventh version m) (sym ((bytes_eq-Decides line (codes "protocol")).0 same)) ∙ is))
+      | inr other ↦ other
+    ]
+
+later_seventh : (version : Version) (name inputs : List ℕ) (simulators rounds turns : ℕ) (x : ℕ ⊎ Option (ℕ × ℕ)) → Later 7 behind_protocol (seventh version simulators) (on_seventh version name inputs simulators rounds turns) x
+later_seventh version name inputs simulators rounds turns (inl most) = (behind_protocol, local_fuses version name inputs simulators rounds turns (Some most), λ bytes lines is. behind_other bytes lines (task_is_other version simulators most bytes is), refl)
+later_seventh version name inputs simulators rounds turns (inr None) = (λ lines. lines, local_text 8 version name inputs simulators rounds turns None [], λ bytes lines is. behind_itself bytes lines (protocol_is_itself 7 simulators [] bytes (seventh_told simulators bytes (task_words version bytes) None is)), refl)
+later_seventh version name inputs simulators rounds turns (inr (Some fuse)) = (
+  behind_protocol,
+  local_fuses_from simulators 7 simulators (fuse ∷ []) (λ fuses. from_text version name inputs simulators rounds turns None fuses) (λ line all. local_text line version name inputs simulators rounds turns None all),
+  λ bytes lines is. behind_other bytes lines (crash_is_other 7 simulators [] bytes fuse (seventh_told simulators bytes (task_words version bytes) (Some fuse) is)),
+  refl,
+)
+
+local_task : (version : Version) (name inputs : List ℕ) (simulators rounds turns : ℕ) → IsLocalFrom 7 behind_protocol (from_task version name inputs simulators rounds turns)
+local_task version name inputs simulators rounds turns =
+    same_reader 7 behind_protocol (from_task version name inputs simulators rounds turns) _ (regroup_seventh version name inputs simulators rounds turns)
+    (judged_local 7 behind_protocol (seventh version simulators) (on_seventh version name inputs simulators rounds turns) (λ bytes. seventh_fault simulators bytes (task_words version bytes)) (later_seventh version name inputs simulators rounds turns))
+
+local_turns : (version : Version) (name inputs : List ℕ) (simulators rounds : ℕ) → IsLocalFrom 6 behind_protocol (from_turns version name inputs simulators rounds)
+local_turns version name inputs simulators rounds =
+    same_reader 6 behind_protocol (from_turns version name inputs simulators rounds) _ (λ text. regroup (number_judge 6 (codes "turns ") 65535 Turns (first_line text)) (later_lines text) (λ turns. from_task version name inputs simulators rounds turns))
+    (line_local 6 (BadLine 6) (number_judge 6 (codes "turns ") 65535 Turns) (λ turns. from_task version name inputs simulators rounds turns) refl (λ bytes fault. number_fault 65535 Turns 6 (option_and_then number_of (value_after (codes "turns ") bytes)) fault refl) (λ turns. local_task version name inputs simulators rounds turns))
+
+local_rounds : (version : Version) (name inputs : List ℕ) (simulators : ℕ) → IsLocalFrom 5 behind_protocol (from_rounds version name inputs simulators)
+local_rounds version name inputs simulators =
+    same_reader 5 behind_protocol (from_rounds version name inputs simulators) _ (λ text. regroup_fitting (most_bits version) (λ n. simulators * length inputs * bits_of n) (number_judge 5 (codes "rounds ") 15 Rounds (first_line text)) (later_lines text) (λ rounds. from_turns version name inputs simulators rounds))
+    (line_local 5 (BadLine 5) (λ bytes. fitting_judge (most_bits version) (λ n. simulators * length inputs * bits_of n) (number_judge 5 (codes "rounds ") 15 Rounds bytes)) (λ rounds. from_turns version name inputs simulators rounds) refl
+    (λ bytes fault. fitting_fault (most_bits version) (λ n. simulators * length inputs * bits_of n) (number_judge 5 (codes "rounds ") 15 Rounds bytes) fault (λ own. number_fault 15 Rounds 5 (option_and_then number_of (value_after (codes "rounds ") bytes)) own refl)) (λ rounds. local_turns version name inputs simulators rounds))
+
+local_simulators : (version : Version) (name inputs : List ℕ) → IsLocalFrom 4 behind_protocol (from_simulators version name inputs)
+local_simulators version name inputs =
+    same_reader 4 behind_protocol (from_simulators version name inputs) _ (λ text. regroup (number_judge 4 (codes "simulators ") 8 Simulators (first_line text)) (later_lines text) (λ simulators. from_rounds version name inputs simulators))
+    (line_local 4 (BadLine 4) (number_judge 4 (codes "simulators ") 8 Simulators) (λ simulators. from_rounds version name inputs simulators) refl (λ bytes fault. number_fault 8 Simulators 4 (option_and_then number_of (value_after (codes "simulators ") bytes)) fault refl) (λ simulators. local_rounds version name inputs simulators))
+
+local_inputs : (version : Version) (name : List ℕ) → IsLocalFrom 3 behind_protocol (from_inputs version name)
+local_inputs version name =
+    same_reader 3 behind_protocol (from_inputs version name) _ (λ text. regroup (in_range (inputs_of (fields_of (first_line text)))) (later_lines text) (λ inputs. from_simulators version name inputs))
+    (line_local 3 (BadLine 3) (λ bytes. in_range (inputs_of (fields_of bytes))) (λ inputs. from_simulators version name inputs) refl (λ bytes. inputs_fault (inputs_of (fields_of bytes))) (λ inputs. local_simulators version name inputs))
+
+local_name : (version : Version) → IsLocalFrom 2 behind_protocol (from_name version)
+local_name version =
+    same_reader 2 behind_protocol (from_name version) _ (λ text. regroup (named (value_after (codes "room ") (first_line text))) (later_lines text) (λ name. from_inputs version name))
+    (line_local 2 (BadLine 2) (λ bytes. named (value_after (codes "room ") bytes)) (λ name. from_inputs version name) refl (λ bytes. name_fault (value_after (codes "room ") bytes)) (λ name. local_inputs version name))
 
 pub local_room : IsLocalFrom 1 behind_protocol room_in
 unfolding room_in
 local_room =
-    same_reader 1 behind_protocol room_in _ (λ text. regroup_word 1 (bytes_eq (first_line text) (codes "bgsim 1")) (later_lines text) from_name)
-    (line_local 1 (BadLine 1) (word_judge 1 (codes "bgsim 1")) (λ x. from_name) refl (λ bytes. word_fault 1 (bytes_eq bytes (codes "bgsim 1"))) (λ x. local_name))
+    same_reader 1 behind_protocol room_in _ (λ text. regroup (version_of (first_line text)) (later_lines text) from_name)
+    (line_local 1 (BadLine 1) version_of from_name refl version_fault local_name)
 
 -- ---- whole blocks
 

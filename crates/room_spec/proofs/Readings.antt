@@ -16,17 +16,19 @@ use Rattle.protocol_lang.proofs.Limits.{small_if_read}
 use Rattle.protocol_lang.proofs.Sound.{found as text_read}
 use Rattle.protocol_lang.proofs.Only.{only}
 use Rattle.room_spec.specs.Names.{is_name, is_name_byte}
-use Rattle.room_spec.specs.Rooms.{RoomSpec, AreFuses, IsShape, IsWithinLimits, bits_of, is_value}
+use Rattle.room_spec.specs.Rooms.{RoomSpec, AreFuses, IsShape, IsTaskIn, IsWithinLimits, bits_of, is_value, most_bits}
+use Rattle.room_spec.specs.declared.version.Version.{Version}
+use Rattle.room_spec.specs.declared.version.Version.TheVariants.{One, Two}
 use Rattle.room_spec.specs.Texts.{is_line_end, first_line, later_lines}
-use Rattle.room_spec.specs.Blocks.{◌>>=◌, is_end, body_len, version_line, name_line, are_inputs, inputs_line, number_line, fitting, onward, said_next, fuses_from, fuse_lines, protocol_of, room_in, block_in}
-use Rattle.room_spec.specs.Grammar.{line_end, is_line, text_of, are_before_end, crash_line, head_lines, block_text, IsInFront, IsBlock, IsHead, width_of}
+use Rattle.room_spec.specs.Blocks.{◌>>=◌, is_end, body_len, value_after, version_line, name_line, are_inputs, inputs_line, number_line, fitting, task_of, task_words, task_in, task_line, line_behind_task, onward, said_next, fuses_from, fuse_lines, protocol_of, room_in, block_in}
+use Rattle.room_spec.specs.Grammar.{line_end, is_line, text_of, are_before_end, version_text, agree_line, task_lines, crash_line, head_lines, block_text, IsInFront, IsBlock, IsHead, width_of}
 use Rattle.room_spec.specs.declared.fault.SpecFault.{SpecFault}
 use Rattle.room_spec.specs.declared.fault.SpecFault.TheVariants.{Simulators, Rounds, Turns, TooWide}
 use Rattle.room_spec.proofs.Lines.{are_lines, first_line-text_of, later_lines-text_of}
 use Rattle.room_spec.proofs.Ends.{with_line_end, line_before, end_found, end_at, front_from, front_to, are_lines-before_end}
 use Rattle.room_spec.proofs.Numerals.{each_passes, decimal_passes, digit_no_line_end}
 use Rattle.room_spec.proofs.Fuses.{fuses_few, fuses_apart, fuses_pushed, no_fuses, tells_fuse, tells_protocol, crash_line_found, crash_line_again}
-use Rattle.room_spec.proofs.Heads.{small_value, bind_ok, guard_ok, ok_is, version_found, version_again, name_found, name_again, number_found, number_again, inputs_are_values, inputs_found, inputs_again}
+use Rattle.room_spec.proofs.Heads.{small_value, bind_ok, guard_ok, ok_is, version_found, version_again, name_found, name_again, number_found, number_again, inputs_are_values, inputs_found, inputs_again, words_begin, task_said, task_again, task_begins}
 
 -- ---- one line after the other
 
@@ -53,29 +55,32 @@ takes text (top ∷ lines) line rest is all some first later =
 
 -- ---- what is read line by line, from a line on
 
-abbrev pub from_text : List ℕ → List ℕ → ℕ → ℕ → ℕ → List (ℕ × ℕ) → List ℕ → Result RoomSpec SpecFault
-from_text name inputs simulators rounds turns fuses text = protocol_of (reading text) >>= λ protocol. Ok (record { name = name; inputs = inputs; simulators = simulators; rounds = rounds; turns = turns; fuses = fuses; protocol = protocol })
+abbrev pub from_text : Version → List ℕ → List ℕ → ℕ → ℕ → ℕ → Option ℕ → List (ℕ × ℕ) → List ℕ → Result RoomSpec SpecFault
+from_text version name inputs simulators rounds turns task fuses text = protocol_of (reading text) >>= λ protocol. Ok (record { version = version; name = name; inputs = inputs; simulators = simulators; rounds = rounds; turns = turns; task = task; fuses = fuses; protocol = protocol })
 
-abbrev pub from_fuses : List ℕ → List ℕ → ℕ → ℕ → ℕ → List ℕ → Result RoomSpec SpecFault
-from_fuses name inputs simulators rounds turns text = fuse_lines simulators text >>= λ fuses. from_text name inputs simulators rounds turns fuses.0 fuses.1
+abbrev pub from_fuses : Version → List ℕ → List ℕ → ℕ → ℕ → ℕ → Option ℕ → List ℕ → Result RoomSpec SpecFault
+from_fuses version name inputs simulators rounds turns task text = fuse_lines (line_behind_task task) simulators text >>= λ fuses. from_text version name inputs simulators rounds turns task fuses.0 fuses.1
 
-abbrev pub from_turns : List ℕ → List ℕ → ℕ → ℕ → List ℕ → Result RoomSpec SpecFault
-from_turns name inputs simulators rounds text = number_line 6 (codes "turns ") 65535 Turns text >>= λ turns. from_fuses name inputs simulators rounds turns.0 turns.1
+abbrev pub from_task : Version → List ℕ → List ℕ → ℕ → ℕ → ℕ → List ℕ → Result RoomSpec SpecFault
+from_task version name inputs simulators rounds turns text = task_line version text >>= λ task. from_fuses version name inputs simulators rounds turns task.0 task.1
 
-abbrev pub from_fitting : List ℕ → List ℕ → ℕ → ℕ → List ℕ → Result RoomSpec SpecFault
-from_fitting name inputs simulators rounds text = fitting (simulators * length inputs * bits_of rounds) >>= λ bits. from_turns name inputs simulators rounds text
+abbrev pub from_turns : Version → List ℕ → List ℕ → ℕ → ℕ → List ℕ → Result RoomSpec SpecFault
+from_turns version name inputs simulators rounds text = number_line 6 (codes "turns ") 65535 Turns text >>= λ turns. from_task version name inputs simulators rounds turns.0 turns.1
 
-abbrev pub from_rounds : List ℕ → List ℕ → ℕ → List ℕ → Result RoomSpec SpecFault
-from_rounds name inputs simulators text = number_line 5 (codes "rounds ") 15 Rounds text >>= λ rounds. from_fitting name inputs simulators rounds.0 rounds.1
+abbrev pub from_fitting : Version → List ℕ → List ℕ → ℕ → ℕ → List ℕ → Result RoomSpec SpecFault
+from_fitting version name inputs simulators rounds text = fitting (most_bits version) (simulators * length inputs * bits_of rounds) >>= λ bits. from_turns version name inputs simulators rounds text
 
-abbrev pub from_simulators : List ℕ → List ℕ → List ℕ → Result RoomSpec SpecFault
-from_simulators name inputs text = number_line 4 (codes "simulators ") 8 Simulators text >>= λ simulators. from_rounds name inputs simulators.0 simulators.1
+abbrev pub from_rounds : Version → List ℕ → List ℕ → ℕ → List ℕ → Result RoomSpec SpecFault
+from_rounds version name inputs simulators text = number_line 5 (codes "rounds ") 15 Rounds text >>= λ rounds. from_fitting version name inputs simulators rounds.0 rounds.1
 
-abbrev pub from_inputs : List ℕ → List ℕ → Result RoomSpec SpecFault
-from_inputs name text = inputs_line text >>= λ inputs. from_simulators name inputs.0 inputs.1
+abbrev pub from_simulators : Version → List ℕ → List ℕ → List ℕ → Result RoomSpec SpecFault
+from_simulators version name inputs text = number_line 4 (codes "simulators ") 8 Simulators text >>= λ simulators. from_rounds version name inputs simulators.0 simulators.1
 
-abbrev pub from_name : List ℕ → Result RoomSpec SpecFault
-from_name text = name_line text >>= λ name. from_inputs name.0 name.1
+abbrev pub from_inputs : Version → List ℕ → List ℕ → Result RoomSpec SpecFault
+from_inputs version name text = inputs_line text >>= λ inputs. from_simulators version name inputs.0 inputs.1
+
+abbrev pub from_name : Version → List ℕ → Result RoomSpec SpecFault
+from_name version text = name_line text >>= λ name. from_inputs version name.0 name.1
 
 -- ---- what is read
 
@@ -91,16 +96,18 @@ pub protocol_read : (outcome : Result Protocol ParseFault) (protocol : Protocol)
 protocol_read (Ok read) protocol e = cc
 protocol_read (Err fault) protocol e = absurd cc
 
-fitting_read : (bits n : ℕ) → fitting bits ≡ Ok n → bits ≤ 64
-fitting_read bits n e = leb-true bits 64 (guard_ok (nat_le bits 64) TooWide bits n e).0
+fitting_read : (most bits n : ℕ) → fitting most bits ≡ Ok n → bits ≤ most
+fitting_read most bits n e = leb-true bits most (guard_ok (nat_le bits most) TooWide bits n e).0
 
 -- what a room was made of, and the lines that say the rest of it
-record Found (name inputs : List ℕ) (simulators rounds turns : ℕ) (lines head : List (List ℕ)) (room : RoomSpec) : Type 0 where
+record Found (version : Version) (name inputs : List ℕ) (simulators rounds turns : ℕ) (task : Option ℕ) (lines head : List (List ℕ)) (room : RoomSpec) : Type 0 where
+  version_is : room.version ≡ version
   name_is : room.name ≡ name
   inputs_is : room.inputs ≡ inputs
   simulators_is : room.simulators ≡ simulators
   rounds_is : room.rounds ≡ rounds
   turns_is : room.turns ≡ turns
+  task_is : room.task ≡ task
   more : List (List ℕ)
   parts : lines ≡ head ++ more
   protocol : reading (text_of more) ≡ Ok room.protocol
@@ -142,45 +149,47 @@ fuse_says m fuses fuse lines line rest read taken is says = record {
   values = says.values;
 }
 
-told_some : (m : ℕ) (fuses : List (ℕ × ℕ)) (line : List ℕ) (found : Option (ℕ × ℕ)) → said_next m fuses line ≡ Ok found → line ≢ []
-told_some m fuses line found said empty = absurd (let h : said_next m fuses [] ≡ Ok found = sym (ap (said_next m fuses) empty) ∙ said in cc)
+told_some : (from m : ℕ) (fuses : List (ℕ × ℕ)) (line : List ℕ) (found : Option (ℕ × ℕ)) → said_next from m fuses line ≡ Ok found → line ≢ []
+told_some from m fuses line found said empty = absurd (let h : said_next from m fuses [] ≡ Ok found = sym (ap (said_next from m fuses) empty) ∙ said in cc)
 
 pub values_pushed : (fuses : List (ℕ × ℕ)) (fuse : ℕ × ℕ) → list_all (λ f. is_value f.1) fuses ≡ true → is_value fuse.1 ≡ true → list_all (λ f. is_value f.1) (fuses ++ fuse ∷ []) ≡ true
 values_pushed fuses fuse all is = list_all-append (λ (f : ℕ × ℕ). is_value f.1) fuses (fuse ∷ []) ∙ and_from (list_all (λ f. is_value f.1) fuses) (list_all (λ f. is_value f.1) (fuse ∷ [])) all (and_from (is_value fuse.1) true is refl)
 
-onward_found : (most m : ℕ) (fuses : List (ℕ × ℕ)) (line rest : List ℕ) (lines : List (List ℕ)) (found : Option (ℕ × ℕ)) (read : List (ℕ × ℕ) × List ℕ) → m ≤ 8 → Takes lines line rest → AreFuses fuses m → list_all (λ fuse. is_value fuse.1) fuses ≡ true → ((fuse : ℕ × ℕ) (more : List (List ℕ)) → rest ≡ text_of more → are_lines more ≡ true → AreFuses (fuses ++ fuse ∷ []) m → list_all (λ f. is_value f.1) (fuses ++ fuse ∷ []) ≡ true → fuses_from most m (fuses ++ fuse ∷ []) rest ≡ Ok read → SaysFuses m (fuses ++ fuse ∷ []) more read) → said_next m fuses line ≡ Ok found → onward (fuses_from most m) fuses rest found ≡ Ok read → SaysFuses m fuses lines read
-onward_found most m fuses line rest lines None read few taken are values later said e = protocol_says m fuses lines line rest read are values taken (tells_protocol m fuses line said) (ok_is _ read e)
-onward_found most m fuses line rest lines (Some fuse) read few taken are values later said e =
-    let tells = tells_fuse m fuses line fuse said in
+onward_found : (most from m : ℕ) (fuses : List (ℕ × ℕ)) (line rest : List ℕ) (lines : List (List ℕ)) (found : Option (ℕ × ℕ)) (read : List (ℕ × ℕ) × List ℕ) → m ≤ 8 → Takes lines line rest → AreFuses fuses m → list_all (λ fuse. is_value fuse.1) fuses ≡ true → ((fuse : ℕ × ℕ) (more : List (List ℕ)) → rest ≡ text_of more → are_lines more ≡ true → AreFuses (fuses ++ fuse ∷ []) m → list_all (λ f. is_value f.1) (fuses ++ fuse ∷ []) ≡ true → fuses_from most from m (fuses ++ fuse ∷ []) rest ≡ Ok read → SaysFuses m (fuses ++ fuse ∷ []) more read) → said_next from m fuses line ≡ Ok found → onward (fuses_from most from m) fuses rest found ≡ Ok read → SaysFuses m fuses lines read
+onward_found most from m fuses line rest lines None read few taken are values later said e = protocol_says m fuses lines line rest read are values taken (tells_protocol from m fuses line said) (ok_is _ read e)
+onward_found most from m fuses line rest lines (Some fuse) read few taken are values later said e =
+    let tells = tells_fuse from m fuses line fuse said in
     fuse_says m fuses fuse lines line rest read taken (crash_line_found m fuses line fuse few tells)
     (later fuse taken.more taken.rest_is taken.whole (fuses_pushed fuses fuse m are tells.below tells.new) (values_pushed fuses fuse values tells.value) e)
 
-fuses_found : (most m : ℕ) (fuses : List (ℕ × ℕ)) (text : List ℕ) (lines : List (List ℕ)) (read : List (ℕ × ℕ) × List ℕ) → m ≤ 8 → text ≡ text_of lines → are_lines lines ≡ true → AreFuses fuses m → list_all (λ fuse. is_value fuse.1) fuses ≡ true → fuses_from most m fuses text ≡ Ok read → SaysFuses m fuses lines read
+fuses_found : (most from m : ℕ) (fuses : List (ℕ × ℕ)) (text : List ℕ) (lines : List (List ℕ)) (read : List (ℕ × ℕ) × List ℕ) → m ≤ 8 → text ≡ text_of lines → are_lines lines ≡ true → AreFuses fuses m → list_all (λ fuse. is_value fuse.1) fuses ≡ true → fuses_from most from m fuses text ≡ Ok read → SaysFuses m fuses lines read
 unfolding fuses_from
-fuses_found zero m fuses text lines read few is all are values e = absurd cc
-fuses_found (suc most) m fuses text lines read few is all are values e =
-    let step = bind_ok (said_next m fuses (first_line text)) (onward (fuses_from most m) fuses (later_lines text)) read e in
-    let taken = takes text lines (first_line text) (later_lines text) is all (told_some m fuses (first_line text) step.0 step.1) refl refl in
-    onward_found most m fuses (first_line text) (later_lines text) lines step.0 read few taken are values (λ fuse more same whole good goods go. fuses_found most m (fuses ++ fuse ∷ []) (later_lines text) more read few same whole good goods go) step.1 step.2
+fuses_found zero from m fuses text lines read few is all are values e = absurd cc
+fuses_found (suc most) from m fuses text lines read few is all are values e =
+    let step = bind_ok (said_next from m fuses (first_line text)) (onward (fuses_from most from m) fuses (later_lines text)) read e in
+    let taken = takes text lines (first_line text) (later_lines text) is all (told_some from m fuses (first_line text) step.0 step.1) refl refl in
+    onward_found most from m fuses (first_line text) (later_lines text) lines step.0 read few taken are values (λ fuse more same whole good goods go. fuses_found most from m (fuses ++ fuse ∷ []) (later_lines text) more read few same whole good goods go) step.1 step.2
 
 -- what a room's fuses and turns keep
 record Keeps (simulators : ℕ) (room : RoomSpec) : Type 0 where
   fuses : AreFuses room.fuses simulators
   values : list_all (λ fuse. is_value fuse.1) room.fuses ≡ true
 
-found_fuses : (name inputs : List ℕ) (simulators rounds turns : ℕ) (text : List ℕ) (lines : List (List ℕ)) (room : RoomSpec) → simulators ≤ 8 → text ≡ text_of lines → are_lines lines ≡ true → from_fuses name inputs simulators rounds turns text ≡ Ok room → Found name inputs simulators rounds turns lines (map crash_line room.fuses ++ codes "protocol" ∷ []) room × Keeps simulators room
-found_fuses name inputs simulators rounds turns text lines room few is all read =
-    let step = bind_ok (fuse_lines simulators text) (λ fuses. from_text name inputs simulators rounds turns fuses.0 fuses.1) room read in
-    let says = fuses_found (suc simulators) simulators [] text lines step.0 few is all (no_fuses simulators) refl step.1 in
-    let protocol = bind_ok (protocol_of (reading step.0.1)) (λ protocol. Ok (record { name = name; inputs = inputs; simulators = simulators; rounds = rounds; turns = turns; fuses = step.0.0; protocol = protocol })) room step.2 in
-    let made : record { name = name; inputs = inputs; simulators = simulators; rounds = rounds; turns = turns; fuses = step.0.0; protocol = protocol.0 } ≡ room = ok_is _ room protocol.2 in
-    subst (λ (r : RoomSpec). Found name inputs simulators rounds turns lines (map crash_line r.fuses ++ codes "protocol" ∷ []) r × Keeps simulators r) made (
+found_fuses : (version : Version) (name inputs : List ℕ) (simulators rounds turns : ℕ) (task : Option ℕ) (text : List ℕ) (lines : List (List ℕ)) (room : RoomSpec) → simulators ≤ 8 → text ≡ text_of lines → are_lines lines ≡ true → from_fuses version name inputs simulators rounds turns task text ≡ Ok room → Found version name inputs simulators rounds turns task lines (map crash_line room.fuses ++ codes "protocol" ∷ []) room × Keeps simulators room
+found_fuses version name inputs simulators rounds turns task text lines room few is all read =
+    let step = bind_ok (fuse_lines (line_behind_task task) simulators text) (λ fuses. from_text version name inputs simulators rounds turns task fuses.0 fuses.1) room read in
+    let says = fuses_found (suc simulators) (line_behind_task task) simulators [] text lines step.0 few is all (no_fuses simulators) refl step.1 in
+    let protocol = bind_ok (protocol_of (reading step.0.1)) (λ protocol. Ok (record { version = version; name = name; inputs = inputs; simulators = simulators; rounds = rounds; turns = turns; task = task; fuses = step.0.0; protocol = protocol })) room step.2 in
+    let made : record { version = version; name = name; inputs = inputs; simulators = simulators; rounds = rounds; turns = turns; task = task; fuses = step.0.0; protocol = protocol.0 } ≡ room = ok_is _ room protocol.2 in
+    subst (λ (r : RoomSpec). Found version name inputs simulators rounds turns task lines (map crash_line r.fuses ++ codes "protocol" ∷ []) r × Keeps simulators r) made (
       record {
+        version_is = refl;
         name_is = refl;
         inputs_is = refl;
         simulators_is = refl;
         rounds_is = refl;
         turns_is = refl;
+        task_is = refl;
         more = says.more;
         parts = says.parts ∙ ap (λ (new : List (ℕ × ℕ)). map crash_line new ++ codes "protocol" ∷ says.more) (sym says.all) ∙ sym (append_assoc (map crash_line step.0.0) (codes "protocol" ∷ []) says.more);
         protocol = ap reading (sym says.rest_is) ∙ protocol_read (reading step.0.1) protocol.0 protocol.1;
@@ -192,8 +201,11 @@ found_fuses name inputs simulators rounds turns text lines room few is all read 
 abbrev fuses_on : RoomSpec → List (List ℕ)
 fuses_on room = map crash_line room.fuses ++ codes "protocol" ∷ []
 
+abbrev task_on : RoomSpec → List (List ℕ)
+task_on room = task_lines room.task ++ fuses_on room
+
 abbrev turns_on : RoomSpec → List (List ℕ)
-turns_on room = (codes "turns " ++ decimal room.turns) ∷ fuses_on room
+turns_on room = (codes "turns " ++ decimal room.turns) ∷ task_on room
 
 abbrev rounds_on : RoomSpec → List (List ℕ)
 rounds_on room = (codes "rounds " ++ decimal room.rounds) ∷ turns_on room
@@ -210,57 +222,95 @@ name_on room = (codes "room " ++ room.name) ∷ inputs_on room
 one_more : (lines rest head more : List (List ℕ)) (line said : List ℕ) → lines ≡ line ∷ rest → line ≡ said → rest ≡ head ++ more → lines ≡ (said ∷ head) ++ more
 one_more lines rest head more line said top same parts = cc
 
-longer : (name inputs : List ℕ) (simulators rounds turns : ℕ) (lines rest head : List (List ℕ)) (line said : List ℕ) (room : RoomSpec) → lines ≡ line ∷ rest → line ≡ said → Found name inputs simulators rounds turns rest head room → Found name inputs simulators rounds turns lines (said ∷ head) room
-longer name inputs simulators rounds turns lines rest head line said room top same found = record {
+longer : (version : Version) (name inputs : List ℕ) (simulators rounds turns : ℕ) (task : Option ℕ) (lines rest head : List (List ℕ)) (line said : List ℕ) (room : RoomSpec) → lines ≡ line ∷ rest → line ≡ said → Found version name inputs simulators rounds turns task rest head room → Found version name inputs simulators rounds turns task lines (said ∷ head) room
+longer version name inputs simulators rounds turns task lines rest head line said room top same found = record {
+  version_is = found.version_is;
   name_is = found.name_is;
   inputs_is = found.inputs_is;
   simulators_is = found.simulators_is;
   rounds_is = found.rounds_is;
   turns_is = found.turns_is;
+  task_is = found.task_is;
   more = found.more;
   parts = one_more lines rest head found.more line said top same found.parts;
   protocol = found.protocol;
 }
 
-found_turns : (name inputs : List ℕ) (simulators rounds : ℕ) (text : List ℕ) (lines : List (List ℕ)) (room : RoomSpec) → simulators ≤ 8 → text ≡ text_of lines → are_lines lines ≡ true → from_turns name inputs simulators rounds text ≡ Ok room → Found name inputs simulators rounds room.turns lines (turns_on room) room × ((1 ≤ room.turns) × (room.turns ≤ 65535)) × Keeps simulators room
-found_turns name inputs simulators rounds text lines room few is all read =
-    let line = bind_ok (number_line 6 (codes "turns ") 65535 Turns text) (λ turns. from_fuses name inputs simulators rounds turns.0 turns.1) room read in
-    let says = number_found 6 (codes "turns ") 65535 Turns text line.0 (omega arith) line.1 in
-    let taken = takes text lines (codes "turns " ++ decimal line.0.0) line.0.1 is all (cons_some _ _) says.line says.rest_is in
-    let both = found_fuses name inputs simulators rounds line.0.0 line.0.1 taken.more room few taken.rest_is taken.whole line.2 in
+-- what a room's turns and task keep
+record KeepsTurns (room : RoomSpec) : Type 0 where
+  turns : (1 ≤ room.turns) × (room.turns ≤ 65535)
+  task : IsTaskIn room.version room.task
+
+-- only version 2 has lines of tasks
+told_in : (version : Version) (line words : List ℕ) (most : ℕ) → task_words version line ≡ Some words → (1 ≤ most) × (most ≤ 16) → IsTaskIn version (Some most)
+told_in One line words most is range = absurd cc
+told_in Two line words most is range = range
+
+found_task_by : (version : Version) (name inputs : List ℕ) (simulators rounds turns : ℕ) (text : List ℕ) (lines : List (List ℕ)) (room : RoomSpec) (words : Option (List ℕ)) → simulators ≤ 8 → text ≡ text_of lines → are_lines lines ≡ true → task_words version (first_line text) ≡ words
+    → (task_in text words >>= λ task. from_fuses version name inputs simulators rounds turns task.0 task.1) ≡ Ok room → Found version name inputs simulators rounds turns room.task lines (task_on room) room × IsTaskIn room.version room.task × Keeps simulators room
+found_task_by version name inputs simulators rounds turns text lines room None few is all begins read =
+    let both = found_fuses version name inputs simulators rounds turns None text lines room few is all read in
     let found = both.0 in (
-      subst (λ (turns : ℕ). Found name inputs simulators rounds turns lines (turns_on room) room) (sym found.turns_is)
-          (longer name inputs simulators rounds line.0.0 lines taken.more (fuses_on room) (codes "turns " ++ decimal line.0.0) (codes "turns " ++ decimal room.turns) room taken.parts (ap (λ (n : ℕ). codes "turns " ++ decimal n) (sym found.turns_is)) found),
-      subst (λ (n : ℕ). (1 ≤ n) × (n ≤ 65535)) (sym found.turns_is) says.range,
+      subst (λ (task : Option ℕ). Found version name inputs simulators rounds turns task lines (task_lines task ++ fuses_on room) room) (sym found.task_is) found,
+      subst (λ (task : Option ℕ). IsTaskIn room.version task) (sym found.task_is) tt,
+      both.1,
+    )
+found_task_by version name inputs simulators rounds turns text lines room (Some words) few is all begins read =
+    let line = bind_ok (task_of words >>= λ most. Ok (Some most, later_lines text)) (λ task. from_fuses version name inputs simulators rounds turns task.0 task.1) room read in
+    let own = bind_ok (task_of words) (λ most. Ok (Some most, later_lines text)) line.0 line.1 in
+    let same : (Some own.0, later_lines text) ≡ line.0 = ok_is _ line.0 own.2 in
+    let says = task_said (first_line text) words own.0 (words_begin version (first_line text) words begins).1 own.1 in
+    let taken = takes text lines (agree_line own.0) (later_lines text) is all (cons_some _ _) says.0 refl in
+    let both = found_fuses version name inputs simulators rounds turns (Some own.0) (later_lines text) taken.more room few taken.rest_is taken.whole (subst (λ (t : Option ℕ × List ℕ). from_fuses version name inputs simulators rounds turns t.0 t.1 ≡ Ok room) (sym same) line.2) in
+    let found = both.0 in (
+      subst (λ (task : Option ℕ). Found version name inputs simulators rounds turns task lines (task_lines task ++ fuses_on room) room) (sym found.task_is)
+          (longer version name inputs simulators rounds turns (Some own.0) lines taken.more (fuses_on room) (agree_line own.0) (agree_line own.0) room taken.parts refl found),
+      subst (λ (task : Option ℕ). IsTaskIn room.version task) (sym found.task_is) (subst (λ (v : Version). IsTaskIn v (Some own.0)) (sym found.version_is) (told_in version (first_line text) words own.0 begins (says.1, says.2))),
       both.1,
     )
 
-found_rounds : (name inputs : List ℕ) (simulators : ℕ) (text : List ℕ) (lines : List (List ℕ)) (room : RoomSpec) → simulators ≤ 8 → text ≡ text_of lines → are_lines lines ≡ true → from_rounds name inputs simulators text ≡ Ok room → Found name inputs simulators room.rounds room.turns lines (rounds_on room) room × ((1 ≤ room.turns) × (room.turns ≤ 65535)) × (room.simulators * length room.inputs * bits_of room.rounds ≤ 64) × ((1 ≤ room.rounds) × (room.rounds ≤ 15)) × Keeps simulators room
-found_rounds name inputs simulators text lines room few is all read =
-    let line = bind_ok (number_line 5 (codes "rounds ") 15 Rounds text) (λ rounds. from_fitting name inputs simulators rounds.0 rounds.1) room read in
+found_turns : (version : Version) (name inputs : List ℕ) (simulators rounds : ℕ) (text : List ℕ) (lines : List (List ℕ)) (room : RoomSpec) → simulators ≤ 8 → text ≡ text_of lines → are_lines lines ≡ true → from_turns version name inputs simulators rounds text ≡ Ok room → Found version name inputs simulators rounds room.turns room.task lines (turns_on room) room × KeepsTurns room × Keeps simulators room
+found_turns version name inputs simulators rounds text lines room few is all read =
+    let line = bind_ok (number_line 6 (codes "turns ") 65535 Turns text) (λ turns. from_task version name inputs simulators rounds turns.0 turns.1) room read in
+    let says = number_found 6 (codes "turns ") 65535 Turns text line.0 (omega arith) line.1 in
+    let taken = takes text lines (codes "turns " ++ decimal line.0.0) line.0.1 is all (cons_some _ _) says.line says.rest_is in
+    let both = found_task_by version name inputs simulators rounds line.0.0 line.0.1 taken.more room (task_words version (first_line line.0.1)) few taken.rest_is taken.whole refl line.2 in
+    let found = both.0 in (
+      subst (λ (turns : ℕ). Found version name inputs simulators rounds turns room.task lines (turns_on room) room) (sym found.turns_is)
+          (longer version name inputs simulators rounds line.0.0 room.task lines taken.more (task_on room) (codes "turns " ++ decimal line.0.0) (codes "turns " ++ decimal room.turns) room taken.parts (ap (λ (n : ℕ). codes "turns " ++ decimal n) (sym found.turns_is)) found),
+      record { turns = subst (λ (n : ℕ). (1 ≤ n) × (n ≤ 65535)) (sym found.turns_is) says.range; task = both.1 },
+      both.2,
+    )
+
+found_rounds : (version : Version) (name inputs : List ℕ) (simulators : ℕ) (text : List ℕ) (lines : List (List ℕ)) (room : RoomSpec) → simulators ≤ 8 → text ≡ text_of lines → are_lines lines ≡ true → from_rounds version name inputs simulators text ≡ Ok room
+    → Found version name inputs simulators room.rounds room.turns room.task lines (rounds_on room) room × KeepsTurns room × (room.simulators * length room.inputs * bits_of room.rounds ≤ most_bits room.version) × ((1 ≤ room.rounds) × (room.rounds ≤ 15)) × Keeps simulators room
+found_rounds version name inputs simulators text lines room few is all read =
+    let line = bind_ok (number_line 5 (codes "rounds ") 15 Rounds text) (λ rounds. from_fitting version name inputs simulators rounds.0 rounds.1) room read in
     let says = number_found 5 (codes "rounds ") 15 Rounds text line.0 (omega arith) line.1 in
     let taken = takes text lines (codes "rounds " ++ decimal line.0.0) line.0.1 is all (cons_some _ _) says.line says.rest_is in
-    let fits = bind_ok (fitting (simulators * length inputs * bits_of line.0.0)) (λ bits. from_turns name inputs simulators line.0.0 line.0.1) room line.2 in
-    let both = found_turns name inputs simulators line.0.0 line.0.1 taken.more room few taken.rest_is taken.whole fits.2 in
+    let fits = bind_ok (fitting (most_bits version) (simulators * length inputs * bits_of line.0.0)) (λ bits. from_turns version name inputs simulators line.0.0 line.0.1) room line.2 in
+    let both = found_turns version name inputs simulators line.0.0 line.0.1 taken.more room few taken.rest_is taken.whole fits.2 in
     let found = both.0 in
-    let memory : room.simulators * length room.inputs * bits_of room.rounds ≤ 64 = rw (found.simulators_is, found.inputs_is, found.rounds_is) (fitting_read (simulators * length inputs * bits_of line.0.0) fits.0 fits.1) in (
-      subst (λ (rounds : ℕ). Found name inputs simulators rounds room.turns lines (rounds_on room) room) (sym found.rounds_is)
-          (longer name inputs simulators line.0.0 room.turns lines taken.more (turns_on room) (codes "rounds " ++ decimal line.0.0) (codes "rounds " ++ decimal room.rounds) room taken.parts (ap (λ (n : ℕ). codes "rounds " ++ decimal n) (sym found.rounds_is)) found),
+    let memory : room.simulators * length room.inputs * bits_of room.rounds ≤ most_bits room.version =
+    rw (found.version_is, found.simulators_is, found.inputs_is, found.rounds_is) (fitting_read (most_bits version) (simulators * length inputs * bits_of line.0.0) fits.0 fits.1) in (
+      subst (λ (rounds : ℕ). Found version name inputs simulators rounds room.turns room.task lines (rounds_on room) room) (sym found.rounds_is)
+          (longer version name inputs simulators line.0.0 room.turns room.task lines taken.more (turns_on room) (codes "rounds " ++ decimal line.0.0) (codes "rounds " ++ decimal room.rounds) room taken.parts (ap (λ (n : ℕ). codes "rounds " ++ decimal n) (sym found.rounds_is)) found),
       both.1,
       memory,
       subst (λ (n : ℕ). (1 ≤ n) × (n ≤ 15)) (sym found.rounds_is) says.range,
       both.2,
     )
 
-found_simulators : (name inputs : List ℕ) (text : List ℕ) (lines : List (List ℕ)) (room : RoomSpec) → text ≡ text_of lines → are_lines lines ≡ true → from_simulators name inputs text ≡ Ok room → Found name inputs room.simulators room.rounds room.turns lines (simulators_on room) room × ((1 ≤ room.turns) × (room.turns ≤ 65535)) × (room.simulators * length room.inputs * bits_of room.rounds ≤ 64) × ((1 ≤ room.rounds) × (room.rounds ≤ 15)) × ((1 ≤ room.simulators) × (room.simulators ≤ 8)) × Keeps room.simulators room
-found_simulators name inputs text lines room is all read =
-    let line = bind_ok (number_line 4 (codes "simulators ") 8 Simulators text) (λ simulators. from_rounds name inputs simulators.0 simulators.1) room read in
+found_simulators : (version : Version) (name inputs : List ℕ) (text : List ℕ) (lines : List (List ℕ)) (room : RoomSpec) → text ≡ text_of lines → are_lines lines ≡ true → from_simulators version name inputs text ≡ Ok room
+    → Found version name inputs room.simulators room.rounds room.turns room.task lines (simulators_on room) room × KeepsTurns room × (room.simulators * length room.inputs * bits_of room.rounds ≤ most_bits room.version) × ((1 ≤ room.rounds) × (room.rounds ≤ 15)) × ((1 ≤ room.simulators) × (room.simulators ≤ 8)) × Keeps room.simulators room
+found_simulators version name inputs text lines room is all read =
+    let line = bind_ok (number_line 4 (codes "simulators ") 8 Simulators text) (λ simulators. from_rounds version name inputs simulators.0 simulators.1) room read in
     let says = number_found 4 (codes "simulators ") 8 Simulators text line.0 (omega arith) line.1 in
     let taken = takes text lines (codes "simulators " ++ decimal line.0.0) line.0.1 is all (cons_some _ _) says.line says.rest_is in
-    let both = found_rounds name inputs line.0.0 line.0.1 taken.more room says.range.1 taken.rest_is taken.whole line.2 in
+    let both = found_rounds version name inputs line.0.0 line.0.1 taken.more room says.range.1 taken.rest_is taken.whole line.2 in
     let found = both.0 in (
-      subst (λ (simulators : ℕ). Found name inputs simulators room.rounds room.turns lines (simulators_on room) room) (sym found.simulators_is)
-          (longer name inputs line.0.0 room.rounds room.turns lines taken.more (rounds_on room) (codes "simulators " ++ decimal line.0.0) (codes "simulators " ++ decimal room.simulators) room taken.parts (ap (λ (n : ℕ). codes "simulators " ++ decimal n) (sym found.simulators_is)) found),
+      subst (λ (simulators : ℕ). Found version name inputs simulators room.rounds room.turns room.task lines (simulators_on room) room) (sym found.simulators_is)
+          (longer version name inputs line.0.0 room.rounds room.turns room.task lines taken.more (rounds_on room) (codes "simulators " ++ decimal line.0.0) (codes "simulators " ++ decimal room.simulators) room taken.parts (ap (λ (n : ℕ). codes "simulators " ++ decimal n) (sym found.simulators_is)) found),
       both.1,
       both.2,
       both.3,
@@ -277,48 +327,58 @@ inputs_range values are =
     let tests = and_parts (nat_le 1 (length values)) (nat_le (length values) 16) (and_parts _ (list_all is_value values) are).0 in
     (leb-true 1 (length values) tests.0, leb-true (length values) 16 tests.1)
 
-found_inputs : (name : List ℕ) (text : List ℕ) (lines : List (List ℕ)) (room : RoomSpec) → text ≡ text_of lines → are_lines lines ≡ true → from_inputs name text ≡ Ok room → Found name room.inputs room.simulators room.rounds room.turns lines (inputs_on room) room × ((1 ≤ room.turns) × (room.turns ≤ 65535)) × IsShape (length room.inputs) room.simulators (bits_of room.rounds) room.rounds × (room.simulators * length room.inputs * bits_of room.rounds ≤ 64) × (list_all is_value room.inputs ≡ true) × Keeps room.simulators room
-found_inputs name text lines room is all read =
-    let line = bind_ok (inputs_line text) (λ inputs. from_simulators name inputs.0 inputs.1) room read in
+-- no version allows more than four words
+pub most_bits_few : (version : Version) (bits : ℕ) → bits ≤ most_bits version → bits ≤ 256
+most_bits_few One bits few = omega arith
+most_bits_few Two bits few = few
+
+found_inputs : (version : Version) (name : List ℕ) (text : List ℕ) (lines : List (List ℕ)) (room : RoomSpec) → text ≡ text_of lines → are_lines lines ≡ true → from_inputs version name text ≡ Ok room
+    → Found version name room.inputs room.simulators room.rounds room.turns room.task lines (inputs_on room) room × KeepsTurns room × IsShape (length room.inputs) room.simulators (bits_of room.rounds) room.rounds × (room.simulators * length room.inputs * bits_of room.rounds ≤ most_bits room.version) × (list_all is_value room.inputs ≡ true) × Keeps room.simulators room
+found_inputs version name text lines room is all read =
+    let line = bind_ok (inputs_line text) (λ inputs. from_simulators version name inputs.0 inputs.1) room read in
     let says = inputs_found text line.0 line.1 in
     let taken = takes text lines (join_with_byte 32 (codes "inputs" ∷ map decimal line.0.0)) line.0.1 is all (inputs_some line.0.0) says.0 says.1 in
-    let both = found_simulators name line.0.0 line.0.1 taken.more room taken.rest_is taken.whole line.2 in
+    let both = found_simulators version name line.0.0 line.0.1 taken.more room taken.rest_is taken.whole line.2 in
     let found = both.0 in
     let are : are_inputs room.inputs ≡ true = subst (λ (values : List ℕ). are_inputs values ≡ true) (sym found.inputs_is) says.2 in (
-      subst (λ (inputs : List ℕ). Found name inputs room.simulators room.rounds room.turns lines (inputs_on room) room) (sym found.inputs_is)
-          (longer name line.0.0 room.simulators room.rounds room.turns lines taken.more (simulators_on room) (join_with_byte 32 (codes "inputs" ∷ map decimal line.0.0)) (join_with_byte 32 (codes "inputs" ∷ map decimal room.inputs)) room taken.parts (ap (λ (values : List ℕ). join_with_byte 32 (codes "inputs" ∷ map decimal values)) (sym found.inputs_is)) found),
+      subst (λ (inputs : List ℕ). Found version name inputs room.simulators room.rounds room.turns room.task lines (inputs_on room) room) (sym found.inputs_is)
+          (longer version name line.0.0 room.simulators room.rounds room.turns room.task lines taken.more (simulators_on room) (join_with_byte 32 (codes "inputs" ∷ map decimal line.0.0)) (join_with_byte 32 (codes "inputs" ∷ map decimal room.inputs)) room taken.parts (ap (λ (values : List ℕ). join_with_byte 32 (codes "inputs" ∷ map decimal values)) (sym found.inputs_is)) found),
       both.1,
-      record { n_range = inputs_range room.inputs are; m_range = both.4; rounds_range = both.3; width = refl; memory = omega (arith, both.2) },
+      record { n_range = inputs_range room.inputs are; m_range = both.4; rounds_range = both.3; width = refl; memory = most_bits_few room.version (room.simulators * length room.inputs * bits_of room.rounds) both.2 },
       both.2,
       inputs_are_values room.inputs are,
       both.5,
     )
 
-found_name : (text : List ℕ) (lines : List (List ℕ)) (room : RoomSpec) → text ≡ text_of lines → are_lines lines ≡ true → from_name text ≡ Ok room → Found room.name room.inputs room.simulators room.rounds room.turns lines (name_on room) room × IsWithinLimits room × Keeps room.simulators room
-found_name text lines room is all read =
-    let line = bind_ok (name_line text) (λ name. from_inputs name.0 name.1) room read in
+found_name : (version : Version) (text : List ℕ) (lines : List (List ℕ)) (room : RoomSpec) → text ≡ text_of lines → are_lines lines ≡ true → from_name version text ≡ Ok room → Found version room.name room.inputs room.simulators room.rounds room.turns room.task lines (name_on room) room × IsWithinLimits room × Keeps room.simulators room
+found_name version text lines room is all read =
+    let line = bind_ok (name_line text) (λ name. from_inputs version name.0 name.1) room read in
     let says = name_found text line.0 line.1 in
     let taken = takes text lines (codes "room " ++ line.0.0) line.0.1 is all (cons_some _ _) says.0 says.1 in
-    let both = found_inputs line.0.0 line.0.1 taken.more room taken.rest_is taken.whole line.2 in
+    let both = found_inputs version line.0.0 line.0.1 taken.more room taken.rest_is taken.whole line.2 in
     let found = both.0 in (
-      subst (λ (name : List ℕ). Found name room.inputs room.simulators room.rounds room.turns lines (name_on room) room) (sym found.name_is)
-          (longer line.0.0 room.inputs room.simulators room.rounds room.turns lines taken.more (inputs_on room) (codes "room " ++ line.0.0) (codes "room " ++ room.name) room taken.parts (ap (λ (name : List ℕ). codes "room " ++ name) (sym found.name_is)) found),
-      record { name = subst (λ (name : List ℕ). is_name name ≡ true) (sym found.name_is) says.2; shape = both.2; width = both.3; turns = both.1; fuses = both.5.fuses; values = both.4; numerals = small_if_read (text_of found.more) room.protocol found.protocol },
+      subst (λ (name : List ℕ). Found version name room.inputs room.simulators room.rounds room.turns room.task lines (name_on room) room) (sym found.name_is)
+          (longer version line.0.0 room.inputs room.simulators room.rounds room.turns room.task lines taken.more (inputs_on room) (codes "room " ++ line.0.0) (codes "room " ++ room.name) room taken.parts (ap (λ (name : List ℕ). codes "room " ++ name) (sym found.name_is)) found),
+      record { name = subst (λ (name : List ℕ). is_name name ≡ true) (sym found.name_is) says.2; shape = both.2; width = both.3; turns = both.1.turns; task = both.1.task; fuses = both.5.fuses; values = both.4; numerals = small_if_read (text_of found.more) room.protocol found.protocol },
       both.5,
     )
+
+version_some : (version : Version) → version_text version ≢ []
+version_some One = cons_some _ _
+version_some Two = cons_some _ _
 
 room_found : (lines : List (List ℕ)) (room : RoomSpec) → are_lines lines ≡ true → room_in (text_of lines) ≡ Ok room → AreRoom lines room
 unfolding room_in
 room_found lines room all read =
-    let line = bind_ok (version_line (text_of lines)) from_name room read in
+    let line = bind_ok (version_line (text_of lines)) (λ version. from_name version.0 version.1) room read in
     let says = version_found (text_of lines) line.0 line.1 in
-    let taken = takes (text_of lines) lines (codes "bgsim 1") line.0 refl all (cons_some _ _) says.0 says.1 in
-    let both = found_name line.0 taken.more room taken.rest_is taken.whole line.2 in
+    let taken = takes (text_of lines) lines (version_text line.0.0) line.0.1 refl all (version_some line.0.0) says.0 says.1 in
+    let both = found_name line.0.0 line.0.1 taken.more room taken.rest_is taken.whole line.2 in
     record {
       limits = both.1;
       fuses = both.2.values;
       more = both.0.more;
-      parts = one_more lines taken.more (name_on room) both.0.more (codes "bgsim 1") (codes "bgsim 1") taken.parts refl both.0.parts;
+      parts = one_more lines taken.more (name_on room) both.0.more (version_text line.0.0) (version_text room.version) taken.parts (ap version_text (sym both.0.version_is)) both.0.parts;
       protocol = both.0.protocol;
     }
 
@@ -347,9 +407,9 @@ block_found text body room ends read =
 
 -- ---- what is written is read
 
-steps : (room : RoomSpec) (a b c d e f g h : List ℕ) → version_line a ≡ Ok b → name_line b ≡ Ok (room.name, c) → inputs_line c ≡ Ok (room.inputs, d) → number_line 4 (codes "simulators ") 8 Simulators d ≡ Ok (room.simulators, e) → number_line 5 (codes "rounds ") 15 Rounds e ≡ Ok (room.rounds, f) → fitting (room.simulators * length room.inputs * bits_of room.rounds) ≡ Ok (room.simulators * length room.inputs * bits_of room.rounds) → number_line 6 (codes "turns ") 65535 Turns f ≡ Ok (room.turns, g) → fuse_lines room.simulators g ≡ Ok (room.fuses, h) → reading h ≡ Ok room.protocol → room_in a ≡ Ok room
+steps : (room : RoomSpec) (a b c d e f g t h : List ℕ) → version_line a ≡ Ok (room.version, b) → name_line b ≡ Ok (room.name, c) → inputs_line c ≡ Ok (room.inputs, d) → number_line 4 (codes "simulators ") 8 Simulators d ≡ Ok (room.simulators, e) → number_line 5 (codes "rounds ") 15 Rounds e ≡ Ok (room.rounds, f) → fitting (most_bits room.version) (room.simulators * length room.inputs * bits_of room.rounds) ≡ Ok (room.simulators * length room.inputs * bits_of room.rounds) → number_line 6 (codes "turns ") 65535 Turns f ≡ Ok (room.turns, g) → task_line room.version g ≡ Ok (room.task, t) → fuse_lines (line_behind_task room.task) room.simulators t ≡ Ok (room.fuses, h) → reading h ≡ Ok room.protocol → room_in a ≡ Ok room
 unfolding room_in
-steps room a b c d e f g h ab bc cd de ef fits fg gh read = rw (ab, bc, cd, de, ef, fits, fg, gh, read) refl
+steps room a b c d e f g t h ab bc cd de ef fits fg gt th read = rw (ab, bc, cd, de, ef, fits, fg, gt, th, read) refl
 
 name_byte_no_line_end : (byte : ℕ) → is_name_byte byte ≡ true → not (is_line_end byte) ≡ true
 name_byte_no_line_end byte is = grind (arith, nat_tests)
@@ -371,8 +431,14 @@ inputs_line_is piece (value ∷ values) is all =
     let value_is : is_line (decimal value) ≡ true = decimal_passes (λ byte. not (is_line_end byte)) value (omega (arith, leb-true value greatest each.0)) digit_no_line_end in
     word_line piece (32 ∷ join_with_byte 32 (decimal value ∷ map decimal values)) is (inputs_line_is (decimal value) values value_is each.1)
 
-version_text : (more : List (List ℕ)) → version_line (text_of (codes "bgsim 1" ∷ more)) ≡ Ok (text_of more)
-version_text more = version_again (text_of (codes "bgsim 1" ∷ more)) (first_line-text_of (codes "bgsim 1") more refl) ∙ ap Ok (later_lines-text_of (codes "bgsim 1") more refl)
+version_line_is : (version : Version) → is_line (version_text version) ≡ true
+version_line_is One = refl
+version_line_is Two = refl
+
+version_again_text : (version : Version) (more : List (List ℕ)) → version_line (text_of (version_text version ∷ more)) ≡ Ok (version, text_of more)
+version_again_text version more =
+    version_again (text_of (version_text version ∷ more)) version (first_line-text_of (version_text version) more (version_line_is version))
+    ∙ ap (λ (rest : List ℕ). Ok (version, rest)) (later_lines-text_of (version_text version) more (version_line_is version))
 
 crash_line_is : (fuse : ℕ × ℕ) (m : ℕ) → m ≤ 8 → nat_lt fuse.0 m ≡ true → is_value fuse.1 ≡ true → is_line (crash_line fuse) ≡ true
 crash_line_is fuse m few below value =
@@ -381,33 +447,33 @@ crash_line_is fuse m few below value =
     let last : is_line (decimal fuse.1) ≡ true = decimal_passes (λ byte. not (is_line_end byte)) fuse.1 (small_value fuse.1 value) digit_no_line_end in
     word_line (codes "crash ") (decimal fuse.0 ++ (codes " after " ++ decimal fuse.1)) refl (word_line (decimal fuse.0) (codes " after " ++ decimal fuse.1) first (word_line (codes " after ") (decimal fuse.1) refl last))
 
-fuses_step : (most m : ℕ) (fuses : List (ℕ × ℕ)) (line : List ℕ) (more : List (List ℕ)) (found : Option (ℕ × ℕ)) → is_line line ≡ true → said_next m fuses line ≡ Ok found → fuses_from (suc most) m fuses (text_of (line ∷ more)) ≡ onward (fuses_from most m) fuses (text_of more) found
+fuses_step : (most from m : ℕ) (fuses : List (ℕ × ℕ)) (line : List ℕ) (more : List (List ℕ)) (found : Option (ℕ × ℕ)) → is_line line ≡ true → said_next from m fuses line ≡ Ok found → fuses_from (suc most) from m fuses (text_of (line ∷ more)) ≡ onward (fuses_from most from m) fuses (text_of more) found
 unfolding fuses_from
-fuses_step most m fuses line more found is said =
-    ap (λ (l : List ℕ). said_next m fuses l >>= onward (fuses_from most m) fuses (later_lines (text_of (line ∷ more)))) (first_line-text_of line more is)
-    ∙ ap (λ (rest : List ℕ). said_next m fuses line >>= onward (fuses_from most m) fuses rest) (later_lines-text_of line more is)
-    ∙ ap (λ (r : Result (Option (ℕ × ℕ)) SpecFault). r >>= onward (fuses_from most m) fuses (text_of more)) said
+fuses_step most from m fuses line more found is said =
+    ap (λ (l : List ℕ). said_next from m fuses l >>= onward (fuses_from most from m) fuses (later_lines (text_of (line ∷ more)))) (first_line-text_of line more is)
+    ∙ ap (λ (rest : List ℕ). said_next from m fuses line >>= onward (fuses_from most from m) fuses rest) (later_lines-text_of line more is)
+    ∙ ap (λ (r : Result (Option (ℕ × ℕ)) SpecFault). r >>= onward (fuses_from most from m) fuses (text_of more)) said
 
 abbrev read_fuses : List (ℕ × ℕ) → List ℕ → Result (List (ℕ × ℕ) × List ℕ) SpecFault
 read_fuses fuses rest = Ok (fuses, rest)
 
-fuses_again : (new : List (ℕ × ℕ)) (most m : ℕ) (fuses : List (ℕ × ℕ)) (more : List (List ℕ)) → m ≤ 8 → AreFuses (fuses ++ new) m → list_all (λ fuse. is_value fuse.1) new ≡ true → length new < most → fuses_from most m fuses (text_of (map crash_line new ++ codes "protocol" ∷ more)) ≡ Ok (fuses ++ new, text_of more)
-fuses_again new zero m fuses more few are values long = absurd (omega arith)
-fuses_again [] (suc most) m fuses more few are values long =
-    fuses_step most m fuses (codes "protocol") more None refl refl ∙ ap (λ (f : List (ℕ × ℕ)). read_fuses f (text_of more)) (sym (append-nil fuses))
-fuses_again (fuse ∷ new) (suc most) m fuses more few are values long =
+fuses_again : (new : List (ℕ × ℕ)) (most from m : ℕ) (fuses : List (ℕ × ℕ)) (more : List (List ℕ)) → m ≤ 8 → AreFuses (fuses ++ new) m → list_all (λ fuse. is_value fuse.1) new ≡ true → length new < most → fuses_from most from m fuses (text_of (map crash_line new ++ codes "protocol" ∷ more)) ≡ Ok (fuses ++ new, text_of more)
+fuses_again new zero from m fuses more few are values long = absurd (omega arith)
+fuses_again [] (suc most) from m fuses more few are values long =
+    fuses_step most from m fuses (codes "protocol") more None refl refl ∙ ap (λ (f : List (ℕ × ℕ)). read_fuses f (text_of more)) (sym (append-nil fuses))
+fuses_again (fuse ∷ new) (suc most) from m fuses more few are values long =
     let each = and_parts (is_value fuse.1) (list_all (λ f. is_value f.1) new) values in
     let below = and_parts (list_all (λ f. nat_lt f.0 m) fuses) (list_all (λ f. nat_lt f.0 m) (fuse ∷ new)) (sym (list_all-append (λ (f : ℕ × ℕ). nat_lt f.0 m) fuses (fuse ∷ new)) ∙ are.below) in
     let own = and_parts (nat_lt fuse.0 m) (list_all (λ f. nat_lt f.0 m) new) below.1 in
     let grouped : (fuses ++ fuse ∷ []) ++ new ≡ fuses ++ fuse ∷ new = append_assoc fuses (fuse ∷ []) new in
-    fuses_step most m fuses (crash_line fuse) (map crash_line new ++ codes "protocol" ∷ more) (Some fuse) (crash_line_is fuse m few own.0 each.0) (crash_line_again m fuses fuse few own.0 each.0 (fuses_apart fuses fuse new are.distinct))
-    ∙ fuses_again new most m (fuses ++ fuse ∷ []) more few (subst (λ (f : List (ℕ × ℕ)). AreFuses f m) (sym grouped) are) each.1 (omega arith)
+    fuses_step most from m fuses (crash_line fuse) (map crash_line new ++ codes "protocol" ∷ more) (Some fuse) (crash_line_is fuse m few own.0 each.0) (crash_line_again from m fuses fuse few own.0 each.0 (fuses_apart fuses fuse new are.distinct))
+    ∙ fuses_again new most from m (fuses ++ fuse ∷ []) more few (subst (λ (f : List (ℕ × ℕ)). AreFuses f m) (sym grouped) are) each.1 (omega arith)
     ∙ ap (λ (f : List (ℕ × ℕ)). read_fuses f (text_of more)) grouped
 
-fuses_text : (m : ℕ) (fuses : List (ℕ × ℕ)) (more : List (List ℕ)) → m ≤ 8 → AreFuses fuses m → list_all (λ fuse. is_value fuse.1) fuses ≡ true → fuse_lines m (text_of ((map crash_line fuses ++ codes "protocol" ∷ []) ++ more)) ≡ Ok (fuses, text_of more)
-fuses_text m fuses more few are values =
+fuses_text : (from m : ℕ) (fuses : List (ℕ × ℕ)) (more : List (List ℕ)) → m ≤ 8 → AreFuses fuses m → list_all (λ fuse. is_value fuse.1) fuses ≡ true → fuse_lines from m (text_of ((map crash_line fuses ++ codes "protocol" ∷ []) ++ more)) ≡ Ok (fuses, text_of more)
+fuses_text from m fuses more few are values =
     let count : length fuses ≤ m = fuses_few fuses m are in
-    ap (λ (lines : List (List ℕ)). fuse_lines m (text_of lines)) (append_assoc (map crash_line fuses) (codes "protocol" ∷ []) more) ∙ fuses_again fuses (suc m) m [] more few are values (omega arith)
+    ap (λ (lines : List (List ℕ)). fuse_lines from m (text_of lines)) (append_assoc (map crash_line fuses) (codes "protocol" ∷ []) more) ∙ fuses_again fuses (suc m) from m [] more few are values (omega arith)
 
 name_text : (name : List ℕ) (more : List (List ℕ)) → is_name name ≡ true → name_line (text_of ((codes "room " ++ name) ∷ more)) ≡ Ok (name, text_of more)
 name_text name more is =
@@ -426,24 +492,54 @@ number_text line word most fault number more word_is small range =
     number_again line word most fault (text_of ((word ++ decimal number) ∷ more)) number small (first_line-text_of (word ++ decimal number) more is) range
     ∙ ap (λ (rest : List ℕ). Ok (number, rest)) (later_lines-text_of (word ++ decimal number) more is)
 
-fitting_again : (bits : ℕ) → bits ≤ 64 → fitting bits ≡ Ok bits
-fitting_again bits fits = rw (le-leb bits 64 fits) refl
+fitting_again : (most bits : ℕ) → bits ≤ most → fitting most bits ≡ Ok bits
+fitting_again most bits fits = rw (le-leb bits most fits) refl
+
+task_line_is : (most : ℕ) → most ≤ 16 → is_line (agree_line most) ≡ true
+task_line_is most few = number_line_is (codes "task agree ") most refl (omega (arith, few))
+
+-- neither a crash line nor the line `protocol` is one of a task
+no_task : (version : Version) (line : List ℕ) → value_after (codes "task ") line ≡ None → task_words version line ≡ None
+no_task One line none = refl
+no_task Two line none = none
+
+task_none : (version : Version) (m : ℕ) (fuses : List (ℕ × ℕ)) (more : List (List ℕ)) → m ≤ 8 → list_all (λ fuse. nat_lt fuse.0 m) fuses ≡ true → list_all (λ fuse. is_value fuse.1) fuses ≡ true
+    → task_words version (first_line (text_of ((map crash_line fuses ++ codes "protocol" ∷ []) ++ more))) ≡ None
+task_none version m [] more few below values = no_task version (first_line (text_of (codes "protocol" ∷ more))) (ap (value_after (codes "task ")) (first_line-text_of (codes "protocol") more refl))
+task_none version m (fuse ∷ fuses) more few below values =
+    let under = and_parts (nat_lt fuse.0 m) (list_all (λ f. nat_lt f.0 m) fuses) below in
+    let each = and_parts (is_value fuse.1) (list_all (λ f. is_value f.1) fuses) values in
+    no_task version (first_line (text_of (crash_line fuse ∷ ((map crash_line fuses ++ codes "protocol" ∷ []) ++ more)))) (ap (value_after (codes "task ")) (first_line-text_of (crash_line fuse) ((map crash_line fuses ++ codes "protocol" ∷ []) ++ more) (crash_line_is fuse m few under.0 each.0)))
+
+abbrev read_task : Option ℕ → List ℕ → Result (Option ℕ × List ℕ) SpecFault
+read_task task rest = Ok (task, rest)
+
+task_text : (version : Version) (task : Option ℕ) (m : ℕ) (fuses : List (ℕ × ℕ)) (more : List (List ℕ)) → IsTaskIn version task → m ≤ 8 → list_all (λ fuse. nat_lt fuse.0 m) fuses ≡ true → list_all (λ fuse. is_value fuse.1) fuses ≡ true
+    → task_line version (text_of ((task_lines task ++ (map crash_line fuses ++ codes "protocol" ∷ [])) ++ more)) ≡ Ok (task, text_of ((map crash_line fuses ++ codes "protocol" ∷ []) ++ more))
+task_text version None m fuses more may few below values = ap (task_in (text_of ((map crash_line fuses ++ codes "protocol" ∷ []) ++ more))) (task_none version m fuses more few below values)
+task_text One (Some most) m fuses more may few below values = absurd may
+task_text Two (Some most) m fuses more may few below values =
+    let behind = (map crash_line fuses ++ codes "protocol" ∷ []) ++ more in
+    let is = task_line_is most may.1 in
+    ap (task_in (text_of (agree_line most ∷ behind))) (ap (value_after (codes "task ")) (first_line-text_of (agree_line most) behind is) ∙ task_begins most)
+    ∙ ap (λ (r : Result ℕ SpecFault). r >>= λ read. Ok (Some read, later_lines (text_of (agree_line most ∷ behind)))) (task_again most may.0 may.1)
+    ∙ ap (read_task (Some most)) (later_lines-text_of (agree_line most) behind is)
 
 inputs_are : (values : List ℕ) → (1 ≤ length values) × (length values ≤ 16) → list_all is_value values ≡ true → are_inputs values ≡ true
 inputs_are values range all = and_from _ (list_all is_value values) (and_from (nat_le 1 (length values)) (nat_le (length values) 16) (le-leb 1 (length values) range.0) (le-leb (length values) 16 range.1)) all
 
 pub room_again : (room : RoomSpec) (more : List (List ℕ)) → IsWithinLimits room → list_all (λ fuse. is_value fuse.1) room.fuses ≡ true → reading (text_of more) ≡ Ok room.protocol → room_in (text_of (head_lines room ++ more)) ≡ Ok room
 room_again room more limits fuses protocol =
-    let memory : room.simulators * length room.inputs * bits_of room.rounds ≤ 64 = limits.width in
-    steps room (text_of (head_lines room ++ more)) (text_of (name_on room ++ more)) (text_of (inputs_on room ++ more)) (text_of (simulators_on room ++ more)) (text_of (rounds_on room ++ more)) (text_of (turns_on room ++ more)) (text_of (fuses_on room ++ more)) (text_of more)
-    (version_text (name_on room ++ more))
+    steps room (text_of (head_lines room ++ more)) (text_of (name_on room ++ more)) (text_of (inputs_on room ++ more)) (text_of (simulators_on room ++ more)) (text_of (rounds_on room ++ more)) (text_of (turns_on room ++ more)) (text_of (task_on room ++ more)) (text_of (fuses_on room ++ more)) (text_of more)
+    (version_again_text room.version (name_on room ++ more))
     (name_text room.name (inputs_on room ++ more) limits.name)
     (inputs_text room.inputs (simulators_on room ++ more) (inputs_are room.inputs limits.shape.n_range limits.values))
     (number_text 4 (codes "simulators ") 8 Simulators room.simulators (rounds_on room ++ more) refl (omega arith) limits.shape.m_range)
     (number_text 5 (codes "rounds ") 15 Rounds room.rounds (turns_on room ++ more) refl (omega arith) limits.shape.rounds_range)
-    (fitting_again (room.simulators * length room.inputs * bits_of room.rounds) memory)
-    (number_text 6 (codes "turns ") 65535 Turns room.turns (fuses_on room ++ more) refl (omega arith) limits.turns)
-    (fuses_text room.simulators room.fuses more limits.shape.m_range.1 limits.fuses fuses)
+    (fitting_again (most_bits room.version) (room.simulators * length room.inputs * bits_of room.rounds) limits.width)
+    (number_text 6 (codes "turns ") 65535 Turns room.turns (task_on room ++ more) refl (omega arith) limits.turns)
+    (task_text room.version room.task room.simulators room.fuses more limits.task limits.shape.m_range.1 limits.fuses.below fuses)
+    (fuses_text (line_behind_task room.task) room.simulators room.fuses more limits.shape.m_range.1 limits.fuses fuses)
     protocol
 
 -- the limits of a room are those of its head
@@ -454,26 +550,27 @@ head_of room limits values = record {
   simulators = limits.shape.m_range;
   rounds = limits.shape.rounds_range;
   turns = limits.turns;
+  task = limits.task;
   fuses = limits.fuses;
   values = values;
 }
 
-steps_to_width : (room : RoomSpec) (a b c d e f : List ℕ) → version_line a ≡ Ok b → name_line b ≡ Ok (room.name, c) → inputs_line c ≡ Ok (room.inputs, d) → number_line 4 (codes "simulators ") 8 Simulators d ≡ Ok (room.simulators, e) → number_line 5 (codes "rounds ") 15 Rounds e ≡ Ok (room.rounds, f) → fitting (room.simulators * length room.inputs * bits_of room.rounds) ≡ Err TooWide → room_in a ≡ Err TooWide
+steps_to_width : (room : RoomSpec) (a b c d e f : List ℕ) → version_line a ≡ Ok (room.version, b) → name_line b ≡ Ok (room.name, c) → inputs_line c ≡ Ok (room.inputs, d) → number_line 4 (codes "simulators ") 8 Simulators d ≡ Ok (room.simulators, e) → number_line 5 (codes "rounds ") 15 Rounds e ≡ Ok (room.rounds, f) → fitting (most_bits room.version) (room.simulators * length room.inputs * bits_of room.rounds) ≡ Err TooWide → room_in a ≡ Err TooWide
 unfolding room_in
 steps_to_width room a b c d e f ab bc cd de ef wide = rw (ab, bc, cd, de, ef, wide) refl
 
-fitting_never : (bits : ℕ) → 64 < bits → fitting bits ≡ Err TooWide
-fitting_never bits wide = rw (lt-leb bits 64 wide) refl
+fitting_never : (most bits : ℕ) → most < bits → fitting most bits ≡ Err TooWide
+fitting_never most bits wide = rw (lt-leb bits most wide) refl
 
-pub room_too_wide : (room : RoomSpec) (more : List (List ℕ)) → IsHead room → 64 < width_of room room.rounds → room_in (text_of (head_lines room ++ more)) ≡ Err TooWide
+pub room_too_wide : (room : RoomSpec) (more : List (List ℕ)) → IsHead room → most_bits room.version < width_of room room.rounds → room_in (text_of (head_lines room ++ more)) ≡ Err TooWide
 room_too_wide room more head wide =
     steps_to_width room (text_of (head_lines room ++ more)) (text_of (name_on room ++ more)) (text_of (inputs_on room ++ more)) (text_of (simulators_on room ++ more)) (text_of (rounds_on room ++ more)) (text_of (turns_on room ++ more))
-    (version_text (name_on room ++ more))
+    (version_again_text room.version (name_on room ++ more))
     (name_text room.name (inputs_on room ++ more) head.name)
     (inputs_text room.inputs (simulators_on room ++ more) head.inputs)
     (number_text 4 (codes "simulators ") 8 Simulators room.simulators (rounds_on room ++ more) refl (omega arith) head.simulators)
     (number_text 5 (codes "rounds ") 15 Rounds room.rounds (turns_on room ++ more) refl (omega arith) head.rounds)
-    (fitting_never (width_of room room.rounds) wide)
+    (fitting_never (most_bits room.version) (width_of room room.rounds) wide)
 
 inputs_no_end : (values : List ℕ) → is_end (join_with_byte 32 (codes "inputs" ∷ map decimal values)) ≡ false
 inputs_no_end [] = refl
@@ -486,15 +583,25 @@ fuses_no_end m (fuse ∷ fuses) more few below values all =
     let each = and_parts (is_value fuse.1) (list_all (λ f. is_value f.1) fuses) values in
     line_before (crash_line fuse) ((map crash_line fuses ++ codes "protocol" ∷ []) ++ more) (crash_line_is fuse m few under.0 each.0) refl (fuses_no_end m fuses more few under.1 each.1 all)
 
+version_no_end : (version : Version) → is_end (version_text version) ≡ false
+version_no_end One = refl
+version_no_end Two = refl
+
+task_no_end : (version : Version) (task : Option ℕ) (lines : List (List ℕ)) → IsTaskIn version task → are_before_end lines ≡ true → are_before_end (task_lines task ++ lines) ≡ true
+task_no_end version None lines may all = all
+task_no_end One (Some most) lines may all = absurd may
+task_no_end Two (Some most) lines may all = line_before (agree_line most) lines (task_line_is most may.1) refl all
+
 pub head_no_end : (room : RoomSpec) (more : List (List ℕ)) → IsHead room → are_before_end more ≡ true → are_before_end (head_lines room ++ more) ≡ true
 head_no_end room more head all =
-    line_before (codes "bgsim 1") (name_on room ++ more) refl refl
+    line_before (version_text room.version) (name_on room ++ more) (version_line_is room.version) (version_no_end room.version)
     (line_before (codes "room " ++ room.name) (inputs_on room ++ more) (name_line_is room.name head.name) refl
     (line_before (join_with_byte 32 (codes "inputs" ∷ map decimal room.inputs)) (simulators_on room ++ more) (inputs_line_is (codes "inputs") room.inputs refl (inputs_are_values room.inputs head.inputs)) (inputs_no_end room.inputs)
     (line_before (codes "simulators " ++ decimal room.simulators) (rounds_on room ++ more) (number_line_is (codes "simulators ") room.simulators refl (omega (arith, head.simulators.1))) refl
     (line_before (codes "rounds " ++ decimal room.rounds) (turns_on room ++ more) (number_line_is (codes "rounds ") room.rounds refl (omega (arith, head.rounds.1))) refl
-    (line_before (codes "turns " ++ decimal room.turns) (fuses_on room ++ more) (number_line_is (codes "turns ") room.turns refl (omega (arith, head.turns.1))) refl
-    (fuses_no_end room.simulators room.fuses more head.simulators.1 head.fuses.below head.values all))))))
+    (line_before (codes "turns " ++ decimal room.turns) (task_on room ++ more) (number_line_is (codes "turns ") room.turns refl (omega (arith, head.turns.1))) refl
+    (subst (λ (lines : List (List ℕ)). are_before_end lines ≡ true) (sym (append_assoc (task_lines room.task) (fuses_on room) more))
+    (task_no_end room.version room.task (fuses_on room ++ more) head.task (fuses_no_end room.simulators room.fuses more head.simulators.1 head.fuses.below head.values all))))))))
 
 read_to_end : (text : List ℕ) (lines : List (List ℕ)) (later : Option (List ℕ)) (room : RoomSpec) (len : ℕ) → text ≡ text_of lines ++ (codes "end" ++ with_line_end later) → are_before_end lines ≡ true → room_in (text_of lines) ≡ Ok room → min (length (text_of lines) + 4) (length text) ≡ len → block_in text ≡ Ok (room, len)
 read_to_end text lines later room len whole no_end read len_is =

@@ -1,5 +1,5 @@
 -- The definitions on blocks that were worked by hand.
-use Rattle.std.proofs.Common.{◌≡◌, ℕ, List, [], ◌∷◌, ◌++◌, take, false, Some, Ok, Err, refl, arith}
+use Rattle.std.proofs.Common.{◌≡◌, ℕ, List, [], ◌∷◌, ◌++◌, map, take, false, Some, None, Ok, Err, refl, arith}
 use Rattle.std.specs.Prelude.{codes}
 use Rattle.std.specs.Fmt.{digits}
 use Rattle.std.proofs.lemmas.Bool.{ltb-true}
@@ -7,12 +7,14 @@ use Rattle.protocol_lang.specs.Reading.{reading, run, one_token, next_token}
 use Rattle.protocol_lang.specs.declared.tree.Name.TheVariants as names
 use Rattle.protocol_lang.specs.declared.tree.Kind.TheVariants as kinds
 use Rattle.protocol_lang.specs.Trees.{Named}
+use Rattle.protocol_lang.specs.Thresholds.{waits_for_all_but}
 use Rattle.protocol_lang.specs.declared.fault.ParseFault.TheVariants.{Unexpected}
 use Rattle.room_spec.specs.Names.{is_name}
 use Rattle.room_spec.specs.Rooms.{RoomSpec}
 use Rattle.room_spec.specs.Blocks.{body_len, block_len, fuses_from, room_in, block_in}
 use Rattle.room_spec.specs.Grammar.{line_end, block_text, IsHead, Begin, IsReason}
-use Rattle.room_spec.specs.declared.fault.SpecFault.TheVariants.{Truncated, BadLine, BadName, BadProtocol, Inputs, TooWide, CrashLine, Repeated}
+use Rattle.room_spec.specs.declared.fault.SpecFault.TheVariants.{Truncated, BadLine, BadName, BadProtocol, Inputs, TooWide, CrashLine, Repeated, TaskLine}
+use Rattle.room_spec.specs.declared.version.Version.TheVariants.{One, Two}
 use Rattle.room_spec.proofs.Fuses.{no_fuses}
 
 abbrev one : List ℕ
@@ -20,11 +22,13 @@ one = codes "bgsim 1\nroom one\ninputs 5\nsimulators 1\nrounds 1\nturns 10\nprot
 
 abbrev room_one : RoomSpec
 room_one = record {
+  version = One;
   name = codes "one";
   inputs = 5 ∷ [];
   simulators = 1;
   rounds = 1;
   turns = 10;
+  task = None;
   fuses = [];
   protocol = record { first = Named names.Input; rules = []; last = record { kind = kinds.Decide; value = Named names.Mine } };
 }
@@ -111,6 +115,75 @@ half_protocol : block_in (codes "bgsim 1\nroom one\ninputs 5\nsimulators 1\nroun
 unfolding body_len room_in fuses_from reading run one_token next_token
 half_protocol = refl
 
+-- ---- version 2
+
+abbrev vote : RoomSpec
+vote = record { version = Two; name = codes "vote"; inputs = 5 ∷ 3 ∷ 9 ∷ []; simulators = 2; rounds = 3; turns = 100; task = Some 1; fuses = []; protocol = waits_for_all_but 1 }
+
+vote_room : block_in (codes "bgsim 2\nroom vote\ninputs 5 3 9\nsimulators 2\nrounds 3\nturns 100\ntask agree 1\nprotocol\nfirst input;\nwhen count >= n - 1 decide min;\nelse write mine;\nend\n") ≡ Ok (vote, 151)
+unfolding body_len room_in fuses_from reading run one_token next_token
+vote_room = refl
+
+-- the crash lines stand behind the task
+vote_with_fuse : block_in (codes "bgsim 2\nroom vote\ninputs 5 3 9\nsimulators 2\nrounds 3\nturns 100\ntask agree 16\ncrash 0 after 7\ncrash 0 after 8\nend\n") ≡ Err (Repeated 9)
+unfolding body_len room_in fuses_from
+vote_with_fuse = refl
+
+task_behind_fuse : block_in (codes "bgsim 2\nroom vote\ninputs 5 3 9\nsimulators 2\nrounds 3\nturns 100\ncrash 0 after 7\ntask agree 1\nend\n") ≡ Err (BadLine 8)
+unfolding body_len room_in fuses_from
+task_behind_fuse = refl
+
+second_task : block_in (codes "bgsim 2\nroom vote\ninputs 5 3 9\nsimulators 2\nrounds 3\nturns 100\ntask agree 1\ntask agree 1\nend\n") ≡ Err (BadLine 8)
+unfolding body_len room_in fuses_from
+second_task = refl
+
+-- a task of version 2 in a block of version 1
+task_of_version_1 : block_in (codes "bgsim 1\nroom vote\ninputs 5 3 9\nsimulators 2\nrounds 3\nturns 100\ntask agree 1\nend\n") ≡ Err (BadLine 7)
+unfolding body_len room_in fuses_from
+task_of_version_1 = refl
+
+abbrev task_block : List ℕ → List ℕ
+task_block line = codes "bgsim 2\nroom vote\ninputs 5 3 9\nsimulators 2\nrounds 3\nturns 100\n" ++ (line ++ codes "\nend\n")
+
+bad_tasks : map (λ line. block_in (task_block line)) (codes "task agree 0" ∷ codes "task agree 17" ∷ codes "task agree 01" ∷ codes "task agre 1" ∷ codes "task agree" ∷ codes "task agree 1 " ∷ codes "task  agree 1" ∷ codes "task " ∷ codes "task agree 99999999999999999999" ∷ [])
+    ≡ Err (TaskLine 7) ∷ Err (TaskLine 7) ∷ Err (TaskLine 7) ∷ Err (TaskLine 7) ∷ Err (TaskLine 7) ∷ Err (TaskLine 7) ∷ Err (TaskLine 7) ∷ Err (TaskLine 7) ∷ Err (TaskLine 7) ∷ []
+unfolding body_len room_in
+bad_tasks = refl
+
+task_alone : block_in (task_block (codes "task")) ≡ Err (BadLine 7)
+unfolding body_len room_in fuses_from
+task_alone = refl
+
+version_3 : block_in (codes "bgsim 3\nend\n") ≡ Err (BadLine 1)
+unfolding body_len room_in
+version_3 = refl
+
+-- 16 bits more than four words hold
+wider_than_four_words : block_in (codes "bgsim 2\nroom big\ninputs 1 2 3 4 5 6 7 8 9\nsimulators 8\nrounds 15\nturns 100\nend\n") ≡ Err TooWide
+unfolding body_len room_in
+wider_than_four_words = refl
+
+two_words : block_in (codes "bgsim 2\nroom big\ninputs 1 2 3 4 5 6 7 8 9\nsimulators 2\nrounds 15\nturns 100\nprotocol\nfirst input;\nelse decide min;\nend\n") ≡ Ok (
+  record {
+    version = Two;
+    name = codes "big";
+    inputs = 1 ∷ 2 ∷ 3 ∷ 4 ∷ 5 ∷ 6 ∷ 7 ∷ 8 ∷ 9 ∷ [];
+    simulators = 2;
+    rounds = 15;
+    turns = 100;
+    task = None;
+    fuses = [];
+    protocol = record { first = Named names.Input; rules = []; last = record { kind = kinds.Decide; value = Named names.Min } };
+  },
+  118,
+)
+unfolding body_len room_in fuses_from reading run one_token next_token
+two_words = refl
+
+vote_text : block_text vote (codes "first input;\nelse decide mine;\n") ++ line_end ≡ codes "bgsim 2\nroom vote\ninputs 5 3 9\nsimulators 2\nrounds 3\nturns 100\ntask agree 1\nprotocol\nfirst input;\nelse decide mine;\nend\n"
+unfolding digits
+vote_text = refl
+
 -- ---- why a line is the first fault
 
 -- 16 inputs and 8 simulators begin a head, and no rounds can follow
@@ -121,7 +194,7 @@ abbrev sixteen_lines : List (List ℕ)
 sixteen_lines = codes "bgsim 1" ∷ codes "room one" ∷ codes "inputs 1 2 3 4 5 6 7 8 9 1 2 3 4 5 6 7" ∷ codes "simulators 8" ∷ []
 
 sixteen_head : IsHead sixteen
-sixteen_head = record { name = refl; inputs = refl; simulators = (omega arith, omega arith); rounds = (omega arith, omega arith); turns = (omega arith, omega arith); fuses = no_fuses 8; values = refl }
+sixteen_head = record { name = refl; inputs = refl; simulators = (omega arith, omega arith); rounds = (omega arith, omega arith); turns = (omega arith, omega arith); task = tt; fuses = no_fuses 8; values = refl }
 
 sixteen_begin : Begin sixteen_lines
 unfolding digits

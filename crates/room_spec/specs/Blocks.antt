@@ -9,10 +9,12 @@ use Rattle.protocol_lang.specs.declared.protocol.Protocol.{Protocol}
 use Rattle.protocol_lang.specs.declared.fault.ParseFault.{ParseFault}
 use Rattle.protocol_lang.specs.declared.fault.ParseFault.TheVariants.{OutOfMemory, TooLong}
 use Rattle.room_spec.specs.Names.{is_name}
-use Rattle.room_spec.specs.Rooms.{RoomSpec, bits_of, is_value}
+use Rattle.room_spec.specs.Rooms.{RoomSpec, bits_of, is_value, most_bits}
 use Rattle.room_spec.specs.Texts.{first_line, later_lines, lines_of, fields_of}
 use Rattle.room_spec.specs.declared.fault.SpecFault.{SpecFault}
-use Rattle.room_spec.specs.declared.fault.SpecFault.TheVariants.{Truncated, BadLine, BadName, BadProtocol, Inputs, Simulators, Rounds, Turns, TooWide, CrashLine, Repeated}
+use Rattle.room_spec.specs.declared.fault.SpecFault.TheVariants.{Truncated, BadLine, BadName, BadProtocol, Inputs, Simulators, Rounds, Turns, TooWide, CrashLine, Repeated, TaskLine}
+use Rattle.room_spec.specs.declared.version.Version.{Version}
+use Rattle.room_spec.specs.declared.version.Version.TheVariants.{One, Two}
 
 -- one step, and then the next where it had no fault
 infixl 10 ◌>>=◌
@@ -43,8 +45,11 @@ block_len text = option_map (λ body. min (body + 4) (length text)) (body_len te
 abbrev pub value_after : List ℕ → List ℕ → Option (List ℕ)
 value_after word line = if starts_with nat_eq line word then Some (drop (length word) line) else None
 
-abbrev pub version_line : List ℕ → Result (List ℕ) SpecFault
-version_line text = if bytes_eq (first_line text) (codes "bgsim 1") then Ok (later_lines text) else Err (BadLine 1)
+abbrev pub version_of : List ℕ → Result Version SpecFault
+version_of line = if bytes_eq line (codes "bgsim 1") then Ok One else if bytes_eq line (codes "bgsim 2") then Ok Two else Err (BadLine 1)
+
+abbrev pub version_line : List ℕ → Result (Version × List ℕ) SpecFault
+version_line text = version_of (first_line text) >>= λ version. Ok (version, later_lines text)
 
 abbrev pub named : Option (List ℕ) → Result (List ℕ) SpecFault
 named None = Err (BadLine 2)
@@ -87,8 +92,35 @@ abbrev pub number_line : ℕ → List ℕ → ℕ → SpecFault → List ℕ →
 number_line line word most fault text =
     up_to most fault line (option_and_then number_of (value_after word (first_line text))) >>= λ number. Ok (number, later_lines text)
 
-abbrev pub fitting : ℕ → Result ℕ SpecFault
-fitting bits = if nat_le bits 64 then Ok bits else Err TooWide
+abbrev pub fitting : ℕ → ℕ → Result ℕ SpecFault
+fitting most bits = if nat_le bits most then Ok bits else Err TooWide
+
+-- how many values the task of the line behind the turns allows
+abbrev pub agreed : Option ℕ → Result ℕ SpecFault
+agreed None = Err (TaskLine 7)
+agreed (Some most) = if nat_le 1 most && nat_le most 16 then Ok most else Err (TaskLine 7)
+
+-- the same, by the words behind `task`
+abbrev pub task_of : List ℕ → Result ℕ SpecFault
+task_of words = agreed (option_and_then number_of (value_after (codes "agree ") words))
+
+-- what stands behind the word `task` at the front of that line; in version 1 no line is one of a task
+abbrev pub task_words : Version → List ℕ → Option (List ℕ)
+task_words One line = None
+task_words Two line = value_after (codes "task ") line
+
+abbrev pub task_in : List ℕ → Option (List ℕ) → Result (Option ℕ × List ℕ) SpecFault
+task_in text None = Ok (None, text)
+task_in text (Some words) = task_of words >>= λ most. Ok (Some most, later_lines text)
+
+-- the task, if the next line is one of a task, and what stands behind it
+abbrev pub task_line : Version → List ℕ → Result (Option ℕ × List ℕ) SpecFault
+task_line version text = task_in text (task_words version (first_line text))
+
+-- the number of the line behind the turns and the task
+abbrev pub line_behind_task : Option ℕ → ℕ
+line_behind_task None = 7
+line_behind_task (Some most) = 8
 
 abbrev pub is_protocol : List ℕ → Bool
 is_protocol line = bytes_eq line (codes "protocol")
@@ -115,17 +147,17 @@ has_fuse fuses simulator = list_any (λ fuse. fuse.0 == simulator) fuses
 abbrev pub unrepeated : ℕ → List (ℕ × ℕ) → ℕ × ℕ → Result (Option (ℕ × ℕ)) SpecFault
 unrepeated line fuses fuse = if has_fuse fuses fuse.0 then Err (Repeated line) else Ok (Some fuse)
 
--- the number of the line behind the crash lines of these fuses
-abbrev pub line_behind : List (ℕ × ℕ) → ℕ
-line_behind fuses = 7 + length fuses
+-- the number of the line behind the crash lines of these fuses, of which the first has the number `first`
+abbrev pub line_behind : ℕ → List (ℕ × ℕ) → ℕ
+line_behind first fuses = first + length fuses
 
-abbrev pub said : ℕ → List (ℕ × ℕ) → List ℕ → Option (List ℕ) → Result (Option (ℕ × ℕ)) SpecFault
-said m fuses line None = if is_protocol line then Ok None else Err (BadLine (line_behind fuses))
-said m fuses line (Some words) = of_simulator (line_behind fuses) m (fuse_in (fields_of words)) >>= unrepeated (line_behind fuses) fuses
+abbrev pub said : ℕ → ℕ → List (ℕ × ℕ) → List ℕ → Option (List ℕ) → Result (Option (ℕ × ℕ)) SpecFault
+said first m fuses line None = if is_protocol line then Ok None else Err (BadLine (line_behind first fuses))
+said first m fuses line (Some words) = of_simulator (line_behind first fuses) m (fuse_in (fields_of words)) >>= unrepeated (line_behind first fuses) fuses
 
 -- what the line behind the crash lines of these fuses tells: one more fuse, or nothing where it is `protocol`
-abbrev pub said_next : ℕ → List (ℕ × ℕ) → List ℕ → Result (Option (ℕ × ℕ)) SpecFault
-said_next m fuses line = said m fuses line (value_after (codes "crash ") line)
+abbrev pub said_next : ℕ → ℕ → List (ℕ × ℕ) → List ℕ → Result (Option (ℕ × ℕ)) SpecFault
+said_next first m fuses line = said first m fuses line (value_after (codes "crash ") line)
 
 abbrev pub onward : (List (ℕ × ℕ) → List ℕ → Result (List (ℕ × ℕ) × List ℕ) SpecFault) → List (ℕ × ℕ) → List ℕ → Option (ℕ × ℕ) → Result (List (ℕ × ℕ) × List ℕ) SpecFault
 onward fuses_from fuses later None = Ok (fuses, later)
@@ -133,12 +165,12 @@ onward fuses_from fuses later (Some fuse) = fuses_from (fuses ++ fuse ∷ []) la
 
 -- the fuses of m simulators, of which some were said, and what stands behind the line `protocol`; that is one of the
 -- next `most` lines, since each simulator has one crash line at most
-unfoldable pub fuses_from : ℕ → ℕ → List (ℕ × ℕ) → List ℕ → Result (List (ℕ × ℕ) × List ℕ) SpecFault
-fuses_from zero m fuses text = Err (BadLine (line_behind fuses))
-fuses_from (suc most) m fuses text = said_next m fuses (first_line text) >>= onward (fuses_from most m) fuses (later_lines text)
+unfoldable pub fuses_from : ℕ → ℕ → ℕ → List (ℕ × ℕ) → List ℕ → Result (List (ℕ × ℕ) × List ℕ) SpecFault
+fuses_from zero first m fuses text = Err (BadLine (line_behind first fuses))
+fuses_from (suc most) first m fuses text = said_next first m fuses (first_line text) >>= onward (fuses_from most first m) fuses (later_lines text)
 
-abbrev pub fuse_lines : ℕ → List ℕ → Result (List (ℕ × ℕ) × List ℕ) SpecFault
-fuse_lines m text = fuses_from (suc m) m [] text
+abbrev pub fuse_lines : ℕ → ℕ → List ℕ → Result (List (ℕ × ℕ) × List ℕ) SpecFault
+fuse_lines first m text = fuses_from (suc m) first m [] text
 
 abbrev pub protocol_of : Result Protocol ParseFault → Result Protocol SpecFault
 protocol_of (Ok protocol) = Ok protocol
@@ -148,15 +180,16 @@ protocol_of (Err fault) = Err (BadProtocol fault)
 unfoldable pub room_in : List ℕ → Result RoomSpec SpecFault
 room_in body =
     version_line body
-    >>= λ a. name_line a
+    >>= λ version. name_line version.1
     >>= λ name. inputs_line name.1
     >>= λ inputs. number_line 4 (codes "simulators ") 8 Simulators inputs.1
     >>= λ simulators. number_line 5 (codes "rounds ") 15 Rounds simulators.1
-    >>= λ rounds. fitting (simulators.0 * length inputs.0 * bits_of rounds.0)
+    >>= λ rounds. fitting (most_bits version.0) (simulators.0 * length inputs.0 * bits_of rounds.0)
     >>= λ bits. number_line 6 (codes "turns ") 65535 Turns rounds.1
-    >>= λ turns. fuse_lines simulators.0 turns.1
+    >>= λ turns. task_line version.0 turns.1
+    >>= λ task. fuse_lines (line_behind_task task.0) simulators.0 task.1
     >>= λ fuses. protocol_of (reading fuses.1)
-    >>= λ protocol. Ok (record { name = name.0; inputs = inputs.0; simulators = simulators.0; rounds = rounds.0; turns = turns.0; fuses = fuses.0; protocol = protocol })
+    >>= λ protocol. Ok (record { version = version.0; name = name.0; inputs = inputs.0; simulators = simulators.0; rounds = rounds.0; turns = turns.0; task = task.0; fuses = fuses.0; protocol = protocol })
 
 abbrev pub room_before : List ℕ → Option ℕ → Result (RoomSpec × ℕ) SpecFault
 room_before text None = Err Truncated

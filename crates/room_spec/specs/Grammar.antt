@@ -8,11 +8,13 @@ use Rattle.protocol_lang.specs.Grammar.{IsText}
 use Rattle.protocol_lang.specs.Grammar as texts
 use Rattle.protocol_lang.specs.declared.fault.ParseFault.{ParseFault}
 use Rattle.room_spec.specs.Names.{is_name}
-use Rattle.room_spec.specs.Rooms.{RoomSpec, AreFuses, IsWithinLimits, bits_of, is_value, processes}
+use Rattle.room_spec.specs.Rooms.{RoomSpec, AreFuses, IsTaskIn, IsWithinLimits, bits_of, is_value, most_bits, processes}
 use Rattle.room_spec.specs.Texts.{is_line_end, lines_of, fields_of}
 use Rattle.room_spec.specs.Blocks.{is_end, is_protocol, numbers_of, are_inputs, block_in}
 use Rattle.room_spec.specs.declared.fault.SpecFault.{SpecFault}
-use Rattle.room_spec.specs.declared.fault.SpecFault.TheVariants.{Truncated, BadLine, BadName, BadProtocol, Inputs, Simulators, Rounds, Turns, TooWide, CrashLine, Repeated}
+use Rattle.room_spec.specs.declared.fault.SpecFault.TheVariants.{Truncated, BadLine, BadName, BadProtocol, Inputs, Simulators, Rounds, Turns, TooWide, CrashLine, Repeated, TaskLine}
+use Rattle.room_spec.specs.declared.version.Version.{Version}
+use Rattle.room_spec.specs.declared.version.Version.TheVariants.{One, Two}
 
 -- ---- lines
 
@@ -45,6 +47,20 @@ pub record EndsAt (input : List ℕ) (len : ℕ) : Type 0 where
 
 -- ---- blocks
 
+-- the line of a version
+abbrev pub version_text : Version → List ℕ
+version_text One = codes "bgsim 1"
+version_text Two = codes "bgsim 2"
+
+-- the line of a task that allows so many different values
+abbrev pub agree_line : ℕ → List ℕ
+agree_line most = codes "task agree " ++ decimal most
+
+-- the line of a room's task, if it has one
+abbrev pub task_lines : Option ℕ → List (List ℕ)
+task_lines None = []
+task_lines (Some most) = agree_line most ∷ []
+
 -- the line of a fuse
 abbrev pub crash_line : ℕ × ℕ → List ℕ
 crash_line fuse = codes "crash " ++ (decimal fuse.0 ++ (codes " after " ++ decimal fuse.1))
@@ -52,13 +68,13 @@ crash_line fuse = codes "crash " ++ (decimal fuse.0 ++ (codes " after " ++ decim
 -- the lines before the protocol's text
 abbrev pub head_lines : RoomSpec → List (List ℕ)
 head_lines room =
-    codes "bgsim 1"
+    version_text room.version
     ∷ (codes "room " ++ room.name)
     ∷ join_with_byte 32 (codes "inputs" ∷ map decimal room.inputs)
     ∷ (codes "simulators " ++ decimal room.simulators)
     ∷ (codes "rounds " ++ decimal room.rounds)
     ∷ (codes "turns " ++ decimal room.turns)
-    ∷ (map crash_line room.fuses ++ codes "protocol" ∷ [])
+    ∷ (task_lines room.task ++ (map crash_line room.fuses ++ codes "protocol" ∷ []))
 
 -- the block's bytes, where its protocol has this text
 abbrev pub block_text : RoomSpec → List ℕ → List ℕ
@@ -88,6 +104,7 @@ line_of Turns = Some 6
 line_of TooWide = Some 5
 line_of (CrashLine line) = Some line
 line_of (Repeated line) = Some line
+line_of (TaskLine line) = Some line
 
 -- each other text with a line `end` and with the same lines up to the one that has the fault has it too
 abbrev pub IsLocal : List ℕ → SpecFault → Type 0
@@ -113,6 +130,7 @@ pub record IsHead (room : RoomSpec) : Type 0 where
   pub simulators : (1 ≤ room.simulators) × (room.simulators ≤ 8)
   pub rounds : (1 ≤ room.rounds) × (room.rounds ≤ 15)
   pub turns : (1 ≤ room.turns) × (room.turns ≤ 65535)
+  pub task : IsTaskIn room.version room.task
   pub fuses : AreFuses room.fuses room.simulators
   pub values : list_all (λ fuse. is_value fuse.1) room.fuses ≡ true
 
@@ -120,12 +138,12 @@ pub record IsHead (room : RoomSpec) : Type 0 where
 abbrev pub width_of : RoomSpec → ℕ → ℕ
 width_of room rounds = room.simulators * processes room * bits_of rounds
 
--- The lines begin the head of a room. Its step numbers fit into 64 bits, unless these are at most four lines, the line of
--- the rounds being the fifth: 16 inputs and 8 simulators are right lines that no rounds can follow.
+-- The lines begin the head of a room. Its step numbers fit, unless these are at most four lines, the line of the rounds being
+-- the fifth: in version 1 16 inputs and 8 simulators are right lines that no rounds can follow.
 pub record Begin (lines : List (List ℕ)) : Type 0 where
   pub room : RoomSpec
   pub head : IsHead room
-  pub fits : 5 ≤ length lines → width_of room room.rounds ≤ 64
+  pub fits : 5 ≤ length lines → width_of room room.rounds ≤ most_bits room.version
   pub more : List (List ℕ)
   pub parts : head_lines room ≡ lines ++ more
 
@@ -140,27 +158,35 @@ IsInputsLine line numbers = (numerals : List (List ℕ)) × (fields_of line ≡ 
 abbrev pub BeginsWith : List ℕ → List ℕ → Type 0
 BeginsWith word line = (rest : List ℕ) × (line ≡ word ++ rest)
 
+abbrev pub IsCrashOrProtocol : List ℕ → Type 0
+IsCrashOrProtocol line = BeginsWith (codes "crash ") line ⊎ (line ≡ codes "protocol")
+
 -- the line has the form of the line behind these in a block, whatever name or numbers it has
 abbrev pub HasForm : List (List ℕ) → List ℕ → Type 0
-HasForm [] line = line ≡ codes "bgsim 1"
+HasForm [] line = (line ≡ codes "bgsim 1") ⊎ (line ≡ codes "bgsim 2")
 HasForm (version ∷ []) line = BeginsWith (codes "room ") line
 HasForm (version ∷ name ∷ []) line = (numbers : List ℕ) × IsInputsLine line numbers
 HasForm (version ∷ name ∷ inputs ∷ []) line = (number : ℕ) × IsNumberLine (codes "simulators ") line number
 HasForm (version ∷ name ∷ inputs ∷ simulators ∷ []) line = (number : ℕ) × IsNumberLine (codes "rounds ") line number
 HasForm (version ∷ name ∷ inputs ∷ simulators ∷ rounds ∷ []) line = (number : ℕ) × IsNumberLine (codes "turns ") line number
-HasForm (version ∷ name ∷ inputs ∷ simulators ∷ rounds ∷ turns ∷ crashes) line = BeginsWith (codes "crash ") line ⊎ (line ≡ codes "protocol")
+HasForm (version ∷ name ∷ inputs ∷ simulators ∷ rounds ∷ turns ∷ []) line = ((version ≡ codes "bgsim 2") × BeginsWith (codes "task ") line) ⊎ IsCrashOrProtocol line
+HasForm (version ∷ name ∷ inputs ∷ simulators ∷ rounds ∷ turns ∷ next ∷ crashes) line = IsCrashOrProtocol line
 
 -- the line is this word and a numeral whose number isn't from 1 to `most`
 abbrev pub IsOutOfRange : List ℕ → ℕ → List ℕ → Type 0
 IsOutOfRange word most line = (number : ℕ) × IsNumberLine word line number × ((number < 1) ⊎ (most < number))
 
--- the line tells so many rounds that the step numbers of the room need more than 64 bits
+-- the line tells so many rounds that the step numbers of the room need more bits than its version allows
 abbrev pub IsTooWide : RoomSpec → List ℕ → Type 0
-IsTooWide room line = (rounds : ℕ) × (line ≡ codes "rounds " ++ decimal rounds) × (1 ≤ rounds) × (rounds ≤ 15) × (64 < width_of room rounds)
+IsTooWide room line = (rounds : ℕ) × (line ≡ codes "rounds " ++ decimal rounds) × (1 ≤ rounds) × (rounds ≤ 15) × (most_bits room.version < width_of room rounds)
 
 -- the line is that of a fuse of one of the room's simulators
 abbrev pub IsFuseLine : RoomSpec → List ℕ → ℕ × ℕ → Type 0
 IsFuseLine room line fuse = (line ≡ crash_line fuse) × (fuse.0 < room.simulators) × (is_value fuse.1 ≡ true)
+
+-- the line is that of a task
+abbrev pub IsTaskLine : List ℕ → ℕ → Type 0
+IsTaskLine line most = (line ≡ agree_line most) × (1 ≤ most) × (most ≤ 16)
 
 -- one of the lines is a crash of this simulator
 abbrev pub HasCrashOf : List (List ℕ) → ℕ → Type 0
@@ -179,6 +205,7 @@ IsReason Turns room before line = IsOutOfRange (codes "turns ") 65535 line
 IsReason TooWide room before line = IsTooWide room line
 IsReason (CrashLine number) room before line = BeginsWith (codes "crash ") line × ((fuse : ℕ × ℕ) → IsFuseLine room line fuse → ⊥)
 IsReason (Repeated number) room before line = (fuse : ℕ × ℕ) × IsFuseLine room line fuse × HasCrashOf before fuse.0
+IsReason (TaskLine number) room before line = (room.version ≡ Two) × BeginsWith (codes "task ") line × ((most : ℕ) → IsTaskLine line most → ⊥)
 
 -- Of the block's lines, up to and with `end`, those before this one begin the head of a room and aren't all of it. This one
 -- is the next line of no such head, for the fault's reason; the fault has its number.
@@ -201,7 +228,7 @@ pub record IsBadProtocol (text : List ℕ) (fault : ParseFault) : Type 0 where
   pub ends : EndsAt text len
   pub room : RoomSpec
   pub head : IsHead room
-  pub fits : width_of room room.rounds ≤ 64
+  pub fits : width_of room room.rounds ≤ most_bits room.version
   pub more : List (List ℕ)
   pub lines : ends.lines ≡ head_lines room ++ more
   pub first : texts.IsFirstFault (text_of more) fault

@@ -1,5 +1,5 @@
 -- What a room is told when it is made, and how large it may be.
-use Rattle.std.specs.Prelude.{◌≡◌, ℕ, ◌*◌, ◌<◌, ◌≤◌, Bool, true, List, length, map, Option, nat_eq, nat_le, nat_lt, ◌==◌, if◌then◌else◌}
+use Rattle.std.specs.Prelude.{◌≡◌, ℕ, ◌*◌, ◌<◌, ◌≤◌, Bool, true, List, length, map, Option, Some, None, nat_eq, nat_le, nat_lt, ◌==◌, if◌then◌else◌, ⊤}
 use Rattle.std.specs.List.{IsDistinct, find, list_all}
 use Rattle.std.specs.Option.{option_map}
 use Rattle.protocol_lang.specs.Numbers.{greatest}
@@ -7,16 +7,21 @@ use Rattle.protocol_lang.specs.Limits.{HasSmallNumerals}
 use Rattle.protocol_lang.specs.declared.protocol.Protocol.{Protocol}
 use Rattle.protocol_lang.specs.Thresholds.{waits_for_all_but}
 use Rattle.room_spec.specs.Names.{is_name}
+use Rattle.room_spec.specs.declared.version.Version.{Version}
+use Rattle.room_spec.specs.declared.version.Version.TheVariants.{One, Two}
 
--- The room's name, the input of each process, the number of simulators, how often a process may write, how
--- many turns each simulator has, the fuses, and the protocol. A fuse is a simulator and the number of steps after which
--- it crashes; they stand in the order of their lines.
+-- The version of its block, the room's name, the input of each process, the number of simulators, how often a process may
+-- write, how many turns each simulator has, how many different values its task lets the processes decide, if it has one, the
+-- fuses, and the protocol. A fuse is a simulator and the number of steps after which it crashes; they stand in the order of
+-- their lines.
 pub record RoomSpec : Type 0 where
+  pub version : Version
   pub name : List ℕ
   pub inputs : List ℕ
   pub simulators : ℕ
   pub rounds : ℕ
   pub turns : ℕ
+  pub task : Option ℕ
   pub fuses : List (ℕ × ℕ)
   pub protocol : Protocol
 
@@ -47,13 +52,24 @@ pub record AreFuses (fuses : List (ℕ × ℕ)) (m : ℕ) : Type 0 where
 abbrev pub is_value : ℕ → Bool
 is_value number = nat_le number greatest
 
+-- how many bits all step numbers may take
+abbrev pub most_bits : Version → ℕ
+most_bits One = 64
+most_bits Two = 256
+
+-- a task lets 1 to 16 different values be decided; rooms of version 1 have none
+abbrev pub IsTaskIn : Version → Option ℕ → Type 0
+IsTaskIn version None = ⊤
+IsTaskIn One (Some most) = ⊥
+IsTaskIn Two (Some most) = (1 ≤ most) × (most ≤ 16)
+
 -- the limits of every room
 pub record IsWithinLimits (spec : RoomSpec) : Type 0 where
   pub name : is_name spec.name ≡ true
   pub shape : IsShape (length spec.inputs) spec.simulators (bits_of spec.rounds) spec.rounds
-  -- all step numbers stand in one word
-  pub width : spec.simulators * length spec.inputs * bits_of spec.rounds ≤ 64
+  pub width : spec.simulators * length spec.inputs * bits_of spec.rounds ≤ most_bits spec.version
   pub turns : (1 ≤ spec.turns) × (spec.turns ≤ 65535)
+  pub task : IsTaskIn spec.version spec.task
   pub fuses : AreFuses spec.fuses spec.simulators
   pub values : list_all is_value spec.inputs ≡ true
   pub numerals : HasSmallNumerals spec.protocol

@@ -1,21 +1,22 @@
 //! Room blocks.
-ghost use Rattle.std.specs.Prelude.{◌≡◌, ◌≢◌, ℕ, IfNone, All, ◌+◌, ◌^◌, ◌≤◌, ◌<◌, suc, min, length, take, IfOk, IfErr, IfSome, None, Some, Ok, Err, if◌then◌else◌, codes};
+ghost use Rattle.std.specs.Prelude.{◌≡◌, ◌≢◌, ℕ, IfNone, All, ◌+◌, ◌^◌, ◌≤◌, ◌<◌, suc, min, length, take, IfOk, IfErr, IfSome, IsSome, None, Some, Ok, Err, if◌then◌else◌, codes};
 ghost use Rattle.std.specs.List.{position};
 ghost use Rattle.std.specs.Option.{option_copied, option_map, option_and_then};
 ghost use Rattle.protocol_lang.specs.Numbers.{number_of};
-ghost use Rattle.room_spec.specs.Rooms.{RoomSpec, AreFuses};
+ghost use Rattle.room_spec.specs.Rooms.{RoomSpec, AreFuses, IsTaskIn};
 ghost use Rattle.room_spec.specs.Texts.{lines_of, first_line, later_lines, fields_of};
 ghost use Rattle.room_spec.specs.declared.fault.SpecFault.TheVariants.{BadLine};
 ghost use Rattle.room_spec.specs.Grammar.{EndsAt, IsBlock, IsLocal, IsOfText, IsFirstFault};
-ghost use Rattle.room_spec.specs.Blocks.{body_len, is_end, block_len, value_after, version_line, named, name_line, numbers_of, inputs_of, in_range, inputs_line, up_to, number_line, fuse_in, of_simulator, said_next, is_protocol, has_fuse, fuse_lines, room_in, block_in, Gives, OrMemory, UnlessMemory};
+ghost use Rattle.room_spec.specs.Blocks.{body_len, is_end, block_len, value_after, version_of, version_line, named, name_line, numbers_of, inputs_of, in_range, inputs_line, up_to, number_line, agreed, task_of, task_words, task_line, line_behind_task, fuse_in, of_simulator, said_next, is_protocol, has_fuse, fuse_lines, room_in, block_in, Gives, OrMemory, UnlessMemory};
 
 use crate::fault::SpecFault;
 use crate::name::Name;
 use crate::protocols::Protocols;
 use crate::spec::{
-    MAX_BITS, MAX_PROCESSES, MAX_ROUNDS, MAX_SIMULATORS, MAX_TURNS, Spec, bits, memory_words,
+    MAX_AGREED, MAX_PROCESSES, MAX_ROUNDS, MAX_SIMULATORS, MAX_TURNS, Spec, bits, memory_words,
 };
 use crate::text::{cut, cut_near};
+use crate::version::Version;
 use arrayvec::ArrayVec;
 use protocol_lang::read_number;
 use std::alloc::Global;
@@ -146,7 +147,7 @@ pub fn read_body_with<'a>(
 ) -> Result<Spec, SpecFault>
     ensures { OrMemory result (room_in body.now) }
 {
-    let rest = read_version(body)?;
+    let (version, rest) = read_version(body)?;
     let (name, rest) = read_name(rest)?;
     let (inputs, rest) = read_inputs(rest)?;
     let (simulators, rest) = read_number_line(
@@ -157,19 +158,22 @@ pub fn read_body_with<'a>(
         SpecFault::Simulators,
     )?;
     let (rounds, rest) = read_number_line(rest, 5, b"rounds ", MAX_ROUNDS, SpecFault::Rounds)?;
-    if usize::from(simulators) * inputs.len() * bits(usize::from(rounds)) > MAX_BITS {
+    if usize::from(simulators) * inputs.len() * bits(usize::from(rounds)) > version.most_bits() {
         return Err(SpecFault::TooWide);
     }
     let (turns, rest) = read_number_line(rest, 6, b"turns ", MAX_TURNS, SpecFault::Turns)?;
-    let (fuses, text) = read_fuses(rest, simulators)?;
+    let (task, rest) = read_task(rest, version)?;
+    let (fuses, text) = read_fuses(rest, line_behind_task(task), simulators)?;
     let protocol = protocols.read(alloc, text)?;
     let words = memory_words(usize::from(simulators), inputs.len(), usize::from(rounds));
     Ok(Spec {
+        version,
         name,
         inputs,
         simulators: simulators as u8,
         rounds: rounds as u8,
         turns,
+        task,
         fuses,
         words,
         protocol,
@@ -187,12 +191,21 @@ fn split_line(text: &[u8]) -> (&[u8], &[u8])
     }
 }
 
-fn read_version(text: &[u8]) -> Result<&[u8], SpecFault>
-    ensures { Gives (λ rest. rest.now) result (version_line text.now) }
+fn read_version(text: &[u8]) -> Result<(Version, &[u8]), SpecFault>
+    ensures { Gives (λ read. (read.0, read.1.now)) result (version_line text.now) }
 {
     let (line, rest) = split_line(text);
+    let version = version_of(line)?;
+    Ok((version, rest))
+}
+
+fn version_of(line: &[u8]) -> Result<Version, SpecFault>
+    ensures { result ≡ version_of line.now }
+{
     if line == b"bgsim 1".as_slice() {
-        Ok(rest)
+        Ok(Version::One)
+    } else if line == b"bgsim 2".as_slice() {
+        Ok(Version::Two)
     } else {
         Err(SpecFault::BadLine(1))
     }
@@ -262,20 +275,73 @@ fn read_number_line<'a>(
     }
 }
 
-/// Reads the crash lines and the line `protocol`.
+/// Reads the line of the task, if the next line is one.
+fn read_task(text: &[u8], version: Version) -> Result<(Option<u8>, &[u8]), SpecFault>
+    ensures value { Gives (λ read. (read.0, read.1.now)) result (task_line version text.now) }
+    ensures range { IfOk result (λ read. IsTaskIn version read.0) }
+{
+    let (line, rest) = split_line(text);
+    let Some(words) = task_words(line, version) else {
+        return Ok((None, text));
+    };
+    let most = read_agreed(words)?;
+    Ok((Some(most), rest))
+}
+
+/// What stands behind the word `task` at the front of a line behind the turns.
+fn task_words(line: &[u8], version: Version) -> Option<&[u8]>
+    ensures words { option_copied result ≡ task_words version line.now }
+    ensures two { IsSome result → version ≡ Version.Two }
+{
+    match version {
+        Version::One => None,
+        Version::Two => line.strip_prefix(b"task ".as_slice()),
+    }
+}
+
+/// How many values a task allows, by the words behind `task`.
+fn read_agreed(words: &[u8]) -> Result<u8, SpecFault>
+    ensures value { result ≡ task_of words.now }
+    ensures range { IfOk result (λ most. (1 ≤ most) × (most ≤ 16)) }
+{
+    let most = words
+        .strip_prefix(b"agree ".as_slice())
+        .ok_or(SpecFault::TaskLine(7))?;
+    let most = read_number(most).ok_or(SpecFault::TaskLine(7))?;
+    if most >= 1 && most <= MAX_AGREED {
+        Ok(most as u8)
+    } else {
+        Err(SpecFault::TaskLine(7))
+    }
+}
+
+/// The number of the line behind the turns and the task.
+fn line_behind_task(task: Option<u8>) -> usize
+    ensures value { result ≡ line_behind_task task }
+    ensures few { result ≤ 8 }
+{
+    match task {
+        None => 7,
+        Some(_) => 8,
+    }
+}
+
+/// Reads the crash lines, of which the first has this number, and the line `protocol`.
 fn read_fuses(
     text: &[u8],
+    first: usize,
     simulators: u16,
 ) -> Result<(ArrayVec<(u8, u32), MAX_SIMULATORS>, &[u8]), SpecFault>
-    requires { simulators ≤ 8 }
-    ensures value { Gives (λ read. (read.0.items, read.1.now)) result (fuse_lines simulators text.now) }
+    requires first { first ≤ 8 }
+    requires simulators { simulators ≤ 8 }
+    ensures value { Gives (λ read. (read.0.items, read.1.now)) result (fuse_lines first simulators text.now) }
     ensures fuses { IfOk result (λ read. AreFuses read.0.items simulators) }
 {
     let mut fuses = ArrayVec::new();
     let mut rest = text;
     loop {
         let (line, later) = split_line(rest);
-        match read_fuse(line, simulators, fuses.as_slice())? {
+        match read_fuse(line, first, simulators, fuses.as_slice())? {
             Some(fuse) => fuses.push(fuse),
             None => return Ok((fuses, later)),
         }
@@ -283,18 +349,20 @@ fn read_fuses(
     }
 }
 
-/// Reads the line behind the crash lines of these fuses: one more, or `None` where it is
-/// `protocol`.
+/// Reads the line behind the crash lines of these fuses, of which the first has this number: one more,
+/// or `None` where it is `protocol`.
 fn read_fuse(
     line: &[u8],
+    first: usize,
     simulators: u16,
     fuses: &[(u8, u32)],
 ) -> Result<Option<(u8, u32)>, SpecFault>
+    requires first { first ≤ 8 }
     requires simulators { simulators ≤ 8 }
     requires fuses { length fuses.now ≤ 8 }
-    ensures { result ≡ said_next simulators fuses.now line.now }
+    ensures { result ≡ said_next first simulators fuses.now line.now }
 {
-    let number = 7 + fuses.len();
+    let number = first + fuses.len();
     let Some(words) = line.strip_prefix(b"crash ".as_slice()) else {
         return read_protocol_line(line, number);
     };

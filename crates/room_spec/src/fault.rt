@@ -33,8 +33,9 @@ pub enum SpecFault {
     /// The number of turns isn't 1 to 65535.
     #[error("not 1 to 65535 turns")]
     Turns,
-    /// The step numbers of all simulators need more than 64 bits.
-    #[error("simulators, processes and rounds need more than 64 bits")]
+    /// The step numbers of all simulators need more bits than the block's version allows: 64 in version 1, 256 in
+    /// version 2.
+    #[error("simulators, processes and rounds need more bits than the version allows")]
     TooWide,
     /// The line of this number begins with `crash `, and isn't `crash I after K` with the number of
     /// a simulator and up to 4294967295 steps.
@@ -43,10 +44,14 @@ pub enum SpecFault {
     /// The line of this number is a second crash of its simulator.
     #[error("line {0} is a second crash of its simulator")]
     Repeated(usize),
+    /// The line of this number, which is 7, begins with `task ` in a block of version 2, and isn't `task agree K` with a K
+    /// from 1 to 16.
+    #[error("line {0} is no task to agree on 1 to 16 values")]
+    TaskLine(usize),
 }
 
 impl SpecFault {
-    /// The number by which reports name the fault, 10 to 20.
+    /// The number by which reports name the fault, 10 to 21.
     pub fn code(self) -> u16
         ensures { result ≡ code_of self }
     {
@@ -62,6 +67,7 @@ impl SpecFault {
             SpecFault::TooWide => 18,
             SpecFault::CrashLine(_) => 19,
             SpecFault::Repeated(_) => 20,
+            SpecFault::TaskLine(_) => 21,
         }
     }
 }

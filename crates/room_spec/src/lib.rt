@@ -8,6 +8,7 @@ mod name;
 mod protocols;
 mod spec;
 mod text;
+mod version;
 
 pub use block::{
     BlockEnd, block_len, find_end, read_block, read_block_with, read_body, read_body_with,
@@ -17,3 +18,4 @@ pub use name::Name;
 pub use protocols::Protocols;
 pub use spec::{MAX_PROCESSES, MAX_SIMULATORS, Shape, Spec};
 pub use text::{cut, cut_near};
+pub use version::Version;

@@ -1,9 +1,11 @@
 //! What a room is told when it is made.
-ghost use Rattle.std.specs.Prelude.{◌≡◌, ◌*◌, ◌<◌, ◌≤◌, length, slice_index};
+ghost use Rattle.std.specs.Prelude.{◌≡◌, ◌==◌, ◌*◌, ◌<◌, ◌≤◌, IfSome, length, slice_index};
+ghost use Rattle.std.specs.List.{list_any};
 ghost use Rattle.room_spec.specs.Rooms.{IsShape, IsWithinLimits, bits_of, fuse_of, processes};
 ghost use Rattle.room_spec.specs.Sizes.{memory_words};
 
 use crate::name::Name;
+use crate::version::Version;
 use arrayvec::ArrayVec;
 pub use protocol_lang::MAX_PROCESSES;
 use protocol_lang::Protocol;
@@ -20,8 +22,8 @@ pub(crate) const MAX_ROUNDS: u16 = 15;
 /// The most turns of a simulator.
 pub(crate) const MAX_TURNS: u16 = 65535;
 
-/// The most bits of the step numbers of all simulators.
-pub(crate) const MAX_BITS: usize = 64;
+/// The most different values that a task lets the processes decide.
+pub(crate) const MAX_AGREED: u64 = 16;
 
 /// The numbers that a room's memory depends on: `m` simulators run `n` processes, which write at
 /// most `rounds` times each, and a step number has `bits` binary digits. `n` is 1 to 16, `m` 1 to
@@ -64,14 +66,16 @@ impl Shape {
     }
 }
 
-/// A room's name, inputs, numbers, fuses and protocol, within the limits of every room.
+/// A room's name, inputs, numbers, task, fuses and protocol, within the limits of every room.
 #[derive(Drop)]
 pub struct Spec {
+    pub(crate) version: Version,
     pub(crate) name: Name,
     pub(crate) inputs: ArrayVec<u32, MAX_PROCESSES>,
     pub(crate) simulators: u8,
     pub(crate) rounds: u8,
     pub(crate) turns: u16,
+    pub(crate) task: Option<u8>,
     pub(crate) fuses: ArrayVec<(u8, u32), MAX_SIMULATORS>,
     /// How many memory words there are.
     pub(crate) words: u8,
@@ -90,14 +94,21 @@ impl Model for Spec {
 
     ghost coded = { Prim.hlevel (codes, expression_code) };
 
-    ghost view = { λ s. record { name = s.name; inputs = s.inputs.items; simulators = s.simulators; rounds = s.rounds; turns = s.turns; fuses = s.fuses.items; protocol = arc_value s.protocol } };
+    ghost view = { λ s. record { version = s.version; name = s.name; inputs = s.inputs.items; simulators = s.simulators; rounds = s.rounds; turns = s.turns; task = s.task; fuses = s.fuses.items; protocol = arc_value s.protocol } };
 
-    ghost invariant = { λ s. IsWithinLimits (record { name = s.name; inputs = s.inputs.items; simulators = s.simulators; rounds = s.rounds; turns = s.turns; fuses = s.fuses.items; protocol = arc_value s.protocol }) × (s.words ≡ memory_words (record { n = length s.inputs.items; m = s.simulators; bits = bits_of s.rounds; rounds = s.rounds })) };
+    ghost invariant = { λ s. IsWithinLimits (record { version = s.version; name = s.name; inputs = s.inputs.items; simulators = s.simulators; rounds = s.rounds; turns = s.turns; task = s.task; fuses = s.fuses.items; protocol = arc_value s.protocol }) × (s.words ≡ memory_words (record { n = length s.inputs.items; m = s.simulators; bits = bits_of s.rounds; rounds = s.rounds })) };
 }
 
 impl Spec {
     ghost use Rattle.room_spec.specs.Sizes.{sizes_in};
     ghost use Rattle.room_spec.specs.Shapes.{sizes_of};
+
+    /// The version of the room's block.
+    pub fn version(&self) -> Version
+        ensures { result ≡ self.now.version }
+    {
+        self.version
+    }
 
     /// The room's name.
     pub fn name(&self) -> &Name
@@ -144,6 +155,21 @@ impl Spec {
         ensures { result ≡ slice_index self.now.inputs j }
     {
         self.inputs[j]
+    }
+
+    /// Whether some process has this input.
+    pub fn has_input(&self, value: u32) -> bool
+        ensures { result ≡ list_any (λ input. input == value) self.now.inputs }
+    {
+        self.inputs.contains(&value)
+    }
+
+    /// How many different values the room's task lets the processes decide, 1 to 16, or `None` where it has no task.
+    pub fn task(&self) -> Option<u8>
+        ensures value { result ≡ self.now.task }
+        ensures range { IfSome result (λ most. (1 ≤ most) × (most ≤ 16)) }
+    {
+        self.task
     }
 
     /// After how many steps simulator `i` crashes, up to 4294967295, or `None` where it has no fuse.

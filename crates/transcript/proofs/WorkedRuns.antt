@@ -5,6 +5,7 @@ use Rattle.protocol_lang.specs.Trees.{Named}
 use Rattle.protocol_lang.specs.declared.tree.Name.TheVariants as names
 use Rattle.protocol_lang.specs.declared.tree.Kind.TheVariants as kinds
 use Rattle.room_spec.specs.Rooms.{RoomSpec}
+use Rattle.room_spec.specs.declared.version.Version.TheVariants.{One}
 use Rattle.transcript.specs.declared.event.Event.{Event}
 use Rattle.transcript.specs.declared.event.Event.TheVariants.{Write, Snap, Decide}
 use Rattle.transcript.specs.Runs.{last_write, IsEnabled, IsRun, IsFirstBreak}
@@ -13,11 +14,13 @@ use Rattle.transcript.proofs.Runs.{IsRun-nil, IsRun-push}
 -- two processes write their inputs, and decide them
 abbrev pair : RoomSpec
 pair = record {
+  version = One;
   name = codes "pair";
   inputs = 7 ∷ 3 ∷ [];
   simulators = 2;
   rounds = 1;
   turns = 100;
+  task = None;
   fuses = [];
   protocol = record { first = Named names.Input; rules = []; last = record { kind = kinds.Decide; value = Named names.Mine } };
 }

@@ -3,12 +3,13 @@ use Rattle.std.proofs.Common.{◌≡◌, ℕ, zero, suc, ◌<◌, ◌≤◌, Lis
 use Rattle.std.specs.Prelude.{codes}
 use Rattle.protocol_lang.specs.Thresholds.{waits_for_all_but}
 use Rattle.room_spec.specs.Rooms.{IsCertified, RoomSpec}
+use Rattle.room_spec.specs.declared.version.Version.TheVariants.{Two}
 use Rattle.transcript.specs.declared.event.Event.{Event}
 use Rattle.transcript.specs.declared.event.Event.TheVariants.{Write, Snap, Decide}
 use Rattle.transcript.specs.Tasks.{decided_in, different, MayBeDecided, IsInTask, KeepsTask, IsFirstExcess}
 
 abbrev vote : RoomSpec
-vote = record { name = codes "vote"; inputs = 5 ∷ 3 ∷ 9 ∷ []; simulators = 2; rounds = 3; turns = 100; fuses = []; protocol = waits_for_all_but 1 }
+vote = record { version = Two; name = codes "vote"; inputs = 5 ∷ 3 ∷ 9 ∷ []; simulators = 2; rounds = 3; turns = 100; task = Some 1; fuses = []; protocol = waits_for_all_but 1 }
 
 abbrev snap_by : ℕ → List (Option ℕ) → Event
 snap_by p row = Snap p (record { items = row })

@@ -7,7 +7,7 @@ abbrev pub invariant-loop-fuse : goal.invariant-loop-fuse
 invariant-loop-fuse l = record {
   few : length l.fuses.items ≤ l.simulators;
   are : AreFuses l.fuses.items l.simulators;
-  so_far : fuses_from (suc (l.simulators - length l.fuses.items)) l.simulators l.fuses.items l.rest ≡ fuse_lines l.simulators l.text;
+  so_far : fuses_from (suc (l.simulators - length l.fuses.items)) l.first l.simulators l.fuses.items l.rest ≡ fuse_lines l.first l.simulators l.text;
 }
 
 abbrev pub decreases-loop-fuse : goal.decreases-loop-fuse
