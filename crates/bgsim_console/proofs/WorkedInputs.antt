@@ -1,5 +1,5 @@
 -- Whole inputs, worked by hand.
-use Rattle.std.proofs.Common.{◌≡◌, ℕ, List, [], ◌∷◌, ◌++◌, take, Some, Ok, Err, refl}
+use Rattle.std.proofs.Common.{◌≡◌, ℕ, List, [], ◌∷◌, ◌++◌, take, Some, None, Ok, Err, refl}
 use Rattle.std.specs.Prelude.{codes}
 use Rattle.std.specs.Fmt.{digits}
 use Rattle.protocol_lang.specs.Reading.{reading, run, one_token, next_token}
@@ -7,6 +7,7 @@ use Rattle.protocol_lang.specs.Trees.{Named}
 use Rattle.protocol_lang.specs.declared.tree.Name.TheVariants as names
 use Rattle.protocol_lang.specs.declared.tree.Kind.TheVariants as kinds
 use Rattle.room_spec.specs.Rooms.{RoomSpec}
+use Rattle.room_spec.specs.declared.version.Version.TheVariants.{One}
 use Rattle.room_spec.specs.Blocks.{body_len, fuses_from, room_in}
 use Rattle.transcript.specs.declared.event.Event.TheVariants.{Write, Snap, Decide}
 use Rattle.history_checker.specs.Verdicts.{FedEvent}
@@ -17,11 +18,13 @@ one = codes "bgsim 1\nroom one\ninputs 5\nsimulators 1\nrounds 1\nturns 10\nprot
 
 abbrev room_one : RoomSpec
 room_one = record {
+  version = One;
   name = codes "one";
   inputs = 5 ∷ [];
   simulators = 1;
   rounds = 1;
   turns = 10;
+  task = None;
   fuses = [];
   protocol = record { first = Named names.Input; rules = []; last = record { kind = kinds.Decide; value = Named names.Mine } };
 }

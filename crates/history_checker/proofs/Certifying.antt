@@ -1,6 +1,5 @@
 -- How many values a certified room decides at most, by the threshold of its protocol.
-use Rattle.std.proofs.Common.{◌≡◌, ◌↔◌, ℕ, ◌+◌, ◌<◌, ◌≤◌, Option, Some, None, refl, sym, ap, ◌∙◌, arith}
-use Rattle.protocol_lang.specs.Trees.{Tree}
+use Rattle.std.proofs.Common.{◌≡◌, ◌↔◌, ℕ, ◌+◌, ◌<◌, ◌≤◌, Option, Some, None, refl, sym, ap, arith}
 use Rattle.protocol_lang.specs.Thresholds.{waits_for_all_but}
 use Rattle.room_spec.specs.Rooms.{IsCertified, RoomSpec, processes}
 

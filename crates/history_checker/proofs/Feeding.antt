@@ -12,7 +12,7 @@ use Rattle.history_checker.specs.Verdicts.{FedEvent, RoomState, StandsAfter, Bre
 use Rattle.transcript.proofs.Runs.{slice_get-append, slice_get-push, IsRun-push}
 use Rattle.history_checker.proofs.Runs.{break-push, break-append}
 
-events-push : (fed : List FedEvent) (one : FedEvent) (event : Event) → one.event ≡ event → events_of (fed ++ one ∷ []) ≡ events_of fed ++ event ∷ []
+pub events-push : (fed : List FedEvent) (one : FedEvent) (event : Event) → one.event ≡ event → events_of (fed ++ one ∷ []) ≡ events_of fed ++ event ∷ []
 events-push fed one event is = map_push (λ o. o.event) fed one ∙ ap (λ e. events_of fed ++ e ∷ []) is
 
 breaks_still : (spec : RoomSpec) (fed : List FedEvent) (one : FedEvent) (line : ℕ) → BreaksOn spec fed line → BreaksOn spec (fed ++ one ∷ []) line

@@ -6,3 +6,4 @@ pub mod ToldLines
 pub mod Rows
 pub mod Tallies
 pub mod Certifying
+pub mod Counting

@@ -12,7 +12,7 @@ use Rattle.std.proofs.lemmas.List.{map-append, append-nil}
 use Rattle.std.proofs.lemmas.List.Elements.{recursion_from_All, All-from_recursion}
 use Rattle.std.proofs.lemmas.Slice.Eq.{bytes_eq-Decides}
 use Rattle.room_spec.specs.Rooms.{RoomSpec}
-use Rattle.history_checker.specs.Verdicts.{FedEvent, RoomState, StandsAfter, HasProcessedOwn, HasProcessed, fed_to, specs_of, names_of, has_room, rooms_in, IsKeyed}
+use Rattle.history_checker.specs.Verdicts.{FedEvent, RoomState, IsAfter, HasProcessedOwn, HasProcessed, fed_to, specs_of, names_of, has_room, rooms_in, IsKeyed}
 
 abbrev pub Entries : Type 0
 Entries = List (List ℕ × RoomState)
@@ -140,13 +140,13 @@ processed_at (first ∷ rooms) fed (suc i) room there processed = processed_at r
 -- a room of the map is fed an event of its own, and the others nothing
 pub HasProcessed-with_room : (entries : Entries) (i : ℕ) (old new : RoomState) (fed : List FedEvent) (one : FedEvent) → IsKeyed entries → IsDistinct bytes_eq (keys_in entries) → position (bytes_eq one.name) (keys_in entries) ≡ Some i
     → slice_get (rooms_in entries) i ≡ Some old → new.spec ≡ old.spec
-    → (StandsAfter old (fed_to old.spec.name fed) old.broken → StandsAfter new (fed_to old.spec.name fed ++ one ∷ []) new.broken)
+    → (IsAfter (fed_to old.spec.name fed) old → IsAfter (fed_to old.spec.name fed ++ one ∷ []) new)
     → HasProcessed (rooms_in entries) fed → HasProcessed (rooms_in (with_room entries i new)) (fed ++ one ∷ [])
 HasProcessed-with_room entries i old new fed one keyed unique found there same is_fed processed =
     let own = own_name one.name entries i old keyed found there in
     let before : HasProcessedOwn fed old = processed_at (rooms_in entries) fed i old there (recursion_from_All (HasProcessedOwn fed) (rooms_in entries) processed) in
-    let after : StandsAfter new (fed_to old.spec.name (fed ++ one ∷ [])) new.broken = rw (fed_of_own old.spec.name fed one (flip one.name old.spec.name own)) (is_fed before) in
-    let now : HasProcessedOwn (fed ++ one ∷ []) new = subst (λ (spec : RoomSpec). StandsAfter new (fed_to spec.name (fed ++ one ∷ [])) new.broken) (sym same) after in
+    let after : IsAfter (fed_to old.spec.name (fed ++ one ∷ [])) new = rw (fed_of_own old.spec.name fed one (flip one.name old.spec.name own)) (is_fed before) in
+    let now : HasProcessedOwn (fed ++ one ∷ []) new = subst (λ (spec : RoomSpec). IsAfter (fed_to spec.name (fed ++ one ∷ [])) new) (sym same) after in
     rw (rooms_in-with_room entries i new)
     (HasProcessed-set fed one (rooms_in entries) i old new (subst (IsDistinct bytes_eq) keyed unique) there own now processed)
 

@@ -1,20 +1,20 @@
 -- Decisions that are counted one by one, and the first that a task doesn't allow.
-use Rattle.std.proofs.Common.{◌≡◌, ◌≢◌, ℕ, zero, suc, ◌+◌, ◌<◌, ◌≤◌, ◌||◌, not, Bool, true, false, cond, eqb, List, [], ◌∷◌, ◌++◌, length, get_or, take, Option, Some, None, refl, sym, ap, ◌∙◌, subst, arith, inl, inr, ◌⊎◌}
-use Rattle.std.specs.Prelude.{slice_get, MatchBool}
+use Rattle.std.proofs.Common.{◌≡◌, ◌≢◌, ◌↔◌, ℕ, ◌+◌, ◌<◌, ◌≤◌, ◌||◌, not, Bool, true, false, cond, eqb, List, [], ◌∷◌, ◌++◌, length, get_or, take, Option, Some, None, refl, sym, ap, ◌∙◌, subst, arith, inl, inr}
+use Rattle.std.specs.Prelude.{slice_get, IfSome}
 use Rattle.std.specs.List.{Contains, filter, list_any}
 use mathlib.Core.Logic.{dite}
 use native.Mathlib.Decide.{ℕ_discrete}
-use Rattle.std.proofs.lemmas.Bool.{cases_Bool, cases_lt, eq-eqb, eqb-true, ne_eqb}
+use Rattle.std.proofs.lemmas.Bool.{cases_lt, eq-eqb, eqb-true, ne_eqb}
 use Rattle.std.proofs.lemmas.List.{append-nil, length-append, length_push, take-append-le, take-take, take_more}
 use Rattle.std.proofs.lemmas.List.Elements.{filter-append}
 use Rattle.std.proofs.lemmas.Option.{slice_get_within, slice_get-get_or}
 use Rattle.room_spec.specs.Rooms.{RoomSpec}
 use Rattle.transcript.specs.declared.event.Event.{Event}
 use Rattle.transcript.specs.declared.event.Event.TheVariants.{Write, Snap, Decide}
-use Rattle.transcript.specs.Tasks.{decided_by, decided_in, different, MayBeDecided, IsInTask, KeepsTask, IsFirstExcess}
+use Rattle.transcript.specs.Tasks.{decided_by, decided_in, different, IsInTask, KeepsTask, IsFirstExcess}
 use Rattle.transcript.proofs.Agreeing.{In, in_contains, contains_in, in_without, different_in, no_more, one_more}
 use Rattle.transcript.proofs.Runs.{slice_get-append, slice_get-push, slice_get-take, take-push}
-use Rattle.history_checker.specs.Tasks.{IsTally, Allows, HasDecided}
+use Rattle.history_checker.specs.Tasks.{IsTally, Allows, HasDecided, KeepsOwnTask}
 
 -- ---- one value more
 
@@ -141,7 +141,7 @@ no_tally most = record { values_are = refl; few = omega arith }
 some_same : (x y : Event) → Some x ≡ Some y → x ≡ y
 some_same x y is = cc
 
-keeps_push : (spec : RoomSpec) (most : ℕ) (history : List Event) (event : Event) → KeepsTask spec most history → IsInTask spec most history event → KeepsTask spec most (history ++ event ∷ [])
+pub keeps_push : (spec : RoomSpec) (most : ℕ) (history : List Event) (event : Event) → KeepsTask spec most history → IsInTask spec most history event → KeepsTask spec most (history ++ event ∷ [])
 keeps_push spec most history event keeps may t x is = elim (cases_lt t (length history)) [
   | inl below ↦ rw (take-append-le t history (event ∷ []) (omega arith)) (keeps t x (sym (slice_get-append history (event ∷ []) t below) ∙ is))
   | inr past ↦
@@ -169,3 +169,40 @@ one_excess spec most events s t a b = elim (cases_lt s t) [
   | inl earlier ↦ absurd (not_sooner spec most events s t a b earlier)
   | inr not_before ↦ elim (cases_lt t s) [ inl later ↦ absurd (not_sooner spec most events t s b a later) | inr le ↦ omega arith ]
 ]
+
+-- ---- a list that grows
+
+pub excess_push : (spec : RoomSpec) (most : ℕ) (history : List Event) (event : Event) → KeepsTask spec most history → (IsInTask spec most history event → ⊥) → IsFirstExcess spec most (history ++ event ∷ []) (length history)
+excess_push spec most history event keeps breaks = record { event = event; there = slice_get-push history event; breaks = rw take-push breaks; kept_before = rw take-push keeps }
+
+-- what exceeds first does so whatever comes after
+pub excess_append : (spec : RoomSpec) (most : ℕ) (history : List Event) (event : Event) (t : ℕ) → IsFirstExcess spec most history t → IsFirstExcess spec most (history ++ event ∷ []) t
+excess_append spec most history event t first =
+    let within = slice_get_within history t first.event first.there in
+    let same : take t (history ++ event ∷ []) ≡ take t history = take-append-le t history (event ∷ []) (omega arith) in
+    record {
+      event = first.event;
+      there = slice_get-append history (event ∷ []) t within ∙ first.there;
+      breaks = rw same first.breaks;
+      kept_before = rw same first.kept_before;
+    }
+
+-- ---- the room's own task
+
+some_number : (x y : ℕ) → ◌≡◌ {A = Option ℕ} (Some x) (Some y) → x ≡ y
+some_number x y is = cc
+
+pub no_own_task : (spec : RoomSpec) (events : List Event) → None ≡ spec.task → KeepsOwnTask spec events
+no_own_task spec events none = subst (λ (task : Option ℕ). IfSome task (λ most. KeepsTask spec most events)) none tt
+
+pub no_own_excess : (spec : RoomSpec) (events : List Event) (t : ℕ) → None ≡ spec.task → (most : ℕ) × (spec.task ≡ Some most) × IsFirstExcess spec most events t → ⊥
+no_own_excess spec events t none one = absurd (let never : None ≡ Some one.0 = none ∙ one.1 in cc)
+
+pub own_task : (spec : RoomSpec) (events : List Event) (most : ℕ) (P : Type 0) → Some most ≡ spec.task → P ↔ KeepsTask spec most events → P ↔ KeepsOwnTask spec events
+own_task spec events most P some keeps = subst (λ (task : Option ℕ). P ↔ IfSome task (λ n. KeepsTask spec n events)) some keeps
+
+pub own_excess : (spec : RoomSpec) (events : List Event) (most t : ℕ) (P : Type 0) → Some most ≡ spec.task → P ↔ IsFirstExcess spec most events t → P ↔ ((n : ℕ) × (spec.task ≡ Some n) × IsFirstExcess spec n events t)
+own_excess spec events most t P some first = (
+  (λ p. (most, sym some, first.0 p)),
+  (λ one. first.1 (subst (λ (n : ℕ). IsFirstExcess spec n events t) (sym (some_number most one.0 (some ∙ one.1))) one.2)),
+)

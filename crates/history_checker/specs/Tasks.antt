@@ -1,8 +1,17 @@
--- What is kept of the decisions of a room that has a task.
-use Rattle.std.specs.Prelude.{◌≡◌, ℕ, ◌≤◌, Bool, List, [], ◌∷◌, ◌++◌, length, MatchBool}
+-- Whether a room's decisions keep its task, and what is kept of them.
+use Rattle.std.specs.Prelude.{◌≡◌, ℕ, ◌≤◌, Bool, List, [], ◌∷◌, ◌++◌, length, Option, IfSome, MatchBool}
 use Rattle.room_spec.specs.Rooms.{RoomSpec}
 use Rattle.transcript.specs.declared.event.Event.{Event}
-use Rattle.transcript.specs.Tasks.{MayBeDecided, IsInTask, decided_in, different}
+use Rattle.transcript.specs.Tasks.{MayBeDecided, IsInTask, KeepsTask, decided_in, different}
+
+-- the events keep the room's task, if it has one
+abbrev pub KeepsOwnTask : RoomSpec → List Event → Type 0
+KeepsOwnTask spec events = IfSome spec.task (λ most. KeepsTask spec most events)
+
+-- what is kept: the values that were decided, and the line of the first decision that the task doesn't allow
+pub record TallyState : Type 0 where
+  pub decided : List ℕ
+  pub excess : Option ℕ
 
 -- what is kept are the different values that were decided, of which there are not too many
 pub record IsTally (most : ℕ) (before : List Event) (values : List ℕ) : Type 0 where

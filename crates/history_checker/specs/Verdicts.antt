@@ -5,12 +5,16 @@ use Rattle.std.specs.Str.{bytes_eq}
 use Rattle.room_spec.specs.Rooms.{RoomSpec}
 use Rattle.transcript.specs.declared.event.Event.{Event}
 use Rattle.transcript.specs.Runs.{IsRun, IsFirstBreak}
+use Rattle.transcript.specs.Tasks.{IsFirstExcess, KeepsTask}
 use Rattle.history_checker.specs.declared.process.Process.{Process}
 use Rattle.history_checker.specs.declared.rooms.Verdict.{Verdict}
 use Rattle.history_checker.specs.declared.rooms.Verdict.TheVariants.{Run, Broken}
 use Rattle.history_checker.specs.declared.rooms.AddFault.{AddFault}
 use Rattle.history_checker.specs.declared.rooms.AddFault.TheVariants.{NameTaken, OutOfMemory}
+use Rattle.history_checker.specs.declared.rooms.TaskVerdict.{TaskVerdict}
+use Rattle.history_checker.specs.declared.rooms.TaskVerdict.TheVariants as tasks
 use Rattle.history_checker.specs.Processes.{Tracks}
+use Rattle.history_checker.specs.Tasks.{IsTally, TallyState}
 
 -- an event that was fed, of which room, and on which line
 pub record FedEvent : Type 0 where
@@ -38,6 +42,20 @@ abbrev pub IsVerdict : RoomSpec → List FedEvent → Verdict → Type 0
 IsVerdict spec fed Run = IsRun spec (events_of fed)
 IsVerdict spec fed (Broken line) = BreaksOn spec fed line
 
+-- the first decision that the task doesn't allow was fed on this line
+pub record ExceedsOn (spec : RoomSpec) (most : ℕ) (fed : List FedEvent) (line : ℕ) : Type 0 where
+  pub place : ℕ
+  pub first : IsFirstExcess spec most (events_of fed) place
+  pub one : FedEvent
+  pub there : slice_get fed place ≡ Some one
+  pub line_is : one.line ≡ line
+
+-- the answer on a room's task after what was fed of the room: there is none, it holds, or it is broken
+abbrev pub IsTaskAnswer : RoomSpec → List FedEvent → Option TaskVerdict → Type 0
+IsTaskAnswer spec fed None = spec.task ≡ None
+IsTaskAnswer spec fed (Some tasks.Holds) = (most : ℕ) × (spec.task ≡ Some most) × KeepsTask spec most (events_of fed)
+IsTaskAnswer spec fed (Some (tasks.Broken line)) = (most : ℕ) × (spec.task ≡ Some most) × ExceedsOn spec most fed line
+
 -- ---- what is kept of a room
 
 pub record RoomState : Type 0 where
@@ -45,14 +63,29 @@ pub record RoomState : Type 0 where
   pub processes : List Process
   -- the line of the first event that may not follow those before it
   pub broken : Option ℕ
+  -- of its task, if it has one
+  pub tally : Option TallyState
 
 abbrev pub StandsAfter : RoomState → List FedEvent → Option ℕ → Type 0
 StandsAfter room fed None = IsRun room.spec (events_of fed) × Tracks room.spec room.processes (events_of fed)
 StandsAfter room fed (Some line) = BreaksOn room.spec fed line
 
--- what is kept of the room is so after all that was fed, of which the other rooms' part is passed over
+abbrev pub TallyStands : RoomSpec → ℕ → List FedEvent → List ℕ → Option ℕ → Type 0
+TallyStands spec most fed decided None = KeepsTask spec most (events_of fed) × IsTally most (events_of fed) decided
+TallyStands spec most fed decided (Some line) = ExceedsOn spec most fed line
+
+abbrev pub TaskStands : RoomSpec → List FedEvent → Option ℕ → Option TallyState → Type 0
+TaskStands spec fed None tally = tally ≡ None
+TaskStands spec fed (Some most) None = ⊥
+TaskStands spec fed (Some most) (Some tally) = TallyStands spec most fed tally.decided tally.excess
+
+-- what is kept of the room is so after these events of it
+abbrev pub IsAfter : List FedEvent → RoomState → Type 0
+IsAfter fed room = StandsAfter room fed room.broken × TaskStands room.spec fed room.spec.task room.tally
+
+-- the same after all that was fed, of which the other rooms' part is passed over
 abbrev pub HasProcessedOwn : List FedEvent → RoomState → Type 0
-HasProcessedOwn fed room = StandsAfter room (fed_to room.spec.name fed) room.broken
+HasProcessedOwn fed room = IsAfter (fed_to room.spec.name fed) room
 
 -- the same of every room
 abbrev pub HasProcessed : List RoomState → List FedEvent → Type 0

@@ -7,10 +7,11 @@ mod process;
 mod rooms;
 mod row;
 mod spelled;
+mod tally;
 mod task;
 mod told;
 
 pub use bound::certified;
 pub use history::check;
-pub use rooms::{AddFault, NoRoom, Rooms, Specs, Verdict};
-pub use task::check_agreement;
+pub use rooms::{AddFault, NoRoom, Rooms, Specs, TaskVerdict, Verdict};
+pub use task::check_task;

@@ -4,13 +4,14 @@ ghost use Rattle.std.specs.List.{position};
 ghost use Rattle.std.specs.Str.{bytes_eq};
 ghost use Rattle.room_spec.specs.Names.{is_name};
 ghost use Rattle.room_spec.specs.Rooms.{RoomSpec};
-ghost use Rattle.history_checker.specs.Verdicts.{FedEvent, HasProcessed, HasProcessedOwn, StandsAfter, IsVerdict, specs_of, names_of, has_room, fed_to, add_code};
+ghost use Rattle.history_checker.specs.Verdicts.{FedEvent, HasProcessed, HasProcessedOwn, IsAfter, StandsAfter, TaskStands, IsVerdict, IsTaskAnswer, specs_of, names_of, has_room, fed_to, add_code};
 ghost use Rattle.history_checker.specs.Shown.{HasFed, SaysDeed, SaysRow};
 
 use crate::history::open;
 use crate::process::{Process, follow};
 use crate::row::Row;
 use crate::spelled::Spelled;
+use crate::tally::Tally;
 use crate::told::{behind_snap, event_told, parts_of};
 use indexmap::IndexMap;
 use indexmap::map::IntoValues;
@@ -28,6 +29,16 @@ pub enum Verdict {
     Run,
     /// They aren't. The line, as it was fed, of the first event that may not follow those of its
     /// room before it.
+    Broken(u64),
+}
+
+/// Whether a room's decisions keep its task.
+#[derive(Clone, Copy, Debug, PartialEq, Eq)]
+pub enum TaskVerdict {
+    /// They do, also where there are none.
+    Holds,
+    /// They don't. The line, as it was fed, of the first event that decides a value that is no input, or one different value
+    /// more than the task allows.
     Broken(u64),
 }
 
@@ -76,18 +87,21 @@ struct Room {
     broken: Option<u64>,
     /// In a room of few processes there is none: its snapshots are read quickly.
     row: Option<Box<Row>>,
+    /// In a room without a task there is none.
+    tally: Option<Box<Tally>>,
 }
 
 impl Model for Room {
     ghost use Rattle.std.specs.Coded.{codes};
     ghost use Rattle.protocol_lang.specs.Codes.{expression_code};
+    ghost use Rattle.std.specs.Option.{option_map};
     ghost use Rattle.history_checker.specs.Verdicts.{RoomState};
 
     ghost Value = { RoomState };
 
     ghost coded = { Prim.hlevel (codes, expression_code) };
 
-    ghost view = { λ room. record { spec = room.spec; processes = room.processes.items; broken = room.broken } };
+    ghost view = { λ room. record { spec = room.spec; processes = room.processes.items; broken = room.broken; tally = option_map (λ tally. tally.value) room.tally } };
 }
 
 impl Room {
@@ -98,17 +112,44 @@ impl Room {
         let mut processes = vec![in alloc; Process::BLANK; spec.n()]?;
         open(&spec, &mut processes);
         let row = Row::of_many(alloc, spec.n())?;
+        let tally = Tally::of_task(alloc, &spec)?;
         Ok(Room {
             spec,
             processes,
             broken: None,
             row,
+            tally,
         })
     }
 
     /// Processes an event, which stands on this line.
     fn feed(&mut self, event: &Event, line: u64)
         ensures spec { self.new.spec ≡ self.old.spec }
+        ensures processed { (fed : List FedEvent) (one : FedEvent) → one.event ≡ event.now → one.line ≡ line → IsAfter fed self.old → IsAfter (fed ++ one ∷ []) self.new }
+    {
+        self.count(event, line);
+        self.follow(event, line);
+    }
+
+    /// Counts what the event decides, if the room has a task. A room that is no run has its task judged all the same.
+    fn count(&mut self, event: &Event, line: u64)
+        ensures others { self.new ≡ record self.old { tally = self.new.tally } }
+        ensures task { (fed : List FedEvent) (one : FedEvent) → one.event ≡ event.now → one.line ≡ line
+            → TaskStands self.old.spec fed self.old.spec.task self.old.tally → TaskStands self.old.spec (fed ++ one ∷ []) self.old.spec.task self.new.tally }
+    {
+        let Some(most) = self.spec.task() else {
+            return;
+        };
+        let Some(tally) = &mut self.tally else {
+            return;
+        };
+        tally.feed(&self.spec, usize::from(most), event, line);
+    }
+
+    /// Follows the event, unless one before it broke the run.
+    fn follow(&mut self, event: &Event, line: u64)
+        ensures spec { self.new.spec ≡ self.old.spec }
+        ensures tally { self.new.tally ≡ self.old.tally }
         ensures processed { (fed : List FedEvent) (one : FedEvent) → one.event ≡ event.now → one.line ≡ line
             → StandsAfter self.old fed self.old.broken → StandsAfter self.new (fed ++ one ∷ []) self.new.broken }
     {
@@ -141,6 +182,16 @@ impl Room {
         match self.broken {
             None => Verdict::Run,
             Some(line) => Verdict::Broken(line),
+        }
+    }
+
+    fn task_verdict(&self) -> Option<TaskVerdict>
+        ensures { (fed : List FedEvent) → TaskStands self.now.spec fed self.now.spec.task self.now.tally → IsTaskAnswer self.now.spec fed result }
+    {
+        let tally = self.tally.as_ref()?;
+        match tally.excess() {
+            None => Some(TaskVerdict::Holds),
+            Some(line) => Some(TaskVerdict::Broken(line)),
         }
     }
 }
@@ -344,6 +395,16 @@ impl Rooms {
             Some((_, room)) => Some(room.verdict()),
             None => None,
         }
+    }
+
+    /// Whether the decisions of the room of this index, from 0 in order of adding, keep its task, also where its events are no
+    /// run; or `None` where there is no such room, or it has no task.
+    pub fn task_verdict(&self, index: usize) -> Option<TaskVerdict>
+        ensures { (fed : List FedEvent) → HasProcessed self.now fed
+            → MatchOption (slice_get (specs_of self.now) index) (result ≡ None) (λ spec. IsTaskAnswer spec (fed_to spec.name fed) result) }
+    {
+        let (_, room) = self.rooms.get_index(index)?;
+        room.task_verdict()
     }
 }
 

@@ -1,8 +1,7 @@
 //! Whether an agreement task is kept.
-ghost use Rattle.std.specs.Prelude.{◌≡◌, ◌↔◌, ◌==◌, ◌≤◌, [], ℕ, IsOk, Err};
-ghost use Rattle.std.specs.List.{list_any};
+ghost use Rattle.std.specs.Prelude.{◌≡◌, ◌↔◌, ◌≤◌, [], ℕ, IsOk, Err, Some};
 ghost use Rattle.transcript.specs.Tasks.{IsFirstExcess, KeepsTask};
-ghost use Rattle.history_checker.specs.Tasks.{Allows, HasDecided};
+ghost use Rattle.history_checker.specs.Tasks.{Allows, HasDecided, KeepsOwnTask};
 
 use arrayvec::ArrayVec;
 use room_spec::Spec;
@@ -39,7 +38,7 @@ impl Decided {
         requires { most ≤ 16 }
         ensures { Allows spec.now most v self.old result self.new }
     {
-        if !has_input(spec, v) {
+        if !spec.has_input(v) {
             return false;
         }
         if self.values.contains(&v) {
@@ -65,21 +64,21 @@ impl Decided {
     }
 }
 
-/// Whether the value is some process's input.
-fn has_input(spec: &Spec, v: u32) -> bool
-    ensures { result ≡ list_any (λ input. input == v) spec.now.inputs }
+/// Whether the decisions keep the room's task: each is of an input, and there are no more different ones than it allows. Else
+/// the index, from 0, of the first event that decides another value. A room that has no task has none to break. It takes no
+/// memory.
+pub fn check_task(spec: &Spec, events: &[Event]) -> Result<(), usize>
+    ensures keeps { IsOk result ↔ KeepsOwnTask spec.now events.now }
+    ensures first { (t : ℕ) → (result ≡ Err t) ↔ ((most : ℕ) × (spec.now.task ≡ Some most) × IsFirstExcess spec.now most events.now t) }
 {
-    for j in 0..spec.n() {
-        if spec.input(j) == v {
-            return true;
-        }
+    match spec.task() {
+        None => Ok(()),
+        Some(most) => check_agreement(spec, usize::from(most), events),
     }
-    false
 }
 
-/// Whether the events keep the task that at most so many different values are decided, and each of them is an input; and
-/// else the index, from 0, of the first decision that the task doesn't allow after those before it.
-pub fn check_agreement(spec: &Spec, most: usize, events: &[Event]) -> Result<(), usize>
+/// The same of a task that allows so many different values.
+fn check_agreement(spec: &Spec, most: usize, events: &[Event]) -> Result<(), usize>
     requires { most ≤ 16 }
     ensures keeps { IsOk result ↔ KeepsTask spec.now most events.now }
     ensures first { (t : ℕ) → (result ≡ Err t) ↔ IsFirstExcess spec.now most events.now t }

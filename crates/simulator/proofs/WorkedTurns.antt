@@ -1,11 +1,12 @@
 -- Whole turns worked by hand: the moves of a simulator, each with its answer, and where it stands then.
-use Rattle.std.proofs.Common.{◌≡◌, ℕ, List, [], ◌∷◌, ◌++◌, take, drop, refl}
+use Rattle.std.proofs.Common.{◌≡◌, ℕ, List, [], ◌∷◌, ◌++◌, None, take, drop, refl}
 use Rattle.std.specs.Prelude.{codes}
 use Rattle.protocol_lang.specs.Trees.{Expression, Number, Named}
 use Rattle.protocol_lang.specs.declared.tree.Kind.{Kind}
 use Rattle.protocol_lang.specs.declared.tree.Kind.TheVariants.{Decide, Write}
 use Rattle.protocol_lang.specs.declared.tree.Name.TheVariants.{Input, Mine, Min, Count}
 use Rattle.room_spec.specs.Rooms.{RoomSpec}
+use Rattle.room_spec.specs.declared.version.Version.TheVariants.{One, Two}
 use Rattle.simulator.specs.declared.operation.Move.{Move}
 use Rattle.simulator.specs.declared.operation.Move.TheVariants.{Load, Store, Add, Sub, Finished, OutOfTurns}
 use Rattle.simulator.specs.declared.sweep.Ready.TheVariants.{Step, Idle, OutOfTurns as WithoutTurns}
@@ -19,11 +20,13 @@ use Rattle.view_table.specs.Places.{index_of}
 -- a room of one round, with the protocol `first input; else ..;`
 abbrev room_of : List ℕ → ℕ → ℕ → Kind → Expression → RoomSpec
 room_of inputs simulators turns kind value = record {
+  version = One;
   name = codes "a";
   inputs = inputs;
   simulators = simulators;
   rounds = 1;
   turns = turns;
+  task = None;
   fuses = [];
   protocol = record { first = Named Input; rules = []; last = record { kind = kind; value = value } };
 }
@@ -187,11 +190,13 @@ idle_with_nothing_left = (refl, refl)
 
 abbrev big : RoomSpec
 big = record {
+  version = Two;
   name = codes "big";
   inputs = 1 ∷ 2 ∷ 3 ∷ 4 ∷ 5 ∷ 6 ∷ 7 ∷ 8 ∷ 9 ∷ [];
   simulators = 2;
   rounds = 15;
   turns = 100;
+  task = None;
   fuses = [];
   protocol = record { first = Named Input; rules = []; last = record { kind = Decide; value = Named Min } };
 }

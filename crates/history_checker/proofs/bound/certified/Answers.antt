@@ -1,4 +1,4 @@
-use Rattle.std.proofs.Common.{◌≡◌, ◌↔◌, ℕ, ◌<◌, ◌≤◌, Option, Some, None, subst, arith}
+use Rattle.std.proofs.Common.{◌≡◌, ◌↔◌, ℕ, ◌<◌, ◌≤◌, Some, subst, arith}
 use Rattle.protocol_lang.specs.Trees.{Tree}
 use Rattle.protocol_lang.specs.Thresholds.{waits_for_all_but}
 use Rattle.room_spec.specs.Rooms.{processes}

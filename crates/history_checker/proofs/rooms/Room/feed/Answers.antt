@@ -1,28 +1,13 @@
-use Rattle.std.proofs.Common.{◌≡◌, ◌∙◌, ◌∷◌, ◌++◌, [], sym, ap, subst, length}
-use Rattle.std.specs.Prelude.{is_some}
-use Rattle.std.proofs.lemmas.List.{with_items_is}
-use Rattle.history_checker.specs.Verdicts.{RoomState, StandsAfter}
-use Rattle.history_checker.proofs.Feeding.{stays_broken, breaks_now, runs_on, unbroken, still_unbroken}
+use Rattle.std.proofs.Common.{◌++◌, ◌∷◌, [], sym, ap, ◌∙◌, subst}
+use Rattle.room_spec.specs.Rooms.{RoomSpec}
+use Rattle.history_checker.specs.Verdicts.{RoomState, StandsAfter, TaskStands}
 use Rattle.history_checker.proofs.rooms.Room.feed.Goals as goal
 
-pub returns-then-is_some-clause-processed : goal.returns-then-is_some-clause-processed
-returns-then-is_some-clause-processed c =
-    λ fed one event line stands. stays_broken c.args.self.now fed one (ap (λ room. is_some room.broken) (sym c.self.view_is) ∙ sym c.if-is_some.ensures) stands
-
-pub returns-then-not-follows-clause-processed : goal.returns-then-not-follows-clause-processed
-returns-then-not-follows-clause-processed c =
-    λ fed one event line stands.
-    let P : RoomState → Type 0 = λ room. StandsAfter room fed room.broken in
-    breaks_now c.self.inside.spec c.self.inside.processes.items c.follow-follows.new.processes fed one c.args.event.now c.args.line event line (rw c.deref_mut.ensures.value at c.if-not-follows.ensures)
-    (unbroken _ fed (sym c.if-is_some.ensures) (subst P (sym c.self.view_is) stands))
-
 pub returns-clause-processed : goal.returns-clause-processed
-returns-clause-processed c =
-    λ fed one event line stands.
-    let P : RoomState → Type 0 = λ room. StandsAfter room fed room.broken in
-    let before = unbroken _ fed (sym c.if-is_some.ensures) (subst P (sym c.self.view_is) stands) in
-    let len : length c.follow-follows.new.processes ≡ c.self.inside.processes.len = c.follow-follows.auto.processes ∙ c.deref_mut.ensures.len in
-    let Q : RoomState → Type 0 = λ room. StandsAfter room (fed ++ one ∷ []) room.broken in
-    subst Q (sym c.show.ensures) (still_unbroken _ (fed ++ one ∷ []) (sym c.if-is_some.ensures)
-    (rw (with_items_is c.self.inside.processes c.follow-follows.new.processes len)
-    (runs_on c.self.inside.spec c.self.inside.processes.items c.follow-follows.new.processes fed one c.args.event.now event (rw c.deref_mut.ensures.value at c.if-not-follows.ensures) before)))
+returns-clause-processed c = λ fed one event line after.
+    let counted = c.count.ensures.task fed one event line after.1 in
+    let stood = subst (λ (room : RoomState). StandsAfter room fed room.broken) (sym c.count.ensures.others) after.0 in
+    let spec = c.follow.ensures.spec ∙ ap (λ (room : RoomState). room.spec) c.count.ensures.others in (
+      c.follow.ensures.processed fed one event line stood,
+      rw (c.follow.ensures.tally) (subst (λ (spec : RoomSpec). TaskStands spec (fed ++ one ∷ []) spec.task c.count.new.self.tally) (sym spec) counted),
+    )

@@ -11,4 +11,4 @@ returns-in-Some c = λ fed processed.
     let there : slice_get c.args.self.now c.args.index ≡ Some room = subst (λ (rooms : List RoomState). slice_get rooms c.args.index ≡ Some room) c.self.view_is inside in
     rw (spec_there c.args.self.now c.args.index room there)
     (c.verdict.ensures (fed_to room.spec.name fed)
-    (processed_there c.self.inside.rooms.entries fed c.args.index room inside (subst (λ rooms. HasProcessed rooms fed) (sym c.self.view_is) processed)))
+    (processed_there c.self.inside.rooms.entries fed c.args.index room inside (subst (λ rooms. HasProcessed rooms fed) (sym c.self.view_is) processed)).0)
