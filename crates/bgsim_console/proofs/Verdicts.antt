@@ -10,10 +10,11 @@ use Rattle.std.proofs.lemmas.Option.{slice_get_within, slice_get_cases, slice_ge
 use Rattle.std.proofs.Math.Seq.{take-suc}
 use Rattle.std.specs.Option.{option_map}
 use Rattle.room_spec.specs.Rooms.{RoomSpec}
-use Rattle.history_checker.specs.Verdicts.{FedEvent, IsVerdict, fed_to, names_of}
+use Rattle.history_checker.specs.Verdicts.{FedEvent, IsTaskAnswer, IsVerdict, fed_to, names_of}
 use Rattle.history_checker.specs.declared.rooms.Verdict.{Verdict}
+use Rattle.history_checker.specs.declared.rooms.TaskVerdict.{TaskVerdict}
 use Rattle.bgsim_console.specs.declared.fault.Outcome.{Outcome}
-use Rattle.bgsim_console.specs.Check.{Judged, IsJustified, IsOutput, judged_line, verdict_line, is_run, outcome_if}
+use Rattle.bgsim_console.specs.Check.{Judged, IsJustified, IsOutput, judged_line, is_well, outcome_if}
 
 -- the verdicts on the first rooms stand behind the lines of the refused blocks
 abbrev pub SoFar : List RoomSpec → List ℕ → List FedEvent → ℕ → List ℕ → Bool → Type 0
@@ -22,7 +23,7 @@ SoFar rooms refused fed count output well =
     × (map (λ one. one.room) all ≡ take count rooms)
     × All (IsJustified fed) all
     × (output ≡ refused ++ flat_map judged_line all)
-    × (well ≡ ((length refused == 0) && list_all (λ one. is_run one.verdict) all))
+    × (well ≡ ((length refused == 0) && list_all (λ one. is_well one.verdict one.task) all))
 
 and_true : (b : Bool) → b ≡ (b && true)
 and_true true = refl
@@ -36,22 +37,22 @@ pub none_yet : (rooms : List RoomSpec) (refused : List ℕ) (fed : List FedEvent
 none_yet rooms refused fed well is =
     ([], refl, All-nil (IsJustified fed), sym (append-nil refused), is ∙ and_true (length refused == 0))
 
-pub one_more : (rooms : List RoomSpec) (refused : List ℕ) (fed : List FedEvent) (count : ℕ) (output : List ℕ) (well : Bool) (room : RoomSpec) (verdict : Verdict) (output_now : List ℕ) (well_now : Bool)
-    → SoFar rooms refused fed count output well → slice_get rooms count ≡ Some room → IsVerdict room (fed_to room.name fed) verdict
-    → output_now ≡ output ++ verdict_line room.name verdict → well_now ≡ (well && is_run verdict) → SoFar rooms refused fed (count + 1) output_now well_now
-one_more rooms refused fed count output well room verdict output_now well_now so_far there justified output_is well_is =
+pub one_more : (rooms : List RoomSpec) (refused : List ℕ) (fed : List FedEvent) (count : ℕ) (output : List ℕ) (well : Bool) (room : RoomSpec) (verdict : Verdict) (task : Option TaskVerdict) (output_now : List ℕ) (well_now : Bool)
+    → SoFar rooms refused fed count output well → slice_get rooms count ≡ Some room → IsJustified fed (record { room = room; verdict = verdict; task = task })
+    → output_now ≡ output ++ judged_line (record { room = room; verdict = verdict; task = task }) → well_now ≡ (well && is_well verdict task) → SoFar rooms refused fed (count + 1) output_now well_now
+one_more rooms refused fed count output well room verdict task output_now well_now so_far there justified output_is well_is =
     let all = so_far.0 in
-    let one : Judged = record { room = room; verdict = verdict } in
+    let one : Judged = record { room = room; verdict = verdict; task = task } in
     let within = slice_get_within rooms count room there in
     let plus : count + 1 ≡ suc count = omega arith in
     let next : take (count + 1) rooms ≡ take count rooms ++ room ∷ [] = ap (λ n. take n rooms) plus ∙ take-suc rooms count room within ∙ ap (λ r. take count rooms ++ r ∷ []) (get_or_from_slice_get rooms count room room there) in (
       all ++ one ∷ [],
       map_push (λ (o : Judged). o.room) all one ∙ ap (λ rs. rs ++ room ∷ []) so_far.1 ∙ sym next,
       All-push (IsJustified fed) all one so_far.2 justified,
-      output_is ∙ ap (λ o. o ++ verdict_line room.name verdict) so_far.3 ∙ append_assoc refused (flat_map judged_line all) (verdict_line room.name verdict)
-          ∙ ap (λ o. refused ++ (flat_map judged_line all ++ o)) (sym (append-nil (verdict_line room.name verdict))) ∙ ap (λ o. refused ++ o) (sym (flat_map-append judged_line all (one ∷ []))),
-      well_is ∙ ap (λ w. w && is_run verdict) so_far.4 ∙ and_assoc ((length refused == 0)) (list_all (λ (o : Judged). is_run o.verdict) all) (is_run verdict)
-          ∙ ap (λ w. (length refused == 0) && (list_all (λ (o : Judged). is_run o.verdict) all && w)) (and_true (is_run verdict)) ∙ ap (λ w. (length refused == 0) && w) (sym (list_all-append (λ (o : Judged). is_run o.verdict) all (one ∷ []))),
+      output_is ∙ ap (λ o. o ++ judged_line one) so_far.3 ∙ append_assoc refused (flat_map judged_line all) (judged_line one)
+          ∙ ap (λ o. refused ++ (flat_map judged_line all ++ o)) (sym (append-nil (judged_line one))) ∙ ap (λ o. refused ++ o) (sym (flat_map-append judged_line all (one ∷ []))),
+      well_is ∙ ap (λ w. w && is_well verdict task) so_far.4 ∙ and_assoc ((length refused == 0)) (list_all (λ (o : Judged). is_well o.verdict o.task) all) (is_well verdict task)
+          ∙ ap (λ w. (length refused == 0) && (list_all (λ (o : Judged). is_well o.verdict o.task) all && w)) (and_true (is_well verdict task)) ∙ ap (λ w. (length refused == 0) && w) (sym (list_all-append (λ (o : Judged). is_well o.verdict o.task) all (one ∷ []))),
     )
 
 pub all_judged : (rooms : List RoomSpec) (refused : List ℕ) (fed : List FedEvent) (count : ℕ) (output : List ℕ) (well : Bool) (outcome : Outcome) → length rooms ≤ count → outcome ≡ outcome_if well → SoFar rooms refused fed count output well → IsOutput rooms refused fed outcome output
@@ -71,6 +72,10 @@ pub room_judged : (found : Option RoomSpec) (result : Option Verdict) (verdict :
     → (room : RoomSpec) × (found ≡ Some room) × IsVerdict room (fed_to room.name fed) verdict
 room_judged None result verdict fed is none = absurd cc
 room_judged (Some room) result verdict fed is some = (room, refl, subst (λ r. IsSomeAnd r (IsVerdict room (fed_to room.name fed))) is some)
+
+-- and the answer on its task
+pub task_judged : (found : Option RoomSpec) (room : RoomSpec) (task : Option TaskVerdict) (fed : List FedEvent) → found ≡ Some room → MatchOption found (task ≡ None) (λ spec. IsTaskAnswer spec (fed_to spec.name fed) task) → IsTaskAnswer room (fed_to room.name fed) task
+task_judged found room task fed is answer = subst (λ (f : Option RoomSpec). MatchOption f (task ≡ None) (λ spec. IsTaskAnswer spec (fed_to spec.name fed) task)) is answer
 
 no_room : (found : Option RoomSpec) (result : Option Verdict) (fed : List FedEvent) → result ≡ None → MatchOption found (result ≡ None) (λ spec. IsSomeAnd result (IsVerdict spec (fed_to spec.name fed))) → found ≡ None
 no_room None result fed is none = refl

@@ -9,14 +9,16 @@ use Rattle.room_spec.specs.Rooms.{RoomSpec}
 use Rattle.room_spec.specs.Texts.{first_line, later_lines}
 use Rattle.room_spec.specs.Blocks.{body_len, block_len, block_in}
 use Rattle.room_spec.specs.declared.fault.SpecFault.{SpecFault}
-use Rattle.room_spec.specs.declared.fault.SpecFault.TheVariants.{BadLine, BadProtocol, CrashLine, Repeated}
+use Rattle.room_spec.specs.declared.fault.SpecFault.TheVariants.{BadLine, BadProtocol, CrashLine, Repeated, TaskLine}
 use Rattle.transcript.specs.Faults.{code_of as line_code}
 use Rattle.transcript.specs.Lines.{line_in}
 use Rattle.transcript.specs.declared.event.Event.{Event}
 use Rattle.transcript.specs.declared.fault.LineFault.{LineFault}
-use Rattle.history_checker.specs.Verdicts.{FedEvent, IsVerdict, has_room, fed_to}
+use Rattle.history_checker.specs.Verdicts.{FedEvent, IsTaskAnswer, IsVerdict, has_room, fed_to}
 use Rattle.history_checker.specs.declared.rooms.Verdict.{Verdict}
 use Rattle.history_checker.specs.declared.rooms.Verdict.TheVariants.{Run, Broken}
+use Rattle.history_checker.specs.declared.rooms.TaskVerdict.{TaskVerdict}
+use Rattle.history_checker.specs.declared.rooms.TaskVerdict.TheVariants as tasks
 use Rattle.bgsim_console.specs.Lines.{text_lines}
 use Rattle.bgsim_console.specs.Reading.{most_bytes}
 use Rattle.bgsim_console.specs.declared.fault.Outcome.{Outcome}
@@ -37,6 +39,7 @@ numbers_behind (BadLine line) = codes " " ++ decimal line
 numbers_behind (BadProtocol fault) = codes " " ++ protocol_text (protocol_code fault) (place_of fault)
 numbers_behind (CrashLine line) = codes " " ++ decimal line
 numbers_behind (Repeated line) = codes " " ++ decimal line
+numbers_behind (TaskLine line) = codes " " ++ decimal line
 numbers_behind fault = []
 
 -- the fault's code and the numbers behind it
@@ -132,28 +135,38 @@ input_says input = events_behind (blocks_in input)
 pub record Judged : Type 0 where
   pub room : RoomSpec
   pub verdict : Verdict
+  -- whether the decisions keep the room's task, if it has one
+  pub task : Option TaskVerdict
 
--- the verdict rests on what was fed of the room alone
+-- both rest on what was fed of the room alone
 abbrev pub IsJustified : List FedEvent → Judged → Type 0
-IsJustified fed one = IsVerdict one.room (fed_to one.room.name fed) one.verdict
+IsJustified fed one = IsVerdict one.room (fed_to one.room.name fed) one.verdict × IsTaskAnswer one.room (fed_to one.room.name fed) one.task
 
 abbrev pub verdict_line : List ℕ → Verdict → List ℕ
 verdict_line name Run = name ++ codes " is a run\n"
 verdict_line name (Broken line) = name ++ (codes " is not a run: line " ++ (decimal line ++ codes "\n"))
 
-abbrev pub judged_line : Judged → List ℕ
-judged_line one = verdict_line one.room.name one.verdict
+-- of a room that is no run nothing is said of its task
+abbrev pub task_line : List ℕ → Verdict → Option TaskVerdict → List ℕ
+task_line name Run (Some tasks.Holds) = name ++ codes " task holds\n"
+task_line name Run (Some (tasks.Broken line)) = name ++ (codes " task broken: line " ++ (decimal line ++ codes "\n"))
+task_line name verdict task = []
 
-abbrev pub is_run : Verdict → Bool
-is_run Run = true
-is_run (Broken line) = false
+abbrev pub judged_line : Judged → List ℕ
+judged_line one = verdict_line one.room.name one.verdict ++ task_line one.room.name one.verdict one.task
+
+-- a run, and no task is broken
+abbrev pub is_well : Verdict → Option TaskVerdict → Bool
+is_well (Broken line) task = false
+is_well Run (Some (tasks.Broken line)) = false
+is_well Run task = true
 
 abbrev pub outcome_if : Bool → Outcome
 outcome_if well = if well then AllWell else SomeRefused
 
--- all is well where no block was refused and each room's events are a run
+-- all is well where no block was refused, each room's events are a run, and no task is broken
 abbrev pub outcome_of : List ℕ → List Judged → Outcome
-outcome_of refused all = outcome_if ((length refused == 0) && list_all (λ one. is_run one.verdict) all)
+outcome_of refused all = outcome_if ((length refused == 0) && list_all (λ one. is_well one.verdict one.task) all)
 
 -- the verdicts on the rooms, in order, and the output
 pub record IsOutput (rooms : List RoomSpec) (refused : List ℕ) (fed : List FedEvent) (outcome : Outcome) (output : List ℕ) : Type 0 where

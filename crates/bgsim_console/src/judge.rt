@@ -1,13 +1,13 @@
 //! The answer to a whole input.
 ghost use Rattle.std.specs.Prelude.{◌≡◌, ◌≤◌, List, Ok, IfOk, IfErr, length, string_bytes};
 ghost use Rattle.history_checker.specs.Verdicts.{FedEvent, HasProcessed, specs_of};
-ghost use Rattle.bgsim_console.specs.Check.{IsFaultOr, MayLackMemory, IsOutput, IsOutputFor, input_says, is_run, outcome_if};
+ghost use Rattle.bgsim_console.specs.Check.{IsFaultOr, MayLackMemory, IsOutput, IsOutputFor, input_says, is_well, outcome_if};
 
 use crate::events::feed_events;
 use crate::fault::{IoFault, Outcome};
-use crate::report::write_verdict;
+use crate::report::{write_task, write_verdict};
 use crate::setup::{Setup, read_blocks};
-use history_checker::{Rooms, Verdict};
+use history_checker::{Rooms, TaskVerdict, Verdict};
 use std::alloc::{AllocError, Global};
 
 /// The output, and the outcome that goes with it.
@@ -44,8 +44,10 @@ fn answer_of(rooms: &Rooms, refused: String) -> Result<Answer, AllocError>
         let (Some(name), Some(verdict)) = (rooms.name(index), rooms.verdict(index)) else {
             unreachable!() // there is a room of each index below their number
         };
-        all_well &= is_run(verdict);
+        let task = rooms.task_verdict(index);
+        all_well &= is_well(verdict, task);
         write_verdict(&mut output, name, verdict)?;
+        write_task(&mut output, name, verdict, task)?;
     }
     Ok(Answer {
         output,
@@ -53,13 +55,18 @@ fn answer_of(rooms: &Rooms, refused: String) -> Result<Answer, AllocError>
     })
 }
 
-fn is_run(verdict: Verdict) -> bool
-    ensures { result ≡ is_run verdict }
+/// Whether a room's events are a run that doesn't break its task.
+fn is_well(verdict: Verdict, task: Option<TaskVerdict>) -> bool
+    ensures { result ≡ is_well verdict task }
 {
-    matches!(verdict, Verdict::Run)
+    match (verdict, task) {
+        (Verdict::Broken(_), _) => false,
+        (Verdict::Run, Some(TaskVerdict::Broken(_))) => false,
+        (Verdict::Run, _) => true,
+    }
 }
 
-/// The outcome where nothing was refused and each room's events are a run, or not.
+/// The outcome where nothing was refused, each room's events are a run and no task is broken, or not.
 pub fn outcome_if(all_well: bool) -> Outcome
     ensures { result ≡ outcome_if all_well }
 {

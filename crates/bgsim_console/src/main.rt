@@ -32,6 +32,8 @@ mod run_tests;
 mod script;
 mod setup;
 #[cfg(test)]
+mod task_tests;
+#[cfg(test)]
 mod tests;
 #[cfg(test)]
 mod text_tests;

@@ -2,9 +2,9 @@
 ghost use Rattle.std.specs.Prelude.{◌≡◌, ◌++◌, OnOk, codes, decimal, string_bytes};
 ghost use Rattle.protocol_lang.specs.Faults.{code_of};
 ghost use Rattle.protocol_lang.specs.Grammar.{place_of};
-ghost use Rattle.bgsim_console.specs.Check.{fault_text, numbers_behind, protocol_text, refused_line, verdict_line};
+ghost use Rattle.bgsim_console.specs.Check.{fault_text, numbers_behind, protocol_text, refused_line, task_line, verdict_line};
 
-use history_checker::Verdict;
+use history_checker::{TaskVerdict, Verdict};
 use protocol_lang::ParseFault;
 use room_spec::{Name, SpecFault};
 use std::alloc::AllocError;
@@ -33,9 +33,10 @@ fn write_numbers(output: &mut String, fault: SpecFault) -> Result<(), AllocError
     ensures { OnOk result (string_bytes output.new ≡ string_bytes output.old ++ numbers_behind fault) }
 {
     match fault {
-        SpecFault::BadLine(line) | SpecFault::CrashLine(line) | SpecFault::Repeated(line) => {
-            write!(output, " {line}")
-        }
+        SpecFault::BadLine(line)
+        | SpecFault::CrashLine(line)
+        | SpecFault::Repeated(line)
+        | SpecFault::TaskLine(line) => write!(output, " {line}"),
         SpecFault::BadProtocol(fault) => write_protocol_fault(output, fault),
         SpecFault::Truncated
         | SpecFault::BadName
@@ -64,5 +65,23 @@ pub fn write_verdict(output: &mut String, name: &Name, verdict: Verdict) -> Resu
     match verdict {
         Verdict::Run => write!(output, "{name} is a run\n"),
         Verdict::Broken(line) => write!(output, "{name} is not a run: line {line}\n"),
+    }
+}
+
+/// Writes the line on the task of a room whose events are a run, if the room has a task.
+pub fn write_task(
+    output: &mut String,
+    name: &Name,
+    verdict: Verdict,
+    task: Option<TaskVerdict>,
+) -> Result<(), AllocError>
+    ensures { OnOk result (string_bytes output.new ≡ string_bytes output.old ++ task_line name.now verdict task) }
+{
+    match (verdict, task) {
+        (Verdict::Run, Some(TaskVerdict::Holds)) => write!(output, "{name} task holds\n"),
+        (Verdict::Run, Some(TaskVerdict::Broken(line))) => {
+            write!(output, "{name} task broken: line {line}\n")
+        }
+        _ => Ok(()),
     }
 }

@@ -37,7 +37,7 @@ fn messages_of_block_faults(rt: HostRuntime) -> Result<(), Fail> {
         (SpecFault::Turns, "not 1 to 65535 turns"),
         (
             SpecFault::TooWide,
-            "simulators, processes and rounds need more than 64 bits",
+            "simulators, processes and rounds need more bits than the version allows",
         ),
         (
             SpecFault::CrashLine(7),
@@ -46,6 +46,10 @@ fn messages_of_block_faults(rt: HostRuntime) -> Result<(), Fail> {
         (
             SpecFault::Repeated(8),
             "line 8 is a second crash of its simulator",
+        ),
+        (
+            SpecFault::TaskLine(7),
+            "line 7 is no task to agree on 1 to 16 values",
         ),
     ] {
         assert!(rt; says(rt.alloc(), fault, text)?, "{text}");

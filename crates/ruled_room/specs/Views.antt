@@ -6,6 +6,7 @@ use Rattle.atomic_table.specs.Table.{Me}
 use Rattle.protocol_lang.specs.Trees.{Number}
 use Rattle.protocol_lang.specs.declared.tree.Kind.TheVariants.{Decide}
 use Rattle.room_spec.specs.Rooms.{RoomSpec}
+use Rattle.room_spec.specs.declared.version.Version.TheVariants.{One}
 use Rattle.simulator.specs.Minds.{MindState, opening_mind}
 use Rattle.simulator.specs.Moves.{taken}
 use Rattle.simulator.specs.declared.operation.Move.{Move}
@@ -95,11 +96,13 @@ with_back i view other = record { spec = view.spec; held = slice_set view.held i
 -- a spec for views that are never looked at
 abbrev pub no_spec : RoomSpec
 no_spec = record {
+  version = One;
   name = [];
   inputs = [];
   simulators = 0;
   rounds = 0;
   turns = 0;
+  task = None;
   fuses = [];
   protocol = record { first = Number 0; rules = []; last = record { kind = Decide; value = Number 0 } };
 }

@@ -7,6 +7,7 @@ use Rattle.protocol_lang.specs.declared.tree.Kind.TheVariants as kinds
 use Rattle.protocol_lang.specs.declared.tree.Comparator.TheVariants as comparators
 use Rattle.protocol_lang.specs.declared.meaning.Action.TheVariants as actions
 use Rattle.room_spec.specs.Rooms.{RoomSpec}
+use Rattle.room_spec.specs.declared.version.Version.TheVariants.{One}
 use Rattle.transcript.specs.Runs.{IsRun}
 use Rattle.transcript.specs.declared.event.Event.TheVariants.{Write, Snap, Decide}
 use Rattle.sim_memory.specs.Steps.{IsRowAtMost}
@@ -19,11 +20,13 @@ use Rattle.ws_history.proofs.Alternation.{history_is_run}
 -- first input; if round < 2 write mine + .. (here: mine) else decide mine
 abbrev pub room : RoomSpec
 room = record {
+  version = One;
   name = codes "two";
   inputs = 5 ∷ 7 ∷ [];
   simulators = 1;
   rounds = 2;
   turns = 10;
+  task = None;
   fuses = [];
   protocol = record {
     first = Named names.Input;

@@ -1,8 +1,9 @@
 use Rattle.std.proofs.Common.{rules, ◌&&◌, ◌∙◌, ◌++◌, ◌<◌, ◌≤◌, length, subst, ap}
 use Rattle.std.specs.Prelude.{slice_get, string_bytes}
+use Rattle.std.proofs.lemmas.List.{append_assoc}
 use Rattle.history_checker.specs.Verdicts.{specs_of}
-use Rattle.bgsim_console.specs.Check.{verdict_line}
-use Rattle.bgsim_console.proofs.Verdicts.{none_yet, one_more, all_judged, room_judged, never_none, never_nameless, name_there}
+use Rattle.bgsim_console.specs.Check.{task_line, verdict_line}
+use Rattle.bgsim_console.proofs.Verdicts.{none_yet, one_more, all_judged, room_judged, task_judged, never_none, never_nameless, name_there}
 use Rattle.bgsim_console.proofs.judge.answer_of.Goals.{in_default-via-in-Some+in_default, in_default-via-in_default}
 use Rattle.bgsim_console.proofs.judge.answer_of.Goals as goal
 
@@ -22,11 +23,14 @@ pub loop-index-preserved : goal.loop-index-preserved
 loop-index-preserved c = λ fed processed.
     let rooms = specs_of c.args.rooms.now in
     let judged = room_judged (slice_get rooms c.loop-index.index) c.verdict.result c.in-Some-Some.verdict fed c.in-Some-Some.is-1 (c.verdict.ensures fed processed) in
+    let task = task_judged (slice_get rooms c.loop-index.index) judged.0 c.task_verdict-task.result fed judged.1 (c.task_verdict-task.ensures fed processed) in
     let name = name_there rooms c.loop-index.index judged.0 c.in-Some-Some.name.now judged.1 c.in-Some-Some.ensures in
-    one_more rooms (string_bytes c.args.refused) fed c.loop-index.index (string_bytes c.loop-index.output) c.loop-index.all_well judged.0 c.in-Some-Some.verdict (string_bytes c.write_verdict.new.output) _
-    (c.loop-index.invariant fed processed) judged.1 judged.2
-    (c.in_ok-write_verdict.ensures ∙ ap (λ n. string_bytes c.loop-index.output ++ verdict_line n c.in-Some-Some.verdict) name)
-    (ap (λ well. c.loop-index.all_well && well) c.is_run-all_well.ensures)
+    one_more rooms (string_bytes c.args.refused) fed c.loop-index.index (string_bytes c.loop-index.output) c.loop-index.all_well judged.0 c.in-Some-Some.verdict c.task_verdict-task.result (string_bytes c.write_task.new.output) _
+    (c.loop-index.invariant fed processed) judged.1 (judged.2, task)
+    (c.in_ok-write_task.ensures ∙ ap (λ o. o ++ task_line c.in-Some-Some.name.now c.in-Some-Some.verdict c.task_verdict-task.result) c.in_ok-write_verdict.ensures
+    ∙ append_assoc (string_bytes c.loop-index.output) (verdict_line c.in-Some-Some.name.now c.in-Some-Some.verdict) (task_line c.in-Some-Some.name.now c.in-Some-Some.verdict c.task_verdict-task.result)
+    ∙ ap (λ n. string_bytes c.loop-index.output ++ (verdict_line n c.in-Some-Some.verdict ++ task_line n c.in-Some-Some.verdict c.task_verdict-task.result)) name)
+    (ap (λ well. c.loop-index.all_well && well) c.is_well-all_well.ensures)
 
 pub returns : goal.returns
 returns c = λ fed processed.
