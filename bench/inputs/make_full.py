@@ -3,7 +3,7 @@
 
     python3 make_full.py FOLDER [--seed N]
 
-`check-big` has the rooms of that name in `peer/bench/make_inputs.py`; what goes beyond version 1
+`check-big` has the rooms of that name in `make_inputs.py`; what goes beyond version 1
 there makes no difference to their events. `check-many-comparisons` has 32 rules of 8 comparisons,
 all of which are made at each snapshot, since only the last of each rule fails.
 """
@@ -11,9 +11,7 @@ all of which are made at each snapshot, since only the last of each rule fails.
 import argparse
 import os
 import random
-import sys
 
-sys.path.insert(0, os.path.join(os.path.dirname(os.path.abspath(__file__)), "peer", "bench"))
 import make_inputs
 from make_inputs import INPUT, MAX, MIN, MINE, ROUND, Protocol, const, name
 
