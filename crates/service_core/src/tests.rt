@@ -323,13 +323,54 @@ fn texts_of_refusals(rt: HostRuntime) -> Result<(), Fail> {
     Ok(())
 }
 
-#[test]
-fn refusals_differ(rt: HostRuntime) {
-    for (i, (one, _)) in REFUSALS.iter().enumerate() {
-        for (j, (other, _)) in REFUSALS.iter().enumerate() {
-            assert_eq!(rt; one == other, i == j);
+/// Whether each of these values equals itself and no other of them.
+fn all_differ<T: PartialEq>(values: &[T]) -> bool {
+    for (i, one) in values.iter().enumerate() {
+        for (j, other) in values.iter().enumerate() {
+            if (one == other) != (i == j) {
+                return false;
+            }
         }
     }
+    true
+}
+
+const STATES: [ProcessState; 6] = [
+    ProcessState::Decided(0),
+    ProcessState::Decided(1),
+    ProcessState::Spent,
+    ProcessState::Held(0),
+    ProcessState::Held(1),
+    ProcessState::Going,
+];
+
+#[test]
+fn replies_differ(rt: HostRuntime) {
+    assert!(rt; all_differ(&STATES));
+    assert!(rt;
+        all_differ(&[
+            Refusal::NoRoom,
+            Refusal::NameTaken,
+            Refusal::NoSimulator,
+            Refusal::OutOfMemory
+        ])
+    );
+    assert!(rt;
+        all_differ(&[
+            StepReply::Stepped,
+            StepReply::Idle,
+            StepReply::OutOfTurns,
+            StepReply::Crashed,
+            StepReply::NoSimulator
+        ])
+    );
+    assert!(rt;
+        all_differ(&[
+            CrashReply::Crashed,
+            CrashReply::AlreadyCrashed,
+            CrashReply::NoSimulator
+        ])
+    );
 }
 
 /// How many replies of a service to so many commands are to a step of a room that isn't there.
