@@ -32,6 +32,7 @@ pub fn last_writes(shape: &Shape, words: &[u64]) -> LastWrites
     of_all(shape, words)
 }
 
+/// Of all simulators of the room.
 fn of_all(shape: &Shape, words: &[u64]) -> LastWrites
     requires { memory_words (sizes_of shape.now) ≤ length words.now }
     ensures { AreLast (sizes_of shape.now) words.now shape.now.m result.holders result.rounds }
@@ -43,7 +44,7 @@ fn of_all(shape: &Shape, words: &[u64]) -> LastWrites
     }
 }
 
-/// Where each simulator's step numbers stand in the one memory word.
+/// The same where there is one memory word, so that each simulator's step numbers stand there side by side.
 fn in_one_word(shape: &Shape, words: &[u64]) -> LastWrites
     requires words { memory_words (sizes_of shape.now) ≤ length words.now }
     requires one { memory_words (sizes_of shape.now) ≡ 1 }
@@ -56,6 +57,7 @@ fn in_one_word(shape: &Shape, words: &[u64]) -> LastWrites
     last
 }
 
+/// The same where a simulator's step numbers may stand in two words.
 fn in_words(shape: &Shape, words: &[u64]) -> LastWrites
     requires { memory_words (sizes_of shape.now) ≤ length words.now }
     ensures { AreLast (sizes_of shape.now) words.now shape.now.m result.holders result.rounds }
