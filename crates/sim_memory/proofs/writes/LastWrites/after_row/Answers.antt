@@ -1,4 +1,4 @@
-use Rattle.std.proofs.Common.{◌≡◌, ◌+◌, ◌*◌, ◌/◌, ◌^◌, ◌≤◌, ◌∙◌, get_or, ap, sym, arith}
+use Rattle.std.proofs.Common.{◌≡◌, ◌*◌, ◌/◌, ◌^◌, ◌∙◌, get_or, ap, sym, arith}
 use Rattle.room_spec.specs.Sizes.{Sizes}
 use Rattle.room_spec.specs.Shapes.{sizes_of}
 use Rattle.sim_memory.specs.Steps.{place_of, word_of}
