@@ -9,7 +9,7 @@ use Rattle.simulator.specs.declared.sweep.Ready.TheVariants as ready
 use Rattle.room_core.specs.Rooms.{Configuration, steps, IsShaped, HasLine}
 use Rattle.room_core.specs.Calls.{Call, Step, Crash, Settle, RoomState, configuration_of, has_crashed, ready_at}
 use Rattle.room_core.specs.Fields.{Fields, opening_fields, replay_fields, line, with_crash, ready_in, fields_when, fields_after_step, fields_after_crash, fields_after_settle, fields_after_call}
-use Rattle.room_core.specs.Reading.{AreFieldsOf, with_quiet}
+use Rattle.room_core.specs.Reading.{AreFieldsOf}
 use Rattle.room_core.specs.Agreements.{IsFixedAt, asks, view_at}
 use Rattle.room_core.specs.Contents.{HasSmallValues}
 use Rattle.room_core.specs.Tracks.{StandsFor}
@@ -17,7 +17,7 @@ use Rattle.room_core.proofs.SmallValues.{small_values}
 use Rattle.room_core.proofs.Replays.{shapes}
 use Rattle.room_core.proofs.States.{has_line}
 use Rattle.room_core.proofs.FieldReplays.{stands_for, event_stands}
-use Rattle.room_core.proofs.FieldCalls.{fields_stand, same_ready, settle_by}
+use Rattle.room_core.proofs.FieldCalls.{fields_stand, same_ready, settle_by, leads_of, with_quiet}
 use Rattle.room_core.proofs.Effects.{Own, own_of, line_effect}
 use Rattle.room_core.proofs.Deciding.{own_kept}
 use Rattle.room_core.proofs.Moments.{history_run}
@@ -90,7 +90,7 @@ module _ (room : RoomState) (fields : Fields) (limits : IsWithinLimits room.spec
 pub fields_within : (room : RoomState) (fields : Fields) → IsWithinLimits room.spec → AreFieldsOf room fields → ViewsWithin room.spec fields
 fields_within room fields limits are =
     let base = replay_fields room.spec (opening_fields room.spec) are.run.schedule in
-    subst (λ (f : Fields). ViewsWithin room.spec f) (sym are.leads) (views_within room.spec are.run.schedule base (stands_for (configuration_of room) limits are.run).tracks (history_run (configuration_of room) limits are.run))
+    subst (λ (f : Fields). ViewsWithin room.spec f) (sym (leads_of room fields are)) (views_within room.spec are.run.schedule base (stands_for (configuration_of room) limits are.run).tracks (history_run (configuration_of room) limits are.run))
 
 module _ (room : RoomState) (fields : Fields) (limits : IsWithinLimits room.spec) (are : AreFieldsOf room fields) where
   abbrev Stay : Fields → Type 0

@@ -1,5 +1,5 @@
 -- A simulator that runs alone: the agreements for which it has asked in vain stay unresolved.
-use Rattle.std.proofs.Common.{◌≡◌, ◌≢◌, ℕ, ◌+◌, ◌-◌, ◌<◌, ◌≤◌, min, Bool, true, false, cond, ltb, List, [], ◌∷◌, ◌++◌, length, map, slice_index, Option, Some, None, refl, sym, ap, ◌∙◌, subst, arith}
+use Rattle.std.proofs.Common.{◌≡◌, ◌≢◌, ℕ, ◌+◌, ◌<◌, ◌≤◌, min, Bool, true, false, cond, ltb, List, [], ◌∷◌, ◌++◌, length, map, slice_index, Option, Some, None, refl, sym, ap, ◌∙◌, subst, arith}
 use Rattle.std.specs.List.{range_with_len}
 use Rattle.protocol_lang.specs.declared.meaning.Action.{Action}
 use Rattle.protocol_lang.specs.declared.meaning.Action.TheVariants as actions
@@ -53,7 +53,7 @@ module _ (spec : RoomSpec) (fields : Fields) (quiet : ℕ) where
       on_test (ltb (length mind.entries) (processes spec)) (goes_on Values mind) (acted spec action mind) counts (on_acted action mind counts)
 
   on_gathered : (row : ℕ → ℕ) (entries : List (Option ℕ)) (mind : MindOf StepMap) → Counting mind → CountsOn spec fields (gathered row spec entries mind) quiet
-  on_gathered row entries mind counts = on_gathered_all (record mind { entries = padded row (processes spec - length entries) entries }) counts
+  on_gathered row entries mind counts = on_gathered_all (record mind { entries = padded row (processes spec) entries }) counts
 
   on_asked : (mind : MindOf StepMap) → mind.sweep < length mind.goals → is_unfinished (current_goal mind) ≡ true → Counting mind → CountsOn spec fields (taken_on Ask spec fields mind.sweep (current_round mind) mind) quiet
   on_asked mind place left counts = blocked_asked (unresolved spec fields) (chosen_at spec fields mind.sweep (current_round mind)) mind quiet (λ none. ap is_nothing none) place left counts

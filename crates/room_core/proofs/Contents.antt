@@ -13,7 +13,7 @@ use Rattle.room_spec.specs.Rooms.{RoomSpec, processes}
 use Rattle.sim_memory.specs.Steps.{row_of}
 use Rattle.sim_memory.proofs.Rows.{row_at}
 use Rattle.sim_memory.proofs.Greatest.{holder_of_is, holder_merged}
-use Rattle.simulator.specs.Turns.{padded}
+use Rattle.simulator.proofs.Gathering.{added, added_more, added_none}
 use Rattle.room_core.specs.Fields.{StepMap, Fields, entry_of_steps, holder_of_steps, shown_value}
 use Rattle.room_core.specs.Agreements.{first_with, written, asks}
 use Rattle.room_core.specs.Contents.{or_zero, entry_of, shown_by, IsDue, first_write, next_write, IsSmallEntry, AreSmall}
@@ -95,9 +95,11 @@ small_by : (b : Bool) (next entries : List (Option ℕ)) → AreSmall next → A
 small_by true next entries more small = more
 small_by false next entries more small = small
 
-pub padded_small : (row : ℕ → ℕ) (more : ℕ) (entries : List (Option ℕ)) → AreSmall entries → AreSmall (padded row more entries)
-padded_small row zero entries small = small
-padded_small row (suc more) entries small = small_by (eqb (row (length entries)) 0) (padded row more (entries ++ None ∷ [])) entries (padded_small row more (entries ++ None ∷ []) (small_more entries None small tt)) small
+pub padded_small : (row : ℕ → ℕ) (more : ℕ) (entries : List (Option ℕ)) → AreSmall entries → AreSmall (added row more entries)
+padded_small row zero entries small = subst AreSmall (sym (added_none row entries)) small
+padded_small row (suc more) entries small =
+    subst AreSmall (sym (added_more row more entries))
+    (small_by (eqb (row (length entries)) 0) (added row more (entries ++ None ∷ [])) entries (padded_small row more (entries ++ None ∷ []) (small_more entries None small tt)) small)
 
 -- ---- the entries so far
 
@@ -114,13 +116,14 @@ padded_by true all entries next more are = more refl
 padded_by false all entries next more are = are
 
 -- what padding adds is what the row shows of processes that have not written
-pub padded_first : (row : ℕ → ℕ) (all : List (Option ℕ)) (more : ℕ) (entries : List (Option ℕ)) → length entries + more ≤ length all → ((p : ℕ) → p < length all → row p ≡ 0 → get_or all p None ≡ None) → AreFirst entries all → AreFirst (padded row more entries) all
-padded_first row all zero entries room none are = are
+pub padded_first : (row : ℕ → ℕ) (all : List (Option ℕ)) (more : ℕ) (entries : List (Option ℕ)) → length entries + more ≤ length all → ((p : ℕ) → p < length all → row p ≡ 0 → get_or all p None ≡ None) → AreFirst entries all → AreFirst (added row more entries) all
+padded_first row all zero entries room none are = subst (λ (l : List (Option ℕ)). AreFirst l all) (sym (added_none row entries)) are
 padded_first row all (suc more) entries room none are =
     let long : length (entries ++ None ∷ []) ≡ length entries + 1 = length-append entries (None ∷ []) in
     let empty : eqb (row (length entries)) 0 ≡ true → get_or all (length entries) None ≡ None = λ is. none (length entries) (omega arith) (eqb-true (row (length entries)) 0 is) in
-    padded_by (eqb (row (length entries)) 0) all entries (padded row more (entries ++ None ∷ []))
-    (λ is. padded_first row all more (entries ++ None ∷ []) (omega arith) none (first_more entries all None (omega arith) are (empty is))) are
+    subst (λ (l : List (Option ℕ)). AreFirst l all) (sym (added_more row more entries))
+    (padded_by (eqb (row (length entries)) 0) all entries (added row more (entries ++ None ∷ []))
+    (λ is. padded_first row all more (entries ++ None ∷ []) (omega arith) none (first_more entries all None (omega arith) are (empty is))) are)
 
 pub length_of_shown : (spec : RoomSpec) (fields : Fields) (snapshot : StepMap) → length (shown_by spec fields snapshot) ≡ processes spec
 length_of_shown spec fields snapshot = length-map-range_with_len (λ p. entry_of spec fields p (get_or (row_of spec.simulators (processes spec) snapshot) p 0)) 0 (processes spec)

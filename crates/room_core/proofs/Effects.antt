@@ -1,5 +1,5 @@
 -- What a line does, as one relation: what the simulator that takes it has before and after. What the others have stays.
-use Rattle.std.proofs.Common.{◌≡◌, ◌≢◌, ◌⊎◌, inl, inr, eqb, ℕ, ◌+◌, ◌-◌, ◌<◌, ◌≤◌, Bool, true, false, cond, ltb, min, [], ◌∷◌, ◌++◌, length, Option, Some, None, slice_index, refl, sym, ap, ◌∙◌, subst, arith}
+use Rattle.std.proofs.Common.{◌≡◌, ◌≢◌, ◌⊎◌, inl, inr, eqb, ℕ, ◌+◌, ◌<◌, ◌≤◌, Bool, true, false, cond, ltb, min, [], ◌∷◌, ◌++◌, length, Option, Some, None, slice_index, refl, sym, ap, ◌∙◌, subst, arith}
 use Rattle.std.proofs.lemmas.Bool.{eqb-true, eqb-false, ltb-true, ltb-false}
 use Rattle.std.specs.Prelude.{◌&&◌, ◌||◌}
 use Rattle.protocol_lang.specs.Numbers.{greatest}
@@ -98,9 +98,9 @@ is_end spec mind = (is_same_collect spec mind && ltb 1 (mind.collects + 1)) || e
 -- a mind that has just loaded the proposal that was chosen, or a value, and has made of it what entries it can
 pub data Loads (spec : RoomSpec) (fields : Fields) (own : Own) : MindOf StepMap → Type 0 where
   loads_view : (chosen : ℕ) → IsTurn spec own (GetView chosen) → chosen < spec.simulators → IsLastWord spec own → ((a p : ℕ) → a < spec.simulators → p < processes spec → word_of (sizes_in spec) a p < words_in spec)
-      → Loads spec fields own (record (view_loaded spec fields own chosen) { word = 0; entries = padded (entry_of_steps spec (view_loaded spec fields own chosen).snapshot) (processes spec - 0) [] })
+      → Loads spec fields own (record (view_loaded spec fields own chosen) { word = 0; entries = padded (entry_of_steps spec (view_loaded spec fields own chosen).snapshot) (processes spec) [] })
   loads_value : IsTurn spec own Values → length own.mind.entries < processes spec → 1 ≤ entry_of_steps spec own.mind.snapshot (length own.mind.entries)
-      → Loads spec fields own (record (counted own.mind) { entries = padded (entry_of_steps spec own.mind.snapshot) (processes spec - length (own.mind.entries ++ Some (min (shown_value spec fields own.mind.snapshot (length own.mind.entries)) greatest) ∷ [])) (own.mind.entries ++ Some (min (shown_value spec fields own.mind.snapshot (length own.mind.entries)) greatest) ∷ []) })
+      → Loads spec fields own (record (counted own.mind) { entries = padded (entry_of_steps spec own.mind.snapshot) (processes spec) (own.mind.entries ++ Some (min (shown_value spec fields own.mind.snapshot (length own.mind.entries)) greatest) ∷ []) })
 
 pub record IsReading (spec : RoomSpec) (fields : Fields) (own : Own) (reading : MindOf StepMap) : Type 0 where
   pub goals : reading.goals ≡ own.mind.goals
@@ -322,7 +322,7 @@ module _ (spec : RoomSpec) (fields : Fields) (i : ℕ) where
   effect_on (GetView chosen) is at =
       let mind = fields.mind i in
       let into = with_loaded spec (fields.view chosen mind.sweep (current_round mind)) (counted mind) in
-      let reading : MindOf StepMap = record into { word = 0; entries = padded (entry_of_steps spec into.snapshot) (processes spec - length {A = Option ℕ} []) [] } in
+      let reading : MindOf StepMap = record into { word = 0; entries = padded (entry_of_steps spec into.snapshot) (processes spec) [] } in
       let count = past_round spec.rounds (current_goal mind) (fields.step i mind.sweep) at.own.counts in
       let turn = is_turn (GetView chosen) is at.open_at.0 at in
       either_is (λ (taken : TakenOf StepMap). Effect spec fields (own_of fields i) (own_after fields i taken.mind)) (ltb (mind.word + 1) (words_in spec)) (goes_on (GetView chosen) (record into { word = mind.word + 1 })) (gathered (entry_of_steps spec into.snapshot) spec [] (record into { word = 0 }))
@@ -333,7 +333,7 @@ module _ (spec : RoomSpec) (fields : Fields) (i : ℕ) where
   effect_on Values is at =
       let mind = fields.mind i in
       let more = mind.entries ++ Some (min (shown_value spec fields mind.snapshot (length mind.entries)) greatest) ∷ [] in
-      let reading : MindOf StepMap = record (counted mind) { entries = padded (entry_of_steps spec mind.snapshot) (processes spec - length more) more } in
+      let reading : MindOf StepMap = record (counted mind) { entries = padded (entry_of_steps spec mind.snapshot) (processes spec) more } in
       let count = past_round spec.rounds (current_goal mind) (fields.step i mind.sweep) at.own.counts in
       gathered_effect reading (ltb (length reading.entries) (processes spec)) (action_of spec reading)
       (reads_at Values reading is at refl refl refl refl at.open_at.0 count (loads_value (is_turn Values is at.open_at.0 at) at.open_at.1 (subst (λ (row : ℕ). 1 ≤ row) (same_row spec mind.snapshot (length mind.entries) at.is_mind.limits at.snapshot at.open_at.1) at.open_at.2))) refl refl

@@ -9,7 +9,7 @@ use Rattle.sim_memory.specs.Steps.{merged_of, row_of, IsRowAtMost}
 use Rattle.sim_memory.proofs.Rows.{merged_at, merged_reached, merged_below, row_grows}
 use Rattle.room_core.specs.Rooms.{Configuration, ScheduleEvent, steps, crashes, MayHappen, IsShaped, IsOneInterleaving}
 use Rattle.room_core.specs.Calls.{RoomState, configuration_of}
-use Rattle.room_core.specs.Reading.{with_quiet, AreFieldsOf}
+use Rattle.room_core.specs.Reading.{AreFieldsOf}
 use Rattle.room_core.specs.Moments.{IsMoment, IsScan}
 use Rattle.room_core.specs.Fields.{StepMap, Fields, opening_fields, line, with_crash, fields_after, replay_fields, entry_of_steps}
 use Rattle.room_core.specs.Tracks.{KeepsTrack, StandsFor}
@@ -29,6 +29,7 @@ use Rattle.room_core.specs.Fields.{with_shown}
 use Rattle.room_core.specs.Moments.{fields_at}
 use Rattle.room_core.proofs.Effects.{IsLastWord}
 use Rattle.room_core.proofs.Prefixes.{replay_fields-snoc}
+use Rattle.room_core.proofs.FieldCalls.{leads_of, with_quiet}
 
 -- the map shows at most r writes of process p
 abbrev pub ShowsAtMost : RoomSpec → StepMap → ℕ → ℕ → Type 0
@@ -203,7 +204,7 @@ rows_compare spec schedule fields tracks history i j k i' j' k' below below' fir
 
 module _ (room : RoomState) (fields : Fields) (limits : IsWithinLimits room.spec) (are : AreFieldsOf room fields) where
   of_base : (P : Fields → Type 0) → P (with_quiet (replay_fields room.spec (opening_fields room.spec) are.run.schedule) fields.quiet) → P fields
-  of_base P is = subst P (sym are.leads) is
+  of_base P is = subst P (sym (leads_of room fields are)) is
 
   pub room_scans : (i : ℕ) → i < room.spec.simulators → (fields.mind i).line ≡ Show → IsScan room.spec are.run.schedule (length are.run.schedule) i (fields.mind i).sweep (current_round (fields.mind i)) (fields.mind i).snapshot (fields.mind i).collects
   room_scans =

@@ -26,7 +26,7 @@ use Rattle.room_core.specs.declared.reply.CrashReply.TheVariants as crash_replie
 use Rattle.room_core.specs.Rooms.{Configuration, ScheduleEvent, steps, crashes, opening, stepped, crashed_by, HasLine, IsAlive, IsOneInterleaving, IsRoom, IsShaped}
 use Rattle.room_core.specs.Calls.{RoomState, configuration_of, opening_state, sweep_at, has_crashed, with_sweep, sweep_after, taken_by, moved, woken, reply_when, room_when, ready_at, step_reply, room_after_step, crash_reply, marked, room_after_crash, is_step, most_steps, room_kind, room_after_settle, Call, Step, Crash, Settle, Stepping, Crashing, reply_to, room_after_call, replies_to, room_after_calls}
 use Rattle.room_core.specs.Fields.{StepMap, Fields, changed, opening_fields, first_line_at, first_line, line_on, line, with_crash, fields_after, replay_fields, ready_in, fields_when, step_reply_in, fields_after_step, crash_reply_in, fields_after_crash, fields_kind, fields_after_settle, reply_in, fields_after_call, replies_in, fields_after_calls}
-use Rattle.room_core.specs.Reading.{worded, with_quiet, AreFieldsOf, Reads}
+use Rattle.room_core.specs.Reading.{worded, without_quiet, AreFieldsOf, Reads}
 use Rattle.room_core.specs.Tracks.{StandsFor}
 use Rattle.room_core.proofs.Settling.{AreAlike, settled_alike, settled_keeps}
 use Rattle.room_core.proofs.Replays.{replay-snoc, legal-snoc, shapes}
@@ -37,6 +37,13 @@ use Rattle.room_core.proofs.FieldLines.{is_store}
 use Rattle.room_core.proofs.FieldReplays.{stand_by, held_of, mind_is, stands_for, line_is, taken_is, reads}
 
 -- ---- quiet counts
+
+abbrev pub with_quiet : Fields → (ℕ → ℕ) → Fields
+with_quiet fields quiet = record fields { quiet = quiet }
+
+-- with their own quiet counts they are those to which the list leads
+pub leads_of : (room : RoomState) (fields : Fields) (are : AreFieldsOf room fields) → fields ≡ with_quiet (replay_fields room.spec (opening_fields room.spec) are.run.schedule) fields.quiet
+leads_of room fields are = ap (λ (f : Fields). with_quiet f fields.quiet) are.leads
 
 -- a line reads and changes no quiet count but its own
 
@@ -81,7 +88,7 @@ with_counts room fields quiet for =
 pub fields_stand : (room : RoomState) (fields : Fields) → IsWithinLimits room.spec → AreFieldsOf room fields → StandsFor (configuration_of room) fields
 fields_stand room fields limits are =
     let base = replay_fields room.spec (opening_fields room.spec) are.run.schedule in
-    subst (StandsFor (configuration_of room)) (sym are.leads) (with_counts (configuration_of room) base fields.quiet (stands_for (configuration_of room) limits are.run))
+    subst (StandsFor (configuration_of room)) (sym (leads_of room fields are)) (with_counts (configuration_of room) base fields.quiet (stands_for (configuration_of room) limits are.run))
 
 -- ---- one event more
 
@@ -131,7 +138,7 @@ moved_fields room fields i limits are may =
     let after = line room.spec fields i in
     record {
       run = moved_run room i are.run may;
-      leads = line_leads room.spec fields base i are.leads ∙ ap (λ (f : Fields). with_quiet f after.quiet) (sym (fields-snoc room.spec (opening_fields room.spec) are.run.schedule (steps i)));
+      leads = ap without_quiet (line_leads room.spec fields base i (leads_of room fields are)) ∙ ap without_quiet (sym (fields-snoc room.spec (opening_fields room.spec) are.run.schedule (steps i)));
       counts = line_counts room fields i (shapes (configuration_of room) limits are.run) (fields_stand room fields limits are) may are.counts;
     }
 
@@ -143,7 +150,7 @@ woken_fields room fields i limits below are =
     let place : i < length room.sweeps = let count = sweep_count room (shapes (configuration_of room) limits are.run) in omega arith in
     record {
       run = record { schedule = are.run.schedule; legal = are.run.legal; leads = are.run.leads ∙ sym (woken_data room i) };
-      leads = ap (λ (f : Fields). with_quiet f (changed fields.quiet i 0)) are.leads;
+      leads = are.leads;
       counts = λ a less. dite (ℕ_discrete a i)
           (λ (e : a ≡ i).
           changed_here fields.quiet i 0 a e
@@ -201,7 +208,7 @@ crashed_fields room fields i may are =
         legal = legal-snoc (opening room.spec) one.schedule (crashes i) one.legal (subst (λ (q : Configuration). IsAlive q i) (sym one.leads) may);
         leads = replay-snoc (opening room.spec) one.schedule (crashes i) ∙ ap (λ (q : Configuration). crashed_by q i) one.leads;
       };
-      leads = ap (λ (f : Fields). with_crash f i) are.leads ∙ ap (λ (f : Fields). with_quiet f fields.quiet) (sym (fields-snoc room.spec (opening_fields room.spec) one.schedule (crashes i)));
+      leads = ap (λ (f : Fields). with_crash f i) are.leads ∙ ap without_quiet (sym (fields-snoc room.spec (opening_fields room.spec) one.schedule (crashes i)));
       counts = are.counts;
     }
 

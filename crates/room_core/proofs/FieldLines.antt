@@ -1,5 +1,5 @@
 -- A line keeps the numbers of the fields in range, and changes nothing of the other simulators.
-use Rattle.std.proofs.Common.{◌≡◌, ◌≢◌, ℕ, ◌+◌, ◌-◌, ◌≤◌, Bool, true, false, cond, ltb, List, [], ◌∷◌, ◌++◌, min, length, Option, Some, None, slice_index, refl, arith}
+use Rattle.std.proofs.Common.{◌≡◌, ◌≢◌, ℕ, ◌+◌, ◌≤◌, Bool, true, false, cond, ltb, List, [], ◌∷◌, ◌++◌, min, length, Option, Some, None, slice_index, refl, arith}
 use Rattle.protocol_lang.specs.Numbers.{greatest}
 use Rattle.protocol_lang.specs.Meaning.{next_action}
 use Rattle.protocol_lang.specs.declared.meaning.Action.{Action}
@@ -128,7 +128,7 @@ module _ (spec : RoomSpec) (mind : MindOf StepMap) (within : AreBothWithin spec 
 
 gathered_within : (spec : RoomSpec) (row : ℕ → ℕ) (entries : List (Option ℕ)) (mind : MindOf StepMap) → AreBothWithin spec mind → AreBothWithin spec (gathered row spec entries mind).mind
 gathered_within spec row entries mind within =
-    let all = padded row (processes spec - length entries) entries in
+    let all = padded row (processes spec) entries in
     all_within spec (record mind { entries = all }) within (ltb (length all) (processes spec)) (next_action spec.protocol (slice_index spec.inputs mind.sweep) mind.sweep (current_round mind) all)
 
 first_within : (goal : Goal) (spec : RoomSpec) (fields : Fields) (j : ℕ) (mind : MindOf StepMap) → AreBothWithin spec mind → AreBothWithin spec (taken_first_at goal spec fields j mind).mind

@@ -17,6 +17,7 @@ use Rattle.room_core.specs.Tracks.{StandsFor}
 use Rattle.room_core.proofs.Maps.{changed_here, changed_else}
 use Rattle.room_core.proofs.Prefixes.{over_run}
 use Rattle.room_core.proofs.Effects.{Own, own_of, Effect, line_effect, stores, raises, collects_word, collects_again, scans, shows_word, shows, loads_word, enters, looks, leaves, asks_in_vain, finds, gathers, goes_to, will_decide, decides}
+use Rattle.room_core.proofs.FieldCalls.{leads_of}
 
 abbrev pub HasStored : Own → ℕ → Type 0
 HasStored own p = p < length own.mind.goals → goal_at own.mind.goals p ≡ goals.Done → own.out p ≢ 0
@@ -81,5 +82,5 @@ opening_stored spec (q ∷ numbers) (suc p) below done = opening_stored spec num
 pub fields_stored : (room : RoomState) (fields : Fields) → IsWithinLimits room.spec → AreFieldsOf room fields → (i p : ℕ) → HasStored (own_of fields i) p
 fields_stored room fields limits are =
     let base = replay_fields room.spec (opening_fields room.spec) are.run.schedule in
-    subst (λ (f : Fields). (i p : ℕ) → HasStored (own_of f i) p) (sym are.leads)
+    subst (λ (f : Fields). (i p : ℕ) → HasStored (own_of f i) p) (sym (leads_of room fields are))
     (over_run StoredAfter stored_kept (configuration_of room) limits are.run (λ i p below done. absurd (opening_stored room.spec (range_with_len 0 (processes room.spec)) p below done)))

@@ -42,6 +42,7 @@ use Rattle.room_core.proofs.Shown.{HasShown, progress_own, own_shown, own_grows}
 use Rattle.room_core.proofs.Exact.{at_two, scanned_level}
 use Rattle.room_core.proofs.OwnValues.{IsNext, own_writes, own_counts, own_values, own_stored, own_decided, own_spent}
 use Rattle.room_core.proofs.Known.{full, IsChosen, IsGathered, IsDeciding, IsKnown, ViewsWithin, loaded, word_loaded, IsLoaded, loaded_kept, acts, due_kept, chosen_kept, gathered_kept, deciding_kept}
+use Rattle.room_core.proofs.FieldCalls.{leads_of}
 
 -- a turn at Raise has a write for its goal
 write_of : (rounds : ℕ) (goal : Goal) (step : ℕ) → Counts rounds goal stages.Stored step → (value : ℕ) × (goal ≡ goals.Write (round_of goal) value)
@@ -414,4 +415,4 @@ fields_known room fields limits are =
     let base = replay_fields room.spec (opening_fields room.spec) are.run.schedule in
     let tracks = (stands_for (configuration_of room) limits are.run).tracks in
     let within = views_within room.spec are.run.schedule base tracks (history_run (configuration_of room) limits are.run) in
-    subst (IsKnown room.spec) (sym are.leads) (known_other room.spec base fields.quiet base.crashed (let b = limits.shape.m_range.0 in omega arith) tracks within (known_run (configuration_of room) limits (small_values room.spec limits) are.run))
+    subst (IsKnown room.spec) (sym (leads_of room fields are)) (known_other room.spec base fields.quiet base.crashed (let b = limits.shape.m_range.0 in omega arith) tracks within (known_run (configuration_of room) limits (small_values room.spec limits) are.run))

@@ -1,5 +1,5 @@
 -- After a line its mind tells of its fields again, and their numbers are in range.
-use Rattle.std.proofs.Common.{◌≡◌, ◌≢◌, ℕ, ◌+◌, ◌-◌, ◌<◌, Bool, true, false, cond, ltb, List, [], ◌∷◌, ◌++◌, min, length, Option, Some, None, slice_index, refl, sym, ap, subst, arith}
+use Rattle.std.proofs.Common.{◌≡◌, ◌≢◌, ℕ, ◌+◌, ◌<◌, Bool, true, false, cond, ltb, List, [], ◌∷◌, ◌++◌, min, length, Option, Some, None, slice_index, refl, sym, ap, subst, arith}
 use mathlib.Core.Logic.{dite}
 use native.Mathlib.Decide.{ℕ_discrete}
 use Rattle.protocol_lang.specs.Numbers.{greatest}
@@ -50,7 +50,7 @@ module _ (spec : RoomSpec) (step : ℕ → ℕ) (level : ℕ → ℕ → ℕ) wh
 
   gathered_told : (row : ℕ → ℕ) (entries : List (Option ℕ)) (mind : MindOf StepMap) → mind.sweep < length mind.goals → IsGoal spec.rounds (current_goal mind) → ToldBeside spec.rounds mind.sweep mind.goals step level → Tells spec.rounds (current_goal mind) Past (step mind.sweep) (level mind.sweep) → ToldBy spec.rounds (gathered row spec entries mind).mind step level
   gathered_told row entries mind below range others own =
-      let all = padded row (processes spec - length entries) entries in
+      let all = padded row (processes spec) entries in
       all_told (ltb (length all) (processes spec)) (next_action spec.protocol (slice_index spec.inputs mind.sweep) mind.sweep (current_round mind) all) (record mind { entries = all }) below range others own
 
 tells_first_write : (rounds : ℕ) (goal : Goal) (k value step : ℕ) (level : ℕ → ℕ) → goal ≡ goals.Write k value → Tells rounds goal AtRest step level → Tells rounds goal Stored step level

@@ -17,7 +17,7 @@ use Rattle.room_core.specs.Reading.{AreFieldsOf}
 use Rattle.room_core.specs.Agreements.{row_at, shown, shown_by, asks, written}
 use Rattle.room_core.specs.Contents.{IsSmallEntry, AreSmall, HasSmallValues}
 use Rattle.room_core.specs.Tracks.{StandsFor}
-use Rattle.room_core.proofs.FieldCalls.{fields_stand}
+use Rattle.room_core.proofs.FieldCalls.{fields_stand, leads_of}
 use Rattle.room_core.proofs.Effects.{Own, own_of, Effect, stores, raises, collects_word, collects_again, scans, shows_word, shows, loads_word, enters, looks, leaves, asks_in_vain, finds, gathers, goes_to, will_decide, decides, line_effect}
 use Rattle.room_core.proofs.Prefixes.{over_run}
 use Rattle.room_core.proofs.Moments.{opening_history}
@@ -84,7 +84,7 @@ low_kept room fields done (crashes i) shape may for both = (known_kept room fiel
 
 pub fields_low : (room : RoomState) (fields : Fields) → IsWithinLimits room.spec → AreFieldsOf room fields → AllLow fields
 fields_low room fields limits are =
-    subst AllLow (sym are.leads)
+    subst AllLow (sym (leads_of room fields are))
     ((over_run LowAfter low_kept (configuration_of room) limits are.run
     ((opening_history room.spec, opening_sound room.spec, λ small. opening_known room.spec small), λ small i p r. omega arith)).1 (small_values room.spec limits))
 

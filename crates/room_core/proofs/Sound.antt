@@ -13,7 +13,7 @@ use Rattle.std.specs.List.{range_with_len}
 use Rattle.simulator.specs.Minds.{goal_at, first_goal}
 use Rattle.room_core.specs.Rooms.{Configuration, ScheduleEvent, steps, crashes, MayHappen, IsShaped, IsOneInterleaving}
 use Rattle.room_core.specs.Calls.{RoomState, configuration_of}
-use Rattle.room_core.specs.Reading.{with_quiet, AreFieldsOf}
+use Rattle.room_core.specs.Reading.{AreFieldsOf}
 use Rattle.room_core.proofs.Prefixes.{over_run}
 use Rattle.room_core.specs.Fields.{Fields, levels_at, chosen_at, line, with_crash, fields_after, opening_fields, replay_fields}
 use Rattle.room_core.specs.Tracks.{KeepsTrack, StandsFor}
@@ -22,6 +22,7 @@ use Rattle.room_core.proofs.Effects.{Own, own_of, IsLineOf, line_effect}
 use Rattle.room_core.proofs.PhaseSteps.{Advance, stays, steps_on, advances}
 use Rattle.room_core.proofs.Deciding.{HasDecided, own_outs}
 use Rattle.room_core.proofs.Resolving.{resolved_by, resolved_own, IsFound, own_resolves}
+use Rattle.room_core.proofs.FieldCalls.{leads_of, with_quiet}
 
 -- ---- one agreement
 
@@ -109,4 +110,4 @@ sound_counts spec fields quiet sound = record { beside = sound.beside; resolved 
 pub fields_sound : (room : RoomState) (fields : Fields) → IsWithinLimits room.spec → AreFieldsOf room fields → IsSound room.spec fields
 fields_sound room fields limits are =
     let base = replay_fields room.spec (opening_fields room.spec) are.run.schedule in
-    subst (IsSound room.spec) (sym are.leads) (sound_counts room.spec base fields.quiet (sound_run (configuration_of room) limits are.run))
+    subst (IsSound room.spec) (sym (leads_of room fields are)) (sound_counts room.spec base fields.quiet (sound_run (configuration_of room) limits are.run))

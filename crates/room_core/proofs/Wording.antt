@@ -1,5 +1,5 @@
 -- A mind whose snapshot is a word takes the same course as the mind whose snapshot is its map.
-use Rattle.std.proofs.Common.{◌≡◌, ℕ, zero, suc, ◌+◌, ◌-◌, ◌<◌, ◌≤◌, Bool, true, false, cond, eqb, ltb, List, [], ◌∷◌, ◌++◌, length, Option, Some, None, slice_index, refl, ap, ◌∙◌, arith}
+use Rattle.std.proofs.Common.{◌≡◌, ℕ, zero, suc, ◌+◌, ◌-◌, ◌<◌, ◌≤◌, Bool, true, false, cond, eqb, ltb, List, [], ◌∷◌, ◌++◌, length, Option, Some, None, slice_index, refl, sym, ap, ◌∙◌, arith}
 use Rattle.std.proofs.lemmas.List.{length-append}
 use Rattle.protocol_lang.specs.Meaning.{next_action}
 use Rattle.protocol_lang.specs.declared.meaning.Action.{Action}
@@ -12,19 +12,22 @@ use Rattle.simulator.specs.declared.goal.Goal.TheVariants as goals
 use Rattle.simulator.specs.declared.line.Line.TheVariants.{Snap, Show, Enter, GetView, Values}
 use Rattle.simulator.specs.Minds.{MindOf, goal_at, current_round}
 use Rattle.simulator.specs.Turns.{TakenOf, begun, collected, goes_on, got_view, most_collects, scanned, showed, snapped, words_in, asked, acted, padded, gathered_all, gathered, opened_at, opened}
+use Rattle.simulator.proofs.Gathering.{added, added_more}
 use Rattle.room_core.specs.Fields.{StepMap}
 use Rattle.room_core.specs.Reading.{worded}
 
 abbrev pub worded_taken : Sizes → TakenOf StepMap → TakenOf (List ℕ)
 worded_taken sizes taken = record { mind = worded sizes taken.mind; turn = taken.turn }
 
-pub same_padded : (row other : ℕ → ℕ) (n more : ℕ) (entries : List (Option ℕ)) → length entries + more ≤ n → ((p : ℕ) → p < n → row p ≡ other p) → padded row more entries ≡ padded other more entries
+pub same_padded : (row other : ℕ → ℕ) (n more : ℕ) (entries : List (Option ℕ)) → length entries + more ≤ n → ((p : ℕ) → p < n → row p ≡ other p) → added row more entries ≡ added other more entries
 same_padded row other n zero entries fits same = refl
 same_padded row other n (suc more) entries fits same =
     let nothing : List (Option ℕ) = None ∷ [] in
     let one = length-append entries nothing in
-    ap (λ (x : ℕ). cond (eqb x 0) (padded row more (entries ++ None ∷ [])) entries) (same (length entries) (omega arith))
+    added_more row more entries
+    ∙ ap (λ (x : ℕ). cond (eqb x 0) (added row more (entries ++ None ∷ [])) entries) (same (length entries) (omega arith))
     ∙ ap (λ (l : List (Option ℕ)). cond (eqb (other (length entries)) 0) l entries) (same_padded row other n more (entries ++ None ∷ []) (omega arith) same)
+    ∙ sym (added_more other more entries)
 
 module _ (sizes : Sizes) (spec : RoomSpec) where
   pub asked_worded : (chosen : Option ℕ) (mind : MindOf StepMap) → asked chosen (worded sizes mind) ≡ worded_taken sizes (asked chosen mind)
@@ -55,7 +58,7 @@ module _ (sizes : Sizes) (spec : RoomSpec) where
   pub gathered_worded : (row other : ℕ → ℕ) (entries : List (Option ℕ)) (mind : MindOf StepMap) → length entries ≤ processes spec → ((p : ℕ) → p < processes spec → row p ≡ other p) → gathered row spec entries (worded sizes mind) ≡ worded_taken sizes (gathered other spec entries mind)
   gathered_worded row other entries mind fits same =
       ap (λ (l : List (Option ℕ)). gathered_all spec (record (worded sizes mind) { entries = l })) (same_padded row other (processes spec) (processes spec - length entries) entries (omega arith) same)
-      ∙ gathered_all_worded (record mind { entries = padded other (processes spec - length entries) entries })
+      ∙ gathered_all_worded (record mind { entries = padded other (processes spec) entries })
 
   -- ---- scans
 

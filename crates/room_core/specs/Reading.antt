@@ -58,13 +58,14 @@ pub record Reads (room : Configuration) (fields : Fields) : Type 0 where
 
 -- ---- the fields of a room
 
-abbrev pub with_quiet : Fields → (ℕ → ℕ) → Fields
-with_quiet fields quiet = record fields { quiet = quiet }
+-- the same but for the quiet counts, which are 0
+abbrev pub without_quiet : Fields → Fields
+without_quiet fields = record fields { quiet = λ i. 0 }
 
--- The fields to which a list of atomic steps and crashes leads that leads to this room, with the room's quiet counts.
+-- A list of atomic steps and crashes leads to this room; quiet counts aside it leads to these fields, and their quiet counts are the room's.
 pub record AreFieldsOf (room : RoomState) (fields : Fields) : Type 0 where
   pub run : IsOneInterleaving (configuration_of room)
-  pub leads : fields ≡ with_quiet (replay_fields room.spec (opening_fields room.spec) run.schedule) fields.quiet
+  pub leads : without_quiet fields ≡ without_quiet (replay_fields room.spec (opening_fields room.spec) run.schedule)
   pub counts : (i : ℕ) → i < room.spec.simulators → fields.quiet i ≡ (sweep_at room i).quiet
 
 -- ---- the reading of a room

@@ -9,6 +9,7 @@
 pub mod laws;
 mod reply;
 mod room;
+mod room_words;
 
 pub use reply::{CrashReply, StepReply};
 pub use room::RoomCore;

@@ -22,6 +22,7 @@ ghost use Rattle.room_core.specs.Settled.{IsDecidedOrHeld, IsSettledFor};
 ghost use Rattle.room_core.specs.Settling.{each_in_order, ran_alone, turn_ended};
 
 use crate::reply::{CrashReply, StepReply};
+use crate::room_words::RoomWords;
 use arrayvec::ArrayVec;
 use room_spec::Spec;
 use simulator::{Mind, Ready, Sweep};
@@ -33,7 +34,7 @@ use view_table::words;
 #[derive(Drop)]
 pub struct RoomCore {
     spec: Spec,
-    words: Vec<u64>,
+    words: RoomWords,
     sweeps: ArrayVec<Sweep, 8>,
     crashed: ArrayVec<bool, 8>,
 }
@@ -47,10 +48,10 @@ impl Model for RoomCore {
 
     ghost coded = { Prim.hlevel (codes, expression_code) };
 
-    ghost view = { λ r. record { spec = r.spec; words = r.words.items; sweeps = r.sweeps.items; crashed = r.crashed.items } };
+    ghost view = { λ r. record { spec = r.spec; words = r.words; sweeps = r.sweeps.items; crashed = r.crashed.items } };
 
     // Some list of atomic steps and crashes leads to it, and each quiet count is one of its mind.
-    ghost invariant = { λ r. IsCore (record { spec = r.spec; words = r.words.items; sweeps = r.sweeps.items; crashed = r.crashed.items }) };
+    ghost invariant = { λ r. IsCore (record { spec = r.spec; words = r.words; sweeps = r.sweeps.items; crashed = r.crashed.items }) };
 }
 
 impl RoomCore {
@@ -80,7 +81,7 @@ impl RoomCore {
         let crashed = nobody(spec.m());
         RoomCore {
             spec,
-            words,
+            words: RoomWords::new(words),
             sweeps,
             crashed,
         }
@@ -100,7 +101,7 @@ impl RoomCore {
     {
         RoomCore {
             spec,
-            words,
+            words: RoomWords::new(words),
             sweeps,
             crashed,
         }
@@ -126,7 +127,7 @@ impl RoomCore {
         ensures value { result.now ≡ self.now.words }
         ensures count { length result.now ≡ words_of (sizes_in self.now.spec) }
     {
-        &self.words
+        self.words.as_slice()
     }
 
     /// The word at this index, which is below [`words`](view_table::words) of the room's shape.
@@ -134,7 +135,7 @@ impl RoomCore {
         requires { index < words_of (sizes_in self.now.spec) }
         ensures { result ≡ slice_index self.now.words index }
     {
-        self.words[index]
+        self.words()[index]
     }
 
     /// What simulator `i` has in mind.
@@ -301,7 +302,7 @@ impl RoomCore {
         requires { HasLine (configuration_of self.old) i }
         ensures { self.new ≡ moved self.old i }
     {
-        advance(&mut self.sweeps[i], &self.spec, &mut self.words);
+        advance(&mut self.sweeps[i], &self.spec, self.words.as_mut_slice());
     }
 
     /// Lets simulator `i`, which hasn't crashed, take steps until it has taken `most` or isn't ready.

@@ -22,6 +22,7 @@ pub struct LastWrites {
 
 /// The last write of each process that the memory words show, as [`last_write`](crate::last_write) has
 /// that of one.
+#[inline]
 pub fn last_writes(shape: &Shape, words: &[u64]) -> LastWrites
     requires { memory_words (sizes_of shape.now) ≤ length words.now }
     ensures holders { (p : ℕ) → p < shape.now.n → slice_index result.holders p ≡ holder_of shape.now.m (step_in (sizes_of shape.now) words.now) p }
@@ -58,6 +59,7 @@ fn in_one_word(shape: &Shape, words: &[u64]) -> LastWrites
 }
 
 /// The same where a simulator's step numbers may stand in two words.
+#[inline(never)]
 fn in_words(shape: &Shape, words: &[u64]) -> LastWrites
     requires { memory_words (sizes_of shape.now) ≤ length words.now }
     ensures { AreLast (sizes_of shape.now) words.now shape.now.m result.holders result.rounds }

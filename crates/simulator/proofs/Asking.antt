@@ -1,9 +1,9 @@
 -- The processes for which a simulator has asked in vain, in the order in which its sweep comes to them.
-use Rattle.std.proofs.Common.{◌≡◌, ℕ, zero, suc, ◌+◌, ◌-◌, ◌%◌, ◌<◌, ◌≤◌, Bool, true, false, cond, List, [], ◌∷◌, ◌++◌, length, set, take, drop, Option, Some, None, refl, sym, ap, ◌∙◌, subst, arith, append_assoc, drop-cons, inl, inr}
+use Rattle.std.proofs.Common.{◌≡◌, ℕ, zero, suc, ◌+◌, ◌%◌, ◌<◌, ◌≤◌, Bool, true, false, cond, List, [], ◌∷◌, ◌++◌, length, set, take, drop, reverse, Option, Some, None, refl, sym, ap, ◌∙◌, subst, arith, append_assoc, drop-cons, inl, inr}
 use Rattle.std.proofs.lemmas.Bool.{cases_lt}
 use Rattle.std.specs.List.{AllByRecursion, filter, position, position_or_len}
 use Rattle.std.specs.Option.{option_map}
-use Rattle.std.proofs.lemmas.List.{append-nil, take-append-drop, length-append, drop-set-lt, take_more_set, drop_all, drop-drop, drop-append-le, take-append-le, take_all, length-set}
+use Rattle.std.proofs.lemmas.List.{append-nil, take-append-drop, length-append, length-reverse, reverse-append, drop-set-lt, take_more_set, drop_all, drop-drop, drop-append-le, take-append-le, take_all, length-set}
 use Rattle.std.proofs.Math.Nat.{mod-eq_of_lt, mod_self}
 use Rattle.std.proofs.Math.Seq.{take-add}
 use Rattle.std.proofs.lemmas.List.Elements.{filter-append}
@@ -19,36 +19,37 @@ use Rattle.simulator.specs.Quiet.{IsAsk, HasNoWrite, unfinished_from, AreAsksAtT
 abbrev AreAsks : List Goal → Type 0
 AreAsks goals = AllByRecursion IsAsk goals
 
-asks_later : (goals : List Goal) (at later : ℕ) → at ≤ later → AreAsks (drop at goals) → AreAsks (drop later goals)
-asks_later [] zero zero less all = all
-asks_later [] zero (suc later) less all = all
-asks_later [] (suc at) zero less all = all
-asks_later [] (suc at) (suc later) less all = all
-asks_later (goal ∷ goals) zero zero less all = all
-asks_later (goal ∷ goals) zero (suc later) less all = asks_later goals zero later (omega arith) all.1
-asks_later (goal ∷ goals) (suc at) zero less all = absurd (omega arith)
-asks_later (goal ∷ goals) (suc at) (suc later) less all = asks_later goals at later (omega arith) all
+fewer : (goals : List Goal) (count less : ℕ) → less ≤ count → AreAsks (take count goals) → AreAsks (take less goals)
+fewer [] count zero most all = tt
+fewer [] count (suc less) most all = tt
+fewer (goal ∷ goals) count zero most all = tt
+fewer (goal ∷ goals) zero (suc less) most all = absurd (omega arith)
+fewer (goal ∷ goals) (suc count) (suc less) most all = (all.0, fewer goals count less (omega arith) all.1)
 
-asks_more : (goals : List Goal) (at : ℕ) (goal : Goal) → IsAsk goal → AreAsks (drop at goals) → AreAsks (drop at (goals ++ goal ∷ []))
-asks_more [] zero goal is all = (is, tt)
-asks_more [] (suc zero) goal is all = tt
-asks_more [] (suc (suc at)) goal is all = tt
-asks_more (first ∷ goals) zero goal is all = (all.0, asks_more goals zero goal is all.1)
-asks_more (first ∷ goals) (suc at) goal is all = asks_more goals at goal is all
+in_front : (goals more : List Goal) (count : ℕ) → AreAsks (take count (goals ++ more)) → AreAsks (take count goals)
+in_front [] more zero all = tt
+in_front [] more (suc count) all = tt
+in_front (goal ∷ goals) more zero all = tt
+in_front (goal ∷ goals) more (suc count) all = (all.0, in_front goals more count all.1)
 
 -- fewer are asks too
-pub fewer_asks : (goals : List Goal) (count fewer : ℕ) → fewer ≤ count → AreAsksAtTheEnd goals count → AreAsksAtTheEnd goals fewer
-fewer_asks goals count fewer less all = asks_later goals (length goals - count) (length goals - fewer) (omega arith) all
+pub fewer_asks : (goals : List Goal) (count less : ℕ) → less ≤ count → AreAsksAtTheEnd goals count → AreAsksAtTheEnd goals less
+fewer_asks goals count less most all = fewer (reverse goals) count less most all
+
+none_asks : (goals : List Goal) → AreAsks (take 0 goals)
+none_asks [] = tt
+none_asks (goal ∷ goals) = tt
 
 pub no_asks : (goals : List Goal) → AreAsksAtTheEnd goals 0
-no_asks goals = subst AreAsks (sym (drop_all (length goals - 0) goals (omega arith))) tt
+no_asks goals = none_asks (reverse goals)
 
 -- the first goal goes to the end, as an ask
 pub asked_again : (first goal : Goal) (goals : List Goal) (count : ℕ) → IsAsk goal → AreAsksAtTheEnd (first ∷ goals) count → AreAsksAtTheEnd (goals ++ goal ∷ []) (count + 1)
 asked_again first goal goals count is all =
-    let long : length (goals ++ goal ∷ []) ≡ length goals + 1 = length-append goals (goal ∷ []) in
-    asks_more goals (length (goals ++ goal ∷ []) - (count + 1)) goal is
-    (asks_later (first ∷ goals) (length (first ∷ goals) - count) (suc (length (goals ++ goal ∷ []) - (count + 1))) (omega arith) all)
+    let one : count + 1 ≡ suc count = omega arith in
+    let before : AreAsks (take count (reverse goals)) = in_front (reverse goals) (first ∷ []) count (subst (λ (l : List Goal). AreAsks (take count l)) (reverse-append (first ∷ []) goals) all) in
+    let now : AreAsks (take (suc count) (goal ∷ reverse goals)) = (is, before) in
+    subst (λ (n : ℕ). AreAsks (take n (reverse (goals ++ goal ∷ [])))) (sym one) (subst (λ (l : List Goal). AreAsks (take (suc count) l)) (sym (reverse-append goals (goal ∷ []))) now)
 
 -- ---- a turn begins: the processes that the sweep goes past are finished
 
@@ -179,6 +180,12 @@ join_asks : (goals more : List Goal) → AreAsks goals → AreAsks more → AreA
 join_asks [] more one two = two
 join_asks (goal ∷ goals) more one two = (one.0, join_asks goals more one.1 two)
 
+turned : (goals : List Goal) → AreAsks (reverse goals) → AreAsks goals
+turned [] all = tt
+turned (goal ∷ goals) all =
+    let both = split_asks (reverse goals) (goal ∷ []) (subst AreAsks (reverse-append (goal ∷ []) goals) all) in
+    (both.1.0, turned goals both.0)
+
 no_writes : (goals : List Goal) (process : ℕ) → AreAsks (filter is_unfinished goals) → HasNoWrite (goal_at goals process)
 no_writes [] process all = tt
 no_writes (Write round value ∷ goals) process all = absurd all.0
@@ -198,7 +205,7 @@ all_asked goals sweep quiet process enough all =
     let counts : length (unfinished_from goals sweep) ≡ length (filter is_unfinished rest) + length (filter is_unfinished before) = ap (λ (l : List Goal). length l) parts ∙ length-append (filter is_unfinished rest) (filter is_unfinished before) in
     let whole = ap (filter is_unfinished) (sym (take-append-drop sweep goals)) ∙ filter-append is_unfinished before rest in
     let long : unfinished_in goals ≡ length (filter is_unfinished before) + length (filter is_unfinished rest) = ap (λ (l : List Goal). length l) whole ∙ length-append (filter is_unfinished before) (filter is_unfinished rest) in
-    let none : length (unfinished_from goals sweep) - quiet ≡ 0 = omega arith in
-    let each : AreAsks (unfinished_from goals sweep) = subst (λ (k : ℕ). AreAsks (drop k (unfinished_from goals sweep))) none all in
+    let back = length-reverse (unfinished_from goals sweep) in
+    let each : AreAsks (unfinished_from goals sweep) = turned (unfinished_from goals sweep) (subst AreAsks (take_all quiet (reverse (unfinished_from goals sweep)) (omega arith)) all) in
     let both = split_asks (filter is_unfinished rest) (filter is_unfinished before) (subst AreAsks parts each) in
     no_writes goals process (subst AreAsks (sym whole) (join_asks (filter is_unfinished before) (filter is_unfinished rest) both.1 both.0))

@@ -158,7 +158,7 @@ on_gathered_all spec mind quiet is =
 
 on_gathered : {S : Type 0} (row : ℕ → ℕ) (spec : RoomSpec) (entries : List (Option ℕ)) (mind : MindOf S) (quiet : ℕ) → IsTurning (processes spec) spec.rounds mind → total_after (processes spec) spec.rounds (gathered row spec entries mind) quiet ≤ Allowed (processes spec) spec.rounds mind quiet
 on_gathered row spec entries mind quiet is =
-    on_gathered_all spec (record mind { entries = padded row (processes spec - length entries) entries }) quiet (record { few = is.few; place = is.place; left = is.left; last = is.last })
+    on_gathered_all spec (record mind { entries = padded row (processes spec) entries }) quiet (record { few = is.few; place = is.place; left = is.left; last = is.last })
 
 on_word_line : {S : Type 0} (spec : RoomSpec) (line : Line) (mind : MindOf S) (last : TakenOf S) (quiet : ℕ) → open_turns line ≡ 1 → total_after (processes spec) spec.rounds last quiet ≤ Allowed (processes spec) spec.rounds mind quiet
     → total_after (processes spec) spec.rounds (on_word spec line mind last) quiet ≤ Allowed (processes spec) spec.rounds mind quiet

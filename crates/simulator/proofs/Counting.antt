@@ -1,5 +1,5 @@
 -- The quiet count stays one over every answer.
-use Rattle.std.proofs.Common.{◌≡◌, ℕ, ◌+◌, ◌-◌, ◌<◌, min, Bool, true, false, cond, eqb, leb, ltb, List, [], ◌∷◌, ◌++◌, length, Option, Some, None, refl, sym, subst, arith}
+use Rattle.std.proofs.Common.{◌≡◌, ℕ, ◌+◌, ◌<◌, min, Bool, true, false, cond, eqb, leb, ltb, List, [], ◌∷◌, ◌++◌, length, Option, Some, None, refl, sym, subst, arith}
 use Rattle.std.proofs.lemmas.Bool.{leb-true}
 use Rattle.protocol_lang.specs.declared.meaning.Action.{Action}
 use Rattle.protocol_lang.specs.declared.meaning.Action.TheVariants as actions
@@ -19,7 +19,7 @@ use Rattle.simulator.specs.Moves.{entry_in, chosen_in, is_again, loaded, taken_a
 use Rattle.simulator.specs.Quiet.{HasNoWrite, IsQuietCount, unfinished_from, AreAsksAtTheEnd}
 use Rattle.simulator.specs.Ranges.{IsOpenAt, IsMind}
 use Rattle.simulator.specs.Sweeps.{is_resting, ready_of, quiet_after}
-use Rattle.simulator.specs.Turns.{TakenOf, counted, begun, goes_on, ended, asked, acted, most_collects, on_word, padded, gathered_all, gathered, opened_at, opened, scanned, words_in}
+use Rattle.simulator.specs.Turns.{TakenOf, counted, begun, goes_on, ended, asked, acted, after_write, most_collects, on_word, padded, gathered_all, gathered, opened_at, opened, scanned, words_in}
 use Rattle.simulator.proofs.Asking.{begins, no_asks, quiet_ends, all_asked}
 use Rattle.simulator.proofs.Processes.{next_is_left}
 
@@ -40,7 +40,7 @@ on_asked None mind quiet is = quiet_ends mind.goals mind.sweep (current_round mi
 on_asked (Some chosen) mind quiet is = is.counts
 
 on_acted : {S : Type 0} (spec : RoomSpec) (action : Action) (mind : MindOf S) (quiet : ℕ) → IsQuietCount mind quiet → CountsOn (acted spec action mind) quiet
-on_acted spec (actions.Write value) mind quiet counts = useful _ mind quiet
+on_acted spec (actions.Write value) mind quiet counts = useful (after_write spec.rounds (current_round mind) value) mind quiet
 on_acted spec (actions.Decide decision) mind quiet counts = counts
 
 on_test : {S : Type 0} (b : Bool) (one other : TakenOf S) (quiet : ℕ) → CountsOn one quiet → CountsOn other quiet → CountsOn (cond b one other) quiet
@@ -53,7 +53,7 @@ on_gathered_all spec mind quiet counts =
     on_test (ltb (length mind.entries) (processes spec)) (goes_on Values mind) (acted spec action mind) quiet counts (on_acted spec action mind quiet counts)
 
 on_gathered : {S : Type 0} (row : ℕ → ℕ) (spec : RoomSpec) (entries : List (Option ℕ)) (mind : MindOf S) (quiet : ℕ) → IsQuietCount mind quiet → CountsOn (gathered row spec entries mind) quiet
-on_gathered row spec entries mind quiet counts = on_gathered_all spec (record mind { entries = padded row (processes spec - length entries) entries }) quiet counts
+on_gathered row spec entries mind quiet counts = on_gathered_all spec (record mind { entries = padded row (processes spec) entries }) quiet counts
 
 on_word_line : {S : Type 0} (spec : RoomSpec) (line : Line) (mind : MindOf S) (last : TakenOf S) (quiet : ℕ) → IsQuietCount mind quiet → CountsOn last quiet → CountsOn (on_word spec line mind last) quiet
 on_word_line spec line mind last quiet counts is = on_test (ltb (mind.word + 1) (words_in spec)) _ last quiet counts is

@@ -172,7 +172,7 @@ gathers : (spec : RoomSpec) (mind : MindState) (entries : List (Option ℕ)) →
 gathers spec mind entries is at collects within few =
     let row = entry_in spec mind.snapshot in
     let padding = padded_is row (processes spec - length entries) entries in
-    let after = padded row (processes spec - length entries) entries in
+    let after = padded row (processes spec) entries in
     let busy : IsBusy spec (record mind { entries = after }) = record {
       limits = is.limits;
       number = is.number;

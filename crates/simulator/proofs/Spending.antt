@@ -61,7 +61,7 @@ on_gathered_all spec mind =
 
 on_gathered : (row : ℕ → ℕ) (spec : RoomSpec) (entries : List (Option ℕ)) (mind : MindState) → IsOn mind (gathered row spec entries mind)
 on_gathered row spec entries mind =
-    let is = on_gathered_all spec (record mind { entries = padded row (processes spec - length entries) entries }) in
+    let is = on_gathered_all spec (record mind { entries = padded row (processes spec) entries }) in
     record { turns = is.turns; stays = is.stays }
 
 on_word_line : (spec : RoomSpec) (line : Line) (mind : MindState) (last : TakenOf (List ℕ)) → IsOn mind last → IsOn mind (on_word spec line mind last)

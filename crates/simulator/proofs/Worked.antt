@@ -33,11 +33,14 @@ shows process = get_or (0 ∷ 2 ∷ 0 ∷ 1 ∷ []) process 0
 padded_to_1 : padded shows 4 [] ≡ None ∷ []
 padded_to_1 = refl
 
-padded_to_3 : padded shows 2 (None ∷ Some 5 ∷ []) ≡ None ∷ Some 5 ∷ None ∷ []
+padded_to_3 : padded shows 4 (None ∷ Some 5 ∷ []) ≡ None ∷ Some 5 ∷ None ∷ []
 padded_to_3 = refl
 
-padded_to_the_end : padded shows 0 (None ∷ Some 5 ∷ None ∷ Some 6 ∷ []) ≡ None ∷ Some 5 ∷ None ∷ Some 6 ∷ []
+padded_to_the_end : padded shows 4 (None ∷ Some 5 ∷ None ∷ Some 6 ∷ []) ≡ None ∷ Some 5 ∷ None ∷ Some 6 ∷ []
 padded_to_the_end = refl
+
+padded_past_the_last : (padded shows 5 (None ∷ Some 5 ∷ None ∷ Some 6 ∷ []) ≡ None ∷ Some 5 ∷ None ∷ Some 6 ∷ None ∷ []) × (padded (λ process. 0) 3 [] ≡ None ∷ None ∷ None ∷ [])
+padded_past_the_last = (refl, refl)
 
 after_writes : (after_write 2 1 9 ≡ Write 2 9) × (after_write 2 2 9 ≡ Spent)
 after_writes = (refl, refl)
@@ -88,7 +91,7 @@ one_quiet : IsQuietCount (record resting { sweep = 3 }) 1
 one_quiet = (tt, tt)
 
 not_two : IsQuietCount (record resting { sweep = 3 }) 2 → ⊥
-not_two counts = counts.0
+not_two counts = counts.1.0
 
 none_yet : IsQuietCount resting 1 → ⊥
 none_yet counts = counts.0

@@ -1,5 +1,5 @@
 -- What a simulator's quiet count says of its processes.
-use Rattle.std.specs.Prelude.{ℕ, ◌-◌, List, ◌++◌, length, take, drop, ⊤}
+use Rattle.std.specs.Prelude.{ℕ, List, ◌++◌, take, drop, reverse, ⊤}
 use Rattle.std.specs.List.{AllByRecursion, filter}
 use Rattle.simulator.specs.declared.goal.Goal.{Goal}
 use Rattle.simulator.specs.declared.goal.Goal.TheVariants.{Write, Ask}
@@ -18,10 +18,10 @@ HasNoWrite goal = ⊤
 abbrev pub unfinished_from : List Goal → ℕ → List Goal
 unfinished_from goals sweep = filter is_unfinished (drop sweep goals ++ take sweep goals)
 
--- the last `count` goals are asks, or all where there are fewer
+-- going back from the end, the first `count` goals are asks, or all where there are fewer
 abbrev pub AreAsksAtTheEnd : List Goal → ℕ → Type 0
-AreAsksAtTheEnd goals count = AllByRecursion IsAsk (drop (length goals - count) goals)
+AreAsksAtTheEnd goals count = AllByRecursion IsAsk (take count (reverse goals))
 
--- The last `quiet` processes that the sweep has come to stand at an ask: it has asked for each of them in vain.
+-- Going back from the sweep's place, the first `quiet` unfinished goals are asks: it has asked for each of them in vain.
 abbrev pub IsQuietCount : {S : Type 0} → MindOf S → ℕ → Type 0
 IsQuietCount mind quiet = AreAsksAtTheEnd (unfinished_from mind.goals mind.sweep) quiet

@@ -1,5 +1,6 @@
 -- The lines of a turn: what each makes of a mind. They too are the same whatever a snapshot is; S is its type.
-use Rattle.std.specs.Prelude.{ℕ, zero, suc, ◌+◌, ◌-◌, ◌*◌, ◌%◌, Bool, ◌&&◌, ◌||◌, List, [], ◌∷◌, ◌++◌, length, Option, Some, None, slice_index, slice_set, min, nat_lt, ◌==◌, if◌then◌else◌}
+use Rattle.std.specs.Prelude.{ℕ, ◌+◌, ◌-◌, ◌*◌, ◌%◌, Bool, ◌&&◌, ◌||◌, List, [], ◌∷◌, ◌++◌, length, map, Option, Some, None, slice_index, slice_set, min, nat_lt, ◌==◌, if◌then◌else◌}
+use Rattle.std.specs.List.{range_with_len, take_while}
 use Rattle.protocol_lang.specs.Numbers.{greatest}
 use Rattle.protocol_lang.specs.Meaning.{next_action}
 use Rattle.protocol_lang.specs.declared.meaning.Action.{Action}
@@ -81,10 +82,13 @@ abbrev pub acted : {S : Type 0} → RoomSpec → Action → MindOf S → TakenOf
 acted spec (actions.Write value) mind = ended Useful (after_write spec.rounds (current_round mind) value) mind
 acted spec (actions.Decide decision) mind = goes_on (Out decision) mind
 
--- the entries, and nothing for each next process, of `more` at most, of which the row shows no write
+-- the processes from p on, below n, up to the next of which the row shows a write
+abbrev pub silent_from : (ℕ → ℕ) → ℕ → ℕ → List ℕ
+silent_from row n p = take_while (λ q. row q == 0) (range_with_len p (n - p))
+
+-- the entries of the first of n processes, and nothing for each of the silent ones behind them
 abbrev pub padded : (ℕ → ℕ) → ℕ → List (Option ℕ) → List (Option ℕ)
-padded row zero entries = entries
-padded row (suc more) entries = if row (length entries) == 0 then padded row more (entries ++ None ∷ []) else entries
+padded row n entries = entries ++ map (λ q. None) (silent_from row n (length entries))
 
 -- The mind goes on to the next process of which the row shows a write. After the last it asks the protocol.
 abbrev pub gathered_all : {S : Type 0} → RoomSpec → MindOf S → TakenOf S
@@ -94,7 +98,7 @@ gathered_all spec mind =
 
 abbrev pub gathered : {S : Type 0} → (ℕ → ℕ) → RoomSpec → List (Option ℕ) → MindOf S → TakenOf S
 gathered row spec entries mind =
-    gathered_all spec (record mind { entries = padded row (processes spec - length entries) entries })
+    gathered_all spec (record mind { entries = padded row (processes spec) entries })
 
 -- it has loaded a word of the chosen proposal, whose row this is
 abbrev pub got_view : {S : Type 0} → (ℕ → ℕ) → RoomSpec → ℕ → MindOf S → TakenOf S

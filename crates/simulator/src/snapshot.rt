@@ -1,5 +1,5 @@
 //! The memory words that a simulator has loaded, and what they show.
-ghost use Rattle.std.specs.Prelude.{◌≡◌, ℕ, ◌<◌, ◌≤◌, ◌==◌, slice_index, slice_set, true};
+ghost use Rattle.std.specs.Prelude.{◌≡◌, ℕ, ◌<◌, ◌≤◌, ◌==◌, slice_index, slice_set, true, false};
 ghost use Rattle.room_spec.specs.Rooms.{bits_of, processes};
 ghost use Rattle.room_spec.specs.Sizes.{sizes_in};
 ghost use Rattle.simulator.specs.Minds.{no_words};
@@ -93,12 +93,33 @@ impl Snapshot {
         ensures range { result.1 ≤ spec.now.rounds }
     {
         if !are_of(self.n, self.m, self.rounds, spec) {
-            return last_write(&spec.shape(), &self.words, process);
+            return self.last_write_anew(spec, process);
         }
         (
             usize::from(self.last.holders[process]),
             usize::from(self.last.rounds[process]),
         )
+    }
+
+    /// The same, by the words.
+    #[cold]
+    #[inline(never)]
+    fn last_write_anew(&self, spec: &Spec, process: usize) -> (usize, usize)
+        requires { process < processes spec.now }
+        ensures holder { result.0 ≡ holder_in spec.now self.now process }
+        ensures below { result.0 < spec.now.simulators }
+        ensures row { result.1 ≡ entry_in spec.now self.now process }
+        ensures range { result.1 ≤ spec.now.rounds }
+    {
+        last_write(&spec.shape(), &self.words, process)
+    }
+
+    /// Whether a write of the process is noted. Where none is, the words may show one all the same.
+    pub(crate) fn notes_some(&self, spec: &Spec, process: usize) -> bool
+        requires { process < processes spec.now }
+        ensures { result ≡ true → (entry_in spec.now self.now process == 0) ≡ false }
+    {
+        are_of(self.n, self.m, self.rounds, spec) && self.last.rounds[process] != 0
     }
 
     /// Whether the words show no write of the process.

@@ -210,6 +210,22 @@ impl Mind {
         ensures mind { self.new ≡ (gathered (entry_in spec.now self.old.snapshot) spec.now self.old.entries self.old).mind }
         ensures turn { result ≡ (gathered (entry_in spec.now self.old.snapshot) spec.now self.old.entries self.old).turn }
     {
+        let process = self.entries.len();
+        if process < spec.n() && self.snapshot.notes_some(spec, process) {
+            return self.go_on(Line::Values);
+        }
+        self.gather_padded(spec)
+    }
+
+    /// The same, where the snapshot may show nothing of the next processes.
+    #[inline(never)]
+    fn gather_padded(&mut self, spec: &Spec) -> Turn
+        requires sweep { self.old.sweep < length self.old.goals }
+        requires goals { length self.old.goals ≡ processes spec.now }
+        requires entries { length self.old.entries ≤ processes spec.now }
+        ensures mind { self.new ≡ (gathered (entry_in spec.now self.old.snapshot) spec.now self.old.entries self.old).mind }
+        ensures turn { result ≡ (gathered (entry_in spec.now self.old.snapshot) spec.now self.old.entries self.old).turn }
+    {
         pad(&mut self.entries, &self.snapshot, spec);
         if self.entries.len() < spec.n() {
             return self.go_on(Line::Values);
@@ -269,7 +285,7 @@ fn after_write(spec: &Spec, round: u8, value: u32) -> Goal
 /// Adds nothing for each next process of which the memory words show no write.
 fn pad(entries: &mut View, snapshot: &Snapshot, spec: &Spec)
     requires { length entries.old.items ≤ processes spec.now }
-    ensures { entries.new.items ≡ padded (entry_in spec.now snapshot.now) (processes spec.now - length entries.old.items) entries.old.items }
+    ensures { entries.new.items ≡ padded (entry_in spec.now snapshot.now) (processes spec.now) entries.old.items }
 {
     while entries.len() < spec.n() && snapshot.shows_none(spec, entries.len()) {
         entries.push(None);

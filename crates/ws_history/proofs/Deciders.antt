@@ -19,9 +19,8 @@ use Rattle.ws_history.specs.Reports.{is_spent, held_by, held_or_going, state_by,
 use Rattle.ws_history.specs.Sources.{source_of, history_of}
 use Rattle.ws_history.proofs.Order.{snapshot_at}
 use Rattle.ws_history.proofs.Sorting.{to_order, to_passed}
-use Rattle.ws_history.proofs.PassedSources.{apart}
 use Rattle.ws_history.proofs.Decisions.{decisions_are}
-use Rattle.ws_history.proofs.SourceIs.{found_in, one_of, is_of_passed}
+use Rattle.ws_history.proofs.SourceIs.{found_in, one_of}
 
 no_decision : (spent : Bool) (holder : Option ℕ) (v : ℕ) → cond spent states.Spent (held_or_going holder) ≡ states.Decided v → ⊥
 no_decision true holder v is = cc
@@ -61,7 +60,7 @@ module _ (room : RoomState) (fields : Fields) (limits : IsWithinLimits room.spec
       let all : List Snapshot = all_passed (is_passed spec fields) (processes spec) spec.rounds in
       let within = to_passed (is_passed spec fields) (processes spec) spec.rounds (snapshot_at j k) (record { process = low; positive = first; within = has.steps_are_within j low; is = passes }) in (
         snapshot_at j k,
-        to_order src all (apart spec src (is_passed spec fields) (is_of_passed spec fields has)) (snapshot_at j k) within,
+        to_order src.row all (snapshot_at j k) within,
         refl,
         ap (λ (b : Bool). cond b (decided_in spec fields j) None) here ∙ is,
       )

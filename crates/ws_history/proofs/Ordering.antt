@@ -1,14 +1,14 @@
 -- The passed snapshots as std's sort leaves them are in the order of the history: both lists are in order, and have the same elements
 -- as often.
-use Rattle.std.proofs.Common.{◌≡◌, ◌⊎◌, ℕ, zero, suc, ◌+◌, ◌<◌, Bool, true, false, cond, eqb, ltb, List, [], ◌∷◌, ◌++◌, length, map, get_or, fold, Contains, Ordering, Less, Equal, Greater, nat_cmp, refl, sym, ap, ◌∙◌, subst, arith, inl, inr}
+use Rattle.std.proofs.Common.{◌≡◌, ◌⊎◌, ℕ, suc, ◌+◌, ◌<◌, Bool, true, false, cond, eqb, ltb, List, [], ◌∷◌, length, map, get_or, fold, Contains, Ordering, Less, Equal, Greater, nat_cmp, refl, sym, ap, ◌∙◌, subst, arith, inl, inr}
 use Rattle.std.specs.Prelude.{⊤}
 use Rattle.std.specs.Cmp.{IsTotalOrder}
+use Rattle.std.specs.Cmp.Lexicographic.{slice_cmp}
 use Rattle.std.specs.List.{sum_by}
 use Rattle.std.specs.List.Sorted.{IsPermutation, IsSorted, IsSortedBy}
-use Rattle.std.specs.Ordering.{is_lt, match_ordering, on, ordering_reverse, ordering_then, then_cmp}
+use Rattle.std.specs.Ordering.{is_lt, on, ordering_reverse, ordering_then, then_cmp}
 use Rattle.std.proofs.lemmas.Bool.{cases_Bool, le-ltb, ne_eqb, eq-eqb}
-use Rattle.std.proofs.lemmas.Cmp.{nat_cmp_total, on_total, ranked, then_total, tied_itself}
-use Rattle.std.proofs.lemmas.List.Elements.{Contains-append_cases}
+use Rattle.std.proofs.lemmas.Cmp.{nat_cmp_total, nat_list_cmp_total, on_total, ranked, then_total, tied_itself}
 use Rattle.std.proofs.lemmas.List.Sorted.{ranks_by, sorted_far, sum_by-IsPermutation}
 use Rattle.std.proofs.lemmas.List.Sums.{sum_by-cons}
 use Rattle.room_core.specs.Calls.{RoomState}
@@ -16,12 +16,12 @@ use Rattle.room_core.specs.Agreements.{is_passed}
 use Rattle.room_spec.specs.Rooms.{processes}
 use Rattle.ws_history.specs.declared.snapshots.Agreed.{Agreed}
 use Rattle.ws_history.specs.Histories.{Snapshot, Source, IsBefore, IsRising}
-use Rattle.ws_history.specs.Orders.{inserted, in_order, key_cmp, key_of, passed_of, all_passed}
+use Rattle.ws_history.specs.Orders.{inserted, in_order, is_before, all_passed}
 use Rattle.ws_history.specs.Placing.{agreed_at}
 use Rattle.ws_history.specs.Readings.{read_of}
 use Rattle.ws_history.specs.Sources.{source_of}
-use Rattle.ws_history.proofs.Order.{cons_first, cons_rest, not_empty}
-use Rattle.ws_history.proofs.Sorting.{AreApart, IsAlike, Stand, from_inserted, from_passed, from_passed_of, if_there, rising_in_order, stand}
+use Rattle.ws_history.proofs.Order.{cons_first, cons_rest}
+use Rattle.ws_history.proofs.Sorting.{AreApart, different_passed, rising_in_order}
 
 -- ---- two lists in one order, with the same elements as often, are the same
 
@@ -109,10 +109,10 @@ module _ {X : Type 0} (R : X → X → Ordering) (total : IsTotalOrder R) (one :
 -- ---- a snapshot's place by all of its numbers
 
 abbrev agreed_cmp : Agreed → Agreed → Ordering
-agreed_cmp = then_cmp (on (λ s. s.sum) nat_cmp) (then_cmp (on (λ s. s.process) nat_cmp) (on (λ s. s.round) nat_cmp))
+agreed_cmp = then_cmp (on (λ s. s.sum) nat_cmp) (then_cmp (on (λ s. s.process) nat_cmp) (then_cmp (on (λ s. s.round) nat_cmp) (on (λ s. s.row.items) (slice_cmp nat_cmp))))
 
 agreed_total : IsTotalOrder agreed_cmp
-agreed_total = then_total (on_total (λ (s : Agreed). s.sum) nat_cmp_total) (then_total (on_total (λ (s : Agreed). s.process) nat_cmp_total) (on_total (λ (s : Agreed). s.round) nat_cmp_total))
+agreed_total = then_total (on_total (λ (s : Agreed). s.sum) nat_cmp_total) (then_total (on_total (λ (s : Agreed). s.process) nat_cmp_total) (then_total (on_total (λ (s : Agreed). s.round) nat_cmp_total) (on_total (λ (s : Agreed). s.row.items) nat_list_cmp_total)))
 
 then_tied : (p q : Ordering) → ordering_then p q ≡ Equal → (p ≡ Equal) × (q ≡ Equal)
 then_tied Less q is = absurd cc
@@ -122,16 +122,27 @@ then_tied Greater q is = absurd cc
 nat_tied : (x y : ℕ) → nat_cmp x y ≡ Equal → x ≡ y
 nat_tied x y is = ranked x y Equal (sym is)
 
+list_tied : (xs ys : List ℕ) → slice_cmp nat_cmp xs ys ≡ Equal → xs ≡ ys
+list_tied [] [] is = refl
+list_tied [] (y ∷ ys) is = absurd cc
+list_tied (x ∷ xs) [] is = absurd cc
+list_tied (x ∷ xs) (y ∷ ys) is =
+    let both = then_tied (nat_cmp x y) (slice_cmp nat_cmp xs ys) is in
+    ap (λ (u : ℕ). u ∷ xs) (nat_tied x y both.0) ∙ ap (λ (l : List ℕ). y ∷ l) (list_tied xs ys both.1)
+
 agreed_one : (s t : Agreed) → agreed_cmp s t ≡ Equal → s ≡ t
 agreed_one s t is =
     let a = then_tied (nat_cmp s.sum t.sum) _ is in
     let b = then_tied (nat_cmp s.process t.process) _ a.1 in
     let sums = nat_tied s.sum t.sum a.0 in
     let all = nat_tied s.process t.process b.0 in
-    let rounds = nat_tied s.round t.round b.1 in
+    let d = then_tied (nat_cmp s.round t.round) _ b.1 in
+    let rounds = nat_tied s.round t.round d.0 in
+    let rows = list_tied s.row.items t.row.items d.1 in
     ap (λ (x : ℕ). record s { sum = x }) sums
     ∙ ap (λ (x : ℕ). record s { sum = t.sum; process = x }) all
-    ∙ ap (λ (x : ℕ). record t { round = x }) rounds
+    ∙ ap (λ (x : ℕ). record s { sum = t.sum; process = t.process; round = x }) rounds
+    ∙ ap (λ (l : List ℕ). record t { row = record { items = l } }) rows
 
 behind_is_greater : (a b : ℕ) → a < b → nat_cmp b a ≡ Greater
 behind_is_greater a b less =
@@ -162,79 +173,31 @@ not_behind s t before = not_low_then (nat_cmp t.sum s.sum) (nat_cmp t.process s.
   | inr same ↦ inr (same_is_tied s.sum t.sum same.0, behind_is_greater s.process t.process same.1)
 ]) _
 
--- ---- no snapshot is found twice
+-- ---- all are there as often as before
 
-abbrev AreDifferent : List Snapshot → Type 0
-AreDifferent [] = ⊤
-AreDifferent (s ∷ rest) = ((t : Snapshot) → Contains rest t → s ≡ t → ⊥) × AreDifferent rest
-
-different_append : (xs ys : List Snapshot) → AreDifferent xs → AreDifferent ys → ((s t : Snapshot) → Contains xs s → Contains ys t → s ≡ t → ⊥) → AreDifferent (xs ++ ys)
-different_append [] ys first second other = second
-different_append (s ∷ xs) ys first second other = (
-  λ t has is. elim (Contains-append_cases xs ys t has) [ inl old ↦ first.0 t old is | inr new ↦ other s t (cons_first s xs) new is ],
-  different_append xs ys first.1 second (λ u t has. other u t (cons_rest s xs u has)),
-)
-
-different_if : (s : Snapshot) (b : Bool) → AreDifferent (cond b (s ∷ []) [])
-different_if s true = (λ t has is. absurd (not_empty t has), tt)
-different_if s false = tt
-
-different_rounds : (passed : ℕ → ℕ → Bool) (p rounds : ℕ) → AreDifferent (passed_of passed p rounds)
-different_rounds passed p zero = tt
-different_rounds passed p (suc rounds) =
-    let new : Snapshot = record { process = p; round = rounds + 1 } in
-    different_append (passed_of passed p rounds) (cond (passed p (rounds + 1)) (new ∷ []) []) (different_rounds passed p rounds) (different_if new (passed p (rounds + 1))) (λ s t has_s has_t is.
-    let low = (from_passed_of passed p rounds s has_s).2 in
-    let high : rounds + 1 ≡ t.round = ap (λ (u : Snapshot). u.round) (if_there (passed p (rounds + 1)) new t has_t).1 in
-    let same : s.round ≡ t.round = ap (λ (u : Snapshot). u.round) is in
-    absurd (omega arith))
-
-different_passed : (passed : ℕ → ℕ → Bool) (n rounds : ℕ) → AreDifferent (all_passed passed n rounds)
-different_passed passed zero rounds = tt
-different_passed passed (suc n) rounds =
-    different_append (all_passed passed n rounds) (passed_of passed n rounds) (different_passed passed n rounds) (different_rounds passed n rounds) (λ s t has_s has_t is.
-    let low = (from_passed passed n rounds s has_s).process in
-    let high : t.process ≡ n = (from_passed_of passed n rounds t has_t).0 in
-    let same : s.process ≡ t.process = ap (λ (u : Snapshot). u.process) is in
-    absurd (omega arith))
-
--- ---- so none gives way to another, and all are there as often as before
-
-module _ (src : Source) (g : Snapshot → ℕ) where
-  counted_put : (s t : Snapshot) (rest behind : List Snapshot) (o : Ordering) → Stand src s t o → (IsAlike src s t → ⊥) → sum_by g behind ≡ g s + sum_by g rest
-      → sum_by g (match_ordering o (s ∷ t ∷ rest) (s ∷ rest) (t ∷ behind)) ≡ g s + sum_by g (t ∷ rest)
-  counted_put s t rest behind Less is other more = sum_by-cons g s (t ∷ rest)
-  counted_put s t rest behind Equal same other more = absurd (other same)
-  counted_put s t rest behind Greater is other more =
+module _ (row : ℕ → ℕ → List ℕ) (g : Snapshot → ℕ) where
+  counted_put : (s t : Snapshot) (rest behind : List Snapshot) (b : Bool) → sum_by g behind ≡ g s + sum_by g rest → sum_by g (cond b (s ∷ t ∷ rest) (t ∷ behind)) ≡ g s + sum_by g (t ∷ rest)
+  counted_put s t rest behind true more = sum_by-cons g s (t ∷ rest)
+  counted_put s t rest behind false more =
       let all = sum_by-cons g t behind in
       let old = sum_by-cons g t rest in
       omega arith
 
-  counted_inserted : (xs : List Snapshot) (s : Snapshot) → ((t : Snapshot) → Contains xs t → IsAlike src s t → ⊥) → sum_by g (inserted src.row xs s) ≡ g s + sum_by g xs
-  counted_inserted [] s other = sum_by-cons g s []
-  counted_inserted (t ∷ rest) s other =
-      counted_put s t rest (inserted src.row rest s) (key_cmp (key_of src.row s) (key_of src.row t)) (stand src s t) (other t (cons_first t rest))
-      (counted_inserted rest s (λ u has. other u (cons_rest t rest u has)))
+  counted_inserted : (xs : List Snapshot) (s : Snapshot) → sum_by g (inserted row xs s) ≡ g s + sum_by g xs
+  counted_inserted [] s = sum_by-cons g s []
+  counted_inserted (t ∷ rest) s = counted_put s t rest (inserted row rest s) (is_before row s t) (counted_inserted rest s)
 
-  counted_fold : (xs done : List Snapshot) → AreApart src xs → AreDifferent xs → ((s t : Snapshot) → Contains xs s → Contains done t → IsAlike src s t → ⊥)
-      → sum_by g (fold (inserted src.row) done xs) ≡ sum_by g done + sum_by g xs
-  counted_fold [] done apart different other = omega arith
-  counted_fold (s ∷ xs) done apart different other =
-      let now = counted_inserted done s (λ t has. other s t (cons_first s xs) has) in
-      let more = counted_fold xs (inserted src.row done s) (λ u t has_u has_t. apart u t (cons_rest s xs u has_u) (cons_rest s xs t has_t)) different.1
-      (λ u t has_u has_t alike. elim (from_inserted src.row done s t has_t) [
-        | inl is ↦
-            let there = cons_rest s xs u has_u in
-            let to_s = subst (λ (v : Snapshot). IsAlike src u v) (sym is) alike in
-            different.0 u has_u (sym (apart u s there (cons_first s xs) to_s.0 to_s.1))
-        | inr old ↦ other u t (cons_rest s xs u has_u) old alike
-      ]) in
+  counted_fold : (xs done : List Snapshot) → sum_by g (fold (inserted row) done xs) ≡ sum_by g done + sum_by g xs
+  counted_fold [] done = omega arith
+  counted_fold (s ∷ xs) done =
+      let now = counted_inserted done s in
+      let more = counted_fold xs (inserted row done s) in
       let all = sum_by-cons g s xs in
       omega arith
 
-  counted : (xs : List Snapshot) → AreApart src xs → AreDifferent xs → sum_by g (in_order src.row xs) ≡ sum_by g xs
-  counted xs apart different =
-      let all = counted_fold xs [] apart different (λ s t has none. absurd (not_empty t none)) in
+  counted : (xs : List Snapshot) → sum_by g (in_order row xs) ≡ sum_by g xs
+  counted xs =
+      let all = counted_fold xs [] in
       omega arith
 
 -- ---- the order of a room's history
@@ -268,6 +231,6 @@ module _ (room : RoomState) where
       (λ f.
       sum_by-IsPermutation f (map (agreed_at room) passed) sorted moved
       ∙ over_map f (agreed_at room) passed
-      ∙ sym (over_map f (agreed_at room) source.order ∙ counted source (λ s. f (agreed_at room s)) passed apart (different_passed (is_passed room.spec (read_of room)) (processes room.spec) room.spec.rounds)))
+      ∙ sym (over_map f (agreed_at room) source.order ∙ counted source.row (λ s. f (agreed_at room s)) passed))
       (from_sorted agreed_cmp agreed_total agreed_one sorted rises)
-      (from_rising source.order (rising_in_order source passed))
+      (from_rising source.order (rising_in_order source passed apart (different_passed (is_passed room.spec (read_of room)) (processes room.spec) room.spec.rounds)))

@@ -7,7 +7,7 @@ use Rattle.ws_history.specs.Histories.{Snapshot, Source, row_of, entry_of, IsSou
 use Rattle.ws_history.specs.Orders.{all_passed, IsPassed}
 use Rattle.ws_history.specs.Passed.{IsOfPassed}
 use Rattle.ws_history.proofs.Order.{by_sums, snapshot_at}
-use Rattle.ws_history.proofs.Sorting.{AreApart, rising_in_order, from_order, to_order, from_passed, to_passed}
+use Rattle.ws_history.proofs.Sorting.{AreApart, different_passed, rising_in_order, from_order, to_order, from_passed, to_passed}
 use Rattle.ws_history.proofs.Alternation.{history_is_run}
 
 turned_about : (a b : List ℕ) → IsRowAtMost a b ⊎ IsRowAtMost b a → IsRowAtMost b a ⊎ IsRowAtMost a b
@@ -34,7 +34,7 @@ is_source spec src passed is =
     λ s has. from_passed passed n spec.rounds s (from_order src.row all s (subst (λ (xs : List Snapshot). Contains xs s) is.order has)) in
     let to : (p r : ℕ) → p < n → 1 ≤ r → r ≤ spec.rounds → passed p r ≡ true → Contains src.order (snapshot_at p r) =
     λ p r low pos within yes_it. subst (λ (xs : List Snapshot). Contains xs (snapshot_at p r)) (sym is.order)
-    (to_order src all (apart spec src passed is) (snapshot_at p r) (to_passed passed n spec.rounds (snapshot_at p r) (record { process = low; positive = pos; within = within; is = yes_it }))) in
+    (to_order src.row all (snapshot_at p r) (to_passed passed n spec.rounds (snapshot_at p r) (record { process = low; positive = pos; within = within; is = yes_it }))) in
     record {
       agreed = λ s has.
           let passed_s = from s has in
@@ -49,7 +49,7 @@ is_source spec src passed is =
             goes_on = known.goes_on;
             decides = known.decides;
           };
-      rising = subst (IsRising src) (sym is.order) (rising_in_order src all);
+      rising = subst (IsRising src) (sym is.order) (rising_in_order src all (apart spec src passed is) (different_passed passed n spec.rounds));
       compare = λ s t has_s has_t. is.compare s t (from s has_s) (from t has_t);
       rounds = is.rounds;
       passed = λ p r low pos less. to p r low pos (let few = is.rounds p low in omega arith) (is.behind p r low pos less);

@@ -1,7 +1,6 @@
 -- Fields that are the same at each simulator, process and round have the same history.
-use Rattle.std.proofs.Common.{◌≡◌, ℕ, zero, suc, ◌+◌, ◌-◌, ◌<◌, ◌≤◌, Bool, true, false, cond, eqb, List, [], ◌∷◌, ◌++◌, length, map, get_or, sum, max, Option, None, Ordering, Less, Equal, Greater, fold, refl, ap, ◌∙◌, arith}
-use Rattle.std.specs.Ordering.{match_ordering}
-use Rattle.std.specs.Prelude.{⊤}
+use Rattle.std.proofs.Common.{◌≡◌, ℕ, zero, suc, ◌+◌, ◌-◌, ◌<◌, ◌≤◌, Bool, true, false, cond, eqb, ltb, List, [], ◌∷◌, ◌++◌, length, map, get_or, sum, max, Option, None, fold, refl, ap, ◌∙◌, arith}
+use Rattle.std.specs.Prelude.{⊤, ◌&&◌, ◌||◌}
 use Rattle.std.specs.List.{range_with_len}
 use Rattle.room_spec.specs.Rooms.{RoomSpec, processes}
 use Rattle.room_spec.specs.Sizes.{sizes_in}
@@ -12,7 +11,7 @@ use Rattle.room_core.specs.Agreements.{greatest_step, decided_in, is_passed, row
 use Rattle.room_core.specs.Fields.{Fields}
 use Rattle.room_core.specs.Reading.{AgreeIn}
 use Rattle.ws_history.specs.Histories.{Snapshot, Source, block, blocks, decided, entry_of, last_writes, new_writes, shown_before, shown_row, writes_for}
-use Rattle.ws_history.specs.Orders.{all_passed, inserted, key_cmp, key_of, passed_of}
+use Rattle.ws_history.specs.Orders.{all_passed, inserted, is_before, passed_of}
 use Rattle.ws_history.specs.Sources.{decision_after, history_of, source_of}
 use Rattle.ws_history.proofs.Walking.{by_process_same, map_same}
 use Rattle.ws_history.proofs.Agreeing.{same_decided, same_greatest, same_passed, same_row, same_value, same_written}
@@ -27,15 +26,14 @@ each_append : (P : Snapshot → Type 0) (xs ys : List Snapshot) → Each P xs �
 each_append P [] ys each other = other
 each_append P (s ∷ xs) ys each other = (each.0, each_append P xs ys each.1 other)
 
-each_put : (P : Snapshot → Type 0) (o : Ordering) (x y z : List Snapshot) → Each P x → Each P y → Each P z → Each P (match_ordering o x y z)
-each_put P Less x y z a b c = a
-each_put P Equal x y z a b c = b
-each_put P Greater x y z a b c = c
+each_put : (P : Snapshot → Type 0) (b : Bool) (x y : List Snapshot) → Each P x → Each P y → Each P (cond b x y)
+each_put P true x y each other = each
+each_put P false x y each other = other
 
 each_inserted : (P : Snapshot → Type 0) (row : ℕ → ℕ → List ℕ) (xs : List Snapshot) (s : Snapshot) → Each P xs → P s → Each P (inserted row xs s)
 each_inserted P row [] s each here = (here, tt)
 each_inserted P row (t ∷ rest) s each here =
-    each_put P (key_cmp (key_of row s) (key_of row t)) (s ∷ t ∷ rest) (s ∷ rest) (t ∷ inserted row rest s) (here, each) (here, each.1) (each.0, each_inserted P row rest s each.1 here)
+    each_put P (is_before row s t) (s ∷ t ∷ rest) (t ∷ inserted row rest s) (here, each) (each.0, each_inserted P row rest s each.1 here)
 
 each_fold : (P : Snapshot → Type 0) (row : ℕ → ℕ → List ℕ) (xs before : List Snapshot) → Each P before → Each P xs → Each P (fold (inserted row) before xs)
 each_fold P row [] before each all = each
@@ -81,9 +79,10 @@ module _ (n rounds : ℕ) (row other : ℕ → ℕ → List ℕ) (rows : (s : Sn
   same_inserted : (xs : List Snapshot) (s : Snapshot) → Each (IsIn n rounds) xs → IsIn n rounds s → inserted row xs s ≡ inserted other xs s
   same_inserted [] s each here = refl
   same_inserted (t ∷ rest) s each here =
-      ap (λ (x : List ℕ). match_ordering (key_cmp (sum x, s.process) (key_of row t)) (s ∷ t ∷ rest) (s ∷ rest) (t ∷ inserted row rest s)) (rows s here)
-      ∙ ap (λ (x : List ℕ). match_ordering (key_cmp (key_of other s) (sum x, t.process)) (s ∷ t ∷ rest) (s ∷ rest) (t ∷ inserted row rest s)) (rows t each.0)
-      ∙ ap (λ (l : List Snapshot). match_ordering (key_cmp (key_of other s) (key_of other t)) (s ∷ t ∷ rest) (s ∷ rest) (t ∷ l)) (same_inserted rest s each.1 here)
+      let put : ℕ → ℕ → List Snapshot → List Snapshot = λ a b behind. cond (ltb a b || (eqb a b && ltb s.process t.process)) (s ∷ t ∷ rest) (t ∷ behind) in
+      ap (λ (x : List ℕ). put (sum x) (sum (row t.process t.round)) (inserted row rest s)) (rows s here)
+      ∙ ap (λ (x : List ℕ). put (sum (other s.process s.round)) (sum x) (inserted row rest s)) (rows t each.0)
+      ∙ ap (put (sum (other s.process s.round)) (sum (other t.process t.round))) (same_inserted rest s each.1 here)
 
   same_fold : (xs before : List Snapshot) → Each (IsIn n rounds) before → Each (IsIn n rounds) xs → fold (inserted row) before xs ≡ fold (inserted other) before xs
   same_fold [] before each all = refl

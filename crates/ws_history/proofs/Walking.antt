@@ -1,8 +1,7 @@
 -- What the walk through the agreed snapshots with one running row has written.
-use Rattle.std.proofs.Common.{◌≡◌, ℕ, zero, suc, ◌+◌, ◌<◌, ◌≤◌, Bool, true, false, cond, List, [], ◌∷◌, ◌++◌, length, map, get_or, take, drop, Option, Ordering, Less, Equal, Greater, fold, refl, sym, ap, ◌∙◌, arith}
+use Rattle.std.proofs.Common.{◌≡◌, ℕ, zero, suc, ◌+◌, ◌<◌, ◌≤◌, Bool, true, false, cond, List, [], ◌∷◌, ◌++◌, length, map, get_or, take, drop, Option, fold, refl, sym, ap, ◌∙◌, arith}
 use Rattle.std.proofs.lemmas.List.{append_assoc, take_more}
 use Rattle.std.proofs.lemmas.List.FromFn.{get_or-map-range_with_len}
-use Rattle.std.specs.Ordering.{match_ordering}
 use Rattle.std.specs.Prelude.{max, replicate, ⊤}
 use Rattle.std.specs.List.{range_with_len}
 use Rattle.room_spec.specs.Rooms.{processes}
@@ -14,7 +13,7 @@ use Rattle.transcript.specs.declared.event.Event.TheVariants.{Snap}
 use Rattle.room_core.specs.Agreements.{is_passed, row_at, shown, shown_by}
 use Rattle.room_core.specs.Calls.{RoomState}
 use Rattle.ws_history.specs.Histories.{Snapshot, Source, block, blocks, by_process, decided, last_writes, new_writes, shown_before}
-use Rattle.ws_history.specs.Orders.{all_passed, inserted, key_cmp, key_of, passed_of}
+use Rattle.ws_history.specs.Orders.{all_passed, inserted, is_before, passed_of}
 use Rattle.ws_history.specs.Placing.{agreed_at, shown_with}
 use Rattle.ws_history.specs.Readings.{read_of}
 use Rattle.ws_history.specs.Running.{IsSnapshotOf, block_on}
@@ -76,15 +75,14 @@ low_append : (n rounds : ℕ) (xs ys : List Snapshot) → Low n rounds xs → Lo
 low_append n rounds [] ys low other = other
 low_append n rounds (s ∷ xs) ys low other = (low.0, low_append n rounds xs ys low.1 other)
 
-low_put : (n rounds : ℕ) (o : Ordering) (x y z : List Snapshot) → Low n rounds x → Low n rounds y → Low n rounds z → Low n rounds (match_ordering o x y z)
-low_put n rounds Less x y z a b c = a
-low_put n rounds Equal x y z a b c = b
-low_put n rounds Greater x y z a b c = c
+low_put : (n rounds : ℕ) (b : Bool) (x y : List Snapshot) → Low n rounds x → Low n rounds y → Low n rounds (cond b x y)
+low_put n rounds true x y low other = low
+low_put n rounds false x y low other = other
 
 low_inserted : (n rounds : ℕ) (row : ℕ → ℕ → List ℕ) (xs : List Snapshot) (s : Snapshot) → Low n rounds xs → IsLow n rounds s → Low n rounds (inserted row xs s)
 low_inserted n rounds row [] s low below = (below, tt)
 low_inserted n rounds row (t ∷ rest) s low below =
-    low_put n rounds (key_cmp (key_of row s) (key_of row t)) (s ∷ t ∷ rest) (s ∷ rest) (t ∷ inserted row rest s) (below, low) (below, low.1) (low.0, low_inserted n rounds row rest s low.1 below)
+    low_put n rounds (is_before row s t) (s ∷ t ∷ rest) (t ∷ inserted row rest s) (below, low) (low.0, low_inserted n rounds row rest s low.1 below)
 
 low_fold : (n rounds : ℕ) (row : ℕ → ℕ → List ℕ) (xs before : List Snapshot) → Low n rounds before → Low n rounds xs → Low n rounds (fold (inserted row) before xs)
 low_fold n rounds row [] before low all = low
@@ -159,7 +157,7 @@ module _ (room : RoomState) where
       let rounds = room.spec.rounds in
       let passed = is_passed room.spec (read_of room) in
       let at = low_at n rounds source.order i d (low_fold n rounds source.row (all_passed passed n rounds) [] tt (low_all n rounds n passed (omega arith))) less in
-      record { process = at.process; round = (at.first, at.within) }
+      record { process = at.process; round = (at.first, at.within); row = refl }
 
   pub walk_on : (events : List Event) (i : ℕ) (d : Snapshot) → i < length source.order
       → events ++ blocks source (processes room.spec) (take i source.order) (drop i source.order)

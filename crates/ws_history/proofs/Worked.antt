@@ -1,5 +1,5 @@
 -- One history worked by hand: its events, and that its source is one.
-use Rattle.std.proofs.Common.{◌≡◌, ◌⊎◌, ℕ, zero, suc, ◌<◌, ◌≤◌, List, [], ◌∷◌, Option, Some, None, refl, subst, eqb, cond, Contains, arith, inl, inr}
+use Rattle.std.proofs.Common.{◌≡◌, ◌⊎◌, ℕ, zero, suc, ◌<◌, ◌≤◌, List, [], ◌∷◌, Option, Some, None, refl, subst, sum, eqb, cond, Contains, arith, inl, inr}
 use Rattle.std.specs.Prelude.{codes}
 use Rattle.protocol_lang.specs.Trees.{Number, Named}
 use Rattle.protocol_lang.specs.declared.tree.Name.TheVariants as names
@@ -11,10 +11,9 @@ use Rattle.room_spec.specs.declared.version.Version.TheVariants.{One}
 use Rattle.transcript.specs.Runs.{IsRun}
 use Rattle.transcript.specs.declared.event.Event.TheVariants.{Write, Snap, Decide}
 use Rattle.sim_memory.specs.Steps.{IsRowAtMost}
-use Rattle.ws_history.specs.Histories.{Snapshot, Source, row_of, entry_of, asks, history_from, IsAgreed, IsSource}
+use Rattle.ws_history.specs.Histories.{Snapshot, Source, row_of, entry_of, asks, history_from, IsAgreed, IsBefore, IsSource}
 use Rattle.ws_history.specs.Orders.{in_order}
 use Rattle.ws_history.proofs.Order.{snapshot_at, not_empty, cons_cases, cons_first, cons_rest}
-use Rattle.ws_history.proofs.Sorting.{rising_in_order}
 use Rattle.ws_history.proofs.Alternation.{history_is_run}
 
 -- first input; if round < 2 write mine + .. (here: mine) else decide mine
@@ -60,6 +59,10 @@ history_of_it = refl
 -- the order is found by sorting
 sorted : in_order row_at (snapshot_at 0 1 ∷ snapshot_at 0 2 ∷ snapshot_at 1 1 ∷ []) ≡ worked.order
 sorted = refl
+
+-- one with the sum and process of another stands behind it
+alike : in_order (λ p r. 1 ∷ []) (snapshot_at 1 1 ∷ snapshot_at 0 1 ∷ snapshot_at 0 2 ∷ []) ≡ snapshot_at 0 1 ∷ snapshot_at 0 2 ∷ snapshot_at 1 1 ∷ []
+alike = refl
 
 -- ---- its premises hold
 
@@ -130,10 +133,19 @@ a_c = record { same_length = refl; each = below_two _ (omega arith) (omega arith
 b_c : IsRowAtMost (1 ∷ 1 ∷ []) (2 ∷ 1 ∷ [])
 b_c = record { same_length = refl; each = below_two _ (omega arith) (omega arith) }
 
+only_last : (s t : Snapshot) → sum (row_of worked s) < 3 → Contains (snapshot_at 0 2 ∷ []) t → IsBefore worked s t
+only_last s t less has = elim (cons_cases (snapshot_at 0 2) [] t has) [ inl is ↦ subst (IsBefore worked s) is (inl less) | inr none ↦ absurd (not_empty t none) ]
+
 worked_is : IsSource room worked
 worked_is = record {
   agreed = each_of (IsAgreed room worked) first_agreed second_agreed third_agreed;
-  rising = rising_in_order worked (snapshot_at 0 1 ∷ snapshot_at 0 2 ∷ snapshot_at 1 1 ∷ []);
+  rising = (
+    λ t has. elim (cons_cases (snapshot_at 1 1) (snapshot_at 0 2 ∷ []) t has) [
+      | inl is ↦ subst (IsBefore worked (snapshot_at 0 1)) is (inl (omega arith))
+      | inr last ↦ only_last (snapshot_at 0 1) t (omega arith) last
+    ],
+    (λ t has. only_last (snapshot_at 1 1) t (omega arith) has, (λ t has. absurd (not_empty t has), tt)),
+  );
   compare = λ s t has_s has_t. each_of (λ u. Compare u t)
       (each_of (λ u. Compare (snapshot_at 0 1) u) (inl (same_row (1 ∷ 0 ∷ []))) (inl a_b) (inl a_c) t has_t)
       (each_of (λ u. Compare (snapshot_at 1 1) u) (inr a_b) (inl (same_row (1 ∷ 1 ∷ []))) (inl b_c) t has_t)

@@ -1,22 +1,20 @@
 -- The order of a history: agreed snapshots by the sum of their rows, and then by process.
-use Rattle.std.specs.Prelude.{◌≡◌, ℕ, zero, suc, ◌+◌, ◌<◌, ◌≤◌, true, Bool, List, [], ◌∷◌, ◌++◌, if◌then◌else◌}
+use Rattle.std.specs.Prelude.{◌≡◌, ℕ, zero, suc, ◌+◌, ◌<◌, ◌≤◌, true, Bool, ◌&&◌, ◌||◌, ◌==◌, nat_lt, List, [], ◌∷◌, ◌++◌, if◌then◌else◌}
 use Rattle.std.specs.List.{sum, fold}
-use Rattle.std.specs.Ordering.{nat_cmp, ordering_then, match_ordering}
-use Rattle.std.specs.declared.cmp.Ordering.{Ordering}
 use Rattle.ws_history.specs.Histories.{Snapshot}
 
--- what a snapshot goes by
-abbrev pub key_of : (ℕ → ℕ → List ℕ) → Snapshot → ℕ × ℕ
-key_of row s = (sum (row s.process s.round), s.process)
+-- how many writes a snapshot shows
+abbrev pub writes_in : (ℕ → ℕ → List ℕ) → Snapshot → ℕ
+writes_in row s = sum (row s.process s.round)
 
--- the order of pairs
-abbrev pub key_cmp : ℕ × ℕ → ℕ × ℕ → Ordering
-key_cmp x y = ordering_then (nat_cmp x.0 y.0) (nat_cmp x.1 y.1)
+-- s shows fewer writes than t, or as many and is of an earlier process
+abbrev pub is_before : (ℕ → ℕ → List ℕ) → Snapshot → Snapshot → Bool
+is_before row s t = nat_lt (writes_in row s) (writes_in row t) || ((writes_in row s == writes_in row t) && nat_lt s.process t.process)
 
--- s at its place; one with the same key gives way
+-- s is put before the first that it is before, or else at the end
 abbrev pub inserted : (ℕ → ℕ → List ℕ) → List Snapshot → Snapshot → List Snapshot
 inserted row [] s = s ∷ []
-inserted row (t ∷ rest) s = match_ordering (key_cmp (key_of row s) (key_of row t)) (s ∷ t ∷ rest) (s ∷ rest) (t ∷ inserted row rest s)
+inserted row (t ∷ rest) s = if is_before row s t then s ∷ t ∷ rest else t ∷ inserted row rest s
 
 abbrev pub in_order : (ℕ → ℕ → List ℕ) → List Snapshot → List Snapshot
 in_order row snapshots = fold (inserted row) [] snapshots

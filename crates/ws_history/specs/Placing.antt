@@ -7,15 +7,13 @@ use Rattle.ws_history.specs.declared.snapshots.Agreed.{Agreed}
 use Rattle.ws_history.specs.Histories.{Snapshot}
 use Rattle.ws_history.specs.Readings.{read_of}
 
-abbrev pub blank : Agreed
-blank = record { sum = 0; process = 0; round = 0 }
-
 -- what a room has of a snapshot
 abbrev pub agreed_at : RoomState → Snapshot → Agreed
 agreed_at room s = record {
   sum = sum (row_at room.spec (read_of room) s.process s.round);
   process = s.process;
   round = s.round;
+  row = record { items = row_at room.spec (read_of room) s.process s.round };
 }
 
 -- what is shown once this row is shown too

@@ -1,5 +1,5 @@
 -- The history of a room as it is gone through with one running row: for each process how many writes have been shown.
-use Rattle.std.specs.Prelude.{ℕ, List, [], ◌∷◌, ◌++◌, slice_index}
+use Rattle.std.specs.Prelude.{◌≡◌, ℕ, List, [], ◌∷◌, ◌++◌, slice_index}
 use Rattle.room_spec.specs.Rooms.{processes}
 use Rattle.room_spec.specs.Sizes.{sizes_in}
 use Rattle.view_table.specs.Places.{IsProcess, IsRound}
@@ -12,10 +12,11 @@ use Rattle.ws_history.specs.Histories.{by_process, decided, new_writes}
 use Rattle.ws_history.specs.Readings.{read_of}
 use Rattle.ws_history.specs.Sources.{decision_after, source_of}
 
--- it is a snapshot of one of the room's processes, after one of its rounds
+-- it is a snapshot of one of the room's processes, after one of its rounds, with what it shows
 pub record IsSnapshotOf (room : RoomState) (agreed : Agreed) : Type 0 where
   pub process : IsProcess (sizes_in room.spec) agreed.process
   pub round : IsRound (sizes_in room.spec) agreed.round
+  pub row : agreed.row.items ≡ row_at room.spec (read_of room) agreed.process agreed.round
 
 -- the writes that the snapshot is the first to show, the snapshot, and the decision after it if there is one
 abbrev pub block_on : RoomState → List ℕ → Agreed → List Event

@@ -1,11 +1,12 @@
 //! The history of a room.
-ghost use Rattle.std.specs.Prelude.{◌≡◌, ℕ, ◌+◌, ◌<◌, ◌≤◌, [], ◌∷◌, ◌++◌, IfOk, OnOk, length, replicate, slice_index};
+ghost use Rattle.std.specs.Prelude.{◌≡◌, ℕ, ◌+◌, ◌<◌, ◌≤◌, [], ◌∷◌, ◌++◌, IfOk, OnOk, length, max, replicate, slice_index};
 ghost use Rattle.std.specs.List.{sum};
 ghost use Rattle.room_spec.specs.Rooms.{processes};
 ghost use Rattle.ws_history.specs.Histories.{by_process, decided, new_writes};
 ghost use Rattle.room_core.specs.Fields.{Fields};
 ghost use Rattle.room_core.specs.Reading.{AreFieldsOf};
-ghost use Rattle.room_core.specs.Agreements.{row_at, shown_by};
+ghost use Rattle.sim_memory.specs.Steps.{row_of};
+ghost use Rattle.room_core.specs.Agreements.{greatest_step, row_at, shown, shown_by};
 ghost use Rattle.transcript.specs.Runs.{IsRun};
 ghost use Rattle.transcript.specs.declared.event.Event.TheVariants.{Snap};
 ghost use Rattle.ws_history.specs.Placing.{shown_with};
@@ -14,10 +15,11 @@ ghost use Rattle.ws_history.specs.Sources.{decision_after, history_of, source_of
 ghost use Rattle.ws_history.specs.Running.{IsSnapshotOf, block_on};
 
 use crate::reading::{
-    Row, decided_in, greatest_step, greatest_steps, number_of, process_count, round_count, row_of,
-    shape_of, shown_by, view_at, written,
+    Row, decided_in, greatest_steps, number_of, process_count, round_count, shape_of, shown_at,
+    shown_by, written,
 };
 use crate::snapshots::{Agreed, in_order, sum};
+use protocol_lang::View;
 use room_core::RoomCore;
 use std::alloc::{AllocError, Global};
 use transcript::Event;
@@ -53,15 +55,29 @@ fn read_history(alloc: Global, room: &RoomCore) -> Result<Vec<Event>, AllocError
         most_events(room, order.as_slice(), greatest.as_slice()),
     )?;
     let mut shown = nothing(process_count(room));
+    let mut view = shown_by(room, shown.as_slice());
     for snapshot in order.as_slice() {
-        push_block(&mut events, room, &mut shown, snapshot)?;
+        push_block(
+            &mut events,
+            room,
+            &mut shown,
+            &mut view,
+            greatest.as_slice(),
+            snapshot,
+        )?;
     }
-    push_writes(&mut events, room, shown.as_slice(), greatest.as_slice())?;
+    push_writes(
+        &mut events,
+        room,
+        shown.as_slice(),
+        greatest.as_slice(),
+        view.as_slice(),
+    )?;
     Ok(events)
 }
 
 /// As many events as the history may have: each write, each snapshot, and a decision of each process.
-fn most_events(room: &RoomCore, order: &[Agreed], greatest: &[usize]) -> usize
+fn most_events(room: &RoomCore, order: &[Agreed], greatest: &[u8]) -> usize
     requires count { length greatest.now ≡ processes room.now.spec }
     requires range { (p : ℕ) → slice_index greatest.now p ≤ room.now.spec.rounds }
     ensures { result ≡ sum greatest.now + length order.now + processes room.now.spec }
@@ -85,55 +101,102 @@ fn nothing(n: usize) -> Row
 }
 
 /// The writes that the snapshot is the first to show, the snapshot, and the decision after it if
-/// there is one. `shown` is what the earlier ones show, and then what it shows too.
+/// there is one. `shown` is what the earlier ones show, and then what it shows too; `view` has the
+/// values of these writes, and `greatest` is how many writes of each process have been made.
 fn push_block(
     events: &mut Vec<Event>,
     room: &RoomCore,
     shown: &mut Row,
+    view: &mut View,
+    greatest: &[u8],
     snapshot: &Agreed,
 ) -> Result<(), AllocError>
     requires shown { length shown.old.items ≡ processes room.now.spec }
+    requires view { view.old.items ≡ shown_by room.now.spec (read_of room.now) shown.old.items }
+    requires greatest { greatest.now ≡ row_of room.now.spec.simulators (processes room.now.spec) (read_of room.now).step }
     requires is { IsSnapshotOf room.now snapshot.now }
     ensures events { OnOk result (events.new.items ≡ events.old.items ++ block_on room.now shown.old.items snapshot.now) }
     ensures shown { OnOk result (shown.new.items ≡ shown_with shown.old.items (row_at room.now.spec (read_of room.now) snapshot.now.process snapshot.now.round)) }
+    ensures view { OnOk result (view.new.items ≡ shown_by room.now.spec (read_of room.now) shown.new.items) }
 {
-    let row = row_of(room.spec(), view_at(room, snapshot.process, snapshot.round));
-    push_writes(events, room, shown.as_slice(), row.as_slice())?;
-    *shown = with_row(shown.as_slice(), row.as_slice());
-    push_snap(events, room, snapshot.process, row.as_slice())?;
-    push_decision(events, room, snapshot)?;
+    let row = row_in(room, snapshot);
+    *view = push_writes(events, room, shown.as_slice(), row, view.as_slice())?;
+    *shown = with_row(shown.as_slice(), row);
+    let seen = view_of(room, row, shown.as_slice(), view.as_slice());
+    push_snap(events, room, snapshot.process, seen)?;
+    push_decision(events, room, snapshot, greatest[snapshot.process])?;
     Ok(())
 }
 
-/// The snapshot of process `p` that shows this row.
+/// How many writes of each process the snapshot shows.
+fn row_in<'a>(room: &RoomCore, snapshot: &'a Agreed) -> &'a [u8]
+    requires { IsSnapshotOf room.now snapshot.now }
+    ensures value { result.now ≡ row_at room.now.spec (read_of room.now) snapshot.now.process snapshot.now.round }
+    ensures count { length result.now ≡ processes room.now.spec }
+    ensures range { (p : ℕ) → slice_index result.now p ≤ room.now.spec.rounds }
+{
+    snapshot.row.as_slice()
+}
+
+/// The snapshot of process `p` that shows these values.
 fn push_snap(
     events: &mut Vec<Event>,
     room: &RoomCore,
     p: usize,
-    row: &[usize],
+    row: View,
 ) -> Result<(), AllocError>
-    requires process { p < processes room.now.spec }
-    requires length { length row.now ≡ processes room.now.spec }
-    requires range { (q : ℕ) → slice_index row.now q ≤ room.now.spec.rounds }
-    ensures { OnOk result (events.new.items ≡ events.old.items ++ Snap p (record { items = shown_by room.now.spec (read_of room.now) row.now }) ∷ []) }
+    requires { p < processes room.now.spec }
+    ensures { OnOk result (events.new.items ≡ events.old.items ++ Snap p (record { items = row.items }) ∷ []) }
 {
     events.push(Event::Snap {
         p: number_of(room, p),
-        row: shown_by(room, row),
+        row,
     })?;
     Ok(())
 }
 
-/// What is decided after the snapshot, if anything is.
+/// What a row shows of each process, by the row and the values of what was shown before.
+fn view_of(room: &RoomCore, row: &[u8], shown: &[u8], view: &[Option<u32>]) -> View
+    requires length { length row.now ≡ processes room.now.spec }
+    requires range { (p : ℕ) → slice_index row.now p ≤ room.now.spec.rounds }
+    requires shown { length shown.now ≡ processes room.now.spec }
+    requires view { view.now ≡ shown_by room.now.spec (read_of room.now) shown.now }
+    ensures { result.items ≡ shown_by room.now.spec (read_of room.now) row.now }
+{
+    let mut all = View::new();
+    for p in 0..process_count(room) {
+        all.push(value_after(room, p, row[p], shown[p], view[p]));
+    }
+    all
+}
+
+/// The last value of process `p` after `r` writes of it, by that after `known` of them.
+fn value_after(room: &RoomCore, p: usize, r: u8, known: u8, value: Option<u32>) -> Option<u32>
+    requires process { p < processes room.now.spec }
+    requires round { r ≤ room.now.spec.rounds }
+    requires value { value ≡ shown room.now.spec (read_of room.now) p known }
+    ensures { result ≡ shown room.now.spec (read_of room.now) p r }
+{
+    if r == known {
+        value
+    } else {
+        shown_at(room, p, r)
+    }
+}
+
+/// What is decided after the snapshot, if anything is, by how many writes of its process have been
+/// made.
 fn push_decision(
     events: &mut Vec<Event>,
     room: &RoomCore,
     snapshot: &Agreed,
+    greatest: u8,
 ) -> Result<(), AllocError>
-    requires { snapshot.now.process < processes room.now.spec }
+    requires process { snapshot.now.process < processes room.now.spec }
+    requires greatest { greatest ≡ greatest_step room.now.spec (read_of room.now) snapshot.now.process }
     ensures { OnOk result (events.new.items ≡ events.old.items ++ decided snapshot.now.process (decision_after room.now.spec (read_of room.now) snapshot.now.process snapshot.now.round)) }
 {
-    if greatest_step(room, snapshot.process) == snapshot.round {
+    if usize::from(greatest) == snapshot.round {
         if let Some(v) = decided_in(room, snapshot.process) {
             events.push(Event::Decide {
                 p: number_of(room, snapshot.process),
@@ -144,46 +207,58 @@ fn push_decision(
     Ok(())
 }
 
-/// The writes of each process after the first `from` of it, up to `upto`.
+/// The writes of each process after the first `from` of it, up to `upto`. Of the values of the former
+/// it makes those of all.
 fn push_writes(
     events: &mut Vec<Event>,
     room: &RoomCore,
-    from: &[usize],
-    upto: &[usize],
-) -> Result<(), AllocError>
+    from: &[u8],
+    upto: &[u8],
+    view: &[Option<u32>],
+) -> Result<View, AllocError>
     requires from { length from.now ≡ processes room.now.spec }
     requires upto { length upto.now ≡ processes room.now.spec }
     requires range { (p : ℕ) → slice_index upto.now p ≤ room.now.spec.rounds }
-    ensures { OnOk result (events.new.items ≡ events.old.items ++ by_process (λ p. new_writes (source_of room.now.spec (read_of room.now)) p (slice_index from.now p) (slice_index upto.now p)) (processes room.now.spec)) }
+    requires view { view.now ≡ shown_by room.now.spec (read_of room.now) from.now }
+    ensures events { OnOk result (events.new.items ≡ events.old.items ++ by_process (λ p. new_writes (source_of room.now.spec (read_of room.now)) p (slice_index from.now p) (slice_index upto.now p)) (processes room.now.spec)) }
+    ensures view { IfOk result (λ view. view.items ≡ shown_by room.now.spec (read_of room.now) (shown_with from.now upto.now)) }
 {
+    let mut all = View::new();
     for p in 0..process_count(room) {
-        push_writes_of(events, room, p, from[p], upto[p])?;
+        all.push(push_writes_of(events, room, p, from[p], upto[p], view[p])?);
     }
-    Ok(())
+    Ok(all)
 }
 
+/// The same of one process, and of its last value.
 fn push_writes_of(
     events: &mut Vec<Event>,
     room: &RoomCore,
     p: usize,
-    from: usize,
-    upto: usize,
-) -> Result<(), AllocError>
+    from: u8,
+    upto: u8,
+    value: Option<u32>,
+) -> Result<Option<u32>, AllocError>
     requires process { p < processes room.now.spec }
     requires upto { upto ≤ room.now.spec.rounds }
-    ensures { OnOk result (events.new.items ≡ events.old.items ++ new_writes (source_of room.now.spec (read_of room.now)) p from upto) }
+    requires value { value ≡ shown room.now.spec (read_of room.now) p from }
+    ensures events { OnOk result (events.new.items ≡ events.old.items ++ new_writes (source_of room.now.spec (read_of room.now)) p from upto) }
+    ensures value { IfOk result (λ last. last ≡ shown room.now.spec (read_of room.now) p (max from upto)) }
 {
+    let mut last = value;
     for more in 0..upto.saturating_sub(from) {
+        let v = written(room, p, usize::from(from + 1 + more));
         events.push(Event::Write {
             p: number_of(room, p),
-            v: written(room, p, from + 1 + more),
+            v,
         })?;
+        last = Some(v);
     }
-    Ok(())
+    Ok(last)
 }
 
 /// What is shown once this row is shown too.
-fn with_row(shown: &[usize], row: &[usize]) -> Row
+fn with_row(shown: &[u8], row: &[u8]) -> Row
     requires same { length shown.now ≡ length row.now }
     requires few { length row.now ≤ 16 }
     ensures { result.items ≡ shown_with shown.now row.now }

@@ -1,11 +1,12 @@
 //! What the words of a room say.
-ghost use Rattle.std.specs.Prelude.{◌≡◌, ℕ, ◌+◌, ◌<◌, ◌≤◌, IfSome, drop, length, min, slice_index};
+ghost use Rattle.std.specs.Prelude.{◌≡◌, ℕ, ◌+◌, ◌<◌, ◌≤◌, ◌==◌, drop, length, min, position, slice_index};
 ghost use Rattle.protocol_lang.specs.Numbers.{greatest};
 ghost use Rattle.room_spec.specs.Rooms.{IsWithinLimits, processes};
 ghost use Rattle.room_spec.specs.Sizes.{memory_words, sizes_in};
 ghost use Rattle.view_table.specs.Places.{IsPlace, IsRound, words_of};
 ghost use Rattle.view_table.specs.Words.{word_at};
-ghost use Rattle.safe_agreement.specs.Levels.{least_two};
+ghost use Rattle.view_table.specs.declared.place.Place.TheVariants.{Levels};
+ghost use Rattle.safe_agreement.specs.Levels.{has_level};
 ghost use Rattle.sim_memory.specs.Steps.{merged_of, row_of, step_in};
 ghost use Rattle.room_core.specs.Agreements.{asks, decided_in, first_with, greatest_step, has_out, is_clean, is_passed, row_at, shown, shown_by, shown_of, written};
 ghost use Rattle.room_core.specs.Calls.{configuration_of};
@@ -14,7 +15,7 @@ ghost use Rattle.room_core.specs.Reading.{AreFieldsOf, Reads};
 ghost use Rattle.ws_history.specs.Readings.{read_of, view_start};
 
 use arrayvec::ArrayVec;
-use level_cells::levels;
+use level_cells::{field, least_at};
 use protocol_lang::{Action, View, next};
 use room_core::RoomCore;
 use room_spec::{Shape, Spec};
@@ -22,7 +23,7 @@ use sim_memory::{last_writes, merged, step_of};
 use view_table::{Place, index};
 
 /// How many writes of each process something shows.
-pub(crate) type Row = ArrayVec<usize, 16>;
+pub(crate) type Row = ArrayVec<u8, 16>;
 
 /// The greatest decision plus one.
 const MOST: u64 = 4294967296;
@@ -122,7 +123,7 @@ pub(crate) fn row_of(spec: &Spec, words: &[u64]) -> Row
     let last = last_writes(&spec.shape(), words);
     let mut row = Row::new();
     for p in 0..spec.n() {
-        row.push(usize::from(last.rounds[p]));
+        row.push(last.rounds[p]);
     }
     row
 }
@@ -137,32 +138,49 @@ pub(crate) fn greatest_steps(room: &RoomCore) -> Row
     row_of(room.spec(), memory(room))
 }
 
-/// The levels in the agreement on process `j` and round `k`.
-#[tactic(auto, unfolding(crate::specs::Readings::read_of))]
-fn levels_at(room: &RoomCore, j: usize, k: usize) -> ArrayVec<u8, 8>
-    requires process { j < processes room.now.spec }
-    requires round { IsRound (sizes_in room.now.spec) k }
-    ensures value { result.items ≡ levels_at room.now.spec (read_of room.now) j k }
-    ensures count { length result.items ≡ room.now.spec.simulators }
-{
-    let word = word_at(
-        room,
-        Place::Levels {
-            process: j,
-            round: k,
-        },
-    );
-    levels(word, room.spec().m())
-}
-
 /// The level of simulator `i` in the agreement on process `j` and round `k`.
+#[tactic(auto, unfolding(crate::specs::Readings::read_of))]
 pub(crate) fn level(room: &RoomCore, i: usize, j: usize, k: usize) -> u8
     requires simulator { i < room.now.spec.simulators }
     requires process { j < processes room.now.spec }
     requires round { IsRound (sizes_in room.now.spec) k }
     ensures { result ≡ (read_of room.now).level i j k }
 {
-    levels_at(room, j, k)[i]
+    let m = simulator_count(room);
+    prove!(i < m);
+    field(levels_word(room, j, k), 2 * i, 2) as u8
+}
+
+/// The word of levels of the agreement on process `j` and round `k`.
+fn levels_word(room: &RoomCore, j: usize, k: usize) -> u64
+    requires process { j < processes room.now.spec }
+    requires round { IsRound (sizes_in room.now.spec) k }
+    ensures { result ≡ word_at (sizes_in room.now.spec) room.now.words (Levels j k) }
+{
+    let levels = Place::Levels {
+        process: j,
+        round: k,
+    };
+    word_at(room, levels)
+}
+
+/// The least simulator at this level there, if one is.
+#[tactic(auto, unfolding(crate::specs::Readings::read_of))]
+fn least_with(room: &RoomCore, j: usize, k: usize, level: u8) -> Option<usize>
+    requires process { j < processes room.now.spec }
+    requires round { IsRound (sizes_in room.now.spec) k }
+    ensures { result ≡ position (λ one. one == level) (levels_at room.now.spec (read_of room.now) j k) }
+{
+    least_at(levels_word(room, j, k), room.spec().m(), level)
+}
+
+/// Whether a simulator is at this level there.
+fn has_level(room: &RoomCore, j: usize, k: usize, level: u8) -> bool
+    requires process { j < processes room.now.spec }
+    requires round { IsRound (sizes_in room.now.spec) k }
+    ensures { result ≡ has_level level (levels_at room.now.spec (read_of room.now) j k) }
+{
+    least_with(room, j, k, level).is_some()
 }
 
 /// The decision of process `j` plus one, as simulator `i` has it, or 0.
@@ -215,8 +233,7 @@ pub(crate) fn is_clean(room: &RoomCore, j: usize, k: usize) -> bool
     requires round { IsRound (sizes_in room.now.spec) k }
     ensures { result ≡ is_clean room.now.spec (read_of room.now) j k }
 {
-    let levels = levels_at(room, j, k);
-    levels.as_slice().contains(&2) && !levels.as_slice().contains(&1)
+    has_level(room, j, k, 2) && !has_level(room, j, k, 1)
 }
 
 /// What process `j` has decided, if a simulator has stored it.
@@ -245,22 +262,16 @@ pub(crate) fn has_out(room: &RoomCore, j: usize) -> bool
     false
 }
 
-/// Whether a simulator has gone on from this agreement, or may go on now.
-pub(crate) fn is_passed(room: &RoomCore, j: usize, k: usize) -> bool
+/// Whether a simulator has gone on from this agreement, or may go on now, by how many writes of the
+/// process have been made, and whether a decision of it is stored.
+pub(crate) fn is_passed(room: &RoomCore, j: usize, k: usize, greatest: usize, out: bool) -> bool
     requires process { j < processes room.now.spec }
     requires round { IsRound (sizes_in room.now.spec) k }
+    requires greatest { greatest ≡ greatest_step room.now.spec (read_of room.now) j }
+    requires out { out ≡ has_out room.now.spec (read_of room.now) j }
     ensures { result ≡ is_passed room.now.spec (read_of room.now) j k }
 {
-    let greatest = greatest_step(room, j);
-    is_clean(room, j, k) || k < greatest || (has_out(room, j) && greatest == k)
-}
-
-/// The first simulator at level 2.
-fn first_two(levels: &[u8]) -> Option<usize>
-    ensures value { result ≡ least_two levels.now }
-    ensures below { IfSome result (λ simulator. simulator < length levels.now) }
-{
-    levels.iter().position(|level| *level == 2)
+    k < greatest || (out && greatest == k) || is_clean(room, j, k)
 }
 
 /// The least simulator at level 2 in this agreement, or 0.
@@ -270,10 +281,9 @@ fn shown_of(room: &RoomCore, j: usize, k: usize) -> usize
     ensures value { result ≡ shown_of room.now.spec (read_of room.now) j k }
     ensures below { result < room.now.spec.simulators }
 {
-    let levels = levels_at(room, j, k);
     let m = simulator_count(room);
     prove!(m > 0);
-    match first_two(levels.as_slice()) {
+    match least_with(room, j, k, 2) {
         Some(simulator) => simulator,
         None => 0,
     }
@@ -334,7 +344,7 @@ pub(crate) fn written(room: &RoomCore, p: usize, r: usize) -> u32
 }
 
 /// The last value of process `p` after `r` writes of it.
-fn shown(room: &RoomCore, p: usize, r: usize) -> Option<u32>
+pub(crate) fn shown_at(room: &RoomCore, p: usize, r: u8) -> Option<u32>
     requires process { p < processes room.now.spec }
     requires round { r ≤ room.now.spec.rounds }
     ensures { result ≡ shown room.now.spec (read_of room.now) p r }
@@ -342,12 +352,12 @@ fn shown(room: &RoomCore, p: usize, r: usize) -> Option<u32>
     if r == 0 {
         None
     } else {
-        Some(written(room, p, r))
+        Some(written(room, p, usize::from(r)))
     }
 }
 
 /// What a row shows of each process.
-pub(crate) fn shown_by(room: &RoomCore, row: &[usize]) -> View
+pub(crate) fn shown_by(room: &RoomCore, row: &[u8]) -> View
     requires length { length row.now ≡ processes room.now.spec }
     requires range { (p : ℕ) → slice_index row.now p ≤ room.now.spec.rounds }
     ensures value { result.items ≡ shown_by room.now.spec (read_of room.now) row.now }
@@ -355,7 +365,7 @@ pub(crate) fn shown_by(room: &RoomCore, row: &[usize]) -> View
 {
     let mut view = View::new();
     for p in 0..process_count(room) {
-        view.push(shown(room, p, row[p]));
+        view.push(shown_at(room, p, row[p]));
     }
     view
 }

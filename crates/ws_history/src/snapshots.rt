@@ -4,23 +4,26 @@ ghost use Rattle.std.specs.List.{sum};
 ghost use Rattle.room_spec.specs.Rooms.{processes};
 ghost use Rattle.room_spec.specs.Sizes.{sizes_in};
 ghost use Rattle.view_table.specs.Places.{IsRound};
-ghost use Rattle.room_core.specs.Agreements.{is_passed};
+ghost use Rattle.room_core.specs.Agreements.{greatest_step, has_out, is_passed};
 ghost use Rattle.ws_history.specs.Orders.{all_passed, passed_of};
 ghost use Rattle.ws_history.specs.Placing.{agreed_at};
 ghost use Rattle.ws_history.specs.Readings.{read_of};
 ghost use Rattle.ws_history.specs.Sources.{source_of};
 
-use crate::reading::{is_passed, process_count, round_count, row_of, shape_of, view_at};
+use crate::reading::{
+    Row, greatest_step, has_out, is_passed, process_count, round_count, row_of, shape_of, view_at,
+};
 use room_core::RoomCore;
 use std::alloc::{AllocError, Global};
 
-/// The snapshot of a process after so many writes of its own, and how many writes of all processes it
-/// shows. Snapshots go by that sum, and then by process; no two that a room has passed share both.
-#[derive(Clone, Copy, Default, PartialEq, Eq, PartialOrd, Ord)]
+/// The snapshot of a process after so many writes of its own: how many writes of all processes it
+/// shows, and of each. Snapshots go by that sum, and then by process; no two that a room has passed share both.
+#[derive(Default, Drop, PartialEq, Eq, PartialOrd, Ord)]
 pub(crate) struct Agreed {
     pub(crate) sum: usize,
     pub(crate) process: usize,
     pub(crate) round: usize,
+    pub(crate) row: Row,
 }
 
 /// The passed snapshots of a room, by the sum of their rows, and then by process.
@@ -49,24 +52,31 @@ fn push_rounds(agreed: &mut Vec<Agreed>, room: &RoomCore, process: usize) -> Res
     requires { process < processes room.now.spec }
     ensures { OnOk result (agreed.new.items ≡ agreed.old.items ++ map (agreed_at room.now) (passed_of (is_passed room.now.spec (read_of room.now)) process room.now.spec.rounds)) }
 {
+    let greatest = greatest_step(room, process);
+    let out = has_out(room, process);
     for r in 0..round_count(room) {
-        push_passed(agreed, room, process, r + 1)?;
+        push_passed(agreed, room, process, r + 1, greatest, out)?;
     }
     Ok(())
 }
 
-/// Adds the snapshot of this process and round, if it is passed.
+/// Adds the snapshot of this process and round, if it is passed: by how many writes of the process
+/// have been made, and whether a decision of it is stored.
 fn push_passed(
     agreed: &mut Vec<Agreed>,
     room: &RoomCore,
     process: usize,
     round: usize,
+    greatest: usize,
+    out: bool,
 ) -> Result<(), AllocError>
     requires process { process < processes room.now.spec }
     requires round { IsRound (sizes_in room.now.spec) round }
+    requires greatest { greatest ≡ greatest_step room.now.spec (read_of room.now) process }
+    requires out { out ≡ has_out room.now.spec (read_of room.now) process }
     ensures { OnOk result (agreed.new.items ≡ agreed.old.items ++ map (agreed_at room.now) (if is_passed room.now.spec (read_of room.now) process round then record { process = process; round = round } ∷ [] else [])) }
 {
-    if is_passed(room, process, round) {
+    if is_passed(room, process, round, greatest, out) {
         agreed.push(snapshot_at(room, process, round))?;
     }
     Ok(())
@@ -84,11 +94,12 @@ fn snapshot_at(room: &RoomCore, process: usize, round: usize) -> Agreed
         sum: sum(row.as_slice()),
         process,
         round,
+        row,
     }
 }
 
 /// The sum of a row, at most 240.
-pub(crate) fn sum(row: &[usize]) -> usize
+pub(crate) fn sum(row: &[u8]) -> usize
     requires count { length row.now ≤ 16 }
     requires range { (p : ℕ) → slice_index row.now p ≤ 15 }
     ensures value { result ≡ sum row.now }
@@ -96,7 +107,7 @@ pub(crate) fn sum(row: &[usize]) -> usize
 {
     let mut sum = 0;
     for entry in row {
-        sum += *entry;
+        sum += usize::from(*entry);
     }
     sum
 }

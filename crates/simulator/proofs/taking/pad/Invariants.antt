@@ -7,7 +7,7 @@ use Rattle.simulator.proofs.taking.pad.Given as goal
 abbrev pub invariant-loop-entries : goal.invariant-loop-entries
 invariant-loop-entries l =
     (length l.entries.items ≤ processes l.spec)
-    × (padded (entry_in l.spec l.snapshot) (processes l.spec - length l.entries.items) l.entries.items ≡ padded (entry_in l.spec l.snapshot) (processes l.spec - length l.initial.entries.items) l.initial.entries.items)
+    × (padded (entry_in l.spec l.snapshot) (processes l.spec) l.entries.items ≡ padded (entry_in l.spec l.snapshot) (processes l.spec) l.initial.entries.items)
 
 abbrev pub decreases-loop-entries : goal.decreases-loop-entries
 decreases-loop-entries l = processes l.spec - length l.entries.items

@@ -1,8 +1,7 @@
-use Rattle.std.proofs.Common.{◌∙◌, ◌++◌, ◌∷◌, [], ℕ, List, get_or, ap}
+use Rattle.std.proofs.Common.{◌∙◌, ◌++◌, ◌∷◌, [], ℕ, List, Option, get_or, length, ap, sym, ◌<◌, arith}
 use Rattle.std.proofs.lemmas.List.{append_assoc}
-use Rattle.room_spec.specs.Rooms.{RoomSpec, processes}
-use Rattle.room_spec.specs.Sizes.{sizes_in}
-use Rattle.sim_memory.specs.Steps.{row_of, step_in}
+use Rattle.room_spec.specs.Rooms.{processes}
+use Rattle.sim_memory.proofs.Rows.{row_at as row_entry, row_length}
 use Rattle.transcript.specs.declared.event.Event.{Event}
 use Rattle.transcript.specs.declared.event.Event.TheVariants.{Snap}
 use Rattle.room_core.specs.Agreements.{row_at, shown_by}
@@ -22,18 +21,16 @@ returns-clause-events c =
     let old = c.args.events.now.items in
     let shown = c.args.shown.now.items in
     let all = row_at room.spec F s.process s.round in
-    let row = c.row_of-row.ensures.value
-    ∙ ap (λ (q : RoomSpec). row_of q.simulators (processes q) (step_in (sizes_in q) c.view_at.result.now)) c.spec.ensures.value
-    ∙ c.view_at.ensures.row in
+    let row = c.row_in-row.ensures.value in
     let writes = by_process (λ (p : ℕ). new_writes src p (get_or shown p 0) (get_or all p 0)) n in
     let snap : List Event = Snap s.process (record { items = shown_by room.spec F all }) ∷ [] in
     let end = decided s.process (decision_after room.spec F s.process s.round) in
-    let one = c.in_ok-push_writes.ensures
-    ∙ ap (λ (l : List ℕ). old ++ by_process (λ (p : ℕ). new_writes src p (get_or l p 0) (get_or c.as_slice-2.result.now p 0)) n) c.as_slice.ensures.value
-    ∙ ap (λ (l : List ℕ). old ++ by_process (λ (p : ℕ). new_writes src p (get_or shown p 0) (get_or l p 0)) n) (c.as_slice-2.ensures.value ∙ row) in
+    let one = c.in_ok-view.ensures.events
+    ∙ ap (λ (l : List ℕ). old ++ by_process (λ (p : ℕ). new_writes src p (get_or l p 0) (get_or c.row_in-row.result.now p 0)) n) c.as_slice.ensures.value
+    ∙ ap (λ (l : List ℕ). old ++ by_process (λ (p : ℕ). new_writes src p (get_or shown p 0) (get_or l p 0)) n) row in
     let two = c.in_ok-push_snap.ensures
-    ∙ ap (λ (l : List Event). l ++ Snap s.process (record { items = shown_by room.spec F c.as_slice-5.result.now }) ∷ []) one
-    ∙ ap (λ (l : List ℕ). (old ++ writes) ++ Snap s.process (record { items = shown_by room.spec F l }) ∷ []) (c.as_slice-5.ensures.value ∙ row) in
+    ∙ ap (λ (l : List Event). l ++ Snap s.process (record { items = c.view_of-seen.result.items }) ∷ []) one
+    ∙ ap (λ (l : List (Option ℕ)). (old ++ writes) ++ Snap s.process (record { items = l }) ∷ []) (c.view_of-seen.ensures ∙ ap (shown_by room.spec F) row) in
     c.in_ok-push_decision.ensures
     ∙ ap (λ (l : List Event). l ++ end) (two ∙ append_assoc old writes snap)
     ∙ append_assoc old (writes ++ snap) end
@@ -42,9 +39,35 @@ pub returns-clause-shown : goal.returns-clause-shown
 returns-clause-shown c =
     let room = c.args.room.now in
     let s = c.args.snapshot.now in
-    let row = c.row_of-row.ensures.value
-    ∙ ap (λ (q : RoomSpec). row_of q.simulators (processes q) (step_in (sizes_in q) c.view_at.result.now)) c.spec.ensures.value
-    ∙ c.view_at.ensures.row in
+    let row = c.row_in-row.ensures.value in
     c.with_row.ensures
-    ∙ ap (λ (l : List ℕ). shown_with l c.as_slice-4.result.now) c.as_slice-3.ensures.value
-    ∙ ap (λ (l : List ℕ). shown_with c.args.shown.now.items l) (c.as_slice-4.ensures.value ∙ row)
+    ∙ ap (λ (l : List ℕ). shown_with l c.row_in-row.result.now) c.as_slice-3.ensures.value
+    ∙ ap (λ (l : List ℕ). shown_with c.args.shown.now.items l) row
+
+pub returns-clause-view : goal.returns-clause-view
+returns-clause-view c =
+    let room = c.args.room.now in
+    let all = ap (λ (l : List ℕ). shown_with l c.row_in-row.result.now) (c.as_slice.ensures.value ∙ sym c.as_slice-3.ensures.value)
+    ∙ sym c.with_row.ensures in
+    c.in_ok-view.ensures.view ∙ ap (shown_by room.spec (read_of room)) all
+
+pub bounds-greatest-snapshot : goal.bounds-greatest-snapshot
+bounds-greatest-snapshot c =
+    let room = c.args.room.now in
+    let below : c.args.snapshot.now.process < processes room.spec = c.requires.is.process in
+    let long = ap length c.requires.greatest ∙ row_length room.spec.simulators (processes room.spec) (read_of room).step in
+    omega (arith, below, long)
+
+pub view_of-seen-requires-clause-view : goal.view_of-seen-requires-clause-view
+view_of-seen-requires-clause-view c =
+    let room = c.args.room.now in
+    let all = ap (λ (l : List ℕ). shown_with l c.row_in-row.result.now) (c.as_slice.ensures.value ∙ sym c.as_slice-3.ensures.value)
+    ∙ sym c.with_row.ensures
+    ∙ sym c.as_slice-4.ensures.value in
+    c.as_slice-5.ensures.value ∙ c.in_ok-view.ensures.view ∙ ap (shown_by room.spec (read_of room)) all
+
+pub push_decision-requires-clause-greatest : goal.push_decision-requires-clause-greatest
+push_decision-requires-clause-greatest c =
+    let room = c.args.room.now in
+    let p = c.args.snapshot.now.process in
+    ap (λ (l : List ℕ). get_or l p 0) c.requires.greatest ∙ row_entry room.spec.simulators (processes room.spec) (read_of room).step p c.requires.is.process

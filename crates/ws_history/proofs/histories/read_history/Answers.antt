@@ -4,10 +4,10 @@ use Rattle.std.proofs.lemmas.List.FromFn.{length-map-range_with_len}
 use Rattle.std.specs.Prelude.{replicate}
 use Rattle.room_spec.specs.Rooms.{processes}
 use Rattle.transcript.specs.declared.event.Event.{Event}
-use Rattle.room_core.specs.Agreements.{row_at}
+use Rattle.room_core.specs.Agreements.{row_at, shown_by}
 use Rattle.ws_history.specs.declared.snapshots.Agreed.{Agreed}
 use Rattle.ws_history.specs.Histories.{Snapshot, blocks, by_process, last_writes, new_writes, shown_before}
-use Rattle.ws_history.specs.Placing.{agreed_at, blank, shown_with}
+use Rattle.ws_history.specs.Placing.{agreed_at, shown_with}
 use Rattle.ws_history.specs.Readings.{read_of}
 use Rattle.ws_history.specs.Running.{IsSnapshotOf, block_on}
 use Rattle.ws_history.specs.Sources.{source_of}
@@ -28,6 +28,7 @@ loop-snapshot-init c =
     record {
       so_far = ap (λ (l : List Event). l ++ blocks src (processes room.spec) [] src.order) c.in_ok-events.ensures.items;
       shown = c.nothing-shown.ensures ∙ ap (λ (n : ℕ). replicate {A = ℕ} n 0) c.process_count.ensures.value ∙ all_zero 0 (processes room.spec);
+      view = c.shown_by-view.ensures.value ∙ ap (shown_by room.spec (read_of room)) c.as_slice-3.ensures.value;
     }
 
 pub push_block-requires-clause-shown : goal.push_block-requires-clause-shown
@@ -43,7 +44,8 @@ push_block-requires-clause-is c =
     let i = c.loop-snapshot.snapshot-index in
     let items = c.as_slice-snapshot-items.ensures.value ∙ c.in_ok-order.ensures in
     let less : i < length src.order = subst (λ (n : ℕ). i < n) (ap length items ∙ length-map src.order (agreed_at room)) c.loop-snapshot-test.true in
-    let here = ap (λ (l : List Agreed). get_or l i blank) items ∙ map_at (agreed_at room) src.order i none blank less in
+    let one = c.snapshot-item.result in
+    let here = c.snapshot-item.is ∙ ap (λ (l : List Agreed). get_or l i one) items ∙ map_at (agreed_at room) src.order i none one less in
     subst (IsSnapshotOf room) (sym here) (is_snapshot room i none less)
 
 pub loop-snapshot-preserved : goal.loop-snapshot-preserved
@@ -56,8 +58,8 @@ loop-snapshot-preserved c =
     let s = get_or src.order i none in
     let items = c.as_slice-snapshot-items.ensures.value ∙ c.in_ok-order.ensures in
     let less : i < length src.order = subst (λ (n : ℕ). i < n) (ap length items ∙ length-map src.order (agreed_at room)) c.loop-snapshot-test.true in
-    let here = ap (λ (l : List Agreed). get_or l i blank) items ∙ map_at (agreed_at room) src.order i none blank less in
-    let one = get_or c.as_slice-snapshot-items.result.now i blank in
+    let one = c.snapshot-item.result in
+    let here = c.snapshot-item.is ∙ ap (λ (l : List Agreed). get_or l i one) items ∙ map_at (agreed_at room) src.order i none one less in
     let rest = blocks src (processes room.spec) (take (i + 1) src.order) (drop (i + 1) src.order) in
     let more = c.in_ok-push_block.ensures.events
     ∙ ap (λ (l : List ℕ). events ++ block_on room l one) c.loop-snapshot.invariant.shown
@@ -70,7 +72,13 @@ loop-snapshot-preserved c =
           ∙ ap (λ (a : Agreed). shown_with (running room earlier) (row_at room.spec (read_of room) a.process a.round)) here
           ∙ same_shown room earlier s
           ∙ ap (λ (l : List Snapshot). running room l) (sym (take_more src.order i none less));
+      view = c.in_ok-push_block.ensures.view;
     }
+
+pub push_writes-requires-clause-view : goal.push_writes-requires-clause-view
+push_writes-requires-clause-view c =
+    let room = c.args.room.now in
+    c.as_slice-6.ensures.value ∙ c.loop-snapshot.invariant.view ∙ ap (shown_by room.spec (read_of room)) (sym c.as_slice-4.ensures.value)
 
 pub returns : goal.returns
 returns c =
@@ -85,8 +93,8 @@ returns c =
     let done : events ≡ blocks src n [] src.order = sym (append-nil events)
     ∙ ap (λ (l : List Snapshot). events ++ blocks src n (take i src.order) l) (sym (drop_past src.order i past))
     ∙ c.loop-snapshot.invariant.so_far in
-    let shown = c.as_slice-3.ensures.value ∙ c.loop-snapshot.invariant.shown ∙ ap (λ (l : List Snapshot). running room l) all in
-    c.in_ok-push_writes.ensures
-    ∙ ap (λ (l : List ℕ). events ++ by_process (λ (p : ℕ). new_writes src p (get_or l p 0) (get_or c.as_slice-4.result.now p 0)) n) shown
-    ∙ ap (λ (l : List Event). events ++ l) (last_is room c.as_slice-4.result.now (c.as_slice-4.ensures.value ∙ c.greatest_steps-greatest.ensures.value))
+    let shown = c.as_slice-4.ensures.value ∙ c.loop-snapshot.invariant.shown ∙ ap (λ (l : List Snapshot). running room l) all in
+    c.in_ok-push_writes.ensures.events
+    ∙ ap (λ (l : List ℕ). events ++ by_process (λ (p : ℕ). new_writes src p (get_or l p 0) (get_or c.as_slice-5.result.now p 0)) n) shown
+    ∙ ap (λ (l : List Event). events ++ l) (last_is room c.as_slice-5.result.now (c.as_slice-5.ensures.value ∙ c.greatest_steps-greatest.ensures.value))
     ∙ ap (λ (l : List Event). l ++ last_writes src n) done

@@ -1,5 +1,6 @@
 use Rattle.std.proofs.Common.{◌≡◌, ◌++◌, [], take, drop}
 use Rattle.room_spec.specs.Rooms.{processes}
+use Rattle.room_core.specs.Agreements.{shown_by}
 use Rattle.ws_history.specs.Histories.{blocks}
 use Rattle.ws_history.specs.Readings.{read_of}
 use Rattle.ws_history.specs.Sources.{source_of}
@@ -12,4 +13,5 @@ invariant-loop-snapshot l = record {
       ++ blocks (source_of l.room.spec (read_of l.room)) (processes l.room.spec) (take l.snapshot-index (source_of l.room.spec (read_of l.room)).order) (drop l.snapshot-index (source_of l.room.spec (read_of l.room)).order)
       ≡ blocks (source_of l.room.spec (read_of l.room)) (processes l.room.spec) [] (source_of l.room.spec (read_of l.room)).order;
   shown : l.shown.items ≡ running l.room (take l.snapshot-index (source_of l.room.spec (read_of l.room)).order);
+  view : l.view.items ≡ shown_by l.room.spec (read_of l.room) l.shown.items;
 }

@@ -1,6 +1,5 @@
-use Rattle.std.proofs.Common.{◌≡◌, ◌∙◌, ℕ, List, length, get_or, ap, sym, subst, arith}
-use Rattle.std.specs.Vec.{with_items}
-use Rattle.std.proofs.lemmas.List.{with_items_is}
+use Rattle.std.proofs.Common.{◌≡◌, ◌∙◌, ℕ, List, length, get_or, drop, ap, sym, subst, arith, take_at}
+use Rattle.std.specs.List.{refill}
 use Rattle.simulator.specs.Moves.{answer_of, move_of, words_after}
 use Rattle.simulator.specs.Sweeps.{SweepState}
 use Rattle.room_core.specs.Rooms.{HasLine}
@@ -11,7 +10,7 @@ use Rattle.room_core.proofs.room.RoomCore.advance.Goals as goal
 
 pub invariant_of-self : goal.invariant_of-self
 invariant_of-self c =
-    let room : RoomState = record { spec = c.self.inside.spec; words = c.self.inside.words.items; sweeps = c.self.inside.sweeps.items; crashed = c.self.inside.crashed.items } in
+    let room : RoomState = record { spec = c.self.inside.spec; words = c.self.inside.words; sweeps = c.self.inside.sweeps.items; crashed = c.self.inside.crashed.items } in
     let i = c.args.i in
     let may : HasLine (configuration_of room) i = subst (λ (r : RoomState). HasLine (configuration_of r) i) (sym c.self.view_is) c.requires in
     let shape = c.self.invariant.is_room.shape in
@@ -19,13 +18,13 @@ invariant_of-self c =
     let sweeps = c.deref_mut.result.now in
     let read = c.index-deref_mut-i.result in
     let there : get_or sweeps i read ≡ sweep_at room i = sym c.index-deref_mut-i.is ∙ read_sweep room sweeps i read shape c.deref_mut.ensures.value below c.index-deref_mut-i.is in
-    let words : c.deref_mut-2.result.now ≡ room.words = c.deref_mut-2.ensures.value in
+    let words : c.as_mut_slice.result.now ≡ room.words = c.as_mut_slice.ensures.value in
     let done : c.advance.new.words ≡ words_after (operation_at room i) room.words = c.advance.ensures.words
-    ∙ ap (λ (sweep : SweepState). words_after (move_of room.spec sweep.mind) c.deref_mut-2.result.now) there
+    ∙ ap (λ (sweep : SweepState). words_after (move_of room.spec sweep.mind) c.as_mut_slice.result.now) there
     ∙ ap (words_after (operation_at room i)) words in
-    let answered : answer_of (move_of room.spec (get_or sweeps i read).mind) c.deref_mut-2.result.now ≡ answer_of (operation_at room i) room.words =
-    ap (λ (sweep : SweepState). answer_of (move_of room.spec sweep.mind) c.deref_mut-2.result.now) there ∙ ap (answer_of (operation_at room i)) words in
-    let long : length c.advance.new.words ≡ c.self.inside.words.len = ap (λ (l : List ℕ). length l) done ∙ length-words_after (operation_at room i) room.words ∙ omega arith in
-    let left = moved_is room (with_items c.self.inside.words c.advance.new.words).items sweeps i read c.advance.new.sweep (answer_of (move_of room.spec (get_or sweeps i read).mind) c.deref_mut-2.result.now) shape c.deref_mut.ensures.value below c.index-deref_mut-i.is
-    (with_items_is c.self.inside.words c.advance.new.words long ∙ done) answered c.advance.ensures.sweep in
+    let answered : answer_of (move_of room.spec (get_or sweeps i read).mind) c.as_mut_slice.result.now ≡ answer_of (operation_at room i) room.words =
+    ap (λ (sweep : SweepState). answer_of (move_of room.spec sweep.mind) c.as_mut_slice.result.now) there ∙ ap (answer_of (operation_at room i)) words in
+    let long : length c.advance.new.words ≡ length room.words = ap (λ (l : List ℕ). length l) done ∙ length-words_after (operation_at room i) room.words ∙ omega arith in
+    let left = moved_is room (refill (length room.words) room.words c.advance.new.words) sweeps i read c.advance.new.sweep (answer_of (move_of room.spec (get_or sweeps i read).mind) c.as_mut_slice.result.now) shape c.deref_mut.ensures.value below c.index-deref_mut-i.is
+    (take_at c.advance.new.words (drop (length c.advance.new.words) room.words) (length room.words) long ∙ done) answered c.advance.ensures.sweep in
     subst IsCore (sym left) (moved_room room i c.self.invariant may)

@@ -14,7 +14,7 @@ returns-clause-value c = grind (arith, common_steps)
 
 pub returns-clause-scan : goal.returns-clause-scan
 returns-clause-scan c =
-    let room : RoomState = record { spec = c.self.inside.spec; words = c.self.inside.words.items; sweeps = c.self.inside.sweeps.items; crashed = c.self.inside.crashed.items } in
+    let room : RoomState = record { spec = c.self.inside.spec; words = c.self.inside.words; sweeps = c.self.inside.sweeps.items; crashed = c.self.inside.crashed.items } in
     let P : RoomState → Type 0 =
     λ (r : RoomState).
     (i : ℕ) → i < r.spec.simulators → (fields : Fields) (are : AreFieldsOf r fields) → (fields.mind i).line ≡ Show → IsScan r.spec are.run.schedule (length are.run.schedule) i (fields.mind i).sweep (current_round (fields.mind i)) (fields.mind i).snapshot (fields.mind i).collects

@@ -10,10 +10,10 @@ use Rattle.room_core.proofs.room.RoomCore.opening.Goals as goal
 pub invariant_of-result : goal.invariant_of-result
 invariant_of-result c =
     let crashed = c.nobody-crashed.ensures ∙ ap (λ (n : ℕ). replicate n false) c.m.ensures.value in
-    fresh_room c.args.spec c.args.words.items c.opening_sweeps-sweeps.result.items c.nobody-crashed.result.items c.shape-shape.ensures.limits c.requires c.opening_sweeps-sweeps.ensures crashed
+    fresh_room c.args.spec c.new.result c.opening_sweeps-sweeps.result.items c.nobody-crashed.result.items c.shape-shape.ensures.limits (c.new.ensures ∙ c.requires) c.opening_sweeps-sweeps.ensures crashed
 
 pub returns-clause-fields : goal.returns-clause-fields
 returns-clause-fields c =
     let crashed = c.nobody-crashed.ensures ∙ ap (λ (n : ℕ). replicate n false) c.m.ensures.value in
-    let left : record { spec = c.args.spec; words = c.args.words.items; sweeps = c.opening_sweeps-sweeps.result.items; crashed = c.nobody-crashed.result.items } ≡ opening_state c.args.spec = λ k. record { spec = c.args.spec; words = c.requires k; sweeps = c.opening_sweeps-sweeps.ensures k; crashed = crashed k } in
+    let left : record { spec = c.args.spec; words = c.new.result; sweeps = c.opening_sweeps-sweeps.result.items; crashed = c.nobody-crashed.result.items } ≡ opening_state c.args.spec = λ k. record { spec = c.args.spec; words = (c.new.ensures ∙ c.requires) k; sweeps = c.opening_sweeps-sweeps.ensures k; crashed = crashed k } in
     subst (λ (r : RoomState). AreFieldsOf r (opening_fields c.args.spec)) (sym left) (opening_in_fields c.args.spec)

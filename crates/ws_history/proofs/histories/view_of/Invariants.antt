@@ -1,0 +1,9 @@
+use Rattle.std.proofs.Common.{◌≡◌, map, get_or}
+use Rattle.std.specs.List.{range_with_len}
+use Rattle.arrayvec.specs.ArrayVec.{array_vec_len}
+use Rattle.room_core.specs.Agreements.{shown}
+use Rattle.ws_history.specs.Readings.{read_of}
+use Rattle.ws_history.proofs.histories.view_of.Given as goal
+
+abbrev pub invariant-loop-p : goal.invariant-loop-p
+invariant-loop-p l = record { so_far : l.all.items ≡ map (λ p. shown l.room.spec (read_of l.room) p (get_or l.row p 0)) (range_with_len 0 l.p); count : array_vec_len l.all ≡ l.p }
