@@ -8,8 +8,7 @@ use Rattle.std.proofs.lemmas.List.Splits.{length-slice_split, slice_split-cons_n
 use Rattle.room_spec.specs.Texts.{is_line_end, lines_of, pieces_of}
 use Rattle.room_spec.specs.Blocks.{body_len, block_len, is_end}
 use Rattle.room_spec.specs.Grammar.{are_before_end, line_end, text_of}
-use Rattle.room_spec.proofs.Blocks.{position_first, position_later}
-use Rattle.room_spec.proofs.Ends.{before_line, block_ends, end_at, end_found, lines_to_end, with_line_end}
+use Rattle.room_spec.proofs.CallerLemmas.{position_first, position_later, before_line, block_ends, end_at, end_found, lines_to_end, with_line_end}
 use Rattle.bgsim_console.specs.Check.{IsEnded}
 use Rattle.bgsim_console.specs.Lines.{lines_in, text_lines}
 use Rattle.bgsim_console.proofs.Blocks.{some_bytes}

@@ -1,17 +1,17 @@
-pub mod Blocks
-pub mod BlockEnds
-pub mod Commands
-pub mod LineLists
-pub mod Naming
-pub mod Subcommands
-pub mod Numbering
-pub mod Taken
-pub mod ReplyTexts
-pub mod Scripts
-pub mod Playing
-pub mod Streams
-pub mod Feeding
-pub mod RunTexts
-pub mod Verdicts
-pub mod Worked
-pub mod WorkedInputs
+mod Blocks
+mod BlockEnds
+mod Commands
+mod LineLists
+mod Naming
+mod Subcommands
+mod Numbering
+mod Taken
+mod ReplyTexts
+mod Scripts
+mod Playing
+mod Streams
+mod Feeding
+mod RunTexts
+mod Verdicts
+mod Worked
+mod WorkedInputs

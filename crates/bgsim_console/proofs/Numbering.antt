@@ -14,9 +14,7 @@ use Rattle.room_spec.specs.Texts.{is_line_end, first_line, later_lines, lines_of
 use Rattle.room_spec.specs.Blocks.{body_len, block_len, block_in}
 use Rattle.room_spec.specs.Grammar.{line_end, text_of, are_before_end}
 use Rattle.room_spec.specs.declared.fault.SpecFault.{SpecFault}
-use Rattle.room_spec.proofs.Ends.{end_found, end_at, lines_to_end, with_line_end, before_line}
-use Rattle.room_spec.proofs.Lines.{before_cut, text_of-cons}
-use Rattle.room_spec.proofs.Texts.{pieces_whole}
+use Rattle.room_spec.proofs.CallerLemmas.{end_found, end_at, lines_to_end, with_line_end, before_line, before_cut, text_of-cons, pieces_whole}
 use Rattle.transcript.specs.Lines.{line_in}
 use Rattle.transcript.specs.declared.event.Event.{Event}
 use Rattle.transcript.specs.declared.fault.LineFault.{LineFault}

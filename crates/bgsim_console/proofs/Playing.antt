@@ -7,7 +7,7 @@ use Rattle.std.proofs.lemmas.List.{append-nil}
 use Rattle.service_core.specs.declared.command.Command.{Command}
 use Rattle.service_core.specs.declared.reply.Reply.{Reply}
 use Rattle.service_core.specs.Rooms.{Applies, Entries}
-use Rattle.service_core.proofs.Running.{Ran, begins, goes_on}
+use Rattle.service_core.proofs.CallerLemmas.{Ran, begins, goes_on}
 use Rattle.bgsim_console.specs.ReplyTexts.{reply_to_command}
 use Rattle.bgsim_console.specs.Script.{Entry}
 use Rattle.bgsim_console.specs.Play.{AreDone, Done, Replied, HasPlayed, HasRun, IsDone, commands_of, replies_in, command_of, reply_of, done_text, is_lacking, is_refusal, is_refused}

@@ -6,7 +6,7 @@ use Rattle.std.proofs.lemmas.Option.{slice_get_within}
 use Rattle.room_spec.specs.Rooms.{RoomSpec}
 use Rattle.transcript.specs.declared.event.Event.{Event}
 use Rattle.transcript.specs.Tasks.{IsFirstExcess, KeepsTask}
-use Rattle.transcript.proofs.Runs.{slice_get-append, slice_get-push}
+use Rattle.transcript.proofs.CallerLemmas.{slice_get-append, slice_get-push}
 use Rattle.history_checker.specs.Tasks.{IsTally, HasDecided, TallyState}
 use Rattle.history_checker.specs.Verdicts.{FedEvent, ExceedsOn, TallyStands, TaskStands, events_of}
 use Rattle.history_checker.proofs.Feeding.{events-push}

@@ -9,7 +9,7 @@ use Rattle.transcript.specs.Runs.{IsRun, IsFirstBreak}
 use Rattle.history_checker.specs.declared.process.Process.{Process}
 use Rattle.history_checker.specs.Processes.{Tracks, Follows}
 use Rattle.history_checker.specs.Verdicts.{FedEvent, RoomState, StandsAfter, BreaksOn, events_of}
-use Rattle.transcript.proofs.Runs.{slice_get-append, slice_get-push, IsRun-push}
+use Rattle.transcript.proofs.CallerLemmas.{slice_get-append, slice_get-push, IsRun-push}
 use Rattle.history_checker.proofs.Runs.{break-push, break-append}
 
 pub events-push : (fed : List FedEvent) (one : FedEvent) (event : Event) → one.event ≡ event → events_of (fed ++ one ∷ []) ≡ events_of fed ++ event ∷ []

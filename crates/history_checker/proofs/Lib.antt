@@ -1,9 +1,9 @@
-pub mod Tracking
-pub mod Runs
-pub mod Feeding
-pub mod RoomLists
-pub mod ToldLines
-pub mod Rows
-pub mod Tallies
-pub mod Certifying
-pub mod Counting
+mod Tracking
+mod Runs
+mod Feeding
+mod RoomLists
+mod ToldLines
+mod Rows
+mod Tallies
+mod Certifying
+mod Counting

@@ -12,8 +12,7 @@ use Rattle.room_spec.specs.Rooms.{RoomSpec}
 use Rattle.transcript.specs.declared.event.Event.{Event}
 use Rattle.transcript.specs.declared.event.Event.TheVariants.{Write, Snap, Decide}
 use Rattle.transcript.specs.Tasks.{decided_by, decided_in, different, IsInTask, KeepsTask, IsFirstExcess}
-use Rattle.transcript.proofs.Agreeing.{In, in_contains, contains_in, in_without, different_in, no_more, one_more}
-use Rattle.transcript.proofs.Runs.{slice_get-append, slice_get-push, slice_get-take, take-push}
+use Rattle.transcript.proofs.CallerLemmas.{In, in_contains, contains_in, in_without, different_in, no_more, one_more, slice_get-append, slice_get-push, slice_get-take, take-push}
 use Rattle.history_checker.specs.Tasks.{IsTally, Allows, HasDecided, KeepsOwnTask}
 
 -- ---- one value more

@@ -17,7 +17,7 @@ use Rattle.transcript.specs.declared.event.Event.{Event}
 use Rattle.transcript.specs.declared.event.Event.TheVariants.{Write, Snap, Decide}
 use Rattle.transcript.specs.Grammar.{entry_text, event_fields, event_line}
 use Rattle.transcript.specs.Lines.{line_in, row_in}
-use Rattle.transcript.proofs.Events.{line_again, row_found}
+use Rattle.transcript.proofs.CallerLemmas.{line_again, row_found}
 use Rattle.history_checker.specs.Shown.{IsParted, SaysDeed, SaysRow, spaced}
 
 -- a text cut at its first space

@@ -15,7 +15,7 @@ use Rattle.transcript.specs.Runs.{process_of, event_by, written_by, seen_by, is_
 use Rattle.history_checker.specs.declared.process.Turn.TheVariants.{Write, Snap, Decide, Over}
 use Rattle.history_checker.specs.declared.process.Process.{Process}
 use Rattle.history_checker.specs.Processes.{turn_for, turn_after, owed, IsAt, Tracks}
-use Rattle.transcript.proofs.Histories.{latest-push, same, quiet, none_seen}
+use Rattle.transcript.proofs.CallerLemmas.{latest-push, same, quiet, none_seen}
 
 -- ---- counts
 

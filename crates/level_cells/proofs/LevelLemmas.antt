@@ -1,10 +1,8 @@
 -- A word of levels of which one is raised or lowered.
-use Rattle.std.proofs.Common.{◌≡◌, ◌≢◌, ℕ, ◌+◌, ◌-◌, ◌*◌, ◌^◌, ◌<◌, ◌≤◌, refl, eqb, inl, inr, length, get_or, set, replicate, Some, None, sym, ap, ◌∙◌, arith}
-use Rattle.std.specs.List.{position, position_or_len}
-use Rattle.std.proofs.lemmas.Bool.{cases_eq, cases_lt, eq-eqb, ne_eqb, lt-ltb, le-ltb}
+use Rattle.std.proofs.Common.{◌≡◌, ◌≢◌, ℕ, ◌+◌, ◌-◌, ◌*◌, ◌^◌, ◌<◌, ◌≤◌, inl, inr, length, get_or, set, replicate, sym, ap, ◌∙◌, arith}
+use Rattle.std.proofs.lemmas.Bool.{cases_eq, cases_lt}
 use Rattle.std.proofs.lemmas.List.{length-set, length-replicate, get_or-set_other, get_or-replicate}
 use Rattle.std.proofs.lemmas.Grind.{get_or-set_at, same_number_lists}
-use Rattle.std.proofs.lemmas.List.Sums.{position_or_len_is}
 use Rattle.std.proofs.lemmas.List.FromFn.{length-map-range_with_len, get_or-map-range_with_len, fill_by_all}
 use Rattle.level_cells.specs.Fields.{AreApart, KeepsOthers, level_of, levels_of}
 use Rattle.level_cells.proofs.FieldLemmas.{zero_field, added_field, added_others, taken_field, taken_others}
@@ -36,26 +34,3 @@ levels_of_zero m =
     same_number_lists (levels_of 0 m) (replicate m 0) (length-levels_of 0 m ∙ sym (length-replicate m 0)) (λ i less.
     let lower : i < m = omega (arith, length-levels_of 0 m) in
     get_or-map-range_with_len (λ j. level_of 0 j) 0 m i i 0 lower (omega arith) ∙ zero_field (2 * i) 2 ∙ sym (get_or-replicate m i 0 0 lower))
-
--- ---- the least simulator at a level
-
--- nobody before this simulator is at the level
-abbrev pub IsNoneBefore : ℕ → ℕ → ℕ → Type 0
-IsNoneBefore word level simulator = (i : ℕ) → i < simulator → level_of word i ≢ level
-
-level_at : (word m i : ℕ) → i < m → get_or (levels_of word m) i 0 ≡ level_of word i
-level_at word m i below = get_or-map-range_with_len (λ j. level_of word j) 0 m i i 0 below (omega arith)
-
-place : (word m level simulator : ℕ) → simulator ≤ m → IsNoneBefore word level simulator → (simulator < m → level_of word simulator ≡ level) → position_or_len (λ one. eqb one level) (levels_of word m) ≡ simulator
-place word m level simulator within none here =
-    position_or_len_is (λ one. eqb one level) (levels_of word m) simulator 0 (omega (arith, length-levels_of word m))
-    (λ i before. ne_eqb _ _ (λ e. none i before (sym (level_at word m i (omega arith)) ∙ e)))
-    (λ below. let less : simulator < m = omega (arith, length-levels_of word m) in eq-eqb _ _ (level_at word m simulator less ∙ here less))
-
-pub least_found : (word m level simulator : ℕ) → simulator < m → IsNoneBefore word level simulator → level_of word simulator ≡ level → position (λ one. eqb one level) (levels_of word m) ≡ Some simulator
-least_found word m level simulator below none here =
-    rw (place word m level simulator (omega arith) none (λ _. here), length-levels_of word m, lt-ltb simulator m below) refl
-
-pub none_found : (word m level : ℕ) → IsNoneBefore word level m → position (λ one. eqb one level) (levels_of word m) ≡ None
-none_found word m level none =
-    rw (place word m level m (omega arith) none (λ below. absurd (omega arith)), length-levels_of word m, le-ltb m m (omega arith)) refl

@@ -1,4 +1,5 @@
-pub mod FieldLemmas
-pub mod LevelLemmas
-pub mod PackingLemmas
-pub mod Worked
+pub mod CallerLemmas
+mod FieldLemmas
+mod LevelLemmas
+mod PackingLemmas
+mod Worked

@@ -1,5 +1,5 @@
 //! The agreement levels of the simulators for one process and round.
-ghost use Rattle.std.specs.Prelude.{◌≡◌, ◌==◌, ℕ, ◌<◌, ◌≤◌, position, slice_index};
+ghost use Rattle.std.specs.Prelude.{◌≡◌, ℕ, ◌<◌, ◌≤◌, slice_index};
 ghost use Rattle.arrayvec.specs.ArrayVec.{array_vec_len};
 ghost use Rattle.level_cells.specs.Fields.{level_of, levels_of};
 
@@ -19,17 +19,4 @@ pub fn levels(word: u64, m: usize) -> ArrayVec<u8, 8>
         levels.push(field(word, 2 * i, 2) as u8);
     }
     levels
-}
-
-/// The least of the first `m` simulators that is at this level. `m` is at most 8.
-pub fn least_at(word: u64, m: usize, level: u8) -> Option<usize>
-    requires { m ≤ 8 }
-    ensures { result ≡ position (λ one. one == level) (levels_of word m) }
-{
-    for simulator in 0..m {
-        if field(word, 2 * simulator, 2) as u8 == level {
-            return Some(simulator);
-        }
-    }
-    None
 }

@@ -5,5 +5,5 @@ mod agreement;
 mod bits;
 pub mod laws;
 
-pub use agreement::{least_at, levels};
+pub use agreement::levels;
 pub use bits::{added, field, one_at, taken};

@@ -1,31 +1,32 @@
-pub mod Making
-pub mod Drafts
-pub mod Carrying
-pub mod Onward
-pub mod Views
-pub mod Cells
-pub mod Numerals
-pub mod Runs
-pub mod Words
-pub mod Front
-pub mod Steps
-pub mod Alike
-pub mod Going
-pub mod Holding
-pub mod Holds
-pub mod Sound
-pub mod Locality
-pub mod Whens
-pub mod Only
-pub mod Reasons
-pub mod Following
-pub mod Causes
-pub mod WorkedPrinting
-pub mod WorkedMeaning
-pub mod WorkedThresholds
-pub mod Shortest
-pub mod Printed
-pub mod Pieces
-pub mod Limits
-pub mod Outlined
-pub mod Thresholds
+pub mod CallerLemmas
+mod Making
+mod Drafts
+mod Carrying
+mod Onward
+mod Views
+mod Cells
+mod Numerals
+mod Runs
+mod Words
+mod Front
+mod Steps
+mod Alike
+mod Going
+mod Holding
+mod Holds
+mod Sound
+mod Locality
+mod Whens
+mod Only
+mod Reasons
+mod Following
+mod Causes
+mod WorkedPrinting
+mod WorkedMeaning
+mod WorkedThresholds
+mod Shortest
+mod Printed
+mod Pieces
+mod Limits
+mod Outlined
+mod Thresholds

@@ -10,10 +10,8 @@ use Rattle.simulator.specs.declared.sweep.Ready.TheVariants as ready
 use Rattle.simulator.specs.Minds.{MindState}
 use Rattle.simulator.specs.Moves.{answer_of}
 use Rattle.simulator.specs.Ranges.{IsMind, charged_steps, greatest_limit, most_steps}
-use Rattle.simulator.proofs.Limits.{limit_most}
+use Rattle.simulator.proofs.CallerLemmas.{limit_most, total, total_falls, total_most, turns_before, bounded, steps_by_one}
 use Rattle.simulator.specs.Sweeps.{SweepState, is_resting, opening_sweep, ready_between}
-use Rattle.simulator.proofs.Bounding.{total, total_falls, total_most, turns_before}
-use Rattle.simulator.proofs.Stepping.{bounded, steps_by_one}
 use Rattle.room_core.specs.Rooms.{IsOneInterleaving, IsShaped, steps}
 use Rattle.room_core.specs.Calls.{RoomState, configuration_of, has_crashed, is_step, moved, operation_at, ready_at, reply_when, room_after_step, room_kind, step_reply, sweep_after, sweep_at, taken_by, with_sweep, woken}
 use Rattle.room_core.specs.Calls as calls

@@ -14,7 +14,7 @@ use Rattle.simulator.specs.declared.line.Line.TheVariants.{Rest, Raise, Snap, Sh
 use Rattle.simulator.specs.Minds.{MindOf, goal_at, current_goal, current_round, is_unfinished, round_of, next_process}
 use Rattle.simulator.specs.Sweeps.{quiet_after}
 use Rattle.simulator.specs.Turns.{TakenOf, counted, begun, goes_on, acted, decided, padded, gathered_all, gathered, opened_at}
-use Rattle.simulator.proofs.Processes.{next_is_left}
+use Rattle.simulator.proofs.CallerLemmas.{next_is_left}
 use Rattle.room_core.specs.Fields.{StepMap, Fields, changed_triple, chosen_at, entry_of_steps, shown_value}
 use Rattle.room_core.specs.Tracks.{Counts, Counted, Inside}
 use Rattle.room_core.specs.Fields.{is_same_collect, with_loaded}

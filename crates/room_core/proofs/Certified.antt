@@ -8,7 +8,7 @@ use Rattle.std.proofs.lemmas.List.FromFn.{length-map-range_with_len}
 use Rattle.protocol_lang.specs.Meaning.{present, next_action}
 use Rattle.protocol_lang.specs.Trees.{Tree}
 use Rattle.protocol_lang.specs.declared.meaning.Action.TheVariants as actions
-use Rattle.protocol_lang.proofs.Thresholds.{decides_with}
+use Rattle.protocol_lang.proofs.CallerLemmas.{decides_with}
 use Rattle.room_spec.specs.Rooms.{IsCertified, RoomSpec, IsWithinLimits, processes}
 use Rattle.room_core.specs.Agreements.{IsFixedAt, asks, greatest_step, has_out, is_clean, is_passed, row_at, shown, shown_by, written}
 use Rattle.room_core.specs.Calls.{RoomState}

@@ -11,9 +11,8 @@ use Rattle.protocol_lang.specs.declared.meaning.Action.{Action}
 use Rattle.protocol_lang.specs.declared.meaning.Action.TheVariants as actions
 use Rattle.room_spec.specs.Rooms.{RoomSpec, processes}
 use Rattle.sim_memory.specs.Steps.{row_of}
-use Rattle.sim_memory.proofs.Rows.{row_at}
-use Rattle.sim_memory.proofs.Greatest.{holder_of_is, holder_merged}
-use Rattle.simulator.proofs.Gathering.{added, added_more, added_none}
+use Rattle.sim_memory.proofs.CallerLemmas.{row_at, holder_of_is, holder_merged}
+use Rattle.simulator.proofs.CallerLemmas.{added, added_more, added_none}
 use Rattle.room_core.specs.Fields.{StepMap, Fields, entry_of_steps, holder_of_steps, shown_value}
 use Rattle.room_core.specs.Agreements.{first_with, written, asks}
 use Rattle.room_core.specs.Contents.{or_zero, entry_of, shown_by, IsDue, first_write, next_write, IsSmallEntry, AreSmall}

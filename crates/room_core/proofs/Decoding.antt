@@ -4,7 +4,7 @@ use Rattle.room_spec.specs.Rooms.{IsWithinLimits}
 use Rattle.room_spec.specs.Sizes.{Sizes, AreSizes, memory_words, sizes_in}
 use Rattle.level_cells.specs.Fields.{level_of}
 use Rattle.sim_memory.specs.Steps.{AreSameSteps, AreWithin, step_in}
-use Rattle.sim_memory.proofs.Words.{word_steps}
+use Rattle.sim_memory.proofs.CallerLemmas.{word_steps}
 use Rattle.simulator.specs.Minds.{MindOf, MindState}
 use Rattle.room_core.specs.Calls.{RoomState, configuration_of, sweep_at}
 use Rattle.room_core.specs.Fields.{Fields, StepMap}

@@ -24,7 +24,7 @@ use Rattle.room_core.specs.Tracks.{StandsFor, AtRest, Tells}
 use Rattle.room_core.proofs.FieldReplays.{stands_at, line_is}
 use Rattle.room_core.proofs.Maps.{changed_here, changed_else}
 use Rattle.sim_memory.specs.Steps.{word_of}
-use Rattle.sim_memory.proofs.Words.{word_below}
+use Rattle.sim_memory.proofs.CallerLemmas.{word_below}
 use Rattle.room_core.proofs.Snapshots.{same_row}
 use Rattle.room_core.proofs.Tracks.{stored_round, counted_round, inside_round, past_round, outside, inside}
 use Rattle.room_core.proofs.Lines.{stored_first_at, stored_first, stored_on, taken_first_at, taken_first, taken_on, operation_of, first_place, open_round, StandsAt}

@@ -5,7 +5,7 @@ use Rattle.std.proofs.lemmas.List.Folds.{list_any_at}
 use Rattle.std.proofs.lemmas.List.FromFn.{get_or-map-range_with_len, length-map-range_with_len}
 use Rattle.room_spec.specs.Rooms.{RoomSpec, IsWithinLimits, processes}
 use Rattle.safe_agreement.specs.Levels.{has_level}
-use Rattle.safe_agreement.proofs.Clean.{has_level_at, no_level_from}
+use Rattle.safe_agreement.proofs.CallerLemmas.{has_level_at, no_level_from}
 use Rattle.room_core.specs.Calls.{RoomState}
 use Rattle.room_core.specs.Fields.{Fields, levels_at, fields_after_settle}
 use Rattle.room_core.specs.Reading.{AreFieldsOf}

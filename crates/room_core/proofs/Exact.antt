@@ -6,7 +6,7 @@ use native.Mathlib.Decide.{ℕ_discrete}
 use Rattle.room_spec.specs.Rooms.{RoomSpec, IsWithinLimits, processes}
 use Rattle.safe_agreement.specs.Phases.{phase_level, IsFixed}
 use Rattle.sim_memory.specs.Steps.{merged_of, row_of, IsRowAtMost}
-use Rattle.sim_memory.proofs.Rows.{merged_at, merged_reached, merged_below, row_grows}
+use Rattle.sim_memory.proofs.CallerLemmas.{merged_at, merged_reached, merged_below, row_grows}
 use Rattle.room_core.specs.Rooms.{Configuration, ScheduleEvent, steps, crashes, MayHappen, IsShaped, IsOneInterleaving}
 use Rattle.room_core.specs.Calls.{RoomState, configuration_of}
 use Rattle.room_core.specs.Reading.{AreFieldsOf}

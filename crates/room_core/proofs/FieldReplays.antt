@@ -7,12 +7,12 @@ use mathlib.Core.Logic.{dite}
 use native.Mathlib.Decide.{ℕ_discrete}
 use Rattle.room_spec.specs.Rooms.{RoomSpec, IsWithinLimits, processes}
 use Rattle.room_spec.specs.Sizes.{Sizes, sizes_in}
-use Rattle.level_cells.proofs.PackingLemmas.{of_zeros}
+use Rattle.level_cells.proofs.CallerLemmas.{of_zeros}
 use Rattle.view_table.specs.declared.place.Place.{Place}
 use Rattle.view_table.specs.declared.place.Place.TheVariants as places
-use Rattle.view_table.proofs.WordLemmas.{zeros}
+use Rattle.view_table.proofs.CallerLemmas.{zeros}
 use Rattle.sim_memory.specs.Steps.{AreWithin, memory_of, memory_word}
-use Rattle.sim_memory.proofs.Words.{memory_at, word_zero}
+use Rattle.sim_memory.proofs.CallerLemmas.{memory_at, word_zero}
 use Rattle.std.proofs.lemmas.Grind.{same_number_lists}
 use Rattle.simulator.specs.Minds.{MindOf, MindState, goal_at, current_round, first_goal, no_words, opening_mind, opening_mind_of}
 use Rattle.simulator.specs.Turns.{TakenOf, counted}

@@ -4,9 +4,8 @@ use Rattle.std.proofs.lemmas.Bool.{eq-eqb, eqb-true, cases_order}
 use Rattle.room_spec.specs.Rooms.{RoomSpec}
 use Rattle.std.proofs.lemmas.List.FromFn.{length-map-range_with_len, get_or-map-range_with_len}
 use Rattle.safe_agreement.specs.Levels.{IsClean, least_two}
-use Rattle.safe_agreement.proofs.Clean.{least_two_found, least_two_is}
+use Rattle.safe_agreement.proofs.CallerLemmas.{least_two_found, least_two_is, clean_is_fixed, settles}
 use Rattle.safe_agreement.specs.Phases.{Before, Looked, Left, IsFixed}
-use Rattle.safe_agreement.proofs.Replays.{clean_is_fixed, settles}
 use Rattle.simulator.specs.declared.goal.Goal.{Goal}
 use Rattle.simulator.specs.declared.goal.Goal.TheVariants as goals
 use Rattle.simulator.specs.declared.line.Line.{Line}

@@ -4,15 +4,14 @@ use mathlib.Core.Logic.{dite}
 use native.Mathlib.Decide.{ℕ_discrete}
 use Rattle.room_spec.specs.Sizes.{Sizes}
 use Rattle.level_cells.specs.Packing.{packed}
-use Rattle.level_cells.proofs.PackingLemmas.{of_same}
+use Rattle.level_cells.proofs.CallerLemmas.{of_same}
 use Rattle.view_table.specs.declared.place.Place.{Place}
 use Rattle.view_table.specs.declared.place.Place.TheVariants.{Memory, Levels, View, Value, Out}
 use Rattle.view_table.specs.Places.{IsPlace, index_of, words_of}
 use Rattle.view_table.specs.Words.{word_at, with_word}
-use Rattle.view_table.proofs.PlaceLemmas.{distinct}
-use Rattle.view_table.proofs.WordLemmas.{here, elsewhere}
+use Rattle.view_table.proofs.CallerLemmas.{distinct, here, elsewhere}
 use Rattle.sim_memory.specs.Steps.{IsRaised, memory_word, with_part, word_of}
-use Rattle.sim_memory.proofs.Words.{part_else, word_else}
+use Rattle.sim_memory.proofs.CallerLemmas.{part_else, word_else}
 use Rattle.room_core.specs.Fields.{StepMap, Fields, changed_pair, changed_triple}
 use Rattle.room_core.proofs.Maps.{pair_else, triple_by, triple_else}
 

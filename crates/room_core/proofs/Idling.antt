@@ -7,8 +7,7 @@ use Rattle.room_spec.specs.Rooms.{IsWithinLimits, processes}
 use Rattle.room_spec.specs.Sizes.{sizes_in}
 use Rattle.safe_agreement.specs.Levels.{IsClean}
 use Rattle.safe_agreement.specs.Phases.{Left}
-use Rattle.safe_agreement.proofs.Clean.{resolves}
-use Rattle.safe_agreement.proofs.Replays.{settles}
+use Rattle.safe_agreement.proofs.CallerLemmas.{resolves, settles}
 use Rattle.simulator.specs.declared.goal.Goal.{Goal}
 use Rattle.simulator.specs.declared.goal.Goal.TheVariants as goals
 use Rattle.simulator.specs.declared.line.Line.{Line}

@@ -18,7 +18,7 @@ use Rattle.protocol_lang.specs.declared.meaning.Action.TheVariants as actions
 use Rattle.protocol_lang.specs.Numbers.{greatest}
 use Rattle.protocol_lang.specs.Meaning.{first_value}
 use Rattle.room_spec.specs.Rooms.{RoomSpec, IsWithinLimits, processes}
-use Rattle.safe_agreement.proofs.Clean.{resolved_to, clean_from, resolves_least}
+use Rattle.safe_agreement.proofs.CallerLemmas.{resolved_to, clean_from, resolves_least}
 use Rattle.sim_memory.specs.Steps.{AreAtMost}
 use Rattle.simulator.specs.declared.goal.Goal.{Goal}
 use Rattle.simulator.specs.declared.goal.Goal.TheVariants as goals

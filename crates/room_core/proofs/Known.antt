@@ -10,13 +10,12 @@ use Rattle.room_spec.specs.Rooms.{RoomSpec, processes}
 use Rattle.safe_agreement.specs.Levels.{least_two}
 use Rattle.room_spec.specs.Sizes.{sizes_in}
 use Rattle.sim_memory.specs.Steps.{AreAtMost, AreSameSteps, word_of}
-use Rattle.sim_memory.proofs.Rows.{row_same}
+use Rattle.sim_memory.proofs.CallerLemmas.{row_same, merged_reached}
 use Rattle.room_core.specs.Agreements as agreements
 use Rattle.room_core.proofs.Collecting.{with_here, with_else}
 use mathlib.Core.Logic.{dite}
 use native.Mathlib.Decide.{ℕ_discrete}
 use Rattle.std.proofs.Common.{◌≢◌}
-use Rattle.sim_memory.proofs.Rows.{merged_reached}
 use Rattle.simulator.specs.declared.goal.Goal.TheVariants as goals
 use Rattle.simulator.specs.declared.line.Line.TheVariants.{Raise, GetView, Values, Out}
 use Rattle.simulator.specs.Minds.{MindOf, goal_at, current_goal, current_round}

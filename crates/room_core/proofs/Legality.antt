@@ -7,7 +7,7 @@ use Rattle.simulator.specs.Minds.{MindState, unfinished_in}
 use Rattle.simulator.specs.Moves.{IsOperation, move_of}
 use Rattle.simulator.specs.Ranges.{IsMind}
 use Rattle.simulator.specs.Sweeps.{is_resting}
-use Rattle.simulator.proofs.Stepping.{begins, finishes, open_moves, runs_out}
+use Rattle.simulator.proofs.CallerLemmas.{begins, finishes, open_moves, runs_out}
 use Rattle.room_core.specs.Rooms.{Configuration, ScheduleEvent, steps, crashes, opening, mind_at, IsAlive, HasLine, MayHappen, after_event, IsLegal, IsShaped}
 use Rattle.room_core.specs.Fields.{Fields, opening_fields, IsAliveIn, HasLineIn, fields_after, MayHappenIn, IsLegalIn}
 use Rattle.room_core.specs.Reading.{Reads}

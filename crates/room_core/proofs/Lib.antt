@@ -1,52 +1,53 @@
-pub mod Replays
-pub mod States
-pub mod Maps
-pub mod Tracks
-pub mod Snapshots
-pub mod Wording
-pub mod Lines
-pub mod Holding
-pub mod LineMinds
-pub mod LineWords
-pub mod LineTracks
-pub mod FieldLines
-pub mod FieldReplays
-pub mod Settling
-pub mod FieldCalls
-pub mod Alone
-pub mod Marks
-pub mod Blocking
-pub mod Finishing
-pub mod Quieted
-pub mod Idling
-pub mod InOrder
-pub mod Ending
-pub mod Decoding
-pub mod Legality
-pub mod Prefixes
-pub mod Stages
-pub mod Effects
-pub mod PhaseSteps
-pub mod Resolving
-pub mod Sound
-pub mod Fixing
-pub mod Staying
-pub mod Deciding
-pub mod Shown
-pub mod Collects
-pub mod Sums
-pub mod Collecting
-pub mod Moments
-pub mod Exact
-pub mod Contents
-pub mod OwnValues
-pub mod SmallValues
-pub mod Known
-pub mod Knowing
-pub mod Agreed
-pub mod Promises
-pub mod LowValues
-pub mod Lasting
-pub mod Repeating
-pub mod Visits
-pub mod Certified
+pub mod CallerLemmas
+mod Replays
+mod States
+mod Maps
+mod Tracks
+mod Snapshots
+mod Wording
+mod Lines
+mod Holding
+mod LineMinds
+mod LineWords
+mod LineTracks
+mod FieldLines
+mod FieldReplays
+mod Settling
+mod FieldCalls
+mod Alone
+mod Marks
+mod Blocking
+mod Finishing
+mod Quieted
+mod Idling
+mod InOrder
+mod Ending
+mod Decoding
+mod Legality
+mod Prefixes
+mod Stages
+mod Effects
+mod PhaseSteps
+mod Resolving
+mod Sound
+mod Fixing
+mod Staying
+mod Deciding
+mod Shown
+mod Collects
+mod Sums
+mod Collecting
+mod Moments
+mod Exact
+mod Contents
+mod OwnValues
+mod SmallValues
+mod Known
+mod Knowing
+mod Agreed
+mod Promises
+mod LowValues
+mod Lasting
+mod Repeating
+mod Visits
+mod Certified

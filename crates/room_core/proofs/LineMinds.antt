@@ -5,14 +5,12 @@ use Rattle.std.proofs.lemmas.List.{length-append}
 use Rattle.protocol_lang.specs.Numbers.{greatest}
 use Rattle.room_spec.specs.Rooms.{RoomSpec, IsWithinLimits, processes}
 use Rattle.room_spec.specs.Sizes.{memory_words, sizes_in}
-use Rattle.room_spec.proofs.MemoryWords.{are_memory_words}
+use Rattle.room_spec.proofs.CallerLemmas.{are_memory_words}
 use Rattle.level_cells.specs.Fields.{levels_of}
 use Rattle.level_cells.specs.Packing.{packed}
 use Rattle.safe_agreement.specs.Levels.{has_level}
 use Rattle.sim_memory.specs.Steps.{AreWithin, memory_of, memory_word}
-use Rattle.sim_memory.proofs.Words.{part_memory}
-use Rattle.sim_memory.proofs.Rows.{merged_below}
-use Rattle.sim_memory.proofs.Greatest.{some_holder, holder_is}
+use Rattle.sim_memory.proofs.CallerLemmas.{part_memory, merged_below, some_holder, holder_is}
 use Rattle.view_table.specs.Places.{IsProcess, IsRound}
 use Rattle.view_table.specs.declared.place.Place.TheVariants as places
 use Rattle.simulator.specs.declared.goal.Goal.{Goal}

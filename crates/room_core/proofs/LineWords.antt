@@ -7,14 +7,14 @@ use mathlib.Core.Logic.{dite}
 use native.Mathlib.Decide.{ℕ_discrete}
 use Rattle.room_spec.specs.Rooms.{RoomSpec, IsWithinLimits}
 use Rattle.room_spec.specs.Sizes.{Sizes, AreSizes, memory_words, sizes_in}
-use Rattle.room_spec.proofs.MemoryWords.{are_memory_words}
+use Rattle.room_spec.proofs.CallerLemmas.{are_memory_words}
 use Rattle.level_cells.specs.Packing.{packed, FitFields}
-use Rattle.level_cells.proofs.PackingLemmas.{fits, with_one_more}
+use Rattle.level_cells.proofs.CallerLemmas.{fits, with_one_more}
 use Rattle.view_table.specs.declared.place.Place.TheVariants as places
 use Rattle.view_table.specs.Places.{IsMemoryWord, IsProcess, IsRound, words_of}
 use Rattle.view_table.specs.Words.{with_word}
 use Rattle.sim_memory.specs.Steps.{AreWithin, IsRaised, place_of, memory_word, with_part, word_of}
-use Rattle.sim_memory.proofs.Words.{memory_at, part_here, word_below, word_raised, word_fits, within_raised}
+use Rattle.sim_memory.proofs.CallerLemmas.{memory_at, part_here, word_below, word_raised, word_fits, within_raised}
 use Rattle.simulator.specs.declared.goal.Goal.{Goal}
 use Rattle.simulator.specs.declared.goal.Goal.TheVariants as goals
 use Rattle.simulator.specs.declared.line.Line.{Line}

@@ -7,7 +7,7 @@ use native.Mathlib.Decide.{ℕ_discrete}
 use Rattle.protocol_lang.specs.Numbers.{greatest}
 use Rattle.protocol_lang.specs.Limits.{action_value}
 use Rattle.room_spec.specs.Rooms.{RoomSpec, IsWithinLimits, processes}
-use Rattle.room_spec.proofs.Values.{next_in_room}
+use Rattle.room_spec.proofs.CallerLemmas.{next_in_room}
 use Rattle.simulator.specs.declared.goal.Goal.TheVariants as goals
 use Rattle.simulator.specs.Minds.{goal_at}
 use Rattle.room_core.specs.Rooms.{Configuration, ScheduleEvent, steps, crashes, MayHappen, IsShaped}

@@ -9,7 +9,7 @@ use Rattle.simulator.specs.Minds.{MindOf, is_unfinished, goal_at, current_goal, 
 use Rattle.simulator.specs.Quiet.{HasNoWrite, AreAsksAtTheEnd, unfinished_from}
 use Rattle.simulator.specs.Turns.{begun, ended, asked}
 use Rattle.simulator.specs.Sweeps.{quiet_after}
-use Rattle.simulator.proofs.Asking.{begins, no_asks, quiet_ends, all_asked}
+use Rattle.simulator.proofs.CallerLemmas.{sets_out, no_asks, quiet_ends, all_asked}
 
 abbrev pub mark : (ℕ → ℕ → Bool) → ℕ → Goal → Goal
 mark blocked p (Write round value) = Write round value
@@ -114,7 +114,7 @@ module _ {S : Type 0} (blocked : ℕ → ℕ → Bool) where
 
   pub blocked_begun : (process : ℕ) (mind : MindOf S) (quiet : ℕ) → next_process mind.goals mind.sweep ≡ Some process → IsBlockedCount blocked mind quiet → IsBlockedCount blocked (begun process mind) quiet
   blocked_begun process mind quiet found counts =
-      subst (λ (l : List Goal). AreAsksAtTheEnd l quiet) (sym (begins (marks blocked 0 mind.goals) mind.sweep process (same_next blocked mind.goals mind.sweep ∙ found))) counts
+      subst (λ (l : List Goal). AreAsksAtTheEnd l quiet) (sym (sets_out (marks blocked 0 mind.goals) mind.sweep process (same_next blocked mind.goals mind.sweep ∙ found))) counts
 
   pub blocked_asked : (chosen : Option ℕ) (mind : MindOf S) (quiet : ℕ) → (chosen ≡ None → blocked mind.sweep (current_round mind) ≡ true) → mind.sweep < length mind.goals → is_unfinished (current_goal mind) ≡ true → IsBlockedCount blocked mind quiet
       → IsBlockedCount blocked (asked chosen mind).mind (quiet_after (asked chosen mind).turn quiet)

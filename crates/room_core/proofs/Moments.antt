@@ -17,7 +17,7 @@ use Rattle.std.specs.Prelude.{◌&&◌, ◌||◌}
 use Rattle.std.proofs.lemmas.Bool.{eqb-true, lt-ltb}
 use Rattle.room_spec.specs.Sizes.{sizes_in}
 use Rattle.sim_memory.specs.Steps.{AreWithin, word_of, with_part}
-use Rattle.sim_memory.proofs.Words.{word_below}
+use Rattle.sim_memory.proofs.CallerLemmas.{word_below}
 use Rattle.simulator.specs.declared.line.Line.{Line}
 use Rattle.simulator.specs.declared.line.Line.TheVariants.{Rest, Snap, Show}
 use Rattle.simulator.specs.Minds.{current_round}

@@ -8,9 +8,9 @@ use Rattle.protocol_lang.specs.Meaning.{first_value}
 use Rattle.protocol_lang.specs.declared.meaning.Action.TheVariants as actions
 use Rattle.room_spec.specs.Rooms.{RoomSpec, IsWithinLimits, processes}
 use Rattle.safe_agreement.specs.Levels.{IsClean, has_level}
-use Rattle.safe_agreement.proofs.Clean.{no_level_at}
+use Rattle.safe_agreement.proofs.CallerLemmas.{no_level_at}
 use Rattle.sim_memory.specs.Steps.{IsRowAtMost, row_of, merged_of}
-use Rattle.sim_memory.proofs.Rows.{row_at, merged_at, merged_reached, merged_below}
+use Rattle.sim_memory.proofs.CallerLemmas.{row_at, merged_at, merged_reached, merged_below}
 use Rattle.room_core.specs.Calls.{RoomState}
 use Rattle.room_core.specs.Fields.{StepMap, Fields, levels_at}
 use Rattle.room_core.specs.Reading.{AreFieldsOf}

@@ -12,8 +12,7 @@ use Rattle.simulator.specs.Moves.{move_of, taken, words_after, answer_of}
 use Rattle.simulator.specs.Ranges.{IsMind}
 use Rattle.simulator.specs.declared.operation.Move.{Move}
 use Rattle.simulator.specs.declared.operation.Move.TheVariants.{Load, Store, Add, Sub, Finished, OutOfTurns}
-use Rattle.simulator.proofs.Keeping.{kept, opens}
-use Rattle.simulator.proofs.Stepping.{keeps_number, steps_by_one}
+use Rattle.simulator.proofs.CallerLemmas.{kept, opens, keeps_number, steps_by_one}
 use Rattle.room_core.specs.Rooms.{Configuration, ScheduleEvent, steps, crashes, opening, mind_at, stepped, crashed_by, IsAlive, HasLine, MayHappen, after_event, replay, IsLegal, IsOneInterleaving, IsShaped, IsRoom, times}
 
 -- what simulator i's operation answers

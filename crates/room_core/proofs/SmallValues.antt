@@ -3,7 +3,7 @@ use Rattle.std.proofs.Common.{ℕ, ◌≤◌, ap, subst}
 use Rattle.protocol_lang.specs.Numbers.{greatest}
 use Rattle.protocol_lang.specs.Limits.{action_value}
 use Rattle.room_spec.specs.Rooms.{RoomSpec, IsWithinLimits}
-use Rattle.room_spec.proofs.Values.{first_in_room, next_in_room}
+use Rattle.room_spec.proofs.CallerLemmas.{first_in_room, next_in_room}
 use Rattle.room_core.specs.Contents.{HasSmallValues}
 
 pub small_values : (spec : RoomSpec) → IsWithinLimits spec → HasSmallValues spec

@@ -9,14 +9,13 @@ use Rattle.std.proofs.lemmas.Grind.{same_number_lists}
 use Rattle.std.proofs.lemmas.List.FromFn.{length-map-range_with_len, get_or-map-range_with_len}
 use Rattle.room_spec.specs.Rooms.{RoomSpec, IsWithinLimits, processes}
 use Rattle.room_spec.specs.Sizes.{Sizes, AreSizes, memory_words, sizes_in}
-use Rattle.room_spec.proofs.MemoryWords.{are_memory_words}
+use Rattle.room_spec.proofs.CallerLemmas.{are_memory_words}
 use Rattle.level_cells.specs.Fields.{field_of, level_of, levels_of}
 use Rattle.level_cells.specs.Packing.{packed}
-use Rattle.level_cells.proofs.PackingLemmas.{reads_back}
+use Rattle.level_cells.proofs.CallerLemmas.{reads_back}
 use Rattle.safe_agreement.specs.Levels.{resolved_of}
 use Rattle.sim_memory.specs.Steps.{AreSameSteps, AreWithin, memory_of, memory_word, place_of, step_in, with_part, word_of}
-use Rattle.sim_memory.proofs.Rows.{merged_same, holder_same}
-use Rattle.sim_memory.proofs.Words.{memory_is, word_below, word_field, word_part, word_steps}
+use Rattle.sim_memory.proofs.CallerLemmas.{merged_same, holder_same, memory_is, word_below, word_field, word_part, word_steps}
 use Rattle.simulator.specs.Moves.{entry_in, holder_in, chosen_in, same_words}
 use Rattle.room_core.specs.Fields.{StepMap, Fields, all_below, same_steps, entry_of_steps, holder_of_steps, chosen_at}
 

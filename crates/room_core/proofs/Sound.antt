@@ -6,9 +6,7 @@ use native.Mathlib.Decide.{ℕ_discrete}
 use Rattle.room_spec.specs.Rooms.{RoomSpec, IsWithinLimits, processes}
 use Rattle.safe_agreement.specs.Levels.{IsClean}
 use Rattle.safe_agreement.specs.Phases.{Phase, before_all, IsFixed, HasTwoBeside, HaveSameTwos}
-use Rattle.safe_agreement.proofs.Clean.{resolved_to, clean_from}
-use Rattle.safe_agreement.proofs.Steps.{stays_fixed, keeps_twos, same_fixed, same_beside, stays_beside, beside_before}
-use Rattle.safe_agreement.proofs.Replays.{clean_is_fixed, same_of_same}
+use Rattle.safe_agreement.proofs.CallerLemmas.{resolved_to, clean_from, stays_fixed, keeps_twos, same_fixed, same_beside, stays_beside, beside_before, clean_is_fixed, same_of_same}
 use Rattle.std.specs.List.{range_with_len}
 use Rattle.simulator.specs.Minds.{goal_at, first_goal}
 use Rattle.room_core.specs.Rooms.{Configuration, ScheduleEvent, steps, crashes, MayHappen, IsShaped, IsOneInterleaving}

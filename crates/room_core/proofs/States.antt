@@ -13,8 +13,7 @@ use Rattle.simulator.specs.Quiet.{HasNoWrite, IsQuietCount}
 use Rattle.simulator.specs.Ranges.{IsMind}
 use Rattle.simulator.specs.Sweeps.{SweepState, opening_sweep}
 use Rattle.simulator.specs.declared.sweep.Ready.TheVariants.{Step, Idle}
-use Rattle.simulator.proofs.Counting.{counts_on, counts_anew, idle_waits}
-use Rattle.simulator.proofs.Stepping.{moves}
+use Rattle.simulator.proofs.CallerLemmas.{counts_on, counts_anew, idle_waits, moves}
 use Rattle.room_core.specs.Rooms.{Configuration, IsRoom, IsShaped, HasLine, mind_at, opening, stepped, crashed_by}
 use Rattle.room_core.specs.Calls.{RoomState, IsCore, CountsQuietTurns, configuration_of, sweep_at, has_crashed, opening_state, operation_at, ready_at, moved, taken_by, sweep_after, with_sweep, woken}
 use Rattle.room_core.proofs.Replays.{is_room, opens_run, under_line, under_crash}

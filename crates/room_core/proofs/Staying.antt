@@ -3,7 +3,7 @@ use Rattle.std.proofs.Common.{◌≡◌, ◌↔◌, ℕ, ◌<◌, Bool, refl, sy
 use Rattle.room_spec.specs.Rooms.{RoomSpec}
 use Rattle.safe_agreement.specs.Levels.{least_two}
 use Rattle.safe_agreement.specs.Phases.{phase_level, IsFixed, HaveSameTwos}
-use Rattle.safe_agreement.proofs.Replays.{same_least_two, same_of_same}
+use Rattle.safe_agreement.proofs.CallerLemmas.{same_least_two, same_of_same}
 use Rattle.room_core.specs.Rooms.{Configuration, steps, IsShaped, HasLine}
 use Rattle.room_core.specs.Fields.{Fields, levels_at, line}
 use Rattle.room_core.specs.Agreements.{IsFixedAt}

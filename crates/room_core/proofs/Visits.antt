@@ -6,7 +6,7 @@ use mathlib.Core.Logic.{dite}
 use native.Mathlib.Decide.{ℕ_discrete}
 use Rattle.room_spec.specs.Rooms.{RoomSpec, IsWithinLimits, processes}
 use Rattle.room_spec.specs.Sizes.{sizes_in}
-use Rattle.sim_memory.proofs.Rows.{row_at, merged_at}
+use Rattle.sim_memory.proofs.CallerLemmas.{row_at, merged_at}
 use Rattle.simulator.specs.declared.goal.Goal.{Goal}
 use Rattle.simulator.specs.declared.goal.Goal.TheVariants as goals
 use Rattle.simulator.specs.Firsts.{IsVisited}
@@ -15,7 +15,7 @@ use Rattle.simulator.specs.Turns.{after_write}
 use Rattle.std.proofs.lemmas.List.FromFn.{get_or-map-range_with_len}
 use Rattle.simulator.specs.Minds.{first_goal, first_goals, goal_at, current_goal, current_round, is_unfinished, round_of}
 use Rattle.simulator.specs.Ranges.{IsMind}
-use Rattle.simulator.proofs.Visiting.{all_visited}
+use Rattle.simulator.proofs.CallerLemmas.{all_visited}
 use Rattle.room_core.specs.Rooms.{Configuration, ScheduleEvent, steps, crashes, opening, after_event, MayHappen, IsLegal, IsShaped}
 use Rattle.room_core.specs.Calls.{RoomState}
 use Rattle.room_core.specs.Fields.{StepMap, Fields, opening_fields, changed, fields_after, line, replay_fields}

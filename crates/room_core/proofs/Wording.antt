@@ -12,7 +12,7 @@ use Rattle.simulator.specs.declared.goal.Goal.TheVariants as goals
 use Rattle.simulator.specs.declared.line.Line.TheVariants.{Snap, Show, Enter, GetView, Values}
 use Rattle.simulator.specs.Minds.{MindOf, goal_at, current_round}
 use Rattle.simulator.specs.Turns.{TakenOf, begun, collected, goes_on, got_view, most_collects, scanned, showed, snapped, words_in, asked, acted, padded, gathered_all, gathered, opened_at, opened}
-use Rattle.simulator.proofs.Gathering.{added, added_more}
+use Rattle.simulator.proofs.CallerLemmas.{added, added_more}
 use Rattle.room_core.specs.Fields.{StepMap}
 use Rattle.room_core.specs.Reading.{worded}
 

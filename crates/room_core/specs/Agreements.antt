@@ -7,7 +7,8 @@ use Rattle.protocol_lang.specs.Meaning.{first_value, next_action}
 use Rattle.protocol_lang.specs.declared.meaning.Action.{Action}
 use Rattle.protocol_lang.specs.declared.meaning.Action.TheVariants as actions
 use Rattle.room_spec.specs.Rooms.{RoomSpec, processes}
-use Rattle.safe_agreement.specs.Levels.{has_level, least_two}
+use Rattle.safe_agreement.specs.Levels.{least_two}
+use Rattle.safe_agreement.specs.Levels as agreement
 use Rattle.sim_memory.specs.Steps.{IsRowAtMost, merged_of, row_of}
 use Rattle.simulator.specs.declared.line.Line.{Line}
 use Rattle.simulator.specs.declared.line.Line.TheVariants.{Look, Leave}
@@ -37,7 +38,7 @@ decided_in spec fields j = option_map (λ out. out - 1) (find is_out (outs_at sp
 -- ---- the agreement on process j's snapshot in round k
 
 abbrev pub is_clean : RoomSpec → Fields → ℕ → ℕ → Bool
-is_clean spec fields j k = has_level 2 (levels_at spec fields j k) && not (has_level 1 (levels_at spec fields j k))
+is_clean spec fields j k = agreement.is_clean (levels_at spec fields j k)
 
 -- a simulator has gone on from it, or may go on from it now
 abbrev pub is_passed : RoomSpec → Fields → ℕ → ℕ → Bool

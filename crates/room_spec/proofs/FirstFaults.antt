@@ -20,7 +20,7 @@ use Rattle.protocol_lang.specs.declared.tree.Name.TheVariants as names
 use Rattle.protocol_lang.specs.declared.tree.Kind.TheVariants as kinds
 use Rattle.protocol_lang.specs.declared.fault.ParseFault.{ParseFault}
 use Rattle.protocol_lang.specs.declared.fault.ParseFault.TheVariants.{OutOfMemory}
-use Rattle.protocol_lang.proofs.Causes.{first_fault}
+use Rattle.protocol_lang.proofs.CallerLemmas.{first_fault}
 use Rattle.room_spec.specs.Names.{is_name}
 use Rattle.room_spec.specs.Rooms.{RoomSpec, AreFuses, IsTaskIn, IsWithinLimits, bits_of, is_value, most_bits}
 use Rattle.room_spec.specs.declared.version.Version.{Version}

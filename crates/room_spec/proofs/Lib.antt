@@ -1,17 +1,18 @@
-pub mod Names
-pub mod Texts
-pub mod Blocks
-pub mod Inputs
-pub mod Lines
-pub mod Ends
-pub mod Numerals
-pub mod Heads
-pub mod Fuses
-pub mod Readings
-pub mod Locality
-pub mod FirstFaults
-pub mod Memory
-pub mod Values
-pub mod Worked
-pub mod Places
-pub mod MemoryWords
+pub mod CallerLemmas
+mod Names
+mod Texts
+mod Blocks
+mod Inputs
+mod Lines
+mod Ends
+mod Numerals
+mod Heads
+mod Fuses
+mod Readings
+mod Locality
+mod FirstFaults
+mod Memory
+mod Values
+mod Worked
+mod Places
+mod MemoryWords

@@ -12,9 +12,7 @@ use Rattle.protocol_lang.specs.Numbers.{greatest}
 use Rattle.protocol_lang.specs.Reading.{reading}
 use Rattle.protocol_lang.specs.declared.protocol.Protocol.{Protocol}
 use Rattle.protocol_lang.specs.declared.fault.ParseFault.{ParseFault}
-use Rattle.protocol_lang.proofs.Limits.{small_if_read}
-use Rattle.protocol_lang.proofs.Sound.{found as text_read}
-use Rattle.protocol_lang.proofs.Only.{only}
+use Rattle.protocol_lang.proofs.CallerLemmas.{small_if_read, found as text_read, only}
 use Rattle.room_spec.specs.Names.{is_name, is_name_byte}
 use Rattle.room_spec.specs.Rooms.{RoomSpec, AreFuses, IsShape, IsTaskIn, IsWithinLimits, bits_of, is_value, most_bits}
 use Rattle.room_spec.specs.declared.version.Version.{Version}

@@ -5,7 +5,7 @@ use Rattle.std.proofs.lemmas.Bool.{and_parts, leb-true}
 use Rattle.protocol_lang.specs.Numbers.{greatest}
 use Rattle.protocol_lang.specs.Limits.{IsEntry, action_value}
 use Rattle.protocol_lang.specs.Meaning.{first_value, next_action}
-use Rattle.protocol_lang.proofs.Limits.{first_small, next_small}
+use Rattle.protocol_lang.proofs.CallerLemmas.{first_small, next_small}
 use Rattle.room_spec.specs.Rooms.{RoomSpec, IsWithinLimits, is_value, processes}
 
 values_small : (values : List ℕ) (j : ℕ) → list_all is_value values ≡ true → get_or values j 0 ≤ greatest

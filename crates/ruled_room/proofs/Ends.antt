@@ -9,7 +9,7 @@ use Rattle.atomic_table.specs.Table.{Me, Allows, keeps, Final, Seen}
 use Rattle.atomic_table.proofs.Lists.{at_set, set_again}
 use Rattle.room_spec.specs.Rooms.{RoomSpec, IsWithinLimits}
 use Rattle.room_core.specs.Rooms.{Configuration, IsAlive, crashed_by}
-use Rattle.room_core.proofs.Replays.{shapes}
+use Rattle.room_core.proofs.CallerLemmas.{shapes}
 use Rattle.ruled_room.specs.declared.rule.Operation.{Operation}
 use Rattle.ruled_room.specs.declared.rule.Progress.{Progress}
 use Rattle.ruled_room.specs.declared.rule.View.{View}

@@ -9,8 +9,7 @@ use Rattle.room_spec.specs.Rooms.{RoomSpec, IsWithinLimits}
 use Rattle.simulator.specs.Minds.{MindState, opening_mind}
 use Rattle.simulator.specs.Quiet.{IsQuietCount}
 use Rattle.simulator.specs.Sweeps.{SweepState, opening_sweep}
-use Rattle.simulator.proofs.Counting.{counts_anew}
-use Rattle.simulator.proofs.Keeping.{opens}
+use Rattle.simulator.proofs.CallerLemmas.{counts_anew, opens}
 use Rattle.ruled_room.specs.Parts.{AreSweeps, IsSweepOf, KeeperData, first_sweeps, holds_in, minds_of, sweep_home}
 use Rattle.ruled_room.proofs.Sharing.{left_over, put_in}
 

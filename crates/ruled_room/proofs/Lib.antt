@@ -1,6 +1,6 @@
-pub mod Moving
-pub mod Running
-pub mod Sharing
-pub mod Ends
-pub mod Homes
-pub mod Storing
+mod Moving
+mod Running
+mod Sharing
+mod Ends
+mod Homes
+mod Storing

@@ -13,7 +13,7 @@ use Rattle.simulator.specs.Moves.{move_of, taken, words_after, answer_of, IsOper
 use Rattle.simulator.specs.Ranges.{IsMind}
 use Rattle.simulator.specs.declared.operation.Move.{Move}
 use Rattle.room_core.specs.Rooms.{Configuration, HasLine, mind_at, stepped}
-use Rattle.room_core.proofs.Replays.{shapes}
+use Rattle.room_core.proofs.CallerLemmas.{shapes}
 use Rattle.ruled_room.specs.declared.rule.Operation.{Operation}
 use Rattle.ruled_room.specs.declared.rule.Progress.{Progress}
 use Rattle.ruled_room.specs.declared.rule.View.{View}

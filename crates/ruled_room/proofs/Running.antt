@@ -11,7 +11,7 @@ use lib.ListN.{get_elem?}
 use Rattle.room_spec.specs.Rooms.{RoomSpec}
 use Rattle.simulator.specs.Minds.{MindState, opening_mind}
 use Rattle.room_core.specs.Rooms.{Configuration, ScheduleEvent, steps, crashes, opening, stepped, crashed_by, replay, HasLine, IsAlive}
-use Rattle.room_core.proofs.Replays.{under_line_at_end, under_crash_at_end}
+use Rattle.room_core.proofs.CallerLemmas.{under_line_at_end, under_crash_at_end}
 use Rattle.ruled_room.specs.declared.rule.Operation.{Operation}
 use Rattle.ruled_room.specs.declared.rule.Progress.{Progress}
 use Rattle.ruled_room.specs.Runs.{IsInterleavingOf, operation_in, operations_along}

@@ -11,7 +11,7 @@ use Rattle.simulator.specs.Moves.{move_of, words_after}
 use Rattle.simulator.specs.declared.operation.Move.{Move}
 use Rattle.simulator.specs.declared.operation.Move.TheVariants.{Load, Store, Add, Sub, Finished, OutOfTurns}
 use Rattle.room_core.specs.Rooms.{Configuration, ScheduleEvent, steps, crashes, opening, mind_at, stepped, crashed_by, replay}
-use Rattle.room_core.proofs.Replays.{length-words_after}
+use Rattle.room_core.proofs.CallerLemmas.{length-words_after}
 use Rattle.ruled_room.specs.declared.rule.Operation.{Operation}
 use Rattle.ruled_room.specs.Rule.{word_count}
 use Rattle.ruled_room.specs.Runs.{operation_in, operations_along}

@@ -1,9 +1,10 @@
 -- What `resolved_of` finds, in the words of levels.
 use Rattle.std.proofs.Common.{◌≡◌, ◌≢◌, ◌⊎◌, ◌↔◌, ℕ, ◌<◌, ◌≤◌, Bool, true, false, cond, not, eqb, inl, inr, suc, List, [], ◌∷◌, length, get_or, Option, Some, None, IfSome, IfNone, refl, sym, ap, ◌∙◌, arith}
-use Rattle.std.specs.List.{position_or_len}
+use Rattle.std.specs.List.{position, position_or_len}
+use Rattle.std.specs.Option.{is_some}
 use Rattle.std.proofs.lemmas.Bool.{eqb-true, eqb-false, eq-eqb, ne_eqb, both_ways, cases_order, not-true, ltb-false}
-use Rattle.std.proofs.lemmas.List.Folds.{list_any_at}
-use Rattle.std.proofs.lemmas.List.Sums.{prefix_len_passes}
+use Rattle.std.proofs.lemmas.List.Folds.{list_any_at, list_any_none}
+use Rattle.std.proofs.lemmas.List.Sums.{fails_before_first, prefix_len_passes}
 use Rattle.std.proofs.lemmas.List.Quantifiers.{position-Some}
 use Rattle.safe_agreement.specs.Levels.{has_level, IsClean, IsResolvedTo, least_two, resolved_of}
 
@@ -19,6 +20,19 @@ pub no_level_from : (level : ℕ) (levels : List ℕ) → ((i : ℕ) → i < len
 no_level_from level [] none = refl
 no_level_from level (one ∷ levels) none = rw (ne_eqb one level (none 0 (omega arith))) (no_level_from level levels (λ i below. none (suc i) (omega arith)))
 
+no_place : (b : Bool) (n : ℕ) → cond b (Some n) None ≡ None → b ≡ false
+no_place true n is = absurd cc
+no_place false n is = refl
+
+-- by where the first at the level stands
+pub some_level : (level : ℕ) (levels : List ℕ) (found : Option ℕ) → position (λ one. eqb one level) levels ≡ found → has_level level levels ≡ is_some found
+some_level level levels (Some at) is =
+    let place = position-Some (λ one. eqb one level) levels at 0 is in
+    list_any_at (λ one. eqb one level) levels at 0 place.0 place.1
+some_level level levels None is =
+    let long : length levels ≤ position_or_len (λ one. eqb one level) levels = ltb-false _ _ (no_place _ _ is) in
+    list_any_none (λ one. eqb one level) levels (λ i d below. fails_before_first (λ one. eqb one level) levels i d (omega arith))
+
 -- ---- the least simulator at level 2
 
 pub record IsLeastTwo (levels : List ℕ) (simulator : ℕ) : Type 0 where
@@ -30,10 +44,6 @@ pub least_two_is : (levels : List ℕ) (simulator : ℕ) → least_two levels �
 least_two_is levels simulator is =
     let place = position-Some (λ one. eqb one 2) levels simulator 0 is in
     record { below = place.0; two = eqb-true _ _ place.1; least = λ i before. eqb-false _ _ (place.2 i before) }
-
-no_place : (b : Bool) (n : ℕ) → cond b (Some n) None ≡ None → b ≡ false
-no_place true n is = absurd cc
-no_place false n is = refl
 
 found_at : (levels : List ℕ) (place : Option ℕ) → least_two levels ≡ place → (i : ℕ) → i < length levels → get_or levels i 0 ≡ 2 → (k : ℕ) × (place ≡ Some k)
 found_at levels (Some k) is i below two = (k, refl)

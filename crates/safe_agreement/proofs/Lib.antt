@@ -1,4 +1,6 @@
-pub mod Clean
-pub mod Steps
-pub mod Replays
+pub mod CallerLemmas
+mod Clean
+mod Steps
+mod Replays
 mod Worked
+mod PackedLevels

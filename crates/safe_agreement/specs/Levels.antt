@@ -1,6 +1,6 @@
 -- The levels of one agreement, one for each simulator: 0 before it enters and after it withdraws, 1 inside, 2 where
 -- its proposal stands.
-use Rattle.std.specs.Prelude.{◌≡◌, ◌≢◌, ℕ, ◌<◌, Bool, List, length, Option, None, slice_index, position, ◌==◌, if◌then◌else◌}
+use Rattle.std.specs.Prelude.{◌≡◌, ◌≢◌, ℕ, ◌<◌, Bool, List, length, Option, None, slice_index, position, ◌==◌, ◌&&◌, not, if◌then◌else◌}
 use Rattle.std.specs.List.{list_any}
 
 -- whether some simulator is at this level
@@ -21,6 +21,10 @@ pub record IsClean (levels : List ℕ) : Type 0 where
   pub below : simulator < length levels
   pub two : slice_index levels simulator ≡ 2
   pub no_one : (i : ℕ) → i < length levels → slice_index levels i ≢ 1
+
+-- the same as a test
+abbrev pub is_clean : List ℕ → Bool
+is_clean levels = has_level 2 levels && not (has_level 1 levels)
 
 -- the least simulator at level 2, where none is at level 1
 pub record IsResolvedTo (levels : List ℕ) (simulator : ℕ) : Type 0 where

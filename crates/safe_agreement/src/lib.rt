@@ -10,6 +10,9 @@ ghost use Rattle.std.specs.Prelude.{◌≡◌, ◌==◌, IfNone, IfSome, positio
 ghost use Rattle.safe_agreement.specs.Levels.{IsClean, IsResolvedTo, leave_of, resolved_of};
 
 pub mod laws;
+mod packed;
+
+pub use packed::{has_level, is_clean, least_at, resolved_in};
 
 /// The level to which a simulator goes when it leaves an agreement, by the levels that it saw when
 /// it looked, one for each simulator, each 0 to 2: 0 where some level was 2, and else 2 (the end of a
@@ -34,11 +37,11 @@ pub fn resolved(levels: &[u8]) -> Option<usize>
     if levels.contains(&1) {
         return None;
     }
-    least_at(levels, 2)
+    first_at(levels, 2)
 }
 
 /// The least simulator at this level.
-fn least_at(levels: &[u8], level: u8) -> Option<usize>
+fn first_at(levels: &[u8], level: u8) -> Option<usize>
     ensures { result ≡ position (λ one. one == level) levels.now }
 {
     levels.iter().position(|one| *one == level)

@@ -4,7 +4,7 @@ use Rattle.room_spec.specs.Rooms.{RoomSpec, processes}
 use Rattle.simulator.specs.Bounds.{answered_all, IsReadyThroughout}
 use Rattle.simulator.specs.Minds.{MindState}
 use Rattle.simulator.specs.Sweeps.{SweepState}
-use Rattle.simulator.proofs.Bounding.{turns_bounded}
+use Rattle.simulator.proofs.CallerLemmas.{turns_bounded}
 use Rattle.room_core.specs.Calls.{most_steps}
 use Rattle.ruled_room.specs.Parts.{IsSweepOf, RoomName, SimulatorData, stepped_with}
 use Rattle.ruled_room.specs.declared.stop.Stop.{Stop}

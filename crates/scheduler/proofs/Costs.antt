@@ -2,7 +2,7 @@
 use Rattle.std.proofs.Common.{◌+◌, ◌*◌, ◌≤◌, sym, subst}
 use Rattle.simulator.specs.Ranges.{turn_limit}
 use Rattle.simulator.specs.Minds.{MindState}
-use Rattle.simulator.proofs.Spending.{steps_bounded}
+use Rattle.simulator.proofs.CallerLemmas.{steps_bounded}
 use Rattle.ruled_room.specs.Parts.{IsSweepOf, SimulatorData}
 use Rattle.ruled_room.specs.declared.stop.Stop.{Stop}
 use Rattle.scheduler.specs.Drives.{Drives}

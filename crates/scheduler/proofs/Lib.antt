@@ -1,7 +1,7 @@
-pub mod Stepwise
-pub mod Bounds
-pub mod Costs
-pub mod Rounds
-pub mod Returning
-pub mod Dealing
-pub mod Ending
+mod Stepwise
+mod Bounds
+mod Costs
+mod Rounds
+mod Returning
+mod Dealing
+mod Ending

@@ -7,12 +7,10 @@ use Rattle.simulator.specs.Sweeps.{SweepState, is_resting, ready_of}
 use Rattle.simulator.specs.declared.sweep.Ready.{Ready}
 use Rattle.simulator.specs.declared.sweep.Ready.TheVariants as ready
 use Rattle.simulator.specs.Minds.{MindState, unfinished_in}
-use Rattle.simulator.proofs.Counting.{idle_waits}
-use Rattle.simulator.proofs.Keeping.{kept}
+use Rattle.simulator.proofs.CallerLemmas.{idle_waits, kept, bounded, moves, stays_in_turn, steps_by_one}
 use Rattle.simulator.specs.Ranges.{turn_limit}
-use Rattle.simulator.proofs.Stepping.{bounded, moves, stays_in_turn, steps_by_one}
 use Rattle.room_core.specs.Calls.{most_steps}
-use Rattle.room_core.proofs.Alone.{steps_within}
+use Rattle.room_core.proofs.CallerLemmas.{steps_within}
 use Rattle.ruled_room.specs.Parts.{IsSweepOf, RoomName, SimulatorData, stepped_with}
 use Rattle.ruled_room.specs.declared.stop.Stop.{Stop}
 use Rattle.ruled_room.specs.declared.stop.Stop.TheVariants.{Idle, OutOfTurns, Crashed}

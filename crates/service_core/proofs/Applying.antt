@@ -5,7 +5,7 @@ use Rattle.room_spec.specs.Rooms.{RoomSpec}
 use Rattle.room_core.specs.Calls.{RoomState, opening_state}
 use Rattle.room_core.specs.Fields.{Fields}
 use Rattle.room_core.specs.Reading.{AreFieldsOf}
-use Rattle.room_core.proofs.FieldCalls.{opening_in_fields}
+use Rattle.room_core.proofs.CallerLemmas.{opening_in_fields}
 use Rattle.ws_history.specs.declared.states.Report.{Report as ReportData}
 use Rattle.service_core.specs.declared.command.Command.{Command}
 use Rattle.service_core.specs.declared.command.Command.TheVariants as commands

@@ -1,5 +1,6 @@
-pub mod Stepping
-pub mod Answering
-pub mod Lookups
-pub mod Applying
-pub mod Running
+pub mod CallerLemmas
+mod Stepping
+mod Answering
+mod Lookups
+mod Applying
+mod Running

@@ -1,6 +1,7 @@
-pub mod Columns
-pub mod Greatest
-pub mod Merging
-pub mod Rows
-pub mod Words
+pub mod CallerLemmas
+mod Columns
+mod Greatest
+mod Merging
+mod Rows
+mod Words
 mod Worked

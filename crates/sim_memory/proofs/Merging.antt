@@ -10,7 +10,7 @@ use Rattle.std.proofs.lemmas.Nat.{shr-shr, div-mul-add, mod-mul-add, div-add-mod
 use Rattle.std.proofs.Math.Nat.{add-mul}
 use Rattle.std.proofs.lemmas.Simd.{tops_compared, length-zip2, get_or-sel_l, get_or-zip2}
 use Rattle.room_spec.specs.Sizes.{Sizes, AreSizes, fields_in_word}
-use Rattle.room_spec.proofs.MemoryWords.{are_memory_words, by_bits}
+use Rattle.room_spec.proofs.CallerLemmas.{are_memory_words, by_bits}
 use Rattle.sim_memory.specs.Steps.{field_number, holder_of, merged_of, place_of, step_in, word_of}
 use Rattle.sim_memory.specs.Lasts.{AreLast, AreSteps}
 use Rattle.sim_memory.proofs.Rows.{merged_below}

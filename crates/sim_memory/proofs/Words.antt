@@ -9,11 +9,10 @@ use Rattle.std.proofs.lemmas.Grind.{same_number_lists}
 use Rattle.std.proofs.lemmas.Nat.{mul-add-lt, mul-le, div-mul-add, mod-mul-add, same_from_place, div_below, mod_below, div-add-mod', row_fits}
 use Rattle.room_spec.specs.Rooms.{bits_of}
 use Rattle.room_spec.specs.Sizes.{Sizes, AreSizes, fields_in_word, memory_words}
-use Rattle.room_spec.proofs.MemoryWords.{are_memory_words, by_bits}
+use Rattle.room_spec.proofs.CallerLemmas.{are_memory_words, by_bits}
 use Rattle.level_cells.specs.Fields.{field_of, AreApart}
 use Rattle.level_cells.specs.Packing.{FitFields}
-use Rattle.level_cells.proofs.FieldLemmas.{added_field, added_others}
-use Rattle.level_cells.proofs.PackingLemmas.{fits, reads_back, of_same, of_zeros, with_one_more}
+use Rattle.level_cells.proofs.CallerLemmas.{added_field, added_others, fits, reads_back, of_same, of_zeros, with_one_more}
 use Rattle.sim_memory.specs.Steps.{row_of, IsRowAtMost, AreAtMost, AreSameSteps, IsRaised, AreWithin, AreFieldsAtMost, AreMemory, field_number, word_of, place_of, field_in, step_in, fields_of_word, memory_word, memory_of, with_part}
 use Rattle.sim_memory.proofs.Rows.{row_grows}
 

@@ -118,8 +118,8 @@ begins_by goals sweep process (Some at) sooner is other found = ap (unfinished_f
 begins_by goals sweep process None (Some at) is other found = ap (unfinished_from goals) (sym (some_same at process found)) ∙ begins_sooner goals sweep at is other
 begins_by goals sweep process None None is other found = absurd cc
 
-pub begins : (goals : List Goal) (sweep process : ℕ) → next_process goals sweep ≡ Some process → unfinished_from goals process ≡ unfinished_from goals sweep
-begins goals sweep process found = begins_by goals sweep process _ _ refl refl found
+pub sets_out : (goals : List Goal) (sweep process : ℕ) → next_process goals sweep ≡ Some process → unfinished_from goals process ≡ unfinished_from goals sweep
+sets_out goals sweep process found = begins_by goals sweep process _ _ refl refl found
 
 -- ---- a turn ends: the sweep goes on by one process, which comes last from now on
 

@@ -20,7 +20,7 @@ use Rattle.simulator.specs.Quiet.{HasNoWrite, IsQuietCount, unfinished_from, Are
 use Rattle.simulator.specs.Ranges.{IsOpenAt, IsMind}
 use Rattle.simulator.specs.Sweeps.{is_resting, ready_of, quiet_after}
 use Rattle.simulator.specs.Turns.{TakenOf, counted, begun, goes_on, ended, asked, acted, after_write, most_collects, on_word, padded, gathered_all, gathered, opened_at, opened, scanned, words_in}
-use Rattle.simulator.proofs.Asking.{begins, no_asks, quiet_ends, all_asked}
+use Rattle.simulator.proofs.Asking.{sets_out, no_asks, quiet_ends, all_asked}
 use Rattle.simulator.proofs.Processes.{next_is_left}
 
 -- a mind in an open turn, or at its first step, with its quiet count
@@ -72,7 +72,7 @@ on_opened None chosen mind quiet found place counts = counts
 on_opened (Some process) chosen mind quiet found place counts =
     let next = next_is_left mind.goals mind.sweep process (omega (arith, place)) found in
     on_opened_at (goal_at mind.goals process) chosen (begun process mind) quiet
-    (record { place = next.below; left = next.unfinished; counts = subst (λ (l : List Goal). AreAsksAtTheEnd l quiet) (sym (begins mind.goals mind.sweep process found)) counts })
+    (record { place = next.below; left = next.unfinished; counts = subst (λ (l : List Goal). AreAsksAtTheEnd l quiet) (sym (sets_out mind.goals mind.sweep process found)) counts })
 
 at_line : (line : Line) (spec : RoomSpec) (mind : MindState) (answer quiet : ℕ) → mind.sweep < length mind.goals → IsOpenAt line spec mind → IsQuietCount mind quiet → CountsOn (taken_at line spec (counted mind) answer) quiet
 at_line Rest spec mind answer quiet place at counts = on_opened (next_process mind.goals mind.sweep) (chosen_in spec answer) (counted mind) quiet refl place counts

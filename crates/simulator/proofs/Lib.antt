@@ -1,14 +1,14 @@
-pub mod Processes
-pub mod Gathering
-pub mod Ranging
-pub mod Visiting
-pub mod Keeping
-pub mod Levels
-pub mod Stepping
-pub mod Asking
-pub mod Counting
-pub mod Bounding
-pub mod Spending
+pub mod CallerLemmas
+mod Processes
+mod Gathering
+mod Ranging
+mod Visiting
+mod Keeping
+mod Stepping
+mod Asking
+mod Counting
+mod Bounding
+mod Spending
 mod Worked
 mod WorkedTurns
-pub mod Limits
+mod Limits

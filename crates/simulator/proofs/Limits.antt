@@ -4,8 +4,8 @@ use Rattle.std.proofs.lemmas.Bool.{eq-eqb, ne_eqb}
 use Rattle.std.proofs.lemmas.Nat.{mul-le}
 use Rattle.room_spec.specs.Rooms.{RoomSpec, IsWithinLimits, processes}
 use Rattle.room_spec.specs.Sizes.{Sizes, AreSizes, sizes_in}
-use Rattle.room_spec.proofs.MemoryWords.{are_memory_words, by_bits}
-use Rattle.sim_memory.proofs.Words.{rounds_fit}
+use Rattle.room_spec.proofs.CallerLemmas.{are_memory_words, by_bits}
+use Rattle.sim_memory.proofs.CallerLemmas.{rounds_fit}
 use Rattle.simulator.specs.declared.line.Line.{Line}
 use Rattle.simulator.specs.declared.line.Line.TheVariants.{Rest, Raise, Snap, Show, Enter, Look, Leave, Ask, GetView, Values, Out}
 use Rattle.simulator.specs.Ranges.{IsCollectCount, IsMind, charged_steps, greatest_limit, scan_steps, turn_limit, words_at}

@@ -7,13 +7,11 @@ use Rattle.level_cells.specs.Fields.{level_of, levels_of}
 use Rattle.view_table.specs.declared.place.Place.{Place}
 use Rattle.view_table.specs.declared.place.Place.TheVariants as places
 use Rattle.view_table.specs.Places.{IsPlace, words_of}
-use Rattle.view_table.proofs.PlaceLemmas as table
-use Rattle.safe_agreement.proofs.Clean.{resolved_to}
+use Rattle.view_table.proofs.CallerLemmas.{within as place_within}
+use Rattle.safe_agreement.proofs.CallerLemmas.{resolved_to}
 use Rattle.sim_memory.specs.Steps.{step_in, word_of}
-use Rattle.sim_memory.proofs.Words.{word_below}
+use Rattle.sim_memory.proofs.CallerLemmas.{word_below, holder_of_is, holder_merged, greatest_at, merged_below}
 use Rattle.simulator.specs.Turns.{words_in}
-use Rattle.sim_memory.proofs.Greatest.{holder_of_is, holder_merged, greatest_at}
-use Rattle.sim_memory.proofs.Rows.{merged_below}
 use Rattle.simulator.specs.declared.goal.Goal.{Goal}
 use Rattle.simulator.specs.declared.goal.Goal.TheVariants as goals
 use Rattle.simulator.specs.declared.line.Line.{Line}
@@ -55,7 +53,7 @@ chosen_below spec word chosen is =
 -- ---- the places of an open turn
 
 within_index : (spec : RoomSpec) (place : Place) → IsPlace (sizes_in spec) place → index_in spec place < words_of (sizes_in spec)
-within_index spec place range = table.within (sizes_in spec) place range
+within_index spec place range = place_within (sizes_in spec) place range
 
 current_range : (spec : RoomSpec) (mind : MindState) → IsMind spec mind → is_unfinished (current_goal mind) ≡ true → (1 ≤ current_round mind) × (current_round mind ≤ spec.rounds)
 current_range spec mind is unfinished = round_range spec.rounds (current_goal mind) (is.rounds mind.sweep is.sweep) unfinished

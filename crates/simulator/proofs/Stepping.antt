@@ -6,7 +6,7 @@ use Rattle.protocol_lang.specs.declared.meaning.Action.{Action}
 use Rattle.protocol_lang.specs.declared.meaning.Action.TheVariants as actions
 use Rattle.room_spec.specs.Rooms.{RoomSpec, IsWithinLimits, processes}
 use Rattle.room_spec.specs.Sizes.{sizes_in}
-use Rattle.room_spec.proofs.MemoryWords.{are_memory_words}
+use Rattle.room_spec.proofs.CallerLemmas.{are_memory_words}
 use Rattle.simulator.specs.declared.goal.Goal.{Goal}
 use Rattle.simulator.specs.declared.goal.Goal.TheVariants as goals
 use Rattle.simulator.specs.declared.line.Line.{Line}

@@ -9,7 +9,7 @@ use Rattle.simulator.specs.declared.goal.Goal.TheVariants.{Write, Ask, Done, Spe
 use Rattle.simulator.specs.Minds.{is_unfinished, goal_at, next_process, first_goal, first_goals}
 use Rattle.simulator.specs.Quiet.{unfinished_from}
 use Rattle.simulator.specs.Firsts.{IsVisited, AreVisitedLast}
-use Rattle.simulator.proofs.Asking.{begins, ends, first_of, others}
+use Rattle.simulator.proofs.Asking.{sets_out, ends, first_of, others}
 
 abbrev AreVisited : List Goal → Type 0
 AreVisited goals = AllByRecursion IsVisited goals
@@ -72,7 +72,7 @@ visited_first spec sweep =
 -- ---- a turn begins, and ends
 
 pub visited_begun : (goals : List Goal) (sweep process : ℕ) → next_process goals sweep ≡ Some process → AreVisitedLast (unfinished_from goals sweep) → AreVisitedLast (unfinished_from goals process)
-visited_begun goals sweep process found order = subst AreVisitedLast (sym (begins goals sweep process found)) order
+visited_begun goals sweep process found order = subst AreVisitedLast (sym (sets_out goals sweep process found)) order
 
 comes_last : (goals : List Goal) (goal : Goal) → IsVisited goal → AreVisitedLast goals → AreVisitedLast (goals ++ filter is_unfinished (goal ∷ []))
 comes_last goals (Write round value) is order = last_more goals (Write round value) is order

@@ -14,10 +14,11 @@ use crate::line::Line;
 use crate::operation::Move;
 use crate::snapshot::Snapshot;
 use crate::turn::Turn;
-use crate::words::{chosen_in, saw_two};
+use crate::words::chosen_in;
 use arrayvec::ArrayVec;
 use protocol_lang::View;
 use room_spec::Spec;
+use safe_agreement::has_level;
 use std::marker::Model;
 
 /// What a simulator knows of its processes, where its sweep stands, how many turns and atomic steps
@@ -108,7 +109,7 @@ impl Mind {
             Line::Show => self.show(spec),
             Line::Enter => self.go_on(Line::Look),
             Line::Look => {
-                let saw_two = saw_two(spec, answer);
+                let saw_two = has_level(answer, spec.m(), 2);
                 self.go_on(Line::Leave { saw_two })
             }
             Line::Leave { .. } => self.go_on(Line::Ask),

@@ -11,8 +11,9 @@ use crate::line::Line;
 use crate::mind::Mind;
 use crate::operation::Move;
 use crate::turn::Turn;
-use crate::words::{chosen_in, saw_two};
+use crate::words::chosen_in;
 use room_spec::Spec;
+use safe_agreement::has_level;
 
 impl Mind {
     /// Takes the atomic step of this line.
@@ -48,7 +49,8 @@ impl Mind {
                 self.go_on(Line::Look)
             }
             Line::Look => {
-                let saw_two = saw_two(spec, self.operate(spec, words, line));
+                let answer = self.operate(spec, words, line);
+                let saw_two = has_level(answer, spec.m(), 2);
                 self.go_on(Line::Leave { saw_two })
             }
             Line::Leave { .. } => {

@@ -12,7 +12,7 @@ use Rattle.std.proofs.lemmas.Option.{slice_get-get_or, slice_get_within}
 use Rattle.protocol_lang.specs.Meaning.{present, first_value, next_action}
 use Rattle.protocol_lang.specs.Trees.{Tree}
 use Rattle.protocol_lang.specs.Thresholds.{least_of}
-use Rattle.protocol_lang.proofs.Thresholds.{decides_least_of, writes_again}
+use Rattle.protocol_lang.proofs.CallerLemmas.{decides_least_of, writes_again}
 use Rattle.protocol_lang.specs.declared.meaning.Action.TheVariants as actions
 use Rattle.room_spec.specs.Rooms.{IsCertified, RoomSpec, processes}
 use Rattle.transcript.specs.declared.event.Event.{Event}

@@ -1,12 +1,13 @@
-pub mod Events
-pub mod Fields
-pub mod Numbers
-pub mod Rows
-pub mod Histories
-pub mod Runs
-pub mod Agreeing
-pub mod Worked
-pub mod WorkedRuns
-pub mod WorkedTasks
-pub mod Writing
-pub mod FirstFault
+pub mod CallerLemmas
+mod Events
+mod Fields
+mod Numbers
+mod Rows
+mod Histories
+mod Runs
+mod Agreeing
+mod Worked
+mod WorkedRuns
+mod WorkedTasks
+mod Writing
+mod FirstFault

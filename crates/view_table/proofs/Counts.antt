@@ -4,7 +4,7 @@ use Rattle.std.proofs.lemmas.Bool.{ltb-true}
 use Rattle.std.proofs.lemmas.Nat.{mul-le}
 use Rattle.room_spec.specs.Rooms.{bits_of}
 use Rattle.room_spec.specs.Sizes.{Sizes, AreSizes, memory_words}
-use Rattle.room_spec.proofs.MemoryWords.{are_memory_words}
+use Rattle.room_spec.proofs.CallerLemmas.{are_memory_words}
 use Rattle.view_table.specs.declared.place.Place.TheVariants.{Memory, View}
 use Rattle.view_table.specs.Places.{index_of, words_of}
 

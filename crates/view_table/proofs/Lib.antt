@@ -1,4 +1,5 @@
-pub mod PlaceLemmas
-pub mod WordLemmas
-pub mod Counts
-pub mod Worked
+pub mod CallerLemmas
+mod PlaceLemmas
+mod WordLemmas
+mod Counts
+mod Worked

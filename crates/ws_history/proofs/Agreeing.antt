@@ -10,7 +10,7 @@ use Rattle.room_spec.specs.Rooms.{RoomSpec, processes}
 use Rattle.room_spec.specs.Sizes.{sizes_in}
 use Rattle.safe_agreement.specs.Levels.{has_level, least_two}
 use Rattle.sim_memory.specs.Steps.{AreSameSteps}
-use Rattle.sim_memory.proofs.Rows.{merged_same, row_same}
+use Rattle.sim_memory.proofs.CallerLemmas.{merged_same, row_same}
 use Rattle.room_core.specs.Agreements.{asks, decided_in, first_with, greatest_step, has_out, is_clean, is_out, is_passed, outs_at, row_at, shown, shown_by, shown_of, view_at, written}
 use Rattle.room_core.specs.Fields.{Fields, levels_at}
 use Rattle.room_core.specs.Reading.{AgreeIn}

@@ -9,7 +9,7 @@ use Rattle.transcript.specs.declared.event.Event.{Event}
 use Rattle.transcript.specs.declared.event.Event.TheVariants.{Write, Snap, Decide}
 use Rattle.transcript.specs.Runs.{IsRun, is_write_by}
 use Rattle.ws_history.specs.Histories.{Snapshot, Source, row_of, entry_of, shown, shown_row, by_process, shown_before, new_writes, decided, writes_for, block, blocks, history_from, IsAgreed, IsSource}
-use Rattle.transcript.proofs.Runs.{IsRun-nil, IsRun-push}
+use Rattle.transcript.proofs.CallerLemmas.{IsRun-nil, IsRun-push}
 use Rattle.ws_history.proofs.Order.{last_round, IsNext, next_is, last_is, shown_push, round_push, cons_first}
 use Rattle.ws_history.proofs.Turns.{IsAt, at_nothing, at_other, at_write, at_snap, at_decide, may_write, may_snap, may_decide}
 

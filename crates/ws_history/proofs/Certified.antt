@@ -10,7 +10,7 @@ use Rattle.room_core.specs.Calls.{RoomState}
 use Rattle.room_core.specs.Fields.{Fields}
 use Rattle.room_core.specs.Reading.{AreFieldsOf}
 use Rattle.room_core.specs.Settled.{IsSettledFor}
-use Rattle.room_core.proofs.Certified.{never_spent}
+use Rattle.room_core.proofs.CallerLemmas.{never_spent}
 use Rattle.ws_history.specs.declared.states.ProcessState.{ProcessState}
 use Rattle.ws_history.specs.declared.states.ProcessState.TheVariants.{Spent}
 use Rattle.ws_history.specs.Reports.{crashed_in, held_by, is_decided, is_over, is_spent, is_write, state_by, state_of, states_of}

@@ -9,8 +9,7 @@ use Rattle.room_core.specs.Calls.{RoomState}
 use Rattle.room_core.specs.Fields.{Fields}
 use Rattle.room_core.specs.Reading.{AreFieldsOf}
 use Rattle.room_core.specs.Agreements.{outs_at, is_out, has_out, greatest_step, decided_in, is_passed}
-use Rattle.room_core.proofs.Knowing.{fields_known}
-use Rattle.room_core.proofs.Promises.{rooms_agree}
+use Rattle.room_core.proofs.CallerLemmas.{fields_known, rooms_agree}
 use Rattle.ws_history.specs.declared.states.ProcessState.TheVariants as states
 use Rattle.ws_history.specs.Histories.{Snapshot}
 use Rattle.ws_history.specs.Orders.{all_passed}

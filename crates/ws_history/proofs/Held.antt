@@ -16,8 +16,7 @@ use Rattle.room_core.specs.Calls.{RoomState}
 use Rattle.room_core.specs.Fields.{Fields}
 use Rattle.room_core.specs.Reading.{AreFieldsOf}
 use Rattle.room_core.specs.Agreements.{decided_in, has_out, is_out, outs_at}
-use Rattle.room_core.proofs.FieldCalls.{fields_stand}
-use Rattle.room_core.proofs.Stages.{one_inside}
+use Rattle.room_core.proofs.CallerLemmas.{fields_stand, one_inside}
 use Rattle.ws_history.specs.declared.states.ProcessState.TheVariants.{Held}
 use Rattle.ws_history.proofs.Order.{cons_first, cons_rest}
 use Rattle.ws_history.specs.Reports.{is_held, is_inside, is_spent, held_by, held_in, state_by, state_of, states_of, crashed_in}

@@ -1,22 +1,22 @@
-pub mod Worked
-pub mod Order
-pub mod Turns
-pub mod Alternation
-pub mod Sorting
-pub mod PassedSources
-pub mod Decisions
-pub mod Counts
-pub mod SourceIs
-pub mod Searching
-pub mod Ranges
-pub mod WordsRead
-pub mod Ordering
-pub mod Walking
-pub mod Agreeing
-pub mod SameHistories
-pub mod SameReports
-pub mod RoomFields
-pub mod Held
-pub mod Deciders
-pub mod Settled
-pub mod Certified
+mod Worked
+mod Order
+mod Turns
+mod Alternation
+mod Sorting
+mod PassedSources
+mod Decisions
+mod Counts
+mod SourceIs
+mod Searching
+mod Ranges
+mod WordsRead
+mod Ordering
+mod Walking
+mod Agreeing
+mod SameHistories
+mod SameReports
+mod RoomFields
+mod Held
+mod Deciders
+mod Settled
+mod Certified

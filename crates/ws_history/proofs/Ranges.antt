@@ -3,7 +3,7 @@ use Rattle.std.proofs.Common.{ℕ, zero, suc, ◌+◌, ◌≤◌, List, map, get
 use Rattle.std.specs.List.{range_with_len}
 use Rattle.room_spec.specs.Sizes.{Sizes}
 use Rattle.sim_memory.specs.Steps.{greatest_of, merged_of, row_of, step_in}
-use Rattle.sim_memory.proofs.Words.{step_below}
+use Rattle.sim_memory.proofs.CallerLemmas.{step_below}
 
 greatest_low : (m bound : ℕ) (numbers : ℕ → ℕ) → ((i : ℕ) → numbers i ≤ bound) → greatest_of m numbers ≤ bound
 greatest_low zero bound numbers low = omega arith

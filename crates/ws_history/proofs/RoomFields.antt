@@ -5,15 +5,12 @@ use Rattle.room_spec.specs.Rooms.{IsWithinLimits, processes}
 use Rattle.room_spec.specs.Sizes.{sizes_in}
 use Rattle.view_table.specs.declared.place.Place.TheVariants as places
 use Rattle.sim_memory.specs.Steps.{step_in}
-use Rattle.sim_memory.proofs.Rows.{merged_below}
-use Rattle.sim_memory.proofs.Words.{step_below}
+use Rattle.sim_memory.proofs.CallerLemmas.{merged_below, step_below}
 use Rattle.room_core.specs.Agreements.{greatest_step, is_passed, row_at, shown_of}
 use Rattle.room_core.specs.Calls.{RoomState}
 use Rattle.room_core.specs.Fields.{Fields}
 use Rattle.room_core.specs.Reading.{AgreeIn, AreFieldsOf, words_from}
-use Rattle.room_core.proofs.Decoding.{agrees}
-use Rattle.room_core.proofs.LowValues.{fields_low, out_low}
-use Rattle.room_core.proofs.Promises.{rooms_agree}
+use Rattle.room_core.proofs.CallerLemmas.{agrees, fields_low, out_low, rooms_agree}
 use Rattle.ws_history.specs.Histories.{Snapshot}
 use Rattle.ws_history.specs.Orders.{all_passed}
 use Rattle.ws_history.specs.Readings.{read_of}

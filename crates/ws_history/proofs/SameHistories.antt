@@ -4,7 +4,7 @@ use Rattle.std.specs.Prelude.{⊤, ◌&&◌, ◌||◌}
 use Rattle.std.specs.List.{range_with_len}
 use Rattle.room_spec.specs.Rooms.{RoomSpec, processes}
 use Rattle.room_spec.specs.Sizes.{sizes_in}
-use Rattle.sim_memory.proofs.Rows.{row_length}
+use Rattle.sim_memory.proofs.CallerLemmas.{row_length}
 use Rattle.transcript.specs.declared.event.Event.{Event}
 use Rattle.transcript.specs.declared.event.Event.TheVariants.{Write, Snap}
 use Rattle.room_core.specs.Agreements.{greatest_step, decided_in, is_passed, row_at, shown}

@@ -11,7 +11,7 @@ use Rattle.room_spec.specs.Rooms.{RoomSpec, processes}
 use Rattle.transcript.specs.Runs.{IsRun}
 use Rattle.ws_history.specs.Histories.{Snapshot, asks, history_from}
 use Rattle.ws_history.specs.Passed.{IsOfPassed}
-use Rattle.sim_memory.proofs.Rows.{row_length}
+use Rattle.sim_memory.proofs.CallerLemmas.{row_length}
 use Rattle.room_core.specs.Fields.{Fields}
 use Rattle.room_core.specs.Agreements.{outs_at, greatest_step, decided_in, is_passed, view_at, row_at, shown, HasAgreed}
 use Rattle.room_core.specs.Agreements as room

@@ -12,7 +12,7 @@ use Rattle.transcript.specs.declared.event.Event.{Event}
 use Rattle.transcript.specs.declared.event.Event.TheVariants.{Write, Snap, Decide}
 use Rattle.transcript.specs.Runs.{process_of, event_by, written_by, seen_by, is_write_by, is_snap_by, latest, last_write, action_due, IsNothingOrSnap, IsWrite, MayWrite, MaySnap, MayDecide}
 use Rattle.ws_history.specs.Histories.{Source, shown}
-use Rattle.transcript.proofs.Histories.{latest-push, same, quiet}
+use Rattle.transcript.proofs.CallerLemmas.{latest-push, same, quiet}
 
 -- After these events process q has written w times and has taken c snapshots. It may have decided only where there
 -- are no more writes of it.

@@ -6,8 +6,7 @@ use Rattle.std.specs.Prelude.{max, replicate, ⊤}
 use Rattle.std.specs.List.{range_with_len}
 use Rattle.room_spec.specs.Rooms.{processes}
 use Rattle.sim_memory.specs.Steps.{row_of}
-use Rattle.sim_memory.proofs.Rows.{row_length}
-use Rattle.sim_memory.proofs.Rows.{row_at as row_entry}
+use Rattle.sim_memory.proofs.CallerLemmas.{row_length, row_at as row_entry}
 use Rattle.transcript.specs.declared.event.Event.{Event}
 use Rattle.transcript.specs.declared.event.Event.TheVariants.{Snap}
 use Rattle.room_core.specs.Agreements.{is_passed, row_at, shown, shown_by}

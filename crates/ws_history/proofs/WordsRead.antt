@@ -3,16 +3,15 @@ use Rattle.std.proofs.Common.{◌≡◌, ℕ, ◌+◌, ◌-◌, ◌<◌, ◌≤�
 use Rattle.std.proofs.lemmas.List.{get_or-drop}
 use Rattle.std.proofs.lemmas.List.FromFn.{get_or-map-range_with_len}
 use Rattle.room_spec.specs.Sizes.{Sizes, AreSizes, memory_words}
-use Rattle.room_spec.proofs.MemoryWords.{are_memory_words}
+use Rattle.room_spec.proofs.CallerLemmas.{are_memory_words}
 use Rattle.level_cells.specs.Fields.{field_of}
 use Rattle.view_table.specs.declared.place.Place.{Place}
 use Rattle.view_table.specs.declared.place.Place.TheVariants as places
 use Rattle.view_table.specs.Places.{IsProcess, IsRound, IsSimulator, index_of, words_of}
 use Rattle.view_table.specs.Words.{word_at}
-use Rattle.view_table.proofs.Counts.{memory_first, view_together}
-use Rattle.view_table.proofs.PlaceLemmas.{within}
+use Rattle.view_table.proofs.CallerLemmas.{memory_first, view_together, within}
 use Rattle.sim_memory.specs.Steps.{AreSameSteps, place_of, step_in, word_of}
-use Rattle.sim_memory.proofs.Words.{word_below}
+use Rattle.sim_memory.proofs.CallerLemmas.{word_below}
 use Rattle.room_core.specs.Reading.{words_from}
 
 module _ (sizes : Sizes) (are : AreSizes sizes) where

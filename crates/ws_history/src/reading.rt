@@ -6,7 +6,6 @@ ghost use Rattle.room_spec.specs.Sizes.{memory_words, sizes_in};
 ghost use Rattle.view_table.specs.Places.{IsPlace, IsRound, words_of};
 ghost use Rattle.view_table.specs.Words.{word_at};
 ghost use Rattle.view_table.specs.declared.place.Place.TheVariants.{Levels};
-ghost use Rattle.safe_agreement.specs.Levels.{has_level};
 ghost use Rattle.sim_memory.specs.Steps.{merged_of, row_of, step_in};
 ghost use Rattle.room_core.specs.Agreements.{asks, decided_in, first_with, greatest_step, has_out, is_clean, is_passed, row_at, shown, shown_by, shown_of, written};
 ghost use Rattle.room_core.specs.Calls.{configuration_of};
@@ -15,10 +14,11 @@ ghost use Rattle.room_core.specs.Reading.{AreFieldsOf, Reads};
 ghost use Rattle.ws_history.specs.Readings.{read_of, view_start};
 
 use arrayvec::ArrayVec;
-use level_cells::{field, least_at};
+use level_cells::field;
 use protocol_lang::{Action, View, next};
 use room_core::RoomCore;
 use room_spec::{Shape, Spec};
+use safe_agreement::least_at;
 use sim_memory::{last_writes, merged, step_of};
 use view_table::{Place, index};
 
@@ -171,16 +171,7 @@ fn least_with(room: &RoomCore, j: usize, k: usize, level: u8) -> Option<usize>
     requires round { IsRound (sizes_in room.now.spec) k }
     ensures { result ≡ position (λ one. one == level) (levels_at room.now.spec (read_of room.now) j k) }
 {
-    least_at(levels_word(room, j, k), room.spec().m(), level)
-}
-
-/// Whether a simulator is at this level there.
-fn has_level(room: &RoomCore, j: usize, k: usize, level: u8) -> bool
-    requires process { j < processes room.now.spec }
-    requires round { IsRound (sizes_in room.now.spec) k }
-    ensures { result ≡ has_level level (levels_at room.now.spec (read_of room.now) j k) }
-{
-    least_with(room, j, k, level).is_some()
+    least_at(levels_word(room, j, k), simulator_count(room), level)
 }
 
 /// The decision of process `j` plus one, as simulator `i` has it, or 0.
@@ -228,12 +219,13 @@ pub(crate) fn has_crashed(room: &RoomCore, i: usize) -> bool
     room.is_crashed(i)
 }
 
+#[tactic(auto, unfolding(crate::specs::Readings::read_of))]
 pub(crate) fn is_clean(room: &RoomCore, j: usize, k: usize) -> bool
     requires process { j < processes room.now.spec }
     requires round { IsRound (sizes_in room.now.spec) k }
     ensures { result ≡ is_clean room.now.spec (read_of room.now) j k }
 {
-    has_level(room, j, k, 2) && !has_level(room, j, k, 1)
+    safe_agreement::is_clean(levels_word(room, j, k), simulator_count(room))
 }
 
 /// What process `j` has decided, if a simulator has stored it.

@@ -1,7 +1,7 @@
 use Rattle.std.proofs.Common.{sym, ◌∙◌, arith}
 use Rattle.room_spec.specs.Sizes.{Sizes}
 use Rattle.room_spec.specs.Shapes.{sizes_of}
-use Rattle.room_spec.proofs.MemoryWords.{are_memory_words}
+use Rattle.room_spec.proofs.CallerLemmas.{are_memory_words}
 use Rattle.sim_memory.proofs.Words.{one_word, place_inside, word_below}
 use Rattle.sim_memory.proofs.place.Goals as goal
 

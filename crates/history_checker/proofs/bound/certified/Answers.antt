@@ -2,7 +2,7 @@ use Rattle.std.proofs.Common.{◌≡◌, ◌↔◌, ℕ, ◌<◌, ◌≤◌, Som
 use Rattle.protocol_lang.specs.Trees.{Tree}
 use Rattle.protocol_lang.specs.Thresholds.{waits_for_all_but}
 use Rattle.room_spec.specs.Rooms.{processes}
-use Rattle.transcript.proofs.Agreeing.{decides_few, decides_inputs}
+use Rattle.transcript.proofs.CallerLemmas.{decides_few, decides_inputs}
 use Rattle.history_checker.proofs.Certifying.{IsThreshold, by_threshold, none_certified, some_certified, too_many}
 use Rattle.history_checker.proofs.bound.certified.Goals as goal
 

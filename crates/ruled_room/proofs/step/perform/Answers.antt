@@ -2,7 +2,7 @@ use Rattle.std.proofs.Common.{◌≡◌, ◌+◌, ◌-◌, ◌<◌, ◌%◌, ◌
 use Rattle.simulator.specs.Moves.{move_of, IsWithin}
 use Rattle.simulator.specs.declared.operation.Move.{Move}
 use Rattle.simulator.specs.declared.operation.Move.TheVariants.{Load, Store, Add, Sub}
-use Rattle.simulator.proofs.Ranging.{within}
+use Rattle.simulator.proofs.CallerLemmas.{within}
 use Rattle.ruled_room.specs.Rule.{word_count}
 use Rattle.ruled_room.specs.Parts.{RoomName}
 use Rattle.ruled_room.specs.Views.{done_by, progress_in}

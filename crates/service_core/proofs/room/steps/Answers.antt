@@ -5,8 +5,7 @@ use Rattle.room_core.specs.declared.reply.StepReply.TheVariants as steps
 use Rattle.room_core.specs.Calls.{RoomState, Step}
 use Rattle.room_core.specs.Fields.{Fields, step_reply_in, fields_after_step, fields_after_steps}
 use Rattle.room_core.specs.Reading.{AreFieldsOf}
-use Rattle.room_core.proofs.FieldCalls.{same_spec}
-use Rattle.room_core.proofs.Repeating.{same_spec_steps}
+use Rattle.room_core.proofs.CallerLemmas.{same_spec, same_spec_steps}
 use Rattle.service_core.specs.Replies.{is_stepped}
 use Rattle.service_core.specs.Rooms.{IsSteppedTo}
 use Rattle.service_core.proofs.Stepping.{HasTaken, all_taken, stops, ends}

@@ -1,7 +1,7 @@
 use Rattle.std.proofs.Common.{List, sym, ◌∙◌, subst}
 use Rattle.transcript.specs.declared.event.Event.{Event}
 use Rattle.transcript.specs.Runs.{IsRun}
-use Rattle.room_core.proofs.Promises.{rooms_agree}
+use Rattle.room_core.proofs.CallerLemmas.{rooms_agree}
 use Rattle.ws_history.proofs.RoomFields.{history_in}
 use Rattle.ws_history.proofs.SourceIs.{fields_run}
 use Rattle.ws_history.proofs.histories.history.Goals as goal

@@ -1,7 +1,7 @@
 use Rattle.std.proofs.Common.{◌∙◌, ◌++◌, ◌∷◌, [], ℕ, List, Option, get_or, length, ap, sym, ◌<◌, arith}
 use Rattle.std.proofs.lemmas.List.{append_assoc}
 use Rattle.room_spec.specs.Rooms.{processes}
-use Rattle.sim_memory.proofs.Rows.{row_at as row_entry, row_length}
+use Rattle.sim_memory.proofs.CallerLemmas.{row_at as row_entry, row_length}
 use Rattle.transcript.specs.declared.event.Event.{Event}
 use Rattle.transcript.specs.declared.event.Event.TheVariants.{Snap}
 use Rattle.room_core.specs.Agreements.{row_at, shown_by}

@@ -1,6 +1,6 @@
 use Rattle.std.proofs.Common.{◌≤◌, ◌∙◌, ℕ, List, length, get_or, ap, subst, sym}
 use Rattle.room_spec.specs.Rooms.{processes}
-use Rattle.sim_memory.proofs.Rows.{row_length}
+use Rattle.sim_memory.proofs.CallerLemmas.{row_length}
 use Rattle.ws_history.proofs.RoomFields.{low_rows}
 use Rattle.ws_history.proofs.histories.row_in.Goals as goal
 

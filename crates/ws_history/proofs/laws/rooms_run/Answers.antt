@@ -1,4 +1,4 @@
-use Rattle.room_core.proofs.Promises.{rooms_agree}
+use Rattle.room_core.proofs.CallerLemmas.{rooms_agree}
 use Rattle.ws_history.proofs.SourceIs.{fields_run}
 use Rattle.ws_history.proofs.laws.rooms_run.Goals as goal
 

@@ -3,7 +3,7 @@ use Rattle.room_spec.specs.Rooms.{RoomSpec, processes}
 use Rattle.room_spec.specs.Sizes.{Sizes, sizes_in}
 use Rattle.room_spec.specs.Shapes.{sizes_of}
 use Rattle.sim_memory.specs.Steps.{merged_of, step_in}
-use Rattle.sim_memory.proofs.Rows.{merged_same}
+use Rattle.sim_memory.proofs.CallerLemmas.{merged_same}
 use Rattle.ws_history.specs.Readings.{read_of}
 use Rattle.ws_history.proofs.WordsRead.{memory_read}
 use Rattle.ws_history.proofs.reading.greatest_step.Goals as goal

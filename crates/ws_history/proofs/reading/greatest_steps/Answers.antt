@@ -2,7 +2,7 @@ use Rattle.std.proofs.Common.{ℕ, List, ap, ◌∙◌}
 use Rattle.room_spec.specs.Rooms.{RoomSpec, processes}
 use Rattle.room_spec.specs.Sizes.{sizes_in}
 use Rattle.sim_memory.specs.Steps.{row_of, step_in}
-use Rattle.sim_memory.proofs.Rows.{row_same}
+use Rattle.sim_memory.proofs.CallerLemmas.{row_same}
 use Rattle.ws_history.specs.Readings.{read_of}
 use Rattle.ws_history.proofs.WordsRead.{memory_read}
 use Rattle.ws_history.proofs.reading.greatest_steps.Goals as goal

@@ -3,7 +3,7 @@ use Rattle.std.proofs.lemmas.List.{length-drop, take_all}
 use Rattle.room_spec.specs.Rooms.{processes}
 use Rattle.room_spec.specs.Sizes.{sizes_in}
 use Rattle.sim_memory.specs.Steps.{row_of, step_in}
-use Rattle.sim_memory.proofs.Rows.{row_same}
+use Rattle.sim_memory.proofs.CallerLemmas.{row_same}
 use Rattle.room_core.specs.Agreements.{shown_of}
 use Rattle.ws_history.specs.Readings.{read_of, view_start}
 use Rattle.ws_history.proofs.WordsRead.{view_read}

@@ -2,8 +2,8 @@ use Rattle.std.proofs.Common.{◌<◌, ap, ◌∙◌, arith, rules}
 use Rattle.room_spec.specs.Rooms.{RoomSpec, processes}
 use Rattle.room_spec.specs.Sizes.{sizes_in}
 use Rattle.room_spec.specs.Shapes.{sizes_of}
-use Rattle.room_spec.proofs.MemoryWords.{are_memory_words}
-use Rattle.view_table.proofs.Counts.{few_words}
+use Rattle.room_spec.proofs.CallerLemmas.{are_memory_words}
+use Rattle.view_table.proofs.CallerLemmas.{few_words}
 use Rattle.room_core.specs.Agreements.{shown_of}
 use Rattle.ws_history.specs.Readings.{read_of}
 use Rattle.ws_history.proofs.WordsRead.{view_fits}

@@ -7,7 +7,7 @@ use Rattle.atomic_table.specs.Table.{Me}
 use Rattle.room_spec.specs.Rooms.{RoomSpec}
 use Rattle.simulator.specs.Minds.{MindState}
 use Rattle.simulator.specs.Sweeps.{SweepState}
-use Rattle.room_core.proofs.States.{refill-set}
+use Rattle.room_core.proofs.CallerLemmas.{refill-set}
 use Rattle.ruled_room.specs.declared.stop.Stop.{Stop}
 use Rattle.ruled_room.specs.declared.rule.Progress.{Progress}
 use Rattle.ruled_room.specs.declared.rule.View.{View}

@@ -7,7 +7,7 @@ use Rattle.simulator.specs.Minds.{MindState}
 use Rattle.simulator.specs.Sweeps.{SweepState}
 use Rattle.room_core.specs.Rooms.{Configuration}
 use Rattle.room_core.specs.Calls.{RoomState, configuration_of}
-use Rattle.room_core.proofs.Replays.{is_room}
+use Rattle.room_core.proofs.CallerLemmas.{is_room}
 use Rattle.ruled_room.specs.declared.rule.Operation.{Operation}
 use Rattle.ruled_room.specs.declared.rule.View.{View}
 use Rattle.ruled_room.specs.Rule.{Kept, word_count}

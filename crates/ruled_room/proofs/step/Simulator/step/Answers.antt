@@ -8,9 +8,7 @@ use Rattle.simulator.specs.Ranges.{IsMind}
 use Rattle.simulator.specs.Sweeps.{SweepState}
 use Rattle.simulator.specs.declared.operation.Move.{Move}
 use Rattle.room_core.specs.Calls.{sweep_after}
-use Rattle.simulator.proofs.Counting.{counts_on, idle_waits}
-use Rattle.simulator.proofs.Keeping.{kept}
-use Rattle.simulator.proofs.Stepping.{moves, keeps_number}
+use Rattle.simulator.proofs.CallerLemmas.{counts_on, idle_waits, kept, moves, keeps_number}
 use Rattle.atomic_table.specs.Table.{Me}
 use Rattle.ruled_room.specs.declared.rule.Progress.{Progress}
 use Rattle.ruled_room.specs.declared.rule.View.{View}

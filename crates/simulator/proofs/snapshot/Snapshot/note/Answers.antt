@@ -1,6 +1,6 @@
 use Rattle.std.proofs.Common.{arith}
 use Rattle.room_spec.specs.Shapes.{sizes_of}
-use Rattle.room_spec.proofs.MemoryWords.{are_memory_words}
+use Rattle.room_spec.proofs.CallerLemmas.{are_memory_words}
 use Rattle.simulator.proofs.snapshot.Snapshot.note.Goals as goal
 
 pub last_writes-self-inside-requires : goal.last_writes-self-inside-requires

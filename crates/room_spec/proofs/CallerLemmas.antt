@@ -1,0 +1,8 @@
+-- The lemmas that proofs of the crates above may name: this crate promises them, as it does the clauses of
+-- its functions. All others are its own.
+pub use Rattle.room_spec.proofs.Blocks.{position_first, position_later}
+pub use Rattle.room_spec.proofs.Ends.{before_line, block_ends, end_at, end_found, lines_to_end, with_line_end}
+pub use Rattle.room_spec.proofs.Lines.{before_cut, text_of-cons}
+pub use Rattle.room_spec.proofs.MemoryWords.{are_memory_words, by_bits}
+pub use Rattle.room_spec.proofs.Texts.{pieces_whole}
+pub use Rattle.room_spec.proofs.Values.{first_in_room, next_in_room}
