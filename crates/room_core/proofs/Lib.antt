@@ -51,3 +51,4 @@ mod Lasting
 mod Repeating
 mod Visits
 mod Certified
+mod Unbounded

@@ -8,3 +8,4 @@ pub mod Agreements
 pub mod Moments
 pub mod Settled
 pub mod Contents
+pub mod Settles

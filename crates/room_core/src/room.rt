@@ -19,6 +19,7 @@ ghost use Rattle.room_core.specs.Moments.{IsScan};
 ghost use Rattle.room_core.specs.Reading.{AreFieldsOf, Reads};
 ghost use Rattle.room_core.specs.Calls.{CountsQuietTurns, crash_reply, configuration_of, has_crashed, marked, moved, opening_state, ready_at, room_after_crash, room_after_settle, room_after_step, room_after_steps, room_kind, step_reply, sweep_after, sweep_at, with_sweep, woken};
 ghost use Rattle.room_core.specs.Settled.{IsDecidedOrHeld, IsSettledFor};
+ghost use Rattle.room_core.specs.Settles.{Settles};
 ghost use Rattle.room_core.specs.Settling.{each_in_order, ran_alone, turn_ended};
 
 use crate::reply::{CrashReply, StepReply};
@@ -235,6 +236,8 @@ impl RoomCore {
     /// counted anew. It takes no memory.
     pub fn settle(&mut self)
         ensures room { self.new ≡ room_after_settle self.old }
+        // The same with no bound: each turn goes to its end, and each runs until it has no step to take.
+        ensures unbounded { Settles room_kind self.old self.new }
         // In its fields it is one call of the replay.
         ensures fields { (fields : Fields) → AreFieldsOf self.old fields → AreFieldsOf self.new (fields_after_settle self.old.spec fields) }
         // What was agreed on stays.
@@ -250,7 +253,7 @@ impl RoomCore {
 
     fn finish_turns(&mut self)
         ensures ended { self.new ≡ each_in_order room_kind (turn_ended room_kind) self.old }
-        ensures limits { IsWithinLimits self.old.spec }
+        ensures is_room { IsRoom (configuration_of self.old) }
     {
         for i in 0..self.spec.m() {
             self.finish_turn(i);
