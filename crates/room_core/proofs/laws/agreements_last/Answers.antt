@@ -1,4 +1,4 @@
-use Rattle.room_core.proofs.Lasting.{agreements_last}
+use Rattle.room_core.proofs.agreements.Lasting.{agreements_last}
 use Rattle.room_core.proofs.laws.agreements_last.Goals as goal
 
 pub returns-clause-stay : goal.returns-clause-stay

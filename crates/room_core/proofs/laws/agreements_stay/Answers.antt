@@ -1,4 +1,4 @@
-use Rattle.room_core.proofs.Lasting.{agreements_stay}
+use Rattle.room_core.proofs.agreements.Lasting.{agreements_stay}
 use Rattle.room_core.proofs.laws.agreements_stay.Goals as goal
 
 pub returns : goal.returns

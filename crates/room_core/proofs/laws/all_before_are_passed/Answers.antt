@@ -1,4 +1,4 @@
-use Rattle.room_core.proofs.Promises.{all_before}
+use Rattle.room_core.proofs.agreements.Promises.{all_before}
 use Rattle.room_core.proofs.laws.all_before_are_passed.Goals as goal
 
 pub returns : goal.returns

@@ -1,4 +1,4 @@
-use Rattle.room_core.proofs.FieldCalls.{calls_in_fields}
+use Rattle.room_core.proofs.fields.FieldCalls.{calls_in_fields}
 use Rattle.room_core.proofs.laws.calls_as_fields.Goals as goal
 
 pub returns : goal.returns

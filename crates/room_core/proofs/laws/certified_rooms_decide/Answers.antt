@@ -1,4 +1,4 @@
-use Rattle.room_core.proofs.Certified.{decided_or_held, never_spent}
+use Rattle.room_core.proofs.settling.Certified.{decided_or_held, never_spent}
 use Rattle.room_core.proofs.laws.certified_rooms_decide.Goals as goal
 
 pub returns-clause-unspent : goal.returns-clause-unspent

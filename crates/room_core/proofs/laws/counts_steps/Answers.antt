@@ -1,4 +1,4 @@
-use Rattle.room_core.proofs.Replays.{counts}
+use Rattle.room_core.proofs.fields.Replays.{counts}
 use Rattle.room_core.proofs.laws.counts_steps.Goals as goal
 
 pub returns : goal.returns

@@ -1,5 +1,5 @@
-use Rattle.room_core.proofs.Known.{decided_last, decided_same}
-use Rattle.room_core.proofs.Knowing.{fields_known}
+use Rattle.room_core.proofs.values.Known.{decided_last, decided_same}
+use Rattle.room_core.proofs.values.Knowing.{fields_known}
 use Rattle.room_core.proofs.laws.decisions_agree.Goals as goal
 
 pub returns-clause-due : goal.returns-clause-due

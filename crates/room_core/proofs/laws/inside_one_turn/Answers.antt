@@ -1,5 +1,5 @@
-use Rattle.room_core.proofs.FieldCalls.{fields_stand}
-use Rattle.room_core.proofs.Stages.{one_inside}
+use Rattle.room_core.proofs.fields.FieldCalls.{fields_stand}
+use Rattle.room_core.proofs.agreements.Stages.{one_inside}
 use Rattle.room_core.proofs.laws.inside_one_turn.Goals as goal
 
 pub returns : goal.returns

@@ -1,4 +1,4 @@
-use Rattle.room_core.proofs.Visits.{fixed_shows_all, proposal_shows_all}
+use Rattle.room_core.proofs.moments.Visits.{fixed_shows_all, proposal_shows_all}
 use Rattle.room_core.proofs.laws.later_rounds_show_all.Goals as goal
 
 pub returns-clause-proposals : goal.returns-clause-proposals

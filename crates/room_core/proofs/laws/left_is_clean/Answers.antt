@@ -1,6 +1,6 @@
-use Rattle.room_core.proofs.FieldCalls.{fields_stand}
-use Rattle.room_core.proofs.Sound.{fields_sound}
-use Rattle.room_core.proofs.Fixing.{left_is_clean}
+use Rattle.room_core.proofs.fields.FieldCalls.{fields_stand}
+use Rattle.room_core.proofs.agreements.Sound.{fields_sound}
+use Rattle.room_core.proofs.agreements.Fixing.{left_is_clean}
 use Rattle.room_core.proofs.laws.left_is_clean.Goals as goal
 
 pub returns : goal.returns

@@ -1,4 +1,4 @@
-use Rattle.room_core.proofs.Legality.{lines_in_fields, schedules_in_fields}
+use Rattle.room_core.proofs.fields.Legality.{lines_in_fields, schedules_in_fields}
 use Rattle.room_core.proofs.laws.lines_in_fields.Goals as goal
 
 pub returns : goal.returns

@@ -1,4 +1,4 @@
-use Rattle.room_core.proofs.Replays.{opens_run}
+use Rattle.room_core.proofs.fields.Replays.{opens_run}
 use Rattle.room_core.proofs.laws.opens.Goals as goal
 
 pub returns : goal.returns

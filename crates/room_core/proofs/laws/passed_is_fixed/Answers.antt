@@ -1,5 +1,5 @@
-use Rattle.room_core.proofs.Fixing.{fixed_has_least}
-use Rattle.room_core.proofs.Promises.{passed_fixed}
+use Rattle.room_core.proofs.agreements.Fixing.{fixed_has_least}
+use Rattle.room_core.proofs.agreements.Promises.{passed_fixed}
 use Rattle.room_core.proofs.laws.passed_is_fixed.Goals as goal
 
 pub returns-clause-fixed : goal.returns-clause-fixed

@@ -1,5 +1,5 @@
 use Rattle.std.proofs.Common.{refl}
-use Rattle.room_core.proofs.States.{moved_data, opening_data, woken_data}
+use Rattle.room_core.proofs.fields.States.{moved_data, opening_data, woken_data}
 use Rattle.room_core.proofs.laws.quiet_counts_aside.Goals as goal
 
 pub returns : goal.returns

@@ -1,4 +1,4 @@
-use Rattle.room_core.proofs.FieldReplays.{reads}
+use Rattle.room_core.proofs.fields.FieldReplays.{reads}
 use Rattle.room_core.proofs.laws.reads_as_fields.Goals as goal
 
 pub returns : goal.returns

@@ -1,4 +1,4 @@
-use Rattle.room_core.proofs.Decoding.{agrees}
+use Rattle.room_core.proofs.fields.Decoding.{agrees}
 use Rattle.room_core.proofs.laws.reads_in.Goals as goal
 
 pub returns : goal.returns

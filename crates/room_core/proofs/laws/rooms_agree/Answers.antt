@@ -1,4 +1,4 @@
-use Rattle.room_core.proofs.Promises.{rooms_agree}
+use Rattle.room_core.proofs.agreements.Promises.{rooms_agree}
 use Rattle.room_core.proofs.laws.rooms_agree.Goals as goal
 
 pub returns : goal.returns

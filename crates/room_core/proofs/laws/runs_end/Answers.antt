@@ -1,6 +1,6 @@
 use Rattle.std.proofs.Common.{arith}
 use Rattle.room_core.specs.Calls.{most_steps}
-use Rattle.room_core.proofs.Alone.{in_turn, in_turn_means, has_step, has_step_means, finished, turns_ran, is_up}
+use Rattle.room_core.proofs.settling.Alone.{in_turn, in_turn_means, has_step, has_step_means, finished, turns_ran, is_up}
 use Rattle.room_core.proofs.laws.runs_end.Goals as goal
 
 pub returns : goal.returns

@@ -1,4 +1,4 @@
-use Rattle.room_core.proofs.Exact.{room_scans}
+use Rattle.room_core.proofs.agreements.Exact.{room_scans}
 use Rattle.room_core.proofs.laws.scans.Goals as goal
 
 pub returns : goal.returns

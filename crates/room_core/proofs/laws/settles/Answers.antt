@@ -1,6 +1,6 @@
 use Rattle.std.proofs.Common.{refl}
-use Rattle.room_core.proofs.InOrder.{settled_over}
-use Rattle.room_core.proofs.Ending.{settled_for}
+use Rattle.room_core.proofs.settling.InOrder.{settled_over}
+use Rattle.room_core.proofs.settling.Ending.{settled_for}
 use Rattle.room_core.proofs.laws.settles.Goals as goal
 
 pub returns-clause-settled : goal.returns-clause-settled

@@ -1,4 +1,4 @@
-use Rattle.room_core.proofs.Replays.{shapes}
+use Rattle.room_core.proofs.fields.Replays.{shapes}
 use Rattle.room_core.proofs.laws.shapes.Goals as goal
 
 pub returns : goal.returns

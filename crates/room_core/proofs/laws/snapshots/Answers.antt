@@ -1,4 +1,4 @@
-use Rattle.room_core.proofs.Exact.{room_entry, room_rows, room_moments}
+use Rattle.room_core.proofs.agreements.Exact.{room_entry, room_rows, room_moments}
 use Rattle.room_core.proofs.laws.snapshots.Goals as goal
 
 pub returns-clause-moments : goal.returns-clause-moments

@@ -1,4 +1,4 @@
-use Rattle.room_core.proofs.Replays.{under_crash_at_end}
+use Rattle.room_core.proofs.fields.Replays.{under_crash_at_end}
 use Rattle.room_core.proofs.laws.stays_under_crash.Goals as goal
 
 pub returns : goal.returns

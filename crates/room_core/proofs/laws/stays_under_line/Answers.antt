@@ -1,4 +1,4 @@
-use Rattle.room_core.proofs.Replays.{under_line_at_end}
+use Rattle.room_core.proofs.fields.Replays.{under_line_at_end}
 use Rattle.room_core.proofs.laws.stays_under_line.Goals as goal
 
 pub returns : goal.returns

@@ -1,7 +1,7 @@
 use Rattle.room_core.specs.Rooms.{steps, crashes}
-use Rattle.room_core.proofs.Replays.{shape_after}
-use Rattle.room_core.proofs.FieldReplays.{event_stands, opening_stands}
-use Rattle.room_core.proofs.FieldCalls.{fields_stand}
+use Rattle.room_core.proofs.fields.Replays.{shape_after}
+use Rattle.room_core.proofs.fields.FieldReplays.{event_stands, opening_stands}
+use Rattle.room_core.proofs.fields.FieldCalls.{fields_stand}
 use Rattle.room_core.proofs.laws.steps_as_fields.Goals as goal
 
 pub returns : goal.returns

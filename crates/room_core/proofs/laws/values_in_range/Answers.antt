@@ -1,4 +1,4 @@
-use Rattle.room_core.proofs.LowValues.{fields_low, out_low}
+use Rattle.room_core.proofs.values.LowValues.{fields_low, out_low}
 use Rattle.room_core.proofs.laws.values_in_range.Goals as goal
 
 pub returns-clause-value : goal.returns-clause-value

@@ -1,5 +1,5 @@
-use Rattle.room_core.proofs.Contents.{due_only}
-use Rattle.room_core.proofs.Knowing.{fields_known}
+use Rattle.room_core.proofs.moments.Contents.{due_only}
+use Rattle.room_core.proofs.values.Knowing.{fields_known}
 use Rattle.room_core.proofs.laws.writes_are_due.Goals as goal
 
 pub returns-clause-due : goal.returns-clause-due

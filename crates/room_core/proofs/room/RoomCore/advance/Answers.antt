@@ -4,8 +4,8 @@ use Rattle.simulator.specs.Moves.{answer_of, move_of, words_after}
 use Rattle.simulator.specs.Sweeps.{SweepState}
 use Rattle.room_core.specs.Rooms.{HasLine}
 use Rattle.room_core.specs.Calls.{RoomState, configuration_of, IsCore, operation_at, sweep_at}
-use Rattle.room_core.proofs.Replays.{length-words_after}
-use Rattle.room_core.proofs.States.{moved_is, moved_room, read_sweep}
+use Rattle.room_core.proofs.fields.Replays.{length-words_after}
+use Rattle.room_core.proofs.fields.States.{moved_is, moved_room, read_sweep}
 use Rattle.room_core.proofs.room.RoomCore.advance.Goals as goal
 
 pub invariant_of-self : goal.invariant_of-self

@@ -2,8 +2,8 @@ use Rattle.std.proofs.Common.{◌≡◌, ◌<◌, ◌≤◌, ◌∙◌, ℕ, ap,
 use Rattle.room_spec.specs.Rooms.{IsWithinLimits}
 use Rattle.room_core.specs.declared.reply.CrashReply.TheVariants.{Crashed, AlreadyCrashed, NoSimulator}
 use Rattle.room_core.specs.Calls.{Crash, RoomState}
-use Rattle.room_core.proofs.FieldCalls.{absent_crash, crashed_crash, alive_crashes, crash_by}
-use Rattle.room_core.proofs.Lasting.{agreements_stay}
+use Rattle.room_core.proofs.fields.FieldCalls.{absent_crash, crashed_crash, alive_crashes, crash_by}
+use Rattle.room_core.proofs.agreements.Lasting.{agreements_stay}
 use Rattle.room_core.proofs.room.RoomCore.crash.Goals as goal
 
 pub returns-then-i-m-clause-fields : goal.returns-then-i-m-clause-fields

@@ -4,7 +4,7 @@ use Rattle.simulator.specs.Sweeps.{is_resting}
 use Rattle.room_core.specs.Calls.{RoomState, configuration_of, has_crashed, room_kind, sweep_at}
 use Rattle.room_core.specs.Rooms.{IsShaped}
 use Rattle.room_core.specs.Settling.{steps_while}
-use Rattle.room_core.proofs.Alone.{in_turn, in_turn_means, starts, runs, ended}
+use Rattle.room_core.proofs.settling.Alone.{in_turn, in_turn_means, starts, runs, ended}
 use Rattle.room_core.proofs.room.RoomCore.finish_turn.Goals as goal
 
 pub loop-self-init : goal.loop-self-init

@@ -1,4 +1,4 @@
-use Rattle.room_core.proofs.Alone.{IsRunning, in_turn, in_turn_means, left}
+use Rattle.room_core.proofs.settling.Alone.{IsRunning, in_turn, in_turn_means, left}
 use Rattle.room_core.proofs.room.RoomCore.finish_turn.Given as goal
 
 abbrev pub invariant-loop-self : goal.invariant-loop-self

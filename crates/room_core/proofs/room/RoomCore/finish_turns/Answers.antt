@@ -1,6 +1,6 @@
 use Rattle.room_core.specs.Calls.{room_kind}
 use Rattle.room_core.specs.Settling.{turn_ended}
-use Rattle.room_core.proofs.Alone.{one_more, same_spec_ended}
+use Rattle.room_core.proofs.settling.Alone.{one_more, same_spec_ended}
 use Rattle.room_core.proofs.room.RoomCore.finish_turns.Goals as goal
 
 pub loop-i-preserved : goal.loop-i-preserved

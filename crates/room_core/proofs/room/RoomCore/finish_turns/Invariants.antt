@@ -1,6 +1,6 @@
 use Rattle.room_core.specs.Calls.{room_kind}
 use Rattle.room_core.specs.Settling.{turn_ended}
-use Rattle.room_core.proofs.Alone.{IsInOrder}
+use Rattle.room_core.proofs.settling.Alone.{IsInOrder}
 use Rattle.room_core.proofs.room.RoomCore.finish_turns.Given as goal
 
 abbrev pub invariant-loop-i : goal.invariant-loop-i

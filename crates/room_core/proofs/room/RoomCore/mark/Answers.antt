@@ -1,7 +1,7 @@
 use Rattle.std.proofs.Common.{sym, subst}
 use Rattle.room_core.specs.Rooms.{IsAlive}
 use Rattle.room_core.specs.Calls.{RoomState, configuration_of}
-use Rattle.room_core.proofs.States.{crash_room}
+use Rattle.room_core.proofs.fields.States.{crash_room}
 use Rattle.room_core.proofs.room.RoomCore.mark.Goals as goal
 
 pub invariant_of-self : goal.invariant_of-self

@@ -6,7 +6,7 @@ use Rattle.room_core.specs.Calls.{RoomState}
 use Rattle.room_core.specs.Fields.{Fields}
 use Rattle.room_core.specs.Moments.{IsScan}
 use Rattle.room_core.specs.Reading.{AreFieldsOf}
-use Rattle.room_core.proofs.Exact.{room_scans}
+use Rattle.room_core.proofs.agreements.Exact.{room_scans}
 use Rattle.room_core.proofs.room.RoomCore.mind.Goals as goal
 
 pub returns-clause-value : goal.returns-clause-value

@@ -3,8 +3,8 @@ use Rattle.std.specs.Prelude.{replicate}
 use Rattle.room_core.specs.Calls.{RoomState, opening_state}
 use Rattle.room_core.specs.Fields.{opening_fields}
 use Rattle.room_core.specs.Reading.{AreFieldsOf}
-use Rattle.room_core.proofs.States.{fresh_room}
-use Rattle.room_core.proofs.FieldCalls.{opening_in_fields}
+use Rattle.room_core.proofs.fields.States.{fresh_room}
+use Rattle.room_core.proofs.fields.FieldCalls.{opening_in_fields}
 use Rattle.room_core.proofs.room.RoomCore.opening.Goals as goal
 
 pub invariant_of-result : goal.invariant_of-result

@@ -1,6 +1,6 @@
 use Rattle.std.proofs.Common.{◌≡◌, ◌≢◌, ◌∙◌, rules, sym, arith}
 use Rattle.simulator.specs.declared.sweep.Ready.TheVariants.{Step}
-use Rattle.room_core.proofs.Repeating.{begins, goes_on, line_of, stops}
+use Rattle.room_core.proofs.fields.Repeating.{begins, goes_on, line_of, stops}
 use Rattle.room_core.proofs.room.RoomCore.run.Goals as goal
 
 pub loop-taken-init : goal.loop-taken-init

@@ -1,4 +1,4 @@
-use Rattle.room_core.proofs.Repeating.{HasRun}
+use Rattle.room_core.proofs.fields.Repeating.{HasRun}
 use Rattle.room_core.proofs.room.RoomCore.run.Given as goal
 
 abbrev pub invariant-loop-taken : goal.invariant-loop-taken

@@ -2,7 +2,7 @@ use Rattle.std.proofs.Common.{rules, ◌≡◌, ◌≢◌, ◌∙◌, Bool, fals
 use Rattle.room_core.specs.Calls.{RoomState, configuration_of, has_crashed}
 use Rattle.room_core.specs.declared.reply.StepReply.TheVariants.{Stepped}
 use Rattle.room_core.specs.Rooms.{IsShaped}
-use Rattle.room_core.proofs.Alone.{has_step, has_step_means, woken_up, starts, runs, took_one, took_none, alone_is}
+use Rattle.room_core.proofs.settling.Alone.{has_step, has_step_means, woken_up, starts, runs, took_one, took_none, alone_is}
 use Rattle.room_core.proofs.room.RoomCore.run_alone.Goals as goal
 
 pub loop-init : goal.loop-init

@@ -1,4 +1,4 @@
-use Rattle.room_core.proofs.Alone.{IsRunning, has_step, has_step_means, left}
+use Rattle.room_core.proofs.settling.Alone.{IsRunning, has_step, has_step_means, left}
 use Rattle.room_core.proofs.room.RoomCore.run_alone.Given as goal
 
 abbrev pub invariant-loop : goal.invariant-loop

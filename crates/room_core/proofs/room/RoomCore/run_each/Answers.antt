@@ -1,6 +1,6 @@
 use Rattle.room_core.specs.Calls.{room_kind}
 use Rattle.room_core.specs.Settling.{ran_alone}
-use Rattle.room_core.proofs.Alone.{one_more, same_spec_alone}
+use Rattle.room_core.proofs.settling.Alone.{one_more, same_spec_alone}
 use Rattle.room_core.proofs.room.RoomCore.run_each.Goals as goal
 
 pub loop-i-preserved : goal.loop-i-preserved

@@ -4,11 +4,11 @@ use Rattle.room_core.specs.Fields.{fields_after_settle}
 use Rattle.room_core.specs.Reading.{AreFieldsOf}
 use Rattle.room_core.specs.Settling.{each_in_order, ran_alone}
 use Rattle.room_core.specs.Settles.{Settles}
-use Rattle.room_core.proofs.FieldCalls.{settle_in_fields}
-use Rattle.room_core.proofs.Certified.{certified_for}
-use Rattle.room_core.proofs.Ending.{settled_for}
-use Rattle.room_core.proofs.Lasting.{agreements_stay}
-use Rattle.room_core.proofs.Unbounded.{settles}
+use Rattle.room_core.proofs.fields.FieldCalls.{settle_in_fields}
+use Rattle.room_core.proofs.settling.Certified.{certified_for}
+use Rattle.room_core.proofs.settling.Ending.{settled_for}
+use Rattle.room_core.proofs.agreements.Lasting.{agreements_stay}
+use Rattle.room_core.proofs.settling.Unbounded.{settles}
 use Rattle.room_core.proofs.room.RoomCore.settle.Goals as goal
 
 pub returns-clause-fields : goal.returns-clause-fields

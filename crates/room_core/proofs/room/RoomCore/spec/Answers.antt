@@ -3,9 +3,9 @@ use Rattle.room_core.specs.Calls.{RoomState, configuration_of}
 use Rattle.room_core.specs.Fields.{Fields, IsLegalIn, opening_fields}
 use Rattle.room_core.specs.Reading.{AreFieldsOf, Reads}
 use Rattle.room_core.specs.Rooms.{IsOneInterleaving, mind_at, times}
-use Rattle.room_core.proofs.FieldCalls.{has_fields}
-use Rattle.room_core.proofs.Legality.{schedules_in_fields}
-use Rattle.room_core.proofs.Replays.{counts}
+use Rattle.room_core.proofs.fields.FieldCalls.{has_fields}
+use Rattle.room_core.proofs.fields.Legality.{schedules_in_fields}
+use Rattle.room_core.proofs.fields.Replays.{counts}
 use Rattle.room_core.proofs.room.RoomCore.spec.Goals as goal
 
 pub returns-clause-fields : goal.returns-clause-fields

@@ -6,9 +6,9 @@ use Rattle.room_core.specs.Rooms.{HasLine}
 use Rattle.simulator.specs.Minds.{goal_at}
 use Rattle.simulator.specs.Quiet.{HasNoWrite}
 use Rattle.room_core.specs.Calls.{Step, CountsQuietTurns, RoomState, configuration_of, has_crashed, ready_at, sweep_at}
-use Rattle.room_core.proofs.States.{has_line, idle_room}
-use Rattle.room_core.proofs.FieldCalls.{absent_step, crashed_step, ready_step, step_by}
-use Rattle.room_core.proofs.Lasting.{agreements_stay}
+use Rattle.room_core.proofs.fields.States.{has_line, idle_room}
+use Rattle.room_core.proofs.fields.FieldCalls.{absent_step, crashed_step, ready_step, step_by}
+use Rattle.room_core.proofs.agreements.Lasting.{agreements_stay}
 use Rattle.room_core.proofs.room.RoomCore.step.Goals as goal
 
 pub returns-then-i-m-clause-fields : goal.returns-then-i-m-clause-fields

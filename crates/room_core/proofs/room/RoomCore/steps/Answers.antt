@@ -1,7 +1,7 @@
 use Rattle.std.proofs.Common.{subst, rules}
 use Rattle.room_spec.specs.Rooms.{IsWithinLimits}
 use Rattle.room_core.specs.Calls.{RoomState}
-use Rattle.room_core.proofs.Repeating.{agreements_stay_after, fields_after, reply_after}
+use Rattle.room_core.proofs.fields.Repeating.{agreements_stay_after, fields_after, reply_after}
 use Rattle.room_core.proofs.room.RoomCore.steps.Goals as goal
 
 pub returns-clause-fields : goal.returns-clause-fields

@@ -1,6 +1,6 @@
 use Rattle.std.proofs.Common.{◌<◌, sym, subst}
 use Rattle.room_core.specs.Calls.{RoomState, IsCore}
-use Rattle.room_core.proofs.States.{woken_is, woken_room}
+use Rattle.room_core.proofs.fields.States.{woken_is, woken_room}
 use Rattle.room_core.proofs.room.RoomCore.wake.Goals as goal
 
 pub invariant_of-self : goal.invariant_of-self

@@ -1,0 +1,11 @@
+pub mod Stages
+pub mod PhaseSteps
+pub mod Resolving
+pub mod Sound
+pub mod Fixing
+pub mod Staying
+pub mod Deciding
+pub mod Exact
+pub mod Agreed
+pub mod Promises
+pub mod Lasting

@@ -1,0 +1,187 @@
+-- What a simulator's mind tells of its fields: how far it has counted each process, and where it stands in each agreement.
+use Rattle.std.proofs.Common.{◌≡◌, ◌≢◌, ℕ, ◌+◌, ◌<◌, ◌≤◌, Bool, true, false, cond, eqb, ltb, List, length, get_or, set, refl, sym, ap, ◌∙◌, subst, arith}
+use Rattle.std.proofs.lemmas.Bool.{eq-eqb, ne_eqb, ltb-false}
+use Rattle.std.proofs.lemmas.List.{get_or-set_same, get_or-set_other}
+use mathlib.Core.Logic.{dite}
+use native.Mathlib.Decide.{ℕ_discrete}
+use Rattle.simulator.specs.declared.goal.Goal.{Goal}
+use Rattle.simulator.specs.declared.goal.Goal.TheVariants as goals
+use Rattle.simulator.specs.declared.line.Line.{Line}
+use Rattle.simulator.specs.declared.line.Line.TheVariants.{Rest}
+use Rattle.simulator.specs.Minds.{MindOf, goal_at, current_goal, round_of}
+use Rattle.simulator.specs.Turns.{after_write}
+use Rattle.simulator.specs.Ranges.{IsGoal}
+use Rattle.room_core.specs.Fields.{StepMap, changed}
+use Rattle.room_core.specs.Tracks.{Stage, AtRest, Stored, Counted, Inside, Past, stage_of, IsZeroFrom, NoOneBelow, Counts, Levels, Tells, stage_for, ToldBy}
+use Rattle.room_core.proofs.fields.Maps.{changed_here, changed_else}
+
+-- ---- levels, from line to line
+
+zero_changed : (from round : ℕ) (level : ℕ → ℕ) (entry : ℕ) → round < from → IsZeroFrom from level → IsZeroFrom from (changed level round entry)
+zero_changed from round level entry less none k after = changed_else level round entry k (λ e. omega arith) ∙ none k after
+
+none_changed : (below round : ℕ) (level : ℕ → ℕ) (entry : ℕ) → below ≤ round → NoOneBelow below level → NoOneBelow below (changed level round entry)
+none_changed below round level entry least none k before one = none k before (sym (changed_else level round entry k (λ e. omega arith)) ∙ one)
+
+none_left : (round : ℕ) (level : ℕ → ℕ) (entry : ℕ) → entry ≢ 1 → NoOneBelow round level → NoOneBelow (round + 1) (changed level round entry)
+none_left round level entry other none k before one = dite (ℕ_discrete k round)
+    (λ (e : k ≡ round). other (sym (changed_here level round entry k e) ∙ one))
+    (λ (n : k ≢ round). none k (omega arith) (sym (changed_else level round entry k n) ∙ one))
+
+levels_entered : (step round : ℕ) (level : ℕ → ℕ) → step ≡ round → Levels Counted step level → Levels Inside step (changed level round (level round + 1))
+levels_entered step round level same all =
+    let none : level round ≡ 0 = all.0 round (omega arith) in (
+      zero_changed (step + 1) round level (level round + 1) (omega arith) (λ k after. all.0 k (omega arith)),
+      none_changed step round level (level round + 1) (omega arith) all.1,
+      changed_here level round (level round + 1) step same ∙ ap (λ (x : ℕ). x + 1) none,
+    )
+
+levels_left : (step round : ℕ) (level : ℕ → ℕ) (entry : ℕ) → step ≡ round → entry ≢ 1 → Levels Inside step level → Levels Past step (changed level round entry)
+levels_left step round level entry same other all = (
+  zero_changed (step + 1) round level entry (omega arith) all.0,
+  subst (λ (r : ℕ). NoOneBelow (step + 1) (changed level r entry)) same (none_left step level entry other all.1),
+)
+
+-- ---- step numbers, from line to line
+
+counts_raised : (rounds : ℕ) (goal : Goal) (step : ℕ) → Counts rounds goal Stored step → Counts rounds goal Counted (step + 1)
+counts_raised rounds (goals.Write k value) step told = told
+counts_raised rounds (goals.Ask k) step told = absurd told
+counts_raised rounds goals.Done step told = absurd told
+counts_raised rounds goals.Spent step told = absurd told
+
+counts_entered : (rounds : ℕ) (goal : Goal) (step : ℕ) → Counts rounds goal Counted step → Counts rounds goal Inside step
+counts_entered rounds (goals.Write k value) step told = told
+counts_entered rounds (goals.Ask k) step told = absurd told
+counts_entered rounds goals.Done step told = absurd told
+counts_entered rounds goals.Spent step told = absurd told
+
+counts_left : (rounds : ℕ) (goal : Goal) (step : ℕ) → Counts rounds goal Inside step → Counts rounds goal Past step
+counts_left rounds (goals.Write k value) step told = told
+counts_left rounds (goals.Ask k) step told = absurd told
+counts_left rounds goals.Done step told = absurd told
+counts_left rounds goals.Spent step told = absurd told
+
+-- the round of an open turn is one more than what is counted, and then the same
+pub stored_round : (rounds : ℕ) (goal : Goal) (step : ℕ) → Counts rounds goal Stored step → step + 1 ≡ round_of goal
+stored_round rounds (goals.Write k value) step told = told
+stored_round rounds (goals.Ask k) step told = absurd told
+stored_round rounds goals.Done step told = absurd told
+stored_round rounds goals.Spent step told = absurd told
+
+pub counted_round : (rounds : ℕ) (goal : Goal) (step : ℕ) → Counts rounds goal Counted step → step ≡ round_of goal
+counted_round rounds (goals.Write k value) step told = told
+counted_round rounds (goals.Ask k) step told = absurd told
+counted_round rounds goals.Done step told = absurd told
+counted_round rounds goals.Spent step told = absurd told
+
+pub inside_round : (rounds : ℕ) (goal : Goal) (step : ℕ) → Counts rounds goal Inside step → step ≡ round_of goal
+inside_round rounds (goals.Write k value) step told = told
+inside_round rounds (goals.Ask k) step told = absurd told
+inside_round rounds goals.Done step told = absurd told
+inside_round rounds goals.Spent step told = absurd told
+
+pub past_round : (rounds : ℕ) (goal : Goal) (step : ℕ) → Counts rounds goal Past step → step ≡ round_of goal
+past_round rounds (goals.Write k value) step told = told
+past_round rounds (goals.Ask k) step told = told
+past_round rounds goals.Done step told = absurd told
+past_round rounds goals.Spent step told = absurd told
+
+-- a goal with a round of its own is of one of the rounds
+pub round_most : (rounds : ℕ) (goal : Goal) → IsGoal rounds goal → round_of goal ≤ rounds
+round_most rounds (goals.Write k value) range = range.1
+round_most rounds (goals.Ask k) range = range.1
+round_most rounds goals.Done range = omega arith
+round_most rounds goals.Spent range = omega arith
+
+counts_next : (b : Bool) (rounds k value step : ℕ) → ltb k rounds ≡ b → k ≤ rounds → step ≡ k → Counts rounds (cond b (goals.Write (k + 1) value) goals.Spent) AtRest step
+counts_next true rounds k value step test most same = ap (λ (x : ℕ). x + 1) same
+counts_next false rounds k value step test most same = let last = ltb-false k rounds test in omega arith
+
+-- ---- both, from line to line
+
+pub tells_raised : (rounds : ℕ) (goal : Goal) (step : ℕ) (level : ℕ → ℕ) → Tells rounds goal Stored step level → Tells rounds goal Counted (step + 1) level
+tells_raised rounds goal step level told = record { counts = counts_raised rounds goal step told.counts; levels = told.levels }
+
+pub raised_below : (goal : Goal) (rounds step : ℕ) (level : ℕ → ℕ) → IsGoal rounds goal → Tells rounds goal Stored step level → step < rounds
+raised_below goal rounds step level range told = let e = stored_round rounds goal step told.counts in let b = round_most rounds goal range in omega arith
+
+pub outside : (rounds : ℕ) (goal : Goal) (step : ℕ) (level : ℕ → ℕ) → Tells rounds goal Counted step level → level (round_of goal) ≡ 0
+outside rounds goal step level told = let e = counted_round rounds goal step told.counts in told.levels.0 (round_of goal) (omega arith)
+
+pub tells_entered : (rounds : ℕ) (goal : Goal) (step : ℕ) (level : ℕ → ℕ) → Tells rounds goal Counted step level → Tells rounds goal Inside step (changed level (round_of goal) (level (round_of goal) + 1))
+tells_entered rounds goal step level told = record {
+  counts = counts_entered rounds goal step told.counts;
+  levels = levels_entered step (round_of goal) level (counted_round rounds goal step told.counts) told.levels;
+}
+
+pub inside : (rounds : ℕ) (goal : Goal) (step : ℕ) (level : ℕ → ℕ) → Tells rounds goal Inside step level → level (round_of goal) ≡ 1
+inside rounds goal step level told = ap level (sym (inside_round rounds goal step told.counts)) ∙ told.levels.2
+
+pub tells_left : (rounds : ℕ) (goal : Goal) (step : ℕ) (level : ℕ → ℕ) (entry : ℕ) → entry ≢ 1 → Tells rounds goal Inside step level → Tells rounds goal Past step (changed level (round_of goal) entry)
+tells_left rounds goal step level entry other told = record {
+  counts = counts_left rounds goal step told.counts;
+  levels = levels_left step (round_of goal) level entry (inside_round rounds goal step told.counts) other told.levels;
+}
+
+pub tells_asked : (rounds : ℕ) (goal : Goal) (step : ℕ) (level : ℕ → ℕ) → Tells rounds goal Past step level → Tells rounds (goals.Ask (round_of goal)) AtRest step level
+tells_asked rounds goal step level told = record { counts = past_round rounds goal step told.counts; levels = told.levels }
+
+pub tells_written : (rounds : ℕ) (goal : Goal) (value step : ℕ) (level : ℕ → ℕ) → IsGoal rounds goal → Tells rounds goal Past step level → Tells rounds (after_write rounds (round_of goal) value) AtRest step level
+tells_written rounds goal value step level range told = record {
+  counts = counts_next (ltb (round_of goal) rounds) rounds (round_of goal) value step refl (round_most rounds goal range) (past_round rounds goal step told.counts);
+  levels = told.levels;
+}
+
+pub tells_decided : (rounds : ℕ) (goal : Goal) (step : ℕ) (level : ℕ → ℕ) → Tells rounds goal Past step level → Tells rounds goals.Done AtRest step level
+tells_decided rounds goal step level told = record { counts = tt; levels = told.levels }
+
+-- ---- all processes of a mind
+
+-- the goals of all processes but j tell it, at rest
+abbrev pub ToldBeside : ℕ → ℕ → List Goal → (ℕ → ℕ) → (ℕ → ℕ → ℕ) → Type 0
+ToldBeside rounds j list step level = (p : ℕ) → p ≢ j → Tells rounds (goal_at list p) AtRest (step p) (level p)
+
+pub beside : (rounds : ℕ) (mind : MindOf StepMap) (step : ℕ → ℕ) (level : ℕ → ℕ → ℕ) → ToldBy rounds mind step level → ToldBeside rounds mind.sweep mind.goals step level
+beside rounds mind step level told p other =
+    let resting : stage_for mind p ≡ AtRest = ap (λ (b : Bool). cond b (stage_of mind.line) AtRest) (ne_eqb p mind.sweep other) in
+    subst (λ (stage : Stage). Tells rounds (goal_at mind.goals p) stage (step p) (level p)) resting (told p)
+
+pub at_sweep : (rounds : ℕ) (mind : MindOf StepMap) (step : ℕ → ℕ) (level : ℕ → ℕ → ℕ) → ToldBy rounds mind step level → Tells rounds (current_goal mind) (stage_of mind.line) (step mind.sweep) (level mind.sweep)
+at_sweep rounds mind step level told =
+    let here : stage_for mind mind.sweep ≡ stage_of mind.line = ap (λ (b : Bool). cond b (stage_of mind.line) AtRest) (eq-eqb mind.sweep mind.sweep refl) in
+    subst (λ (stage : Stage). Tells rounds (current_goal mind) stage (step mind.sweep) (level mind.sweep)) here (told mind.sweep)
+
+pub told_by : (rounds : ℕ) (mind : MindOf StepMap) (step : ℕ → ℕ) (level : ℕ → ℕ → ℕ) → ToldBeside rounds mind.sweep mind.goals step level → Tells rounds (current_goal mind) (stage_of mind.line) (step mind.sweep) (level mind.sweep) → ToldBy rounds mind step level
+told_by rounds mind step level others own p = dite (ℕ_discrete p mind.sweep)
+    (λ (e : p ≡ mind.sweep).
+    let here : stage_for mind p ≡ stage_of mind.line = ap (λ (b : Bool). cond b (stage_of mind.line) AtRest) (eq-eqb p mind.sweep e) in
+    subst (λ (stage : Stage). Tells rounds (goal_at mind.goals p) stage (step p) (level p)) (sym here)
+    (subst (λ (q : ℕ). Tells rounds (goal_at mind.goals q) (stage_of mind.line) (step q) (level q)) (sym e) own))
+    (λ (n : p ≢ mind.sweep).
+    let resting : stage_for mind p ≡ AtRest = ap (λ (b : Bool). cond b (stage_of mind.line) AtRest) (ne_eqb p mind.sweep n) in
+    subst (λ (stage : Stage). Tells rounds (goal_at mind.goals p) stage (step p) (level p)) (sym resting) (others p n))
+
+same_branches : {A : Type 0} (b : Bool) (x : A) → cond b x x ≡ x
+same_branches true x = refl
+same_branches false x = refl
+
+-- between two turns
+pub at_rest : (rounds : ℕ) (mind : MindOf StepMap) (step : ℕ → ℕ) (level : ℕ → ℕ → ℕ) → mind.line ≡ Rest → ToldBy rounds mind step level → (p : ℕ) → Tells rounds (goal_at mind.goals p) AtRest (step p) (level p)
+at_rest rounds mind step level rest told p =
+    let resting : stage_for mind p ≡ AtRest = ap (λ (line : Line). cond (eqb p mind.sweep) (stage_of line) AtRest) rest ∙ same_branches (eqb p mind.sweep) AtRest in
+    subst (λ (stage : Stage). Tells rounds (goal_at mind.goals p) stage (step p) (level p)) resting (told p)
+
+pub told_at_rest : (rounds : ℕ) (mind : MindOf StepMap) (step : ℕ → ℕ) (level : ℕ → ℕ → ℕ) → mind.line ≡ Rest → ((p : ℕ) → Tells rounds (goal_at mind.goals p) AtRest (step p) (level p)) → ToldBy rounds mind step level
+told_at_rest rounds mind step level rest each p =
+    let resting : stage_for mind p ≡ AtRest = ap (λ (line : Line). cond (eqb p mind.sweep) (stage_of line) AtRest) rest ∙ same_branches (eqb p mind.sweep) AtRest in
+    subst (λ (stage : Stage). Tells rounds (goal_at mind.goals p) stage (step p) (level p)) (sym resting) (each p)
+
+pub told_with_goal : (rounds : ℕ) (list : List Goal) (j : ℕ) (goal : Goal) (step : ℕ → ℕ) (level : ℕ → ℕ → ℕ) → j < length list → ToldBeside rounds j list step level → Tells rounds goal AtRest (step j) (level j) → (p : ℕ) → Tells rounds (goal_at (set list j goal) p) AtRest (step p) (level p)
+told_with_goal rounds list j goal step level below others own p = dite (ℕ_discrete p j)
+    (λ (e : p ≡ j).
+    let here : goal_at (set list j goal) p ≡ goal = ap (λ (q : ℕ). get_or (set list j goal) q goals.Done) e ∙ get_or-set_same list j goal goals.Done below in
+    subst (λ (g : Goal). Tells rounds g AtRest (step p) (level p)) (sym here) (subst (λ (q : ℕ). Tells rounds goal AtRest (step q) (level q)) (sym e) own))
+    (λ (n : p ≢ j).
+    let same : goal_at (set list j goal) p ≡ goal_at list p = get_or-set_other list j p goal goals.Done n in
+    subst (λ (g : Goal). Tells rounds g AtRest (step p) (level p)) (sym same) (others p n))

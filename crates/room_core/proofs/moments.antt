@@ -1,0 +1,7 @@
+pub mod Shown
+pub mod Collects
+pub mod Sums
+pub mod Collecting
+pub mod Moments
+pub mod Contents
+pub mod Visits

@@ -1,0 +1,11 @@
+pub mod Settling
+pub mod Alone
+pub mod Marks
+pub mod Blocking
+pub mod Finishing
+pub mod Quieted
+pub mod Idling
+pub mod InOrder
+pub mod Ending
+pub mod Certified
+pub mod Unbounded

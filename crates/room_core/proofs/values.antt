@@ -1,0 +1,5 @@
+pub mod OwnValues
+pub mod SmallValues
+pub mod Known
+pub mod Knowing
+pub mod LowValues
