@@ -5,7 +5,7 @@ ghost use Rattle.std.specs.Str.{bytes_eq};
 ghost use Rattle.indexmap.specs.IndexMap.{get};
 ghost use Rattle.room_core.specs.Calls.{opening_state};
 ghost use Rattle.ws_history.specs.declared.states.Report.{Report as ReportData};
-ghost use Rattle.service_core.specs.declared.command.Command.TheVariants.{Begin, Close, Report};
+ghost use Rattle.service_core.specs.declared.command.Command.TheVariants.{Begin, Close, Report, Step};
 ghost use Rattle.service_core.specs.declared.reply.Reply.TheVariants.{Report as ReportReply};
 ghost use Rattle.service_core.specs.Replies.{OpenRoom, name_in, part, replies_from, reply_to, room_after};
 ghost use Rattle.service_core.specs.Rooms.{Applies, HasOwnNames, IsRefusal, IsReportOf, IsStateOf, IsWant, command_for, room_at};
@@ -66,12 +66,19 @@ impl Service {
     {
         match command {
             Command::Begin(spec) => self.begin(alloc, spec),
-            Command::Step { name, sim, count } => self.ask(&name, Act::Step { sim, count }),
+            Command::Step { name, sim, count } => self.step(&name, sim, count),
             Command::Crash { name, sim } => self.ask(&name, Act::Crash(sim)),
             Command::Settle(name) => self.ask(&name, Act::Settle),
             Command::Report(name) => self.report(alloc, &name),
             Command::Close(name) => self.close(&name),
         }
+    }
+
+    /// Does what the command [`Step`](Command::Step) does, with no command made of it.
+    pub fn step(&mut self, name: &Name, sim: u8, count: u16) -> Reply
+        ensures { Applies self.old (Step name.now sim count) result self.new }
+    {
+        self.ask(name, Act::Step { sim, count })
     }
 
     /// The replies of a fresh service to these commands, in order. Room for all replies is taken
