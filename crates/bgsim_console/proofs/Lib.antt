@@ -6,6 +6,7 @@ mod Naming
 mod Subcommands
 mod Numbering
 mod Taken
+mod Numerals
 mod ReplyTexts
 mod Scripts
 mod Playing

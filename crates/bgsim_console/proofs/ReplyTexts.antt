@@ -1,8 +1,9 @@
 -- Texts written piece by piece.
-use Rattle.std.proofs.Common.{◌≡◌, ◌∙◌, ℕ, ◌+◌, List, [], ◌∷◌, ◌++◌, map, sym, ap, arith}
-use Rattle.std.specs.List.{concat, range_with_len}
+use Rattle.std.proofs.Common.{◌≡◌, ◌∙◌, ℕ, ◌+◌, List, [], ◌∷◌, ◌++◌, Option, codes, map, sym, ap, arith}
+use Rattle.std.specs.List.{concat, flat_map, join_with_byte, range_with_len}
 use Rattle.std.proofs.lemmas.List.{append-nil, append_assoc}
 use Rattle.std.proofs.lemmas.List.Folds.{concat-append}
+use Rattle.transcript.specs.Grammar.{entry_text}
 use Rattle.std.proofs.lemmas.List.FromFn.{map-range_with_len_more}
 
 texts_more : (text : ℕ → List ℕ) (i : ℕ) → concat (map text (range_with_len 0 (i + 1))) ≡ concat (map text (range_with_len 0 i)) ++ text i
@@ -15,8 +16,10 @@ pub one_text_more : (text : ℕ → List ℕ) (start before after one : List ℕ
 one_text_more text start before after one i so_far more is =
     more ∙ ap (λ t. before ++ t) is ∙ ap (λ b. b ++ text i) so_far ∙ append_assoc start (concat (map text (range_with_len 0 i))) (text i) ∙ ap (λ t. start ++ t) (sym (texts_more text i))
 
--- the six pieces of a report
-pub six_pieces : (a b c d e f before o1 o2 o3 o4 o5 after : List ℕ) → o1 ≡ before ++ a → o2 ≡ o1 ++ b → o3 ≡ o2 ++ c → o4 ≡ o3 ++ d → o5 ≡ o4 ++ e → after ≡ o5 ++ f
-    → after ≡ before ++ (a ++ (b ++ (c ++ (d ++ (e ++ f)))))
-six_pieces a b c d e f before o1 o2 o3 o4 o5 after p1 p2 p3 p4 p5 p6 =
-    p6 ∙ ap (λ t. t ++ f) (p5 ∙ ap (λ t. t ++ e) (p4 ∙ ap (λ t. t ++ d) (p3 ∙ ap (λ t. t ++ c) (p2 ∙ ap (λ t. t ++ b) p1)))) ∙ simp append_assoc
+entries_behind : (text : List ℕ) (entries : List (Option ℕ)) → join_with_byte 32 (text ∷ map entry_text entries) ≡ text ++ flat_map (λ entry. 32 ∷ entry_text entry) entries
+entries_behind text [] = sym (append-nil text)
+entries_behind text (entry ∷ entries) = ap (λ t. text ++ 32 ∷ t) (entries_behind (entry_text entry) entries)
+
+-- the line of a snapshot
+pub snapshot_line : (name process : List ℕ) (entries : List (Option ℕ)) → name ++ (32 ∷ process ++ (codes " snap" ++ (flat_map (λ entry. 32 ∷ entry_text entry) entries ++ codes "\n"))) ≡ join_with_byte 32 (name ∷ process ∷ codes "snap" ∷ map entry_text entries) ++ codes "\n"
+snapshot_line name process entries = rw (entries_behind (codes "snap") entries) (simp append_assoc)

@@ -1,5 +1,5 @@
 //! The answer to a whole input.
-ghost use Rattle.std.specs.Prelude.{◌≡◌, ◌≤◌, List, Ok, IfOk, IfErr, length, string_bytes};
+ghost use Rattle.std.specs.Prelude.{◌≡◌, ◌≤◌, List, Ok, IfOk, IfErr, length};
 ghost use Rattle.history_checker.specs.Verdicts.{FedEvent, HasProcessed, specs_of};
 ghost use Rattle.bgsim_console.specs.Check.{IsFaultOr, MayLackMemory, IsOutput, IsOutputFor, input_says, is_well, outcome_if};
 
@@ -7,20 +7,21 @@ use crate::events::feed_events;
 use crate::fault::{IoFault, Outcome};
 use crate::report::{write_task, write_verdict};
 use crate::setup::{Setup, read_blocks};
+use crate::text::Text;
 use history_checker::{Rooms, TaskVerdict, Verdict};
 use std::alloc::{AllocError, Global};
 
 /// The output, and the outcome that goes with it.
 #[derive(Drop)]
 pub struct Answer {
-    pub output: String,
+    pub output: Text,
     pub outcome: Outcome,
 }
 
 /// Judges an input.
 pub fn judge(alloc: Global, input: &[u8]) -> Result<Answer, IoFault>
     requires { length input.now ≤ 16777216 }
-    ensures output { IfOk result (λ answer. IsOutputFor input.now answer.outcome (string_bytes answer.output)) }
+    ensures output { IfOk result (λ answer. IsOutputFor input.now answer.outcome answer.output) }
     ensures err { IfErr result (IsFaultOr (MayLackMemory input.now) (input_says input.now)) }
 {
     let (setup, transcript) = read_blocks(alloc, input)?;
@@ -34,9 +35,9 @@ pub fn judge(alloc: Global, input: &[u8]) -> Result<Answer, IoFault>
 }
 
 /// Puts the rooms' verdicts behind the lines of the refused blocks.
-fn answer_of(rooms: &Rooms, refused: String) -> Result<Answer, AllocError>
+fn answer_of(rooms: &Rooms, refused: Text) -> Result<Answer, AllocError>
     requires { (fed : List FedEvent) × HasProcessed rooms.now fed }
-    ensures { IfOk result (λ answer. (fed : List FedEvent) → HasProcessed rooms.now fed → IsOutput (specs_of rooms.now) (string_bytes refused) fed answer.outcome (string_bytes answer.output)) }
+    ensures { IfOk result (λ answer. (fed : List FedEvent) → HasProcessed rooms.now fed → IsOutput (specs_of rooms.now) refused fed answer.outcome answer.output) }
 {
     let mut all_well = refused.is_empty();
     let mut output = refused;

@@ -35,6 +35,7 @@ mod setup;
 mod task_tests;
 #[cfg(test)]
 mod tests;
+mod text;
 #[cfg(test)]
 mod text_tests;
 

@@ -1,5 +1,5 @@
 //! A script, entry by entry.
-ghost use Rattle.std.specs.Prelude.{◌≡◌, ◌≤◌, ◌<◌, ◌+◌, ◌^◌, ◌||◌, ◌++◌, ◌∷◌, [], true, false, List, Ok, IsOk, IfOk, IfErr, OnOk, decimal, is_some, length, string_bytes};
+ghost use Rattle.std.specs.Prelude.{◌≡◌, ◌≤◌, ◌<◌, ◌+◌, ◌^◌, ◌||◌, ◌++◌, ◌∷◌, [], true, false, List, Ok, IsOk, IfOk, IfErr, OnOk, decimal, is_some, length};
 ghost use Rattle.service_core.specs.declared.reply.Reply.{Reply as ReplyData};
 ghost use Rattle.service_core.specs.Runs.{is_want};
 ghost use Rattle.bgsim_console.specs.Check.{IsFaultOf, IsFaultOr, fault_text, refused_line};
@@ -14,6 +14,7 @@ use crate::reply::write_reply;
 use crate::report::{write_refused, write_refused_code};
 use crate::script::{is_open, next_entry, read_command};
 use crate::setup::read_room;
+use crate::text::Text;
 use room_spec::SpecFault;
 use service_core::{Command, Refusal, Reply, Service};
 use std::alloc::{AllocError, Global};
@@ -24,14 +25,14 @@ const BAD_COMMAND: u16 = 60;
 /// The text that a script leads to, and the end that goes with it.
 #[derive(Drop)]
 pub struct Played {
-    pub output: String,
+    pub output: Text,
     pub ending: Result<Outcome, IoFault>,
 }
 
 /// Judges a script, and does what it asks for where it has no fault.
 pub fn play(alloc: Global, script: &[u8]) -> Result<Played, IoFault>
     requires { length script.now ≤ 16777216 }
-    ensures text { IfOk result (λ played. IsPlayFor script.now played.ending (string_bytes played.output)) }
+    ensures text { IfOk result (λ played. IsPlayFor script.now played.ending played.output) }
     // Want of memory hides no bad line.
     ensures err { IfErr result (IsFaultOr (IsOk (script_says script.now)) (script_says script.now)) }
 {
@@ -45,7 +46,7 @@ pub fn play(alloc: Global, script: &[u8]) -> Result<Played, IoFault>
 struct Player {
     service: Service,
     /// The lines of the replies and of the refused blocks.
-    output: String,
+    output: Text,
     /// Whether a block or a command was refused.
     refused: bool,
     /// Whether one was refused for want of memory.
@@ -54,11 +55,11 @@ struct Player {
 
 impl Player {
     fn new(alloc: Global) -> Player
-        ensures { HasPlayed [] result.service (string_bytes result.output) result.refused result.lacking }
+        ensures { HasPlayed [] result.service result.output result.refused result.lacking }
     {
         Player {
             service: Service::new(alloc),
-            output: String::new(alloc),
+            output: Text::new(alloc),
             refused: false,
             lacking: false,
         }
@@ -73,7 +74,7 @@ impl Player {
         block: &[u8],
     ) -> Result<(), AllocError>
         requires { number + 1 < 2 ^ 64 }
-        ensures { OnOk result ((entry : Entry) → entry_at number line.now block.now ≡ Ok entry → (all : List Done) → HasPlayed all self.old.service (string_bytes self.old.output) self.old.refused self.old.lacking → PlaysOn entry self.new.service (string_bytes self.new.output) self.new.refused self.new.lacking all) }
+        ensures { OnOk result ((entry : Entry) → entry_at number line.now block.now ≡ Ok entry → (all : List Done) → HasPlayed all self.old.service self.old.output self.old.refused self.old.lacking → PlaysOn entry self.new.service self.new.output self.new.refused self.new.lacking all) }
     {
         if is_open(line) {
             return self.open(alloc, number + 1, block);
@@ -86,7 +87,7 @@ impl Player {
 
     /// Opens the room of a block whose first line has this number.
     fn open(&mut self, alloc: Global, number: u64, block: &[u8]) -> Result<(), AllocError>
-        ensures { OnOk result ((all : List Done) → HasPlayed all self.old.service (string_bytes self.old.output) self.old.refused self.old.lacking → PlaysOn (Open number block.now) self.new.service (string_bytes self.new.output) self.new.refused self.new.lacking all) }
+        ensures { OnOk result ((all : List Done) → HasPlayed all self.old.service self.old.output self.old.refused self.old.lacking → PlaysOn (Open number block.now) self.new.service self.new.output self.new.refused self.new.lacking all) }
     {
         match read_room(alloc, block) {
             Ok(Ok((spec, _))) => self.apply(alloc, Command::Begin(spec)),
@@ -97,7 +98,7 @@ impl Player {
 
     /// Refuses a block for a fault of its own.
     fn refuse(&mut self, number: u64, fault: SpecFault) -> Result<(), AllocError>
-        ensures output { OnOk result (string_bytes self.new.output ≡ string_bytes self.old.output ++ refused_line number (fault_text fault)) }
+        ensures output { OnOk result (self.new.output ≡ self.old.output ++ refused_line number (fault_text fault)) }
         ensures refused { self.new.refused ≡ true }
         ensures lacking { self.new.lacking ≡ self.old.lacking }
         ensures service { self.new.service ≡ self.old.service }
@@ -108,7 +109,7 @@ impl Player {
 
     /// Refuses a block for want of memory.
     fn lack(&mut self, number: u64) -> Result<(), AllocError>
-        ensures output { OnOk result (string_bytes self.new.output ≡ string_bytes self.old.output ++ refused_line number (decimal 8)) }
+        ensures output { OnOk result (self.new.output ≡ self.old.output ++ refused_line number (decimal 8)) }
         ensures refused { self.new.refused ≡ true }
         ensures lacking { self.new.lacking ≡ true }
         ensures service { self.new.service ≡ self.old.service }
@@ -120,7 +121,7 @@ impl Player {
 
     /// What it has come to. The service is let go.
     fn ended(self) -> Played
-        ensures output { string_bytes result.output ≡ string_bytes self.output }
+        ensures output { result.output ≡ self.output }
         ensures ending { result.ending ≡ ending_if self.lacking self.refused }
     {
         let ending = if self.lacking {
@@ -135,14 +136,14 @@ impl Player {
     }
 
     fn apply(&mut self, alloc: Global, command: Command) -> Result<(), AllocError>
-        ensures { OnOk result ((reply : ReplyData) × ((all : List Done) → HasPlayed all self.old.service (string_bytes self.old.output) self.old.refused self.old.lacking → HasPlayed (all ++ Replied command reply ∷ []) self.new.service (string_bytes self.new.output) self.new.refused self.new.lacking)) }
+        ensures { OnOk result ((reply : ReplyData) × ((all : List Done) → HasPlayed all self.old.service self.old.output self.old.refused self.old.lacking → HasPlayed (all ++ Replied command reply ∷ []) self.new.service self.new.output self.new.refused self.new.lacking)) }
     {
         let name = command.name().clone()?;
         let sim = sim_in(&command);
         let reply = self.service.apply(alloc, command);
         self.refused |= is_refusal(&reply);
         self.lacking |= is_want(&reply);
-        write_reply(&mut self.output, &name, sim, &reply)
+        write_reply(&mut self.output, name.as_str().as_bytes(), sim, &reply)
     }
 }
 
@@ -199,7 +200,7 @@ fn is_good(line: &[u8]) -> bool
 fn play_script(alloc: Global, script: &[u8]) -> Result<Player, AllocError>
     requires good { IsOk (script_says script.now) }
     requires short { length script.now ≤ 16777216 }
-    ensures { IfOk result (λ player. (entries : List Entry) × (all : List Done) × (script_says script.now ≡ Ok entries) × AreDone entries all × HasPlayed all player.service (string_bytes player.output) player.refused player.lacking) }
+    ensures { IfOk result (λ player. (entries : List Entry) × (all : List Done) × (script_says script.now ≡ Ok entries) × AreDone entries all × HasPlayed all player.service player.output player.refused player.lacking) }
 {
     let mut player = Player::new(alloc);
     let mut rest = script;

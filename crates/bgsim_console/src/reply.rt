@@ -1,86 +1,116 @@
 //! The lines of replies.
-ghost use Rattle.std.specs.Prelude.{◌≡◌, ◌++◌, codes, decimal, string_bytes, OnOk};
+ghost use Rattle.std.specs.Prelude.{◌≡◌, ◌≤◌, ◌++◌, ◌∷◌, OnOk, codes, decimal, length};
+ghost use Rattle.std.specs.List.{flat_map};
+ghost use Rattle.service_core.specs.Replies.{refusal_code};
+ghost use Rattle.transcript.specs.Grammar.{entry_text, event_line};
 ghost use Rattle.bgsim_console.specs.ReplyTexts.{crash_word, event_lines, numbers_text, process_line, process_lines, reply_text, report_text, state_text, step_word};
 
+use crate::text::{Numeral, Text};
 use room_core::{CrashReply, StepReply};
-use room_spec::Name;
-use service_core::Reply;
+use service_core::{Refusal, Reply};
 use std::alloc::AllocError;
-use std::fmt::Write;
-use transcript::{Event, append_event};
+use transcript::Event;
 use ws_history::{ProcessState, Report};
 
 /// Writes the lines of a reply to a command for the room of this name and for this simulator of it.
 pub fn write_reply(
-    output: &mut String,
-    name: &Name,
+    output: &mut Text,
+    name: &[u8],
     sim: u8,
     reply: &Reply,
 ) -> Result<(), AllocError>
-    ensures { OnOk result (string_bytes output.new ≡ string_bytes output.old ++ reply_text name.now sim reply.now) }
+    ensures { OnOk result (output.new ≡ output.old ++ reply_text name.now sim reply.now) }
 {
     match reply {
-        Reply::Begun => write!(output, "{name} opened\n"),
-        Reply::Steps { taken, last } => {
-            let word = step_word(*last);
-            write!(output, "{name} step {sim} {taken} {word}\n")
-        }
-        Reply::Crash(reply) => {
-            let word = crash_word(*reply);
-            write!(output, "{name} crash {sim} {word}\n")
-        }
-        Reply::Settled => write!(output, "{name} settled\n"),
+        Reply::Begun => output.put_two(name, b" opened\n"),
+        Reply::Steps { taken, last } => write_steps(output, name, sim, *taken, *last),
+        Reply::Crash(reply) => write_crash(output, name, sim, *reply),
+        Reply::Settled => output.put_two(name, b" settled\n"),
         Reply::Report(report) => write_report(output, name, report),
-        Reply::Closed => write!(output, "{name} closed\n"),
-        Reply::Refused(refusal) => {
-            let code = refusal.code();
-            write!(output, "{name} refused {code}\n")
-        }
+        Reply::Closed => output.put_two(name, b" closed\n"),
+        Reply::Refused(refusal) => write_refusal(output, name, *refusal),
     }
 }
 
-fn step_word(reply: StepReply) -> &'static str
-    ensures { result.now ≡ step_word reply }
+fn write_steps(
+    output: &mut Text,
+    name: &[u8],
+    sim: u8,
+    taken: u16,
+    last: StepReply,
+) -> Result<(), AllocError>
+    ensures { OnOk result (output.new ≡ output.old ++ (name.now ++ (codes " step " ++ (decimal sim ++ (codes " " ++ (decimal taken ++ (codes " " ++ (step_word last ++ codes "\n")))))))) }
+{
+    output.put_two(name, b" step")?;
+    output.put_number(u64::from(sim))?;
+    output.put_number(u64::from(taken))?;
+    output.put(step_end(last))
+}
+
+/// The end of the line on steps.
+fn step_end(reply: StepReply) -> &'static [u8]
+    ensures { result.now ≡ codes " " ++ (step_word reply ++ codes "\n") }
 {
     match reply {
-        StepReply::Stepped => "stepped",
-        StepReply::Idle => "idle",
-        StepReply::OutOfTurns => "out of turns",
-        StepReply::Crashed => "crashed",
-        StepReply::NoSimulator => "nobody",
+        StepReply::Stepped => b" stepped\n",
+        StepReply::Idle => b" idle\n",
+        StepReply::OutOfTurns => b" out of turns\n",
+        StepReply::Crashed => b" crashed\n",
+        StepReply::NoSimulator => b" nobody\n",
     }
 }
 
-fn crash_word(reply: CrashReply) -> &'static str
-    ensures { result.now ≡ crash_word reply }
+fn write_crash(
+    output: &mut Text,
+    name: &[u8],
+    sim: u8,
+    reply: CrashReply,
+) -> Result<(), AllocError>
+    ensures { OnOk result (output.new ≡ output.old ++ (name.now ++ (codes " crash " ++ (decimal sim ++ (codes " " ++ (crash_word reply ++ codes "\n")))))) }
+{
+    output.put_two(name, b" crash")?;
+    output.put_number(u64::from(sim))?;
+    output.put(crash_end(reply))
+}
+
+/// The end of the line on a crash.
+fn crash_end(reply: CrashReply) -> &'static [u8]
+    ensures { result.now ≡ codes " " ++ (crash_word reply ++ codes "\n") }
 {
     match reply {
-        CrashReply::Crashed => "crashed",
-        CrashReply::AlreadyCrashed => "already",
-        CrashReply::NoSimulator => "nobody",
+        CrashReply::Crashed => b" crashed\n",
+        CrashReply::AlreadyCrashed => b" already\n",
+        CrashReply::NoSimulator => b" nobody\n",
     }
+}
+
+fn write_refusal(output: &mut Text, name: &[u8], refusal: Refusal) -> Result<(), AllocError>
+    ensures { OnOk result (output.new ≡ output.old ++ (name.now ++ (codes " refused " ++ (decimal (refusal_code refusal) ++ codes "\n")))) }
+{
+    output.put_two(name, b" refused")?;
+    output.put_number(u64::from(refusal.code()))?;
+    output.put(b"\n")
 }
 
 /// Writes the lines of a room's report.
-pub fn write_report(output: &mut String, name: &Name, report: &Report) -> Result<(), AllocError>
-    ensures { OnOk result (string_bytes output.new ≡ string_bytes output.old ++ report_text name.now report.now) }
+pub fn write_report(output: &mut Text, name: &[u8], report: &Report) -> Result<(), AllocError>
+    ensures { OnOk result (output.new ≡ output.old ++ report_text name.now report.now) }
 {
     let events = report.history.events();
-    let count = events.len();
-    write!(output, "{name} report\n")?;
+    output.put_two(name, b" report\n")?;
     write_processes(output, name, report.states.as_slice())?;
     write_crashed(output, name, report.crashed.as_slice())?;
-    write!(output, "{name} history {count}\n")?;
+    write_count(output, name, events.len())?;
     write_events(output, name, events)?;
-    write!(output, "{name} end\n")
+    output.put_two(name, b" end\n")
 }
 
 fn write_processes(
-    output: &mut String,
-    name: &Name,
+    output: &mut Text,
+    name: &[u8],
     states: &[ProcessState],
 ) -> Result<(), AllocError>
-    ensures { OnOk result (string_bytes output.new ≡ string_bytes output.old ++ process_lines name.now states.now) }
+    ensures { OnOk result (output.new ≡ output.old ++ process_lines name.now states.now) }
 {
     for process in 0..states.len() {
         write_process(output, name, process, states[process])?;
@@ -89,47 +119,145 @@ fn write_processes(
 }
 
 fn write_process(
-    output: &mut String,
-    name: &Name,
+    output: &mut Text,
+    name: &[u8],
     process: usize,
     state: ProcessState,
 ) -> Result<(), AllocError>
-    ensures { OnOk result (string_bytes output.new ≡ string_bytes output.old ++ process_line name.now process state) }
+    ensures { OnOk result (output.new ≡ output.old ++ process_line name.now process state) }
+{
+    output.put_two(name, b" process")?;
+    output.put_number(process as u64)?;
+    write_state(output, state)
+}
+
+/// Writes the end of a process's line.
+fn write_state(output: &mut Text, state: ProcessState) -> Result<(), AllocError>
+    ensures { OnOk result (output.new ≡ output.old ++ (codes " " ++ (state_text state ++ codes "\n"))) }
 {
     match state {
-        ProcessState::Decided(value) => {
-            write!(output, "{name} process {process} decided {value}\n")
-        }
-        ProcessState::Spent => write!(output, "{name} process {process} spent\n"),
-        ProcessState::Held(sim) => write!(output, "{name} process {process} held {sim}\n"),
-        ProcessState::Going => write!(output, "{name} process {process} going\n"),
+        ProcessState::Decided(value) => write_end(output, b" decided", u64::from(value)),
+        ProcessState::Spent => output.put(b" spent\n"),
+        ProcessState::Held(sim) => write_end(output, b" held", u64::from(sim)),
+        ProcessState::Going => output.put(b" going\n"),
     }
 }
 
-fn write_crashed(output: &mut String, name: &Name, crashed: &[u8]) -> Result<(), AllocError>
-    ensures { OnOk result (string_bytes output.new ≡ string_bytes output.old ++ (name.now ++ (codes " crashed" ++ (numbers_text crashed.now ++ codes "\n")))) }
+/// Writes the end of a line: words, and a number behind them.
+fn write_end(output: &mut Text, words: &[u8], number: u64) -> Result<(), AllocError>
+    ensures { OnOk result (output.new ≡ output.old ++ (words.now ++ (codes " " ++ (decimal number ++ codes "\n")))) }
 {
-    write!(output, "{name} crashed")?;
+    output.put(words)?;
+    output.put_number(number)?;
+    output.put(b"\n")
+}
+
+fn write_crashed(output: &mut Text, name: &[u8], crashed: &[u8]) -> Result<(), AllocError>
+    ensures { OnOk result (output.new ≡ output.old ++ (name.now ++ (codes " crashed" ++ (numbers_text crashed.now ++ codes "\n")))) }
+{
+    output.put_two(name, b" crashed")?;
     write_numbers(output, crashed)?;
-    output.push_str("\n")
+    output.put(b"\n")
 }
 
 /// Writes each number behind a space.
-fn write_numbers(output: &mut String, numbers: &[u8]) -> Result<(), AllocError>
-    ensures { OnOk result (string_bytes output.new ≡ string_bytes output.old ++ numbers_text numbers.now) }
+fn write_numbers(output: &mut Text, numbers: &[u8]) -> Result<(), AllocError>
+    ensures { OnOk result (output.new ≡ output.old ++ numbers_text numbers.now) }
 {
     for number in numbers {
-        write!(output, " {number}")?;
+        output.put_number(u64::from(*number))?;
     }
     Ok(())
 }
 
-fn write_events(output: &mut String, name: &Name, events: &[Event]) -> Result<(), AllocError>
-    ensures { OnOk result (string_bytes output.new ≡ string_bytes output.old ++ event_lines name.now events.now) }
+fn write_count(output: &mut Text, name: &[u8], count: usize) -> Result<(), AllocError>
+    ensures { OnOk result (output.new ≡ output.old ++ (name.now ++ (codes " history " ++ (decimal count ++ codes "\n")))) }
 {
+    output.put(name)?;
+    write_end(output, b" history", count as u64)
+}
+
+/// The most entries of a snapshot.
+const MAX_ENTRIES: usize = 16;
+
+/// Writes the events' lines. Most entries of a snapshot show what they did in the one before, so the
+/// number that was shown last at each place of a row is kept as text.
+fn write_events(output: &mut Text, name: &[u8], events: &[Event]) -> Result<(), AllocError>
+    ensures { OnOk result (output.new ≡ output.old ++ event_lines name.now events.now) }
+{
+    let mut shown = [Numeral::of(0); MAX_ENTRIES];
     for event in events {
-        append_event(output, name, event)?;
-        output.push_str("\n")?;
+        write_event(output, name, &mut shown, event)?;
     }
     Ok(())
+}
+
+fn write_event(
+    output: &mut Text,
+    name: &[u8],
+    shown: &mut [Numeral; MAX_ENTRIES],
+    event: &Event,
+) -> Result<(), AllocError>
+    ensures { OnOk result (output.new ≡ output.old ++ (event_line name.now event.now ++ codes "\n")) }
+{
+    output.put(name)?;
+    match event {
+        Event::Write { p, v } => write_value(output, *p, b" write", *v),
+        Event::Snap { p, row } => write_snapshot(output, shown, *p, row.as_slice()),
+        Event::Decide { p, v } => write_value(output, *p, b" decide", *v),
+    }
+}
+
+/// Writes the end of a line: a process, what it did, and its value.
+fn write_value(output: &mut Text, p: u8, deed: &[u8], v: u32) -> Result<(), AllocError>
+    ensures { OnOk result (output.new ≡ output.old ++ (32 ∷ decimal p ++ (deed.now ++ (codes " " ++ (decimal v ++ codes "\n"))))) }
+{
+    output.put_number(u64::from(p))?;
+    write_end(output, deed, u64::from(v))
+}
+
+/// Writes the end of a line: a process, and the snapshot that it took.
+fn write_snapshot(
+    output: &mut Text,
+    shown: &mut [Numeral; MAX_ENTRIES],
+    p: u8,
+    entries: &[Option<u32>],
+) -> Result<(), AllocError>
+    requires { length entries.now ≤ 16 }
+    ensures { OnOk result (output.new ≡ output.old ++ (32 ∷ decimal p ++ (codes " snap" ++ (flat_map (λ entry. 32 ∷ entry_text entry) entries.now ++ codes "\n")))) }
+{
+    output.put_number(u64::from(p))?;
+    output.put(b" snap")?;
+    write_entries(output, shown, entries)?;
+    output.put(b"\n")
+}
+
+/// Writes each entry of a snapshot behind a space.
+fn write_entries(
+    output: &mut Text,
+    shown: &mut [Numeral; MAX_ENTRIES],
+    entries: &[Option<u32>],
+) -> Result<(), AllocError>
+    requires { length entries.now ≤ 16 }
+    ensures { OnOk result (output.new ≡ output.old ++ flat_map (λ entry. 32 ∷ entry_text entry) entries.now) }
+{
+    for place in 0..entries.len() {
+        write_entry(output, &mut shown[place], entries[place])?;
+    }
+    Ok(())
+}
+
+/// Writes a space and an entry: a value, or `.` for nothing.
+fn write_entry(
+    output: &mut Text,
+    shown: &mut Numeral,
+    entry: Option<u32>,
+) -> Result<(), AllocError>
+    ensures { OnOk result (output.new ≡ output.old ++ 32 ∷ entry_text entry) }
+{
+    let Some(value) = entry else {
+        return output.put(b" .");
+    };
+    shown.set(u64::from(value));
+    output.put_numeral(shown)
 }

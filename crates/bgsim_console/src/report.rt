@@ -1,42 +1,51 @@
 //! The lines of the output.
-ghost use Rattle.std.specs.Prelude.{◌≡◌, ◌++◌, OnOk, codes, decimal, string_bytes};
+ghost use Rattle.std.specs.Prelude.{◌≡◌, ◌++◌, OnOk, codes, decimal};
 ghost use Rattle.protocol_lang.specs.Faults.{code_of};
 ghost use Rattle.protocol_lang.specs.Grammar.{place_of};
 ghost use Rattle.bgsim_console.specs.Check.{fault_text, numbers_behind, protocol_text, refused_line, task_line, verdict_line};
 
+use crate::text::Text;
 use history_checker::{TaskVerdict, Verdict};
 use protocol_lang::ParseFault;
 use room_spec::{Name, SpecFault};
 use std::alloc::AllocError;
-use std::fmt::Write;
 
 /// Writes the line of a block that was refused for this fault, whose first line has this number.
-pub fn write_refused(output: &mut String, line: u64, fault: SpecFault) -> Result<(), AllocError>
-    ensures { OnOk result (string_bytes output.new ≡ string_bytes output.old ++ refused_line line (fault_text fault)) }
+pub fn write_refused(output: &mut Text, line: u64, fault: SpecFault) -> Result<(), AllocError>
+    ensures { OnOk result (output.new ≡ output.old ++ refused_line line (fault_text fault)) }
 {
-    let code = fault.code();
-    write!(output, "line {line} refused {code}")?;
+    write_code(output, line, fault.code())?;
     write_numbers(output, fault)?;
-    output.push_str("\n")
+    output.put(b"\n")
 }
 
 /// Writes the line of a block that was refused for a fault that its code alone tells, whose first line
 /// has this number.
-pub fn write_refused_code(output: &mut String, line: u64, code: u16) -> Result<(), AllocError>
-    ensures { OnOk result (string_bytes output.new ≡ string_bytes output.old ++ refused_line line (decimal code)) }
+pub fn write_refused_code(output: &mut Text, line: u64, code: u16) -> Result<(), AllocError>
+    ensures { OnOk result (output.new ≡ output.old ++ refused_line line (decimal code)) }
 {
-    write!(output, "line {line} refused {code}\n")
+    write_code(output, line, code)?;
+    output.put(b"\n")
+}
+
+fn write_code(output: &mut Text, line: u64, code: u16) -> Result<(), AllocError>
+    ensures { OnOk result (output.new ≡ output.old ++ (codes "line " ++ (decimal line ++ (codes " refused " ++ decimal code)))) }
+{
+    output.put(b"line")?;
+    output.put_number(line)?;
+    output.put(b" refused")?;
+    output.put_number(u64::from(code))
 }
 
 /// Writes the numbers behind the code of a block's fault: its line, or what is wrong with the protocol.
-fn write_numbers(output: &mut String, fault: SpecFault) -> Result<(), AllocError>
-    ensures { OnOk result (string_bytes output.new ≡ string_bytes output.old ++ numbers_behind fault) }
+fn write_numbers(output: &mut Text, fault: SpecFault) -> Result<(), AllocError>
+    ensures { OnOk result (output.new ≡ output.old ++ numbers_behind fault) }
 {
     match fault {
         SpecFault::BadLine(line)
         | SpecFault::CrashLine(line)
         | SpecFault::Repeated(line)
-        | SpecFault::TaskLine(line) => write!(output, " {line}"),
+        | SpecFault::TaskLine(line) => output.put_number(line as u64),
         SpecFault::BadProtocol(fault) => write_protocol_fault(output, fault),
         SpecFault::Truncated
         | SpecFault::BadName
@@ -48,40 +57,56 @@ fn write_numbers(output: &mut String, fault: SpecFault) -> Result<(), AllocError
     }
 }
 
-fn write_protocol_fault(output: &mut String, fault: ParseFault) -> Result<(), AllocError>
-    ensures { OnOk result (string_bytes output.new ≡ string_bytes output.old ++ (codes " " ++ protocol_text (code_of fault) (place_of fault))) }
+fn write_protocol_fault(output: &mut Text, fault: ParseFault) -> Result<(), AllocError>
+    ensures { OnOk result (output.new ≡ output.old ++ (codes " " ++ protocol_text (code_of fault) (place_of fault))) }
 {
-    let code = fault.code();
+    output.put_number(u64::from(fault.code()))?;
     match fault.place() {
-        Some(place) => write!(output, " {code} {place}"),
-        None => write!(output, " {code}"),
+        Some(place) => output.put_number(place as u64),
+        None => Ok(()),
     }
 }
 
 /// Writes the line of a room's verdict.
-pub fn write_verdict(output: &mut String, name: &Name, verdict: Verdict) -> Result<(), AllocError>
-    ensures { OnOk result (string_bytes output.new ≡ string_bytes output.old ++ verdict_line name.now verdict) }
+pub fn write_verdict(output: &mut Text, name: &Name, verdict: Verdict) -> Result<(), AllocError>
+    ensures { OnOk result (output.new ≡ output.old ++ verdict_line name.now verdict) }
 {
     match verdict {
-        Verdict::Run => write!(output, "{name} is a run\n"),
-        Verdict::Broken(line) => write!(output, "{name} is not a run: line {line}\n"),
+        Verdict::Run => output.put_two(name.as_str().as_bytes(), b" is a run\n"),
+        Verdict::Broken(line) => write_broken(output, name, b" is not a run: line", line),
     }
 }
 
 /// Writes the line on the task of a room whose events are a run, if the room has a task.
 pub fn write_task(
-    output: &mut String,
+    output: &mut Text,
     name: &Name,
     verdict: Verdict,
     task: Option<TaskVerdict>,
 ) -> Result<(), AllocError>
-    ensures { OnOk result (string_bytes output.new ≡ string_bytes output.old ++ task_line name.now verdict task) }
+    ensures { OnOk result (output.new ≡ output.old ++ task_line name.now verdict task) }
 {
     match (verdict, task) {
-        (Verdict::Run, Some(TaskVerdict::Holds)) => write!(output, "{name} task holds\n"),
+        (Verdict::Run, Some(TaskVerdict::Holds)) => {
+            output.put_two(name.as_str().as_bytes(), b" task holds\n")
+        }
         (Verdict::Run, Some(TaskVerdict::Broken(line))) => {
-            write!(output, "{name} task broken: line {line}\n")
+            write_broken(output, name, b" task broken: line", line)
         }
         _ => Ok(()),
     }
+}
+
+/// Writes what is broken, in these words, and the number of the line that breaks it.
+fn write_broken(
+    output: &mut Text,
+    name: &Name,
+    words: &[u8],
+    line: u64,
+) -> Result<(), AllocError>
+    ensures { OnOk result (output.new ≡ output.old ++ (name.now ++ (words.now ++ (codes " " ++ (decimal line ++ codes "\n"))))) }
+{
+    output.put_two(name.as_str().as_bytes(), words)?;
+    output.put_number(line)?;
+    output.put(b"\n")
 }

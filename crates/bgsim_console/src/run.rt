@@ -1,5 +1,5 @@
 //! Rooms that workers run, and their reports.
-ghost use Rattle.std.specs.Prelude.{◌≡◌, ◌<◌, ◌≤◌, ◌++◌, IfErr, IfOk, OnOk, length, string_bytes};
+ghost use Rattle.std.specs.Prelude.{◌≡◌, ◌<◌, ◌≤◌, ◌++◌, IfErr, IfOk, OnOk, length};
 ghost use Rattle.std.specs.List.{flat_map};
 ghost use Rattle.bgsim_console.specs.ReplyTexts.{report_text};
 ghost use Rattle.bgsim_console.specs.Run.{AddsReports, AreWorkers, IsRunFor, MayEndRun};
@@ -8,6 +8,7 @@ use crate::fault::{IoFault, Outcome};
 use crate::judge::outcome_if;
 use crate::reply::write_report;
 use crate::setup::{Setup, read_all_blocks};
+use crate::text::Text;
 use history_checker::Specs;
 use room_spec::Spec;
 use scheduler::{Gate, RoomResult, run_rooms};
@@ -22,7 +23,7 @@ const ROOMS_AT_ONCE: usize = 128;
 /// A text of reports, and the outcome that goes with it.
 #[derive(Drop)]
 pub struct Ran {
-    pub output: String,
+    pub output: Text,
     pub outcome: Outcome,
 }
 
@@ -35,7 +36,7 @@ pub fn run_blocks<H: Threads + Wait + Sync, G: Gate + Sync>(
     gate: &G,
 ) -> Result<Ran, IoFault>
     requires { length input.items ≤ 16777216 }
-    ensures output { IfOk result (λ ran. IsRunFor workers input.items ran.outcome (string_bytes ran.output)) }
+    ensures output { IfOk result (λ ran. IsRunFor workers input.items ran.outcome ran.output) }
     ensures err { IfErr result (MayEndRun workers) }
 {
     let Setup { rooms, refused, .. } = read_all_blocks(alloc, &input)?;
@@ -55,9 +56,9 @@ fn run_in_parts<H: Threads + Wait + Sync, G: Gate + Sync>(
     mut left: Specs,
     workers: u8,
     gate: &G,
-    output: &mut String,
+    output: &mut Text,
 ) -> Result<(), IoFault>
-    ensures reports { OnOk result (AddsReports left (string_bytes output.old) (string_bytes output.new)) }
+    ensures reports { OnOk result (AddsReports left output.old output.new) }
     ensures workers { OnOk result (AreWorkers workers) }
     ensures err { IfErr result (MayEndRun workers) }
 {
@@ -93,9 +94,9 @@ fn run_part<H: Threads + Wait + Sync, G: Gate + Sync>(
     specs: Vec<Spec>,
     workers: u8,
     gate: &G,
-    output: &mut String,
+    output: &mut Text,
 ) -> Result<(), IoFault>
-    ensures reports { OnOk result (AddsReports specs.items (string_bytes output.old) (string_bytes output.new)) }
+    ensures reports { OnOk result (AddsReports specs.items output.old output.new) }
     ensures workers { OnOk result (AreWorkers workers) }
     ensures err { IfErr result (MayEndRun workers) }
 {
@@ -104,11 +105,12 @@ fn run_part<H: Threads + Wait + Sync, G: Gate + Sync>(
     Ok(())
 }
 
-fn write_reports(output: &mut String, results: &[RoomResult]) -> Result<(), AllocError>
-    ensures { OnOk result (string_bytes output.new ≡ string_bytes output.old ++ flat_map (λ one. report_text one.core.spec.name one.report) results.now) }
+fn write_reports(output: &mut Text, results: &[RoomResult]) -> Result<(), AllocError>
+    ensures { OnOk result (output.new ≡ output.old ++ flat_map (λ one. report_text one.core.spec.name one.report) results.now) }
 {
     for one in results {
-        write_report(output, one.core.spec().name(), &one.report)?;
+        let name = one.core.spec().name().as_str().as_bytes();
+        write_report(output, name, &one.report)?;
     }
     Ok(())
 }

@@ -1,5 +1,5 @@
 //! What the blocks of an input say.
-ghost use Rattle.std.specs.Prelude.{◌≡◌, ◌+◌, ◌<◌, ◌^◌, ◌≤◌, [], Ok, IfOk, IfErr, OnOk, length, string_bytes, codes, decimal};
+ghost use Rattle.std.specs.Prelude.{◌≡◌, ◌+◌, ◌<◌, ◌^◌, ◌≤◌, [], Ok, IfOk, IfErr, OnOk, length, codes, decimal};
 ghost use Rattle.bgsim_console.specs.declared.fault.IoFault.TheVariants.{Memory};
 ghost use Rattle.room_spec.specs.Blocks.{IsHeadRight, block_in, room_in};
 ghost use Rattle.bgsim_console.specs.Run.{all_blocks};
@@ -9,6 +9,7 @@ use crate::fault::IoFault;
 use crate::lines::count_lines;
 use crate::report::{write_refused, write_refused_code};
 use crate::script::block_extent;
+use crate::text::Text;
 use history_checker::{AddFault, Rooms};
 use protocol_lang::ParseFault;
 use room_spec::{
@@ -27,7 +28,7 @@ pub struct Setup {
     /// The rooms that they open, which have no events yet.
     pub rooms: Rooms,
     /// The lines of the blocks that were refused.
-    pub refused: String,
+    pub refused: Text,
     /// The number of the next line.
     pub line: u64,
 }
@@ -35,7 +36,7 @@ pub struct Setup {
 impl Model for Setup {
     ghost use Rattle.std.specs.Coded.{codes};
     ghost use Rattle.protocol_lang.specs.Codes.{expression_code};
-    ghost use Rattle.std.specs.Prelude.{◌≡◌, [], string_bytes};
+    ghost use Rattle.std.specs.Prelude.{◌≡◌, []};
     ghost use Rattle.history_checker.specs.Verdicts.{HasProcessed, specs_of};
     ghost use Rattle.bgsim_console.specs.Check.{Setup as SetupSpec};
 
@@ -43,7 +44,7 @@ impl Model for Setup {
 
     ghost coded = { Prim.hlevel (codes, expression_code) };
 
-    ghost view = { λ setup. record { rooms = specs_of setup.rooms; refused = string_bytes setup.refused; line = setup.line } };
+    ghost view = { λ setup. record { rooms = specs_of setup.rooms; refused = setup.refused; line = setup.line } };
 
     ghost invariant = { λ setup. HasProcessed setup.rooms [] };
 }
@@ -54,7 +55,7 @@ impl Setup {
     {
         Setup {
             rooms: Rooms::new(alloc),
-            refused: String::new(alloc),
+            refused: Text::new(alloc),
             line: 1,
         }
     }

@@ -1,6 +1,6 @@
-use Rattle.std.proofs.Common.{◌≡◌, ◌++◌, take, string_bytes}
+use Rattle.std.proofs.Common.{◌≡◌, ◌++◌, take}
 use Rattle.bgsim_console.specs.ReplyTexts.{numbers_text}
 use Rattle.bgsim_console.proofs.reply.write_numbers.Given as goal
 
 abbrev pub invariant-loop-number : goal.invariant-loop-number
-invariant-loop-number l = string_bytes l.output ≡ string_bytes l.initial.output ++ numbers_text (take l.number-index l.numbers)
+invariant-loop-number l = l.output ≡ l.initial.output ++ numbers_text (take l.number-index l.numbers)

@@ -1,9 +1,9 @@
-use Rattle.std.proofs.Common.{length, string_bytes}
+use Rattle.std.proofs.Common.{length}
 use Rattle.bgsim_console.proofs.RunTexts.{IsReportedUpTo}
 use Rattle.bgsim_console.proofs.run.run_in_parts.Given as goal
 
 abbrev pub invariant-loop-left : goal.invariant-loop-left
-invariant-loop-left g l = IsReportedUpTo l.initial.left l.left (string_bytes l.initial.output) (string_bytes l.output)
+invariant-loop-left g l = IsReportedUpTo l.initial.left l.left l.initial.output l.output
 
 abbrev pub decreases-loop-left : goal.decreases-loop-left
 decreases-loop-left g l = length l.left
