@@ -28,20 +28,23 @@ use arrayvec::ArrayVec;
 use room_spec::Spec;
 use simulator::{Mind, Ready, Sweep};
 use std::alloc::{AllocError, Global};
+use std::boxed::BoxedSlice;
 use std::marker::Model;
 use view_table::words;
 
-/// A room: its words, a sweep for each simulator, and which simulators have crashed.
+/// A room: its words, a sweep for each simulator, and which simulators have crashed. Words and sweeps lie
+/// in memory of their own, so that a room goes from hand to hand without them.
 #[derive(Drop)]
 pub struct RoomCore {
     spec: Spec,
     words: RoomWords,
-    sweeps: ArrayVec<Sweep, 8>,
+    sweeps: BoxedSlice<Sweep>,
     crashed: ArrayVec<bool, 8>,
 }
 
 impl Model for RoomCore {
     ghost use Rattle.std.specs.Coded.{codes};
+    ghost use Rattle.std.specs.Box.{boxed_slice_items};
     ghost use Rattle.protocol_lang.specs.Codes.{expression_code};
     ghost use Rattle.room_core.specs.Calls.{IsCore, RoomState};
 
@@ -49,10 +52,10 @@ impl Model for RoomCore {
 
     ghost coded = { Prim.hlevel (codes, expression_code) };
 
-    ghost view = { λ r. record { spec = r.spec; words = r.words; sweeps = r.sweeps.items; crashed = r.crashed.items } };
+    ghost view = { λ r. record { spec = r.spec; words = r.words; sweeps = boxed_slice_items r.sweeps; crashed = r.crashed.items } };
 
     // Some list of atomic steps and crashes leads to it, and each quiet count is one of its mind.
-    ghost invariant = { λ r. IsCore (record { spec = r.spec; words = r.words; sweeps = r.sweeps.items; crashed = r.crashed.items }) };
+    ghost invariant = { λ r. IsCore (record { spec = r.spec; words = r.words; sweeps = boxed_slice_items r.sweeps; crashed = r.crashed.items }) };
 }
 
 impl RoomCore {
@@ -60,30 +63,31 @@ impl RoomCore {
     ///
     /// # Errors
     ///
-    /// Where memory is refused to the words of the room, which are all that it takes memory for. The
-    /// spec is dropped then.
+    /// Where memory is refused to the words of the room or to its sweeps, which are all that it takes
+    /// memory for. The spec is dropped then.
     pub fn fresh(alloc: Global, spec: Spec) -> Result<RoomCore, AllocError>
         ensures room { IfOk result (λ room. room ≡ opening_state spec) }
         ensures fields { IfOk result (λ room. AreFieldsOf room (opening_fields spec)) }
         ensures refused { IfErr result (λ error. error ≡ alloc_error) }
     {
         let words = zeros(alloc, words(&spec.shape()))?;
-        Ok(RoomCore::opening(spec, words))
+        let sweeps = opening_sweeps(alloc, &spec)?;
+        Ok(RoomCore::opening(spec, words, sweeps))
     }
 
-    /// The opening room on these words, which are all 0. It takes no memory.
-    fn opening(spec: Spec, words: Vec<u64>) -> RoomCore
-        requires { words.items ≡ replicate (words_of (sizes_in spec)) 0 }
+    /// The opening room on these words, which are all 0, and sweeps. It takes no memory.
+    fn opening(spec: Spec, words: Vec<u64>, sweeps: Vec<Sweep>) -> RoomCore
+        requires words { words.items ≡ replicate (words_of (sizes_in spec)) 0 }
+        requires sweeps { sweeps.items ≡ map (opening_sweep spec) (range_with_len 0 spec.simulators) }
         ensures room { result ≡ opening_state spec }
         ensures fields { AreFieldsOf result (opening_fields spec) }
     {
         let _shape = spec.shape(); // A spec is within its limits.
-        let sweeps = opening_sweeps(&spec);
         let crashed = nobody(spec.m());
         RoomCore {
             spec,
             words: RoomWords::new(words),
-            sweeps,
+            sweeps: sweeps.into_boxed_slice(),
             crashed,
         }
     }
@@ -93,7 +97,7 @@ impl RoomCore {
     pub fn from_parts(
         spec: Spec,
         words: Vec<u64>,
-        sweeps: ArrayVec<Sweep, 8>,
+        sweeps: Vec<Sweep>,
         crashed: ArrayVec<bool, 8>,
     ) -> RoomCore
         requires room { IsRoom (configuration_of (record { spec = spec; words = words.items; sweeps = sweeps.items; crashed = crashed.items })) }
@@ -103,7 +107,7 @@ impl RoomCore {
         RoomCore {
             spec,
             words: RoomWords::new(words),
-            sweeps,
+            sweeps: sweeps.into_boxed_slice(),
             crashed,
         }
     }
@@ -354,21 +358,21 @@ fn advance(sweep: &mut Sweep, spec: &Spec, words: &mut [u64])
     sweep.note(turn);
 }
 
-/// So many words that are 0, which is all that a room takes memory for.
+/// So many words that are 0.
 fn zeros(alloc: Global, count: usize) -> Result<Vec<u64>, AllocError>
     ensures { IfOk result (λ words. words.items ≡ replicate count 0) }
 {
     Ok(vec![in alloc; 0; count]?)
 }
 
-fn opening_sweeps(spec: &Spec) -> ArrayVec<Sweep, 8>
-    ensures { result.items ≡ map (opening_sweep spec.now) (range_with_len 0 spec.now.simulators) }
+fn opening_sweeps(alloc: Global, spec: &Spec) -> Result<Vec<Sweep>, AllocError>
+    ensures { IfOk result (λ sweeps. sweeps.items ≡ map (opening_sweep spec.now) (range_with_len 0 spec.now.simulators)) }
 {
-    let mut sweeps = ArrayVec::new();
+    let mut sweeps = Vec::with_capacity(alloc, spec.m())?;
     for i in 0..spec.m() {
-        sweeps.push(Sweep::new(spec, i));
+        sweeps.push(Sweep::new(spec, i))?;
     }
-    sweeps
+    Ok(sweeps)
 }
 
 /// Marks for so many simulators of whom nobody has crashed.

@@ -1,6 +1,7 @@
 //! A room on words that threads share: its beginning and its end.
 ghost use Rattle.std.specs.Prelude.{◌≡◌, suc, ◌<◌, ◌≤◌, [], length, take, map, replicate, false, IfOk, IfErr, OnOk, Some};
 ghost use Rattle.std.specs.Mem.Slots.{IsFull, slots_items, slots_len};
+ghost use Rattle.std.specs.Vec.{vec_capacity};
 ghost use Rattle.simulator.specs.Sweeps.{opening_sweep};
 ghost use Rattle.room_spec.specs.Rooms.{IsWithinLimits};
 ghost use Rattle.room_core.specs.Calls.{configuration_of};
@@ -101,18 +102,20 @@ impl RuledRoom {
         if let Some(i) = keeper.out() {
             return Err((self, keeper, Gone::StillOut(i)));
         }
-        let Ok(zero) = zeros(alloc, words(&self.spec.shape())) else {
+        let Ok((words, sweeps)) = space(alloc, &self.spec) else {
             return Err((self, keeper, Gone::OutOfMemory));
         };
-        Ok(self.end(keeper, zero))
+        Ok(self.end(keeper, words, sweeps))
     }
 
-    /// Ends a room whose simulators are all at home. Its words go into `words`.
-    fn end(self, keeper: Keeper, mut words: Vec<u64>) -> RoomCore
+    /// Ends a room whose simulators are all at home. Its words go into `words`, and its sweeps into
+    /// `whole`, which has room for them.
+    fn end(self, keeper: Keeper, mut words: Vec<u64>, whole: Vec<Sweep>) -> RoomCore
         requires room { keeper.room ≡ self }
         requires home { IsComplete keeper.sweeps }
         requires limits { IsWithinLimits self.spec }
         requires words { length words.items ≡ word_count self.spec }
+        requires whole { (whole.items ≡ []) × (self.spec.simulators ≤ vec_capacity whole) }
         ensures { (result.spec ≡ self.spec) × (map Some result.sweeps ≡ keeper.sweeps) × (result.crashed ≡ keeper.crashed) × IsInterleavingOf (configuration_of result) keeper.operations }
     {
         let RuledRoom { table, spec } = self;
@@ -124,7 +127,7 @@ impl RuledRoom {
         let closed = table.close_with(seat);
         read(&closed, &mut words);
         closed.free();
-        RoomCore::from_parts(spec, words, all(sweeps), crashed)
+        RoomCore::from_parts(spec, words, all(sweeps, whole), crashed)
     }
 }
 
@@ -138,19 +141,31 @@ fn read(closed: &Closed<(), Global>, words: &mut Vec<u64>)
     }
 }
 
-/// The sweeps, which are all there.
-fn all(sweeps: ArrayVec<Option<BoxedSweep>, 8>) -> ArrayVec<Sweep, 8>
-    requires { IsComplete sweeps.items }
+/// The sweeps, which are all there, in `whole`, which has room for them.
+fn all(sweeps: ArrayVec<Option<BoxedSweep>, 8>, mut whole: Vec<Sweep>) -> Vec<Sweep>
+    requires complete { IsComplete sweeps.items }
+    requires whole { (whole.items ≡ []) × (length sweeps.items ≤ vec_capacity whole) }
     ensures { map Some result.items ≡ sweeps.items }
 {
-    let mut whole = ArrayVec::new();
     for sweep in sweeps {
         let Some(sweep) = sweep else {
             unreachable!() // none of them is out
         };
-        whole.push(sweep.into_inner());
+        let Ok(()) = whole.push(sweep.into_inner()) else {
+            unreachable!() // there is room
+        };
     }
     whole
+}
+
+/// The memory that a closed room takes: words that are 0, and room for its sweeps.
+fn space(alloc: Global, spec: &Spec) -> Result<(Vec<u64>, Vec<Sweep>), AllocError>
+    ensures words { IfOk result (λ r. length r.0.items ≡ word_count spec.now) }
+    ensures sweeps { IfOk result (λ r. (r.1.items ≡ []) × (spec.now.simulators ≤ vec_capacity r.1)) }
+{
+    let words = zeros(alloc, words(&spec.shape()))?;
+    let sweeps = Vec::with_capacity(alloc, spec.m())?;
+    Ok((words, sweeps))
 }
 
 fn zeros(alloc: Global, count: usize) -> Result<Vec<u64>, AllocError>

@@ -214,22 +214,3 @@ impl Mind {
         more_unfinished(self.goals.as_slice(), count)
     }
 }
-
-impl Default for Mind {
-    fn default() -> Mind {
-        Mind {
-            number: 0,
-            goals: ArrayVec::new(),
-            sweep: 0,
-            turns: 0,
-            steps: 0,
-            turn_steps: 0,
-            line: Line::Rest,
-            word: 0,
-            collects: 0,
-            before: [0; 4],
-            snapshot: Snapshot::nothing(),
-            entries: View::new(),
-        }
-    }
-}

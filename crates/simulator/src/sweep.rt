@@ -104,12 +104,3 @@ impl Sweep {
         &mut self.mind
     }
 }
-
-impl Default for Sweep {
-    fn default() -> Sweep {
-        Sweep {
-            mind: Mind::default(),
-            quiet: 0,
-        }
-    }
-}

@@ -72,10 +72,10 @@ pub sweep_count : (room : RoomState) → IsShaped (configuration_of room) → le
 sweep_count room shape = sym (length-map room.sweeps mind_of) ∙ shape.minds
 
 -- a sweep that was read is the one there
-pub read_sweep : (room : RoomState) (sweeps : List SweepState) (i : ℕ) (sweep : SweepState) → IsShaped (configuration_of room) → sweeps ≡ room.sweeps → i < room.spec.simulators → sweep ≡ get_or sweeps i sweep → sweep ≡ sweep_at room i
-read_sweep room sweeps i sweep shape same below is =
+pub read_sweep : (room : RoomState) (i : ℕ) (sweep : SweepState) → IsShaped (configuration_of room) → i < room.spec.simulators → sweep ≡ get_or room.sweeps i sweep → sweep ≡ sweep_at room i
+read_sweep room i sweep shape below is =
     let count = sweep_count room shape in
-    get_or_read_under room.sweeps i (length room.sweeps) sweep (opening_sweep room.spec i) (is ∙ ap (λ (l : List SweepState). get_or l i sweep) same) (omega arith) refl
+    get_or_read_under room.sweeps i (length room.sweeps) sweep (opening_sweep room.spec i) is (omega arith) refl
 
 pub mind_ok : (room : RoomState) (i : ℕ) → IsShaped (configuration_of room) → i < room.spec.simulators → IsMind room.spec (sweep_at room i).mind
 mind_ok room i shape below = subst (IsMind room.spec) (mind_here room i) (shape.each i below)
@@ -88,20 +88,9 @@ crash_room room marks i is below alive same =
     let left : slice_set room.crashed i true ≡ refill (length room.crashed) room.crashed (slice_set marks i true) = sym (refill-set room.crashed i true) ∙ ap (λ (l : List Bool). refill (length room.crashed) room.crashed (slice_set l i true)) (sym same) in
     record { is_room = subst P left (is_room (crashed_by (configuration_of room) i) is.is_room.shape.limits one); quiet = is.quiet }
 
--- the room in which this sweep was put
-abbrev put : RoomState → List ℕ → List SweepState → ℕ → SweepState → RoomState
-put room words sweeps i sweep = record { spec = room.spec; words = words; sweeps = refill (length room.sweeps) room.sweeps (slice_set sweeps i sweep); crashed = room.crashed }
-
-put_is : (room : RoomState) (words : List ℕ) (sweeps : List SweepState) (i : ℕ) (sweep : SweepState) → sweeps ≡ room.sweeps → put room words sweeps i sweep ≡ record room { words = words; sweeps = slice_set room.sweeps i sweep }
-put_is room words sweeps i sweep same =
-    let left = ap (λ (l : List SweepState). refill (length room.sweeps) room.sweeps (slice_set l i sweep)) same ∙ refill-set room.sweeps i sweep in
-    λ k. record { spec = room.spec; words = words; sweeps = left k; crashed = room.crashed }
-
-pub woken_is : (room : RoomState) (sweeps : List SweepState) (i : ℕ) (read after : SweepState) → IsShaped (configuration_of room) → sweeps ≡ room.sweeps → i < room.spec.simulators → read ≡ get_or sweeps i read
-    → after ≡ woken (get_or sweeps i read) → put room room.words sweeps i after ≡ with_sweep room i (woken (sweep_at room i))
-woken_is room sweeps i read after shape same below is left =
-    let there = sym is ∙ read_sweep room sweeps i read shape same below is in
-    put_is room room.words sweeps i after same ∙ ap (λ (sweep : SweepState). with_sweep room i sweep) (left ∙ ap woken there)
+pub woken_is : (room : RoomState) (i : ℕ) (read after : SweepState) → IsShaped (configuration_of room) → i < room.spec.simulators → read ≡ get_or room.sweeps i read
+    → after ≡ woken read → with_sweep room i after ≡ with_sweep room i (woken (sweep_at room i))
+woken_is room i read after shape below is left = ap (λ (sweep : SweepState). with_sweep room i sweep) (left ∙ ap woken (read_sweep room i read shape below is))
 
 abbrev IsQuiet : SweepState → Type 0
 IsQuiet sweep = IsQuietCount sweep.mind sweep.quiet
@@ -121,15 +110,15 @@ woken_room room i below is = record {
   quiet = quiet_put room room.words i (woken (sweep_at room i)) is.is_room.shape below is.quiet (counts_anew (sweep_at room i).mind);
 }
 
-pub moved_is : (room : RoomState) (words : List ℕ) (sweeps : List SweepState) (i : ℕ) (read after : SweepState) (answer : ℕ) → IsShaped (configuration_of room) → sweeps ≡ room.sweeps → i < room.spec.simulators → read ≡ get_or sweeps i read
+pub moved_is : (room : RoomState) (words : List ℕ) (i : ℕ) (read after : SweepState) (answer : ℕ) → IsShaped (configuration_of room) → i < room.spec.simulators → read ≡ get_or room.sweeps i read
     → words ≡ words_after (operation_at room i) room.words → answer ≡ answer_of (operation_at room i) room.words
-    → after ≡ sweep_after (taken room.spec (get_or sweeps i read).mind answer) (get_or sweeps i read).quiet → put room words sweeps i after ≡ moved room i
-moved_is room words sweeps i read after answer shape same below is done answered left =
-    let there = sym is ∙ read_sweep room sweeps i read shape same below is in
+    → after ≡ sweep_after (taken room.spec read.mind answer) read.quiet → record room { words = words; sweeps = slice_set room.sweeps i after } ≡ moved room i
+moved_is room words i read after answer shape below is done answered left =
+    let there = read_sweep room i read shape below is in
     let sweep : after ≡ sweep_after (taken_by room i) (sweep_at room i).quiet = left
     ∙ ap (λ (one : SweepState). sweep_after (taken room.spec one.mind answer) one.quiet) there
     ∙ ap (λ (a : ℕ). sweep_after (taken room.spec (sweep_at room i).mind a) (sweep_at room i).quiet) answered in
-    put_is room words sweeps i after same ∙ (λ k. record { spec = room.spec; words = done k; sweeps = slice_set room.sweeps i (sweep k); crashed = room.crashed })
+    λ k. record { spec = room.spec; words = done k; sweeps = slice_set room.sweeps i (sweep k); crashed = room.crashed }
 
 pub has_line : (room : RoomState) (i : ℕ) → IsShaped (configuration_of room) → i < room.spec.simulators → has_crashed room i ≡ false → ready_at room i ≡ Step → HasLine (configuration_of room) i
 has_line room i shape below alive ready = record {

@@ -1,3 +1,4 @@
+use Rattle.std.specs.Box.{boxed_slice_items}
 use Rattle.std.proofs.Common.{◌≡◌, ℕ, ◌<◌, length, subst, arith}
 use Rattle.std.proofs.lemmas.Grind.{common_steps}
 use Rattle.simulator.specs.declared.line.Line.TheVariants.{Show}
@@ -14,7 +15,7 @@ returns-clause-value c = grind (arith, common_steps)
 
 pub returns-clause-scan : goal.returns-clause-scan
 returns-clause-scan c =
-    let room : RoomState = record { spec = c.self.inside.spec; words = c.self.inside.words; sweeps = c.self.inside.sweeps.items; crashed = c.self.inside.crashed.items } in
+    let room : RoomState = record { spec = c.self.inside.spec; words = c.self.inside.words; sweeps = boxed_slice_items c.self.inside.sweeps; crashed = c.self.inside.crashed.items } in
     let P : RoomState → Type 0 =
     λ (r : RoomState).
     (i : ℕ) → i < r.spec.simulators → (fields : Fields) (are : AreFieldsOf r fields) → (fields.mind i).line ≡ Show → IsScan r.spec are.run.schedule (length are.run.schedule) i (fields.mind i).sweep (current_round (fields.mind i)) (fields.mind i).snapshot (fields.mind i).collects

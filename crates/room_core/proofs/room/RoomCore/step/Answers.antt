@@ -1,3 +1,4 @@
+use Rattle.std.specs.Box.{boxed_slice_items}
 use Rattle.std.proofs.Common.{◌≡◌, ◌<◌, ◌≤◌, ◌∙◌, ℕ, false, ap, sym, subst, arith}
 use Rattle.room_spec.specs.Rooms.{IsWithinLimits}
 use Rattle.simulator.specs.declared.sweep.Ready.TheVariants as ready
@@ -28,7 +29,7 @@ returns-then-is_crashed-clause-fields c =
 
 pub advance-requires : goal.advance-requires
 advance-requires c =
-    let room : RoomState = record { spec = c.self.inside.spec; words = c.self.inside.words; sweeps = c.self.inside.sweeps.items; crashed = c.self.inside.crashed.items } in
+    let room : RoomState = record { spec = c.self.inside.spec; words = c.self.inside.words; sweeps = boxed_slice_items c.self.inside.sweeps; crashed = c.self.inside.crashed.items } in
     let alive : has_crashed room c.args.i ≡ false = ap (λ (r : RoomState). has_crashed r c.args.i) c.self.view_is ∙ sym c.is_crashed.ensures ∙ c.if-is_crashed.false in
     let ready = c.ready.ensures ∙ ap (λ (r : RoomState). ready_at r c.args.i) (sym c.self.view_is) in
     subst (λ (r : RoomState). HasLine (configuration_of r) c.args.i) c.self.view_is (has_line room c.args.i c.self.invariant.is_room.shape (omega arith) alive (sym ready ∙ c.in-Step.is))

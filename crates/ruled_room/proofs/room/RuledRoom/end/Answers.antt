@@ -83,3 +83,9 @@ returns c =
       ap (λ (r : RoomState). r.crashed) made ∙ ap (λ (q : KeeperData). q.crashed) c.keeper.view_is,
       subst (λ (q : Configuration × List (List Operation)). IsInterleavingOf q.0 q.1) (λ p. (configuration_of (sym made p), (ap (λ (q : KeeperData). q.operations) c.keeper.view_is) p)) run,
     )
+
+pub all-requires-clause-whole : goal.all-requires-clause-whole
+all-requires-clause-whole c =
+    let k = c.keeper.invariant in
+    let count : c.keeper.inside.seat.me.0.spec.simulators ≡ c.args.self.spec.simulators = ap (λ (q : KeeperData). q.room.spec.simulators) c.keeper.view_is ∙ ap (λ (q : RoomName). q.spec.simulators) c.requires.room in
+    (c.requires.whole.0, let long = k.2 in let room = c.requires.whole.1 in omega arith)
