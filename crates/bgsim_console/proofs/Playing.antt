@@ -1,5 +1,6 @@
 -- What has come of a script's entries, one by one.
 use Rattle.std.proofs.Common.{◌≡◌, ◌∙◌, ℕ, ◌||◌, Bool, true, false, List, [], ◌∷◌, ◌++◌, Result, Ok, Err, refl, sym, ap, subst}
+use Rattle.std.specs.Prelude.{IsOk}
 use Rattle.std.specs.Result.{OnOk}
 use Rattle.std.specs.List.{flat_map, list_any}
 use Rattle.std.proofs.lemmas.Grind.{flat_map-append}
@@ -8,8 +9,12 @@ use Rattle.service_core.specs.declared.command.Command.{Command}
 use Rattle.service_core.specs.declared.reply.Reply.{Reply}
 use Rattle.service_core.specs.Rooms.{Applies, Entries}
 use Rattle.service_core.proofs.CallerLemmas.{Ran, begins, goes_on}
+use Rattle.bgsim_console.specs.Check.{IsFaultOr}
 use Rattle.bgsim_console.specs.ReplyTexts.{reply_to_command}
 use Rattle.bgsim_console.specs.Script.{Entry}
+use Rattle.bgsim_console.specs.declared.fault.IoFault.{IoFault}
+use Rattle.bgsim_console.specs.declared.fault.IoFault.TheVariants.{Read, Write, TooLong, BadInput, Run, Memory}
+use Rattle.bgsim_console.proofs.Scripts.{behind}
 use Rattle.bgsim_console.specs.Play.{AreDone, Done, Replied, HasPlayed, HasRun, IsDone, commands_of, replies_in, command_of, reply_of, done_text, is_lacking, is_refusal, is_refused}
 
 -- ---- the service
@@ -89,3 +94,17 @@ done-push (e ∷ entries) (d ∷ all) entry done so_far is = (so_far.0, done-pus
 pub where_ok : {X E : Type 0} (r : Result X E) (P Q : Type 0) → (P → Q) → OnOk r P → OnOk r Q
 where_ok (Ok x) P Q step holds = step holds
 where_ok (Err e) P Q step holds = tt
+
+-- what ends the lines that are left ends the script
+pub fault_behind : (before : List Entry) (read whole : Result (List Entry) (ℕ × ℕ)) (fault : IoFault) → whole ≡ behind before read → IsFaultOr (IsOk read) read fault → IsFaultOr (IsOk whole) whole fault
+fault_behind before read whole fault is says = subst (λ (w : Result (List Entry) (ℕ × ℕ)). IsFaultOr (IsOk w) w fault) (sym is) (by read fault says)
+  where
+    by : (read : Result (List Entry) (ℕ × ℕ)) (fault : IoFault) → IsFaultOr (IsOk read) read fault → IsFaultOr (IsOk (behind before read)) (behind before read) fault
+    by (Ok later) (BadInput line code) says = absurd cc
+    by (Err first) (BadInput line code) says = says
+    by (Ok later) Memory says = refl
+    by (Err first) Memory says = absurd cc
+    by read Read says = absurd says
+    by read Write says = absurd says
+    by read TooLong says = absurd says
+    by read (Run fault) says = absurd says

@@ -55,7 +55,7 @@ pub fn check_io<R: Read, W: Write>(
 }
 
 /// Plays the script that the reader gives, and writes the replies. The whole script is read and
-/// judged before anything is done.
+/// judged before anything is written.
 ///
 /// # Errors
 ///

@@ -31,6 +31,7 @@ mod run;
 mod run_tests;
 mod script;
 mod setup;
+mod steps;
 #[cfg(test)]
 mod task_tests;
 #[cfg(test)]

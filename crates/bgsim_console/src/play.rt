@@ -1,11 +1,13 @@
 //! A script, entry by entry.
-ghost use Rattle.std.specs.Prelude.{◌≡◌, ◌≤◌, ◌<◌, ◌+◌, ◌^◌, ◌||◌, ◌++◌, ◌∷◌, [], true, false, List, Ok, IsOk, IfOk, IfErr, OnOk, decimal, is_some, length};
+ghost use Rattle.std.specs.Prelude.{◌≡◌, ◌≤◌, ◌<◌, ◌+◌, ◌^◌, ◌||◌, ◌++◌, ◌∷◌, [], true, false, List, Ok, IsOk, IfOk, IfErr, OnOk, ℕ, decimal, is_some, length};
+ghost use Rattle.service_core.specs.declared.command.Command.TheVariants.{Step};
 ghost use Rattle.service_core.specs.declared.reply.Reply.{Reply as ReplyData};
 ghost use Rattle.service_core.specs.Runs.{is_want};
-ghost use Rattle.bgsim_console.specs.Check.{IsFaultOf, IsFaultOr, fault_text, refused_line};
+ghost use Rattle.bgsim_console.specs.Check.{IsFaultOr, fault_text, refused_line};
 ghost use Rattle.bgsim_console.specs.Play.{AreDone, Done, HasPlayed, IsDone, IsPlayFor, PlaysOn, Replied, ending_if, is_refusal};
-ghost use Rattle.bgsim_console.specs.ReplyTexts.{sim_in};
-ghost use Rattle.bgsim_console.specs.Script.{Entry, Open, command_in, entry_at, is_open, script_says};
+ghost use Rattle.bgsim_console.specs.ReplyTexts.{reply_text, sim_in};
+ghost use Rattle.bgsim_console.specs.declared.fault.IoFault.TheVariants.{BadInput};
+ghost use Rattle.bgsim_console.specs.Script.{Entry, Open, command_in, entry_at, is_open, script_from, script_says};
 
 use crate::fault::{IoFault, Outcome};
 use crate::judge::outcome_if;
@@ -14,8 +16,9 @@ use crate::reply::write_reply;
 use crate::report::{write_refused, write_refused_code};
 use crate::script::{is_open, next_entry, read_command};
 use crate::setup::read_room;
+use crate::steps::read_steps;
 use crate::text::Text;
-use room_spec::SpecFault;
+use room_spec::{Name, SpecFault};
 use service_core::{Command, Refusal, Reply, Service};
 use std::alloc::{AllocError, Global};
 
@@ -36,7 +39,6 @@ pub fn play(alloc: Global, script: &[u8]) -> Result<Played, IoFault>
     // Want of memory hides no bad line.
     ensures err { IfErr result (IsFaultOr (IsOk (script_says script.now)) (script_says script.now)) }
 {
-    judge_script(script)?;
     let player = play_script(alloc, script)?;
     Ok(player.ended())
 }
@@ -65,24 +67,32 @@ impl Player {
         }
     }
 
-    /// Does what the line of this number asks for, with the block behind it.
+    /// Does what the line of this number asks for, with the block behind it. Gives whether it asks for
+    /// something.
     fn take(
         &mut self,
         alloc: Global,
         number: u64,
         line: &[u8],
         block: &[u8],
-    ) -> Result<(), AllocError>
+    ) -> Result<bool, AllocError>
         requires { number + 1 < 2 ^ 64 }
-        ensures { OnOk result ((entry : Entry) → entry_at number line.now block.now ≡ Ok entry → (all : List Done) → HasPlayed all self.old.service self.old.output self.old.refused self.old.lacking → PlaysOn entry self.new.service self.new.output self.new.refused self.new.lacking all) }
+        ensures good { IfOk result (λ good. good ≡ (is_open line.now || is_some (command_in line.now))) }
+        ensures plays { OnOk result ((entry : Entry) → entry_at number line.now block.now ≡ Ok entry → (all : List Done) → HasPlayed all self.old.service self.old.output self.old.refused self.old.lacking → PlaysOn entry self.new.service self.new.output self.new.refused self.new.lacking all) }
     {
         if is_open(line) {
-            return self.open(alloc, number + 1, block);
+            self.open(alloc, number + 1, block)?;
+            return Ok(true);
         }
-        match read_command(line) {
-            Some(command) => self.apply(alloc, command),
-            None => Ok(()), // never in a script that was judged
+        if let Some((name, sim, count)) = read_steps(line) {
+            self.step(&name, sim, count)?;
+            return Ok(true);
         }
+        let Some(command) = read_command(line) else {
+            return Ok(false);
+        };
+        self.apply(alloc, command)?;
+        Ok(true)
     }
 
     /// Opens the room of a block whose first line has this number.
@@ -141,9 +151,26 @@ impl Player {
         let name = command.name().clone()?;
         let sim = sim_in(&command);
         let reply = self.service.apply(alloc, command);
-        self.refused |= is_refusal(&reply);
-        self.lacking |= is_want(&reply);
-        write_reply(&mut self.output, name.as_str().as_bytes(), sim, &reply)
+        self.answer(&name, sim, &reply)
+    }
+
+    fn step(&mut self, name: &Name, sim: u8, count: u16) -> Result<(), AllocError>
+        ensures { OnOk result ((reply : ReplyData) × ((all : List Done) → HasPlayed all self.old.service self.old.output self.old.refused self.old.lacking → HasPlayed (all ++ Replied (Step name.now sim count) reply ∷ []) self.new.service self.new.output self.new.refused self.new.lacking)) }
+    {
+        let reply = self.service.step(name, sim, count);
+        self.answer(name, sim, &reply)
+    }
+
+    /// Writes what the service replied for the room of this name and this simulator of it.
+    fn answer(&mut self, name: &Name, sim: u8, reply: &Reply) -> Result<(), AllocError>
+        ensures output { OnOk result (self.new.output ≡ self.old.output ++ reply_text name.now sim reply.now) }
+        ensures refused { self.new.refused ≡ (self.old.refused || is_refusal reply.now) }
+        ensures lacking { self.new.lacking ≡ (self.old.lacking || is_want reply.now) }
+        ensures service { self.new.service ≡ self.old.service }
+    {
+        self.refused |= is_refusal(reply);
+        self.lacking |= is_want(reply);
+        write_reply(&mut self.output, name.as_str().as_bytes(), sim, reply)
     }
 }
 
@@ -169,25 +196,44 @@ fn is_want(reply: &Reply) -> bool
     matches!(reply, Reply::Refused(Refusal::OutOfMemory))
 }
 
-/// Judges each line of a script.
-fn judge_script(script: &[u8]) -> Result<(), IoFault>
+/// Does what a script asks for, up to its first bad line.
+fn play_script(alloc: Global, script: &[u8]) -> Result<Player, IoFault>
     requires { length script.now ≤ 16777216 }
-    ensures good { OnOk result (IsOk (script_says script.now)) }
-    ensures err { IfErr result (IsFaultOf (script_says script.now)) }
+    ensures played { IfOk result (λ player. (entries : List Entry) × (all : List Done) × (script_says script.now ≡ Ok entries) × AreDone entries all × HasPlayed all player.service player.output player.refused player.lacking) }
+    ensures err { IfErr result (IsFaultOr (IsOk (script_says script.now)) (script_says script.now)) }
 {
+    let mut player = Player::new(alloc);
     let mut rest = script;
     let mut number = 1;
     while let Some((line, block, later)) = next_entry(rest) {
-        if !is_good(line) {
-            return Err(IoFault::BadInput {
-                line: number,
-                code: BAD_COMMAND,
-            });
+        let Ok(good) = player.take(alloc, number, line, block) else {
+            return Err(judge_unplayed(rest, number));
+        };
+        if !good {
+            return Err(bad_line(number));
         }
         number += 1 + count_lines(block);
         rest = later;
     }
-    Ok(())
+    Ok(player)
+}
+
+/// How a script ends for whose last lines, of which the first has this number, there was no memory: with
+/// the first bad one among these, or else with the want of memory.
+fn judge_unplayed(text: &[u8], first: u64) -> IoFault
+    requires { first + length text.now ≤ 16777217 }
+    ensures { (most : ℕ) → length text.now ≤ most → IsFaultOr (IsOk (script_from most first text.now)) (script_from most first text.now) result }
+{
+    let mut rest = text;
+    let mut number = first;
+    while let Some((line, block, later)) = next_entry(rest) {
+        if !is_good(line) {
+            return bad_line(number);
+        }
+        number += 1 + count_lines(block);
+        rest = later;
+    }
+    IoFault::Memory
 }
 
 fn is_good(line: &[u8]) -> bool
@@ -196,19 +242,11 @@ fn is_good(line: &[u8]) -> bool
     is_open(line) || read_command(line).is_some()
 }
 
-/// Does what a script asks for, which has no fault.
-fn play_script(alloc: Global, script: &[u8]) -> Result<Player, AllocError>
-    requires good { IsOk (script_says script.now) }
-    requires short { length script.now ≤ 16777216 }
-    ensures { IfOk result (λ player. (entries : List Entry) × (all : List Done) × (script_says script.now ≡ Ok entries) × AreDone entries all × HasPlayed all player.service player.output player.refused player.lacking) }
+fn bad_line(line: u64) -> IoFault
+    ensures { result ≡ BadInput line 60 }
 {
-    let mut player = Player::new(alloc);
-    let mut rest = script;
-    let mut number = 1;
-    while let Some((line, block, later)) = next_entry(rest) {
-        player.take(alloc, number, line, block)?;
-        number += 1 + count_lines(block);
-        rest = later;
+    IoFault::BadInput {
+        line,
+        code: BAD_COMMAND,
     }
-    Ok(player)
 }

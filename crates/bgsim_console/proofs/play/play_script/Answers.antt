@@ -1,7 +1,10 @@
-use Rattle.std.proofs.Common.{◌++◌, ◌∷◌, [], length, arith}
-use Rattle.bgsim_console.specs.Script.{script_says}
-use Rattle.bgsim_console.proofs.Scripts.{behind_none, entry_there, script_ends, step_script}
-use Rattle.bgsim_console.proofs.Playing.{done-push}
+use Rattle.std.proofs.Common.{◌≡◌, ◌++◌, ◌∷◌, ◌∙◌, [], length, sym, subst, arith}
+use Rattle.std.specs.Prelude.{IsOk}
+use Rattle.bgsim_console.specs.Check.{IsFaultOr}
+use Rattle.bgsim_console.specs.Script.{script_from, script_says}
+use Rattle.bgsim_console.specs.declared.fault.IoFault.{IoFault}
+use Rattle.bgsim_console.proofs.Scripts.{bad_entry, bad_line, behind_none, good_entry, script_ends, step_script}
+use Rattle.bgsim_console.proofs.Playing.{done-push, fault_behind}
 use Rattle.bgsim_console.proofs.play.play_script.Goals as goal
 
 pub loop-line-init : goal.loop-line-init
@@ -17,9 +20,9 @@ loop-line-preserved c =
     let shorter = c.in-Some.ensures.shorter in
     let few = c.count_lines.ensures.within in
     let within = inv.5 in
-    let there = entry_there inv.0 number rest line block inv.1 (script_says c.args.script.now) inv.3 c.in-Some.ensures.none c.in-Some.ensures.line c.in-Some.ensures.block c.requires.good inv.4 in
+    let there = good_entry number line block (sym c.in-Ok.ensures.good ∙ c.if-not-good.false) in
     let next = step_script inv.0 number rest line block c.in-Some.later.now c.count_lines.result there.0 inv.1 (script_says c.args.script.now) inv.3 c.in-Some.ensures.none c.in-Some.ensures.line c.in-Some.ensures.block c.in-Some.ensures.rest (omega arith) c.count_lines.ensures.value there.1 inv.4 in
-    let plays = c.in_ok-take.ensures there.0 there.1 inv.2 inv.7 in (
+    let plays = c.in-Ok.ensures.plays there.0 there.1 inv.2 inv.7 in (
       next.0,
       inv.1 ++ there.0 ∷ [],
       inv.2 ++ plays.0 ∷ [],
@@ -30,8 +33,24 @@ loop-line-preserved c =
       plays.2,
     )
 
-pub returns : goal.returns
-returns c =
+pub returns-then-not-good-clause-err : goal.returns-then-not-good-clause-err
+returns-then-not-good-clause-err c =
+    let inv = c.loop-line.invariant in
+    let number = c.loop-line.number in
+    let line = c.in-Some.line.now in
+    let block = c.in-Some.block.now in
+    let read = script_says c.args.script.now in
+    subst (λ (fault : IoFault). IsFaultOr (IsOk read) read fault) (sym c.bad_line.ensures)
+    (bad_entry inv.0 number c.loop-line.rest.now line block inv.1 read (number, 60) inv.3 c.in-Some.ensures.none c.in-Some.ensures.line c.in-Some.ensures.block
+    (bad_line number line block (sym c.in-Ok.ensures.good ∙ c.if-not-good.true)) inv.4)
+
+pub returns-in_default-take-clause-err : goal.returns-in_default-take-clause-err
+returns-in_default-take-clause-err c =
+    let inv = c.loop-line.invariant in
+    fault_behind inv.1 (script_from inv.0 c.loop-line.number c.loop-line.rest.now) (script_says c.args.script.now) c.judge_unplayed.result inv.4 (c.judge_unplayed.ensures inv.0 inv.3)
+
+pub returns-clause-played : goal.returns-clause-played
+returns-clause-played c =
     let inv = c.loop-line.invariant in (
       inv.1,
       inv.2,
