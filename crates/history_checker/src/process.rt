@@ -117,10 +117,10 @@ fn follow_write(processes: &mut [Process], spec: &Spec, p: usize, v: u32) -> boo
         return false;
     }
     processes[p] = Process {
-        input: process.input,
         turn: Turn::Snap,
         last: Some(v),
         writes: process.writes + 1,
+        ..process
     };
     true
 }
@@ -141,10 +141,8 @@ fn follow_snap(processes: &mut [Process], spec: &Spec, p: usize, row: &View) -> 
     let round = u32::from(process.writes);
     let action = next(spec.protocol(), process.input, p as u32, round, row);
     processes[p] = Process {
-        input: process.input,
         turn: Turn::of(action),
-        last: process.last,
-        writes: process.writes,
+        ..process
     };
     true
 }
@@ -160,10 +158,8 @@ fn follow_decide(processes: &mut [Process], spec: &Spec, p: usize, v: u32) -> bo
         return false;
     }
     processes[p] = Process {
-        input: process.input,
         turn: Turn::Over,
-        last: process.last,
-        writes: process.writes,
+        ..process
     };
     true
 }

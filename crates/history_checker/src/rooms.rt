@@ -331,11 +331,13 @@ impl Rooms {
         let Some((_, room)) = self.rooms.get_index(index) else {
             unreachable!() // the name was found at this index
         };
-        let _ = room.spec.name().as_str(); // a room's name is one
+        let _ = room.spec.name().as_str(); // for the proof: a room's name is a name
         Some(index)
     }
 
     /// Feeds the room of this index, which has this name, an event.
+    //
+    // For the proof: `name`.
     fn feed_at(&mut self, index: usize, name: &[u8], event: &Event, line: u64)
         requires { position (bytes_eq name.now) (names_of (specs_of self.old)) ≡ Some index }
         ensures rooms { specs_of self.new ≡ specs_of self.old }

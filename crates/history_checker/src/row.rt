@@ -40,7 +40,9 @@ const MANY: usize = 4;
 
 impl Row {
     /// The row of a room of many processes that have not written.
-    pub(crate) fn of_many(alloc: Global, n: usize) -> Result<Option<Box<Row>>, AllocError> {
+    pub(crate) fn of_many(alloc: Global, n: usize) -> Result<Option<Box<Row>>, AllocError>
+        requires { n ≤ 16 }
+    {
         if n < MANY {
             return Ok(None);
         }
@@ -48,14 +50,16 @@ impl Row {
     }
 
     /// The row of `n` processes that have not written.
-    pub(crate) fn open(alloc: Global, n: usize) -> Result<Row, AllocError> {
+    pub(crate) fn open(alloc: Global, n: usize) -> Result<Row, AllocError>
+        requires { n ≤ 16 }
+    {
         let mut row = Row {
             last: View::new(),
-            text: Vec::with_capacity(alloc, MAX_WIDTH * n.min(16))?,
+            text: Vec::with_capacity(alloc, MAX_WIDTH * n)?,
             widths: ArrayVec::new(),
-            next: Vec::with_capacity(alloc, MAX_WIDTH * n.min(16))?,
+            next: Vec::with_capacity(alloc, MAX_WIDTH * n)?,
         };
-        for _ in 0..n.min(16) {
+        for _ in 0..n {
             row.add_silent()?;
         }
         Ok(row)
@@ -76,10 +80,10 @@ impl Row {
         self.last.clone()
     }
 
-    fn add_silent(&mut self) -> Result<(), AllocError> {
-        if self.last.len() == 16 {
-            return Ok(());
-        }
+    fn add_silent(&mut self) -> Result<(), AllocError>
+        requires { length self.old < 16 }
+        ensures { OnOk result (length self.new ≡ length self.old + 1) }
+    {
         self.text.extend_from_slice(b" .")?;
         self.widths.push(2);
         self.last.push(None);

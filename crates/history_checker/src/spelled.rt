@@ -1,4 +1,7 @@
 //! Names as their bytes.
+//!
+//! `Equivalent` is `indexmap`'s own public trait here, by which a map is searched for parts that are borrowed. Std's trait of this name, which
+//! code has no bound or impl of, is another.
 ghost use Rattle.std.proofs.Common.{ap, rules};
 ghost use Rattle.std.specs.Cmp.Lexicographic.{bytes_decides, nat_list_eq_equiv};
 ghost use Rattle.std.specs.Cmp.Rules.{hashing};
