@@ -8,6 +8,6 @@ pub use Rattle.room_core.proofs.values.Knowing.{fields_known}
 pub use Rattle.room_core.proofs.values.LowValues.{fields_low, out_low}
 pub use Rattle.room_core.proofs.agreements.Promises.{rooms_agree}
 pub use Rattle.room_core.proofs.fields.Repeating.{same_spec_steps}
-pub use Rattle.room_core.proofs.fields.Replays.{is_room, length-words_after, shapes, under_crash_at_end, under_line_at_end}
+pub use Rattle.room_core.proofs.fields.Replays.{is_room, shapes, under_crash_at_end, under_line_at_end}
 pub use Rattle.room_core.proofs.agreements.Stages.{one_inside}
 pub use Rattle.room_core.proofs.fields.States.{refill-set}

@@ -17,3 +17,4 @@ pub mod Legality
 pub mod Prefixes
 pub mod Effects
 pub mod Repeating
+pub mod Turning

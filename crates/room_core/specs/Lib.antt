@@ -9,3 +9,4 @@ pub mod Moments
 pub mod Settled
 pub mod Contents
 pub mod Settles
+pub mod Lengths

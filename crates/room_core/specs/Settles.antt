@@ -1,5 +1,5 @@
 -- What settling comes to, as a relation: nobody's steps are counted, and none is cut off.
-use Rattle.std.specs.Prelude.{◌≡◌, ℕ, zero, suc, Bool, true, false}
+use Rattle.std.specs.Prelude.{◌≡◌, ℕ, suc, Bool, true, false}
 use Rattle.room_core.specs.Settling.{KindOf}
 
 -- simulator i steps as long as a test holds, and no more

@@ -7,17 +7,20 @@ ghost use Rattle.room_spec.specs.Sizes.{sizes_in};
 ghost use Rattle.view_table.specs.Places.{words_of};
 ghost use Rattle.simulator.specs.Minds.{current_round, goal_at};
 ghost use Rattle.simulator.specs.declared.line.Line.TheVariants.{Show};
-ghost use Rattle.simulator.specs.Moves.{IsOperation, answer_of, move_of, taken, words_after};
+ghost use Rattle.simulator.specs.Moves.{IsOperation, move_of};
 ghost use Rattle.simulator.specs.Quiet.{HasNoWrite};
 ghost use Rattle.simulator.specs.Ranges.{IsMind};
-ghost use Rattle.simulator.specs.Sweeps.{opening_sweep};
+ghost use Rattle.simulator.specs.Runs.{Runs};
+ghost use Rattle.simulator.specs.Sweeps.{opening_sweep, quiet_after};
+ghost use Rattle.simulator.specs.declared.sweep.Ready.TheVariants as answers;
+ghost use Rattle.simulator.specs.declared.turn.Turn.{Turn};
 ghost use Rattle.room_core.specs.declared.reply.StepReply.TheVariants as replies;
-ghost use Rattle.room_core.specs.Rooms.{HasLine, IsAlive, IsOneInterleaving, IsRoom, IsShaped, mind_at, times};
+ghost use Rattle.room_core.specs.Rooms.{IsAlive, IsOneInterleaving, IsRoom, IsShaped, mind_at, times};
 ghost use Rattle.room_core.specs.Fields.{Fields, IsLegalIn, crash_reply_in, fields_after_crash, fields_after_settle, fields_after_step, fields_after_steps, opening_fields, step_reply_in};
 ghost use Rattle.room_core.specs.Agreements.{AgreementsStay};
 ghost use Rattle.room_core.specs.Moments.{IsScan};
 ghost use Rattle.room_core.specs.Reading.{AreFieldsOf, Reads};
-ghost use Rattle.room_core.specs.Calls.{CountsQuietTurns, crash_reply, configuration_of, has_crashed, marked, moved, opening_state, ready_at, room_after_crash, room_after_settle, room_after_step, room_after_steps, room_kind, step_reply, sweep_after, sweep_at, with_sweep, woken};
+ghost use Rattle.room_core.specs.Calls.{CountsQuietTurns, crash_reply, configuration_of, has_crashed, marked, opening_state, ready_at, room_after_crash, room_after_settle, room_after_step, room_after_steps, room_kind, step_reply, sweep_at, with_sweep, woken};
 ghost use Rattle.room_core.specs.Settled.{IsDecidedOrHeld, IsSettledFor};
 ghost use Rattle.room_core.specs.Settles.{Settles};
 ghost use Rattle.room_core.specs.Settling.{each_in_order, ran_alone, turn_ended};
@@ -26,7 +29,7 @@ use crate::reply::{CrashReply, StepReply};
 use crate::room_words::RoomWords;
 use arrayvec::ArrayVec;
 use room_spec::Spec;
-use simulator::{Mind, Ready, Sweep};
+use simulator::{Memory, Mind, Ready, Sweep};
 use std::alloc::{AllocError, Global};
 use std::boxed::BoxedSlice;
 use std::marker::Model;
@@ -184,7 +187,7 @@ impl RoomCore {
         }
         match self.ready(i) {
             Ready::Step => {
-                self.advance(i);
+                self.run_turn(i, 1);
                 StepReply::Stepped
             }
             Ready::Idle => {
@@ -304,14 +307,6 @@ impl RoomCore {
         self.sweeps[i].ready(&self.spec)
     }
 
-    /// One atomic step of simulator `i`, which has one to take.
-    fn advance(&mut self, i: usize)
-        requires { HasLine (configuration_of self.old) i }
-        ensures { self.new ≡ moved self.old i }
-    {
-        advance(&mut self.sweeps[i], &self.spec, self.words.as_mut_slice());
-    }
-
     /// Lets simulator `i`, which hasn't crashed, take steps until it has taken `most` or isn't ready.
     fn run(&mut self, i: usize, most: u64) -> u64
         requires shape { IsShaped (configuration_of self.old) }
@@ -321,13 +316,30 @@ impl RoomCore {
         ensures most { result ≤ most }
         ensures stopped { result < most → step_reply self.new i ≢ replies.Stepped }
     {
-        for taken in 0..most {
+        let mut taken = 0;
+        while taken < most {
             if self.ready(i) != Ready::Step {
                 return taken;
             }
-            self.advance(i);
+            taken += self.run_turn(i, most - taken);
         }
-        most
+        taken
+    }
+
+    /// Lets simulator `i`, which is ready and hasn't crashed, take up to so many steps, until its turn ends.
+    fn run_turn(&mut self, i: usize, most: u64) -> u64
+        requires shape { IsShaped (configuration_of self.old) }
+        requires alive { IsAlive (configuration_of self.old) i }
+        requires ready { ready_at self.old i ≡ answers.Step }
+        requires some { 0 < most }
+        ensures room { self.new ≡ room_after_steps self.old i result }
+        ensures taken { (count : ℕ) → count < result → step_reply (room_after_steps self.old i count) i ≡ replies.Stepped }
+        ensures most { result ≤ most }
+        ensures some { 0 < result }
+        ensures shape { IsShaped (configuration_of self.new) }
+        ensures alive { IsAlive (configuration_of self.new) i }
+    {
+        run_turn(&mut self.sweeps[i], &self.spec, &mut self.words, most)
     }
 
     fn mark(&mut self, i: usize)
@@ -345,17 +357,19 @@ impl RoomCore {
     }
 }
 
-/// Takes one atomic step on the words, and notes what has become of the turn.
+/// Takes up to so many atomic steps on the words, until the turn ends, and notes what has become of it.
 #[inline(always)]
-fn advance(sweep: &mut Sweep, spec: &Spec, words: &mut [u64])
+fn run_turn(sweep: &mut Sweep, spec: &Spec, words: &mut RoomWords, most: u64) -> u64
     requires is_mind { IsMind spec.now sweep.old.mind }
     requires operation { IsOperation (move_of spec.now sweep.old.mind) }
     requires words { length words.old ≡ words_of (sizes_in spec.now) }
-    ensures words { words.new ≡ words_after (move_of spec.now sweep.old.mind) words.old }
-    ensures sweep { sweep.new ≡ sweep_after (taken spec.now sweep.old.mind (answer_of (move_of spec.now sweep.old.mind) words.old)) sweep.old.quiet }
+    ensures runs { (turn : Turn) × (sweep.new.quiet ≡ quiet_after turn sweep.old.quiet) × Runs ⟦<RoomWords as Memory<()>>⟧.does spec.now words.old sweep.old.mind result words.new sweep.new.mind turn }
+    ensures most { result ≤ most }
+    ensures some { 0 < most → 0 < result }
 {
-    let turn = sweep.mind_mut().step(spec, words);
-    sweep.note(turn);
+    let (taken, ended) = sweep.mind_mut().run_with(spec, most, &(), words);
+    sweep.note(ended);
+    taken
 }
 
 /// So many words that are 0.

@@ -11,7 +11,7 @@ use Rattle.simulator.specs.Moves.{move_of, words_after}
 use Rattle.simulator.specs.declared.operation.Move.{Move}
 use Rattle.simulator.specs.declared.operation.Move.TheVariants.{Load, Store, Add, Sub, Finished, OutOfTurns}
 use Rattle.room_core.specs.Rooms.{Configuration, ScheduleEvent, steps, crashes, opening, mind_at, stepped, crashed_by, replay}
-use Rattle.room_core.proofs.CallerLemmas.{length-words_after}
+use Rattle.room_core.specs.Lengths.{length_words_after}
 use Rattle.ruled_room.specs.declared.rule.Operation.{Operation}
 use Rattle.ruled_room.specs.Rule.{word_count}
 use Rattle.ruled_room.specs.Runs.{operation_in, operations_along}
@@ -72,7 +72,7 @@ holds_last (steps j ∷ schedule) room k i v below is others unsummed =
     let o : Operation = operation_in room j in
     let m : Move = move_of room.spec (mind_at room j) in
     let rest : ℕ → List Operation = λ l. operations_along (stepped room j) schedule l in
-    let within : k < length (stepped room j).words = let l = length-words_after m room.words in omega arith in
+    let within : k < length (stepped room j).words = let l = length_words_after m room.words in omega arith in
     let others-later : (l : ℕ) → l ≢ i → HasNone (stores k) (rest l) = λ l n. later (stores k) (eqb j l) o (rest l) (others l n) in
     let unsummed-later : (l : ℕ) → HasNone (sums k) (rest l) = λ l. later (sums k) (eqb j l) o (rest l) (unsummed l) in
     let free : sums k m ≡ false = own_first (sums k) room schedule j (unsummed j) in
@@ -142,7 +142,7 @@ sum_along (steps j ∷ schedule) room k v below is none =
     let o : Operation = operation_in room j in
     let m : Move = move_of room.spec (mind_at room j) in
     let rest : ℕ → List Operation = λ l. operations_along (stepped room j) schedule l in
-    let within : k < length (stepped room j).words = let l = length-words_after m room.words in omega arith in
+    let within : k < length (stepped room j).words = let l = length_words_after m room.words in omega arith in
     sum_along schedule (stepped room j) k (v + added_by k m) within (word_summed m room.words k v (own_first (stores k) room schedule j (none j)) below is) (λ l. later (stores k) (eqb j l) o (rest l) (none l))
     ∙ ap (λ (x : ℕ). x % 2 ^ 64) (let h : (v + added_by k m) + added_along k (stepped room j) schedule ≡ v + (added_by k m + added_along k (stepped room j) schedule) = omega arith in h)
 

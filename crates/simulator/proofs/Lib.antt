@@ -12,3 +12,4 @@ mod Spending
 mod Worked
 mod WorkedTurns
 mod Limits
+mod Onward

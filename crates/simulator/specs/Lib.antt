@@ -7,3 +7,4 @@ pub mod Sweeps
 pub mod Quiet
 pub mod Bounds
 pub mod Notes
+pub mod Runs

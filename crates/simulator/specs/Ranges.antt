@@ -68,6 +68,10 @@ IsCollectCount spec Raise collects = collects ≡ 0
 IsCollectCount spec Snap collects = (collects < most_collects spec) × (words_in spec ≡ 1 → collects ≡ 0)
 IsCollectCount spec line collects = collects ≤ most_collects spec
 
+-- the same mind at another line
+abbrev pub at_line : Line → MindState → MindState
+at_line line mind = record mind { line = line }
+
 abbrev pub IsOpenAt : Line → RoomSpec → MindState → Type 0
 IsOpenAt Rest spec mind = ⊤
 IsOpenAt (GetView chosen) spec mind = (is_unfinished (current_goal mind) ≡ true) × (chosen < spec.simulators)
@@ -92,3 +96,7 @@ pub record IsMind (spec : RoomSpec) (mind : MindState) : Type 0 where
   pub at : IsOpenAt mind.line spec mind
   -- the processes that its sweep hasn't come to yet are the next ones
   pub order : AreVisitedLast (unfinished_from mind.goals mind.sweep)
+
+-- at some line of its own it is one of the room's; which line doesn't matter
+abbrev pub IsMindSomewhere : RoomSpec → MindState → Type 0
+IsMindSomewhere spec mind = (line : Line) × IsMind spec (at_line line mind)

@@ -12,10 +12,11 @@
 mod goal;
 pub mod laws;
 mod line;
+mod memory;
 mod mind;
 mod next;
-mod operating;
 mod operation;
+mod running;
 mod snapshot;
 mod sweep;
 mod taking;
@@ -24,6 +25,7 @@ mod words;
 
 pub use goal::Goal;
 pub use line::Line;
+pub use memory::Memory;
 pub use mind::Mind;
 pub use operation::Move;
 pub use sweep::{Ready, Sweep};

@@ -1,11 +1,11 @@
 //! What a simulator has in mind.
-ghost use Rattle.std.specs.Prelude.{◌≡◌, ◌≢◌, ◌+◌, ◌*◌, ◌<◌, ◌≤◌, true, length, nat_lt};
+ghost use Rattle.std.specs.Prelude.{◌≡◌, ◌≢◌, ◌+◌, ◌*◌, ◌<◌, ◌≤◌, nat_lt};
 ghost use Rattle.room_spec.specs.Rooms.{processes};
 ghost use Rattle.room_spec.specs.Sizes.{sizes_in};
 ghost use Rattle.view_table.specs.Places.{words_of};
 ghost use Rattle.simulator.specs.declared.turn.Turn.TheVariants.{Still};
 ghost use Rattle.simulator.specs.Minds.{opening_mind, unfinished_in};
-ghost use Rattle.simulator.specs.Moves.{IsOperation, IsWithin, answer_of, move_of, taken, words_after};
+ghost use Rattle.simulator.specs.Moves.{IsOperation, IsWithin, move_of, taken};
 ghost use Rattle.simulator.specs.Ranges.{IsMind, turn_limit};
 ghost use Rattle.simulator.specs.Sweeps.{is_resting};
 
@@ -118,29 +118,6 @@ impl Mind {
             Line::Values => self.get_value(spec, answer),
             Line::Out { .. } => self.end(Turn::Useful, Goal::Done),
         }
-    }
-
-    /// Takes the atomic step that comes next on the room's words, and says what has become of the
-    /// turn. It is for words that nobody else has; where threads share them, whoever does the
-    /// operation of [`next_move`](Mind::next_move) gives its answer to [`take`](Mind::take).
-    #[inline(always)]
-    #[tactic(auto, using(crate::proofs::Keeping::kept_of, crate::proofs::Stepping::bounded, crate::proofs::Stepping::rests))]
-    pub fn step(&mut self, spec: &Spec, words: &mut [u64]) -> Turn
-        requires is_mind { IsMind spec.now self.old }
-        requires operation { IsOperation (move_of spec.now self.old) }
-        requires words { length words.old ≡ words_of (sizes_in spec.now) }
-        ensures words { words.new ≡ words_after (move_of spec.now self.old) words.old }
-        ensures mind { self.new ≡ (taken spec.now self.old (answer_of (move_of spec.now self.old) words.old)).mind }
-        ensures turn { result ≡ (taken spec.now self.old (answer_of (move_of spec.now self.old) words.old)).turn }
-        ensures is_mind { IsMind spec.now self.new }
-        // A turn takes fewer atomic steps than its limit: n + 10 where the memory is one word, and for c words n + 7 + 2 * c and c for
-        // each of m * n * rounds + 2 collects.
-        ensures bound { self.new.turn_steps < turn_limit spec.now }
-        // A scan makes no more collects than the room has writes, and two.
-        ensures collects { self.new.collects ≤ spec.now.simulators * processes spec.now * spec.now.rounds + 2 }
-        ensures ended { result ≢ Still → self.new.turn_steps ≡ 0 }
-    {
-        self.step_at(spec, words, self.line)
     }
 
     /// Whether it stands between two turns.

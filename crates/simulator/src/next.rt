@@ -7,7 +7,7 @@ ghost use Rattle.view_table.specs.declared.place.Place.TheVariants as places;
 ghost use Rattle.simulator.specs.declared.operation.Move.TheVariants as moves;
 ghost use Rattle.simulator.specs.Minds.{current_goal, current_round, is_unfinished, next_process};
 ghost use Rattle.simulator.specs.Moves.{first_move, first_move_at, index_in, leave_by, level_unit, levels_index, memory_index, move_at, entry_in, step_index, step_unit, value_index, view_index};
-ghost use Rattle.simulator.specs.Ranges.{IsGoal, IsMind, IsOpenAt, words_at};
+ghost use Rattle.simulator.specs.Ranges.{IsGoal, IsMind, IsMindSomewhere, at_line};
 ghost use Rattle.simulator.specs.Turns.{words_in};
 
 use crate::goal::{Goal, next_process};
@@ -24,9 +24,7 @@ impl Mind {
     /// The atomic step at this line.
     #[inline(always)]
     pub(crate) fn move_at(&self, spec: &Spec, line: Line) -> Move
-        requires is_mind { IsMind spec.now self.now }
-        requires word { self.now.word < words_at spec.now line }
-        requires at { IsOpenAt line spec.now self.now }
+        requires { IsMind spec.now (at_line line self.now) }
         ensures { result ≡ move_at line spec.now self.now }
     {
         match line {
@@ -45,7 +43,7 @@ impl Mind {
 
     /// The first step of the next turn.
     fn first_move(&self, spec: &Spec) -> Move
-        requires { IsMind spec.now self.now }
+        requires { IsMindSomewhere spec.now self.now }
         ensures { result ≡ first_move (next_process self.now.goals self.now.sweep) spec.now self.now }
     {
         let Some(process) = next_process(self.goals.as_slice(), self.process()) else {
@@ -58,7 +56,7 @@ impl Mind {
     }
 
     fn raise_move(&self, spec: &Spec) -> Move
-        requires { IsMind spec.now self.now }
+        requires { IsMindSomewhere spec.now self.now }
         ensures { result ≡ moves.Add (step_index spec.now self.now) (step_unit spec.now self.now) }
     {
         let (word, at) = place(&spec.shape(), self.number(), self.process());
@@ -73,7 +71,7 @@ impl Mind {
     }
 
     fn show_move(&self, spec: &Spec) -> Move
-        requires is_mind { IsMind spec.now self.now }
+        requires is_mind { IsMindSomewhere spec.now self.now }
         requires open { is_unfinished (current_goal self.now) ≡ true }
         requires word { self.now.word < words_in spec.now }
         ensures { result ≡ moves.Store (view_index spec.now self.now.number self.now) (slice_index self.now.snapshot self.now.word) }
@@ -85,7 +83,7 @@ impl Mind {
     }
 
     fn enter_move(&self, spec: &Spec) -> Move
-        requires is_mind { IsMind spec.now self.now }
+        requires is_mind { IsMindSomewhere spec.now self.now }
         requires open { is_unfinished (current_goal self.now) ≡ true }
         ensures { result ≡ moves.Add (levels_index spec.now self.now) (level_unit self.now) }
     {
@@ -93,7 +91,7 @@ impl Mind {
     }
 
     fn look_move(&self, spec: &Spec) -> Move
-        requires is_mind { IsMind spec.now self.now }
+        requires is_mind { IsMindSomewhere spec.now self.now }
         requires open { is_unfinished (current_goal self.now) ≡ true }
         ensures { result ≡ moves.Load (levels_index spec.now self.now) }
     {
@@ -101,7 +99,7 @@ impl Mind {
     }
 
     fn leave_move(&self, spec: &Spec, saw_two: bool) -> Move
-        requires is_mind { IsMind spec.now self.now }
+        requires is_mind { IsMindSomewhere spec.now self.now }
         requires open { is_unfinished (current_goal self.now) ≡ true }
         ensures { result ≡ leave_by saw_two (levels_index spec.now self.now) (level_unit self.now) }
     {
@@ -114,7 +112,7 @@ impl Mind {
     }
 
     fn view_move(&self, spec: &Spec, chosen: u16) -> Move
-        requires is_mind { IsMind spec.now self.now }
+        requires is_mind { IsMindSomewhere spec.now self.now }
         requires open { is_unfinished (current_goal self.now) ≡ true }
         requires simulator { chosen < spec.now.simulators }
         requires word { self.now.word < words_in spec.now }
@@ -124,7 +122,7 @@ impl Mind {
     }
 
     fn value_move(&self, spec: &Spec) -> Move
-        requires is_mind { IsMind spec.now self.now }
+        requires is_mind { IsMindSomewhere spec.now self.now }
         requires left { length self.now.entries < processes spec.now }
         requires shown { 1 ≤ entry_in spec.now self.now.snapshot (length self.now.entries) }
         ensures { result ≡ moves.Load (value_index spec.now self.now (length self.now.entries)) }
@@ -140,7 +138,7 @@ impl Mind {
     }
 
     fn out_move(&self, spec: &Spec, decision: u32) -> Move
-        requires { IsMind spec.now self.now }
+        requires { IsMindSomewhere spec.now self.now }
         ensures { result ≡ moves.Store (index_in spec.now (places.Out self.now.number self.now.sweep)) (decision + 1) }
     {
         let out = Place::Out {
@@ -152,7 +150,7 @@ impl Mind {
 
     /// The word of the agreement that its turn works on.
     fn levels_index(&self, spec: &Spec) -> usize
-        requires is_mind { IsMind spec.now self.now }
+        requires is_mind { IsMindSomewhere spec.now self.now }
         requires open { is_unfinished (current_goal self.now) ≡ true }
         ensures { result ≡ levels_index spec.now self.now }
     {
@@ -165,7 +163,7 @@ impl Mind {
 
     /// The word of a simulator's proposal to that agreement.
     fn view_index(&self, spec: &Spec, simulator: usize) -> usize
-        requires is_mind { IsMind spec.now self.now }
+        requires is_mind { IsMindSomewhere spec.now self.now }
         requires open { is_unfinished (current_goal self.now) ≡ true }
         requires simulator { simulator < spec.now.simulators }
         requires word { self.now.word < words_in spec.now }

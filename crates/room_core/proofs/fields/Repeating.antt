@@ -1,26 +1,18 @@
 -- Many steps of one simulator.
-use Rattle.std.proofs.Common.{◌≡◌, ◌≢◌, ◌∙◌, ℕ, zero, suc, ◌+◌, ◌<◌, replicate, refl, sym, ap, subst, arith}
-use mathlib.Core.Logic.{dite}
-use native.Mathlib.Decide.{ℕ_discrete}
+use Rattle.std.proofs.Common.{◌≡◌, ◌≢◌, ◌∙◌, ℕ, zero, suc, ◌<◌, replicate, refl, sym, subst, arith}
 use Rattle.room_spec.specs.Rooms.{RoomSpec, IsWithinLimits}
 use Rattle.simulator.specs.declared.sweep.Ready.{Ready}
 use Rattle.simulator.specs.declared.sweep.Ready.TheVariants as ready
 use Rattle.room_core.specs.declared.reply.StepReply.TheVariants.{Stepped}
 use Rattle.room_core.specs.Rooms.{HasLine}
-use Rattle.room_core.specs.Calls.{RoomState, Step, configuration_of, moved, ready_at, reply_when, room_after_step, room_after_steps, step_reply}
+use Rattle.room_core.specs.Calls.{RoomState, Step, configuration_of, ready_at, reply_when, room_after_step, room_after_steps, step_reply}
 use Rattle.room_core.specs.Fields.{Fields, fields_after_calls, fields_after_step, fields_after_steps, step_reply_in}
 use Rattle.room_core.specs.Reading.{AreFieldsOf}
 use Rattle.room_core.specs.Agreements.{AgreementsStay}
 use Rattle.room_core.proofs.fields.States.{has_line}
 use Rattle.room_core.proofs.fields.FieldCalls.{ready_step, same_spec_step, step_in_fields}
-use Rattle.room_core.proofs.settling.Alone.{IsUp, step_up}
+use Rattle.room_core.proofs.settling.Alone.{IsUp}
 use Rattle.room_core.proofs.agreements.Lasting.{agreements_last}
-
--- ---- one step more
-
-one_more : (room : RoomState) (i count : ℕ) → room_after_steps room i (suc count) ≡ room_after_step (room_after_steps room i count) i
-one_more room i zero = refl
-one_more room i (suc count) = one_more (room_after_step room i) i count
 
 -- the room after so many steps, each of which was taken
 pub record HasRun (start : RoomState) (i count : ℕ) (room : RoomState) : Type 0 where
@@ -31,23 +23,11 @@ pub record HasRun (start : RoomState) (i count : ℕ) (room : RoomState) : Type 
 pub begins : (room : RoomState) (i : ℕ) → IsUp room i → HasRun room i 0 room
 begins room i up = record { up = up; so_far = refl; taken = λ k less. absurd (omega arith) }
 
-replied : (room : RoomState) (i : ℕ) (answer : Ready) → IsUp room i → ready_at room i ≡ answer → reply_when answer ≡ step_reply room i
+pub replied : (room : RoomState) (i : ℕ) (answer : Ready) → IsUp room i → ready_at room i ≡ answer → reply_when answer ≡ step_reply room i
 replied room i answer up is = let to = ready_step room i answer up.below up.alive is in to.replied
 
 pub line_of : (room : RoomState) (i : ℕ) → IsUp room i → ready_at room i ≡ ready.Step → HasLine (configuration_of room) i
 line_of room i up is = has_line room i up.shape up.below up.alive is
-
-pub goes_on : (start room after : RoomState) (i count : ℕ) → HasRun start i count room → ready_at room i ≡ ready.Step → after ≡ moved room i → HasRun start i (count + 1) after
-goes_on start room after i count on is to =
-    let next = step_up room i on.up is in
-    let more : suc count ≡ count + 1 = omega arith in
-    record {
-      up = subst (λ (r : RoomState). IsUp r i) (sym to) next.up;
-      so_far = to ∙ sym next.is ∙ ap (λ (r : RoomState). room_after_step r i) on.so_far ∙ sym (one_more start i count) ∙ ap (room_after_steps start i) more;
-      taken = λ k less. dite (ℕ_discrete k count)
-          (λ (same : k ≡ count). ap (λ (n : ℕ). step_reply (room_after_steps start i n) i) same ∙ ap (λ (r : RoomState). step_reply r i) (sym on.so_far) ∙ sym (replied room i ready.Step on.up is))
-          (λ (other : k ≢ count). on.taken k (omega (arith, other)));
-    }
 
 by_answer : (answer : Ready) → answer ≢ ready.Step → reply_when answer ≢ Stepped
 by_answer ready.Step other = absurd (other refl)

@@ -8,11 +8,10 @@ use Rattle.room_spec.specs.Rooms.{RoomSpec, IsWithinLimits}
 use Rattle.room_spec.specs.Sizes.{sizes_in}
 use Rattle.view_table.specs.Places.{words_of}
 use Rattle.simulator.specs.Minds.{MindState, opening_mind}
-use Rattle.simulator.specs.Moves.{move_of, taken, words_after, answer_of}
+use Rattle.simulator.specs.Moves.{move_of, taken, answer_of}
 use Rattle.simulator.specs.Ranges.{IsMind}
-use Rattle.simulator.specs.declared.operation.Move.{Move}
-use Rattle.simulator.specs.declared.operation.Move.TheVariants.{Load, Store, Add, Sub, Finished, OutOfTurns}
 use Rattle.simulator.proofs.CallerLemmas.{kept, opens, keeps_number, steps_by_one}
+use Rattle.room_core.specs.Lengths.{length_words_after}
 use Rattle.room_core.specs.Rooms.{Configuration, ScheduleEvent, steps, crashes, opening, mind_at, stepped, crashed_by, IsAlive, HasLine, MayHappen, after_event, replay, IsLegal, IsOneInterleaving, IsShaped, IsRoom, times}
 
 -- what simulator i's operation answers
@@ -71,14 +70,6 @@ opening_shape spec limits = record {
   numbers = λ i below. ap (λ (mind : MindState). mind.number) (opening_at spec i below);
 }
 
-pub length-words_after : (move : Move) (words : List ℕ) → length (words_after move words) ≡ length words
-length-words_after (Load index) words = refl
-length-words_after (Store index number) words = length-set words index number
-length-words_after (Add index number) words = length-set words index _
-length-words_after (Sub index number) words = length-set words index _
-length-words_after Finished words = refl
-length-words_after OutOfTurns words = refl
-
 -- what holds of a mind that was put in at i, and of the others, holds of each
 minds_set : (P : ℕ → MindState → Type 0) (m : ℕ) (spec : RoomSpec) (minds : List MindState) (i : ℕ) (mind : MindState) → i < length minds → P i mind
     → ((k : ℕ) → k < m → P k (get_or minds k (opening_mind spec k))) → (k : ℕ) → k < m → P k (get_or (set minds i mind) k (opening_mind spec k))
@@ -93,7 +84,7 @@ shape_after room (steps i) may shape =
     let mind : MindState = (taken room.spec (mind_at room i) (answer_to room i)).mind in
     record {
       limits = shape.limits;
-      words = length-words_after (move_of room.spec (mind_at room i)) room.words ∙ shape.words;
+      words = length_words_after (move_of room.spec (mind_at room i)) room.words ∙ shape.words;
       minds = length-set room.minds i mind ∙ shape.minds;
       crashed = shape.crashed;
       each = minds_set (λ k mind. IsMind room.spec mind) room.spec.simulators room.spec room.minds i mind place (kept room.spec (mind_at room i) (answer_to room i) (shape.each i below) may.moving) shape.each;

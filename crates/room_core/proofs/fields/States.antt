@@ -110,16 +110,6 @@ woken_room room i below is = record {
   quiet = quiet_put room room.words i (woken (sweep_at room i)) is.is_room.shape below is.quiet (counts_anew (sweep_at room i).mind);
 }
 
-pub moved_is : (room : RoomState) (words : List ℕ) (i : ℕ) (read after : SweepState) (answer : ℕ) → IsShaped (configuration_of room) → i < room.spec.simulators → read ≡ get_or room.sweeps i read
-    → words ≡ words_after (operation_at room i) room.words → answer ≡ answer_of (operation_at room i) room.words
-    → after ≡ sweep_after (taken room.spec read.mind answer) read.quiet → record room { words = words; sweeps = slice_set room.sweeps i after } ≡ moved room i
-moved_is room words i read after answer shape below is done answered left =
-    let there = read_sweep room i read shape below is in
-    let sweep : after ≡ sweep_after (taken_by room i) (sweep_at room i).quiet = left
-    ∙ ap (λ (one : SweepState). sweep_after (taken room.spec one.mind answer) one.quiet) there
-    ∙ ap (λ (a : ℕ). sweep_after (taken room.spec (sweep_at room i).mind a) (sweep_at room i).quiet) answered in
-    λ k. record { spec = room.spec; words = done k; sweeps = slice_set room.sweeps i (sweep k); crashed = room.crashed }
-
 pub has_line : (room : RoomState) (i : ℕ) → IsShaped (configuration_of room) → i < room.spec.simulators → has_crashed room i ≡ false → ready_at room i ≡ Step → HasLine (configuration_of room) i
 has_line room i shape below alive ready = record {
   alive = record { below = below; alive = alive };

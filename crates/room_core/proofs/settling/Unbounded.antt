@@ -1,5 +1,5 @@
 -- Settling is never cut off by its bound.
-use Rattle.std.proofs.Common.{◌≡◌, ℕ, zero, suc, ◌+◌, ◌*◌, ◌<◌, ◌≤◌, Bool, true, false, cond, refl, sym, ap, ◌∙◌, subst, arith}
+use Rattle.std.proofs.Common.{◌≡◌, ℕ, zero, suc, ◌+◌, ◌<◌, ◌≤◌, Bool, true, false, cond, refl, sym, ap, ◌∙◌, subst, arith}
 use Rattle.room_spec.specs.Rooms.{RoomSpec, IsWithinLimits}
 use Rattle.room_core.specs.Calls.{RoomState, configuration_of, has_crashed, most_steps, room_after_settle, room_after_step, room_kind, moved}
 use Rattle.room_core.specs.Fields.{Fields, changed, fields_after_step}
@@ -7,7 +7,7 @@ use Rattle.room_core.specs.Reading.{AreFieldsOf}
 use Rattle.room_core.specs.Rooms.{IsRoom}
 use Rattle.room_core.specs.Settling.{each_in_order, in_order, ran_alone, steps_while, turn_ended}
 use Rattle.room_core.specs.Settles.{DoInOrder, Nobody, OneMore, EndsTurn, RunsAlone, Settles, StepsWhile, Stops, Steps}
-use Rattle.room_core.proofs.settling.Alone.{IsUp, HasStepped, Means, Ran, has_step, has_step_means, in_turn, in_turn_means, is_up, same_spec_alone, same_spec_ended, step_up, steps_of, woken_up}
+use Rattle.room_core.proofs.settling.Alone.{IsUp, Means, Ran, has_step, has_step_means, in_turn, in_turn_means, is_up, same_spec_alone, same_spec_ended, step_up, steps_of, woken_up}
 use Rattle.room_core.proofs.fields.FieldCalls.{has_fields, same_spec_step, step_in_fields, woken_fields}
 
 -- ---- one simulator
@@ -93,9 +93,11 @@ alone_done room i below is =
     record {
       did = record {
         crashed = λ gone. ap (λ (b : Bool). cond b room (room_after_step ran i)) gone;
-        alive = λ alive. (ran,
-            runs_out has_step i (has_step_means i) (most_steps awake.spec) awake (woken_up room awake i (up_of room i is below alive) refl) (omega arith),
-            ap (λ (b : Bool). cond b room (room_after_step ran i)) alive);
+        alive = λ alive. (
+          ran,
+          runs_out has_step i (has_step_means i) (most_steps awake.spec) awake (woken_up room awake i (up_of room i is below alive) refl) (omega arith),
+          ap (λ (b : Bool). cond b room (room_after_step ran i)) alive,
+        );
       };
       reached = either_by IsReached (has_crashed room i) room (room_after_step ran i) (λ gone. is)
           (λ alive. step_reached ran i (while_reached has_step i (most_steps awake.spec) awake (woken_reached room i below is)));

@@ -3,14 +3,16 @@ use Rattle.std.proofs.Common.{◌≡◌, ◌<◌, ◌≤◌, ◌∙◌, ℕ, fal
 use Rattle.room_spec.specs.Rooms.{IsWithinLimits}
 use Rattle.simulator.specs.declared.sweep.Ready.TheVariants as ready
 use Rattle.room_core.specs.declared.reply.StepReply.TheVariants.{Stepped, Idle, OutOfTurns, Crashed, NoSimulator}
-use Rattle.room_core.specs.Rooms.{HasLine}
 use Rattle.simulator.specs.Minds.{goal_at}
 use Rattle.simulator.specs.Quiet.{HasNoWrite}
-use Rattle.room_core.specs.Calls.{Step, CountsQuietTurns, RoomState, configuration_of, has_crashed, ready_at, sweep_at}
-use Rattle.room_core.proofs.fields.States.{has_line, idle_room}
+use Rattle.room_core.specs.Calls.{Step, CountsQuietTurns, RoomState, has_crashed, moved, ready_at, sweep_at}
+use Rattle.room_core.proofs.fields.States.{idle_room}
+use Rattle.room_core.proofs.settling.Alone.{IsUp}
+use Rattle.room_core.proofs.fields.Turning.{of_one}
 use Rattle.room_core.proofs.fields.FieldCalls.{absent_step, crashed_step, ready_step, step_by}
 use Rattle.room_core.proofs.agreements.Lasting.{agreements_stay}
 use Rattle.room_core.proofs.room.RoomCore.step.Goals as goal
+use Rattle.room_core.proofs.room.RoomCore.step.Goals.{After-run_turn}
 
 pub returns-then-i-m-clause-fields : goal.returns-then-i-m-clause-fields
 returns-then-i-m-clause-fields c =
@@ -27,12 +29,20 @@ returns-then-is_crashed-clause-fields c =
     let below : c.args.i < room.spec.simulators = subst (λ (m : ℕ). c.args.i < m) count c.if-i-m.false in
     step_by room room Crashed c.args.i limits (crashed_step room c.args.i below (sym c.is_crashed.ensures ∙ c.if-is_crashed.true))
 
-pub advance-requires : goal.advance-requires
-advance-requires c =
+pub run_turn-requires : goal.run_turn-requires
+run_turn-requires c =
     let room : RoomState = record { spec = c.self.inside.spec; words = c.self.inside.words; sweeps = boxed_slice_items c.self.inside.sweeps; crashed = c.self.inside.crashed.items } in
     let alive : has_crashed room c.args.i ≡ false = ap (λ (r : RoomState). has_crashed r c.args.i) c.self.view_is ∙ sym c.is_crashed.ensures ∙ c.if-is_crashed.false in
-    let ready = c.ready.ensures ∙ ap (λ (r : RoomState). ready_at r c.args.i) (sym c.self.view_is) in
-    subst (λ (r : RoomState). HasLine (configuration_of r) c.args.i) c.self.view_is (has_line room c.args.i c.self.invariant.is_room.shape (omega arith) alive (sym ready ∙ c.in-Step.is))
+    let up : IsUp c.args.self.now c.args.i = subst (λ (r : RoomState). IsUp r c.args.i) c.self.view_is (record { shape = c.self.invariant.is_room.shape; below = omega arith; alive = alive }) in
+    record { shape = up.shape; alive = record { below = up.below; alive = up.alive }; ready = sym c.ready.ensures ∙ c.in-Step.is; some = omega arith }
+
+-- it has moved
+moved_once : (c : After-run_turn) → c.run_turn.new.self ≡ moved c.args.self.now c.args.i
+moved_once c =
+    let room : RoomState = record { spec = c.self.inside.spec; words = c.self.inside.words; sweeps = boxed_slice_items c.self.inside.sweeps; crashed = c.self.inside.crashed.items } in
+    let alive : has_crashed room c.args.i ≡ false = ap (λ (r : RoomState). has_crashed r c.args.i) c.self.view_is ∙ sym c.is_crashed.ensures ∙ c.if-is_crashed.false in
+    let up : IsUp c.args.self.now c.args.i = subst (λ (r : RoomState). IsUp r c.args.i) c.self.view_is (record { shape = c.self.invariant.is_room.shape; below = omega arith; alive = alive }) in
+    of_one c.args.self.now c.run_turn.new.self c.args.i c.run_turn.result up (sym c.ready.ensures ∙ c.in-Step.is) c.run_turn.ensures.room c.run_turn.ensures.most c.run_turn.ensures.some
 
 pub returns-in-Step-clause-fields : goal.returns-in-Step-clause-fields
 returns-in-Step-clause-fields c =
@@ -41,7 +51,7 @@ returns-in-Step-clause-fields c =
     let count : c.m.result ≡ room.spec.simulators = c.m.ensures.value ∙ ap (λ (r : RoomState). r.spec.simulators) c.self.view_is in
     let below : c.args.i < room.spec.simulators = subst (λ (m : ℕ). c.args.i < m) count c.if-i-m.false in
     let to = ready_step room c.args.i ready.Step below (sym c.is_crashed.ensures ∙ c.if-is_crashed.false) (sym c.ready.ensures ∙ c.in-Step.is) in
-    step_by room c.advance.new.self Stepped c.args.i limits (record { replied = to.replied; left = c.advance.ensures ∙ to.left })
+    step_by room c.run_turn.new.self Stepped c.args.i limits (record { replied = to.replied; left = moved_once c ∙ to.left })
 
 pub returns-in-Idle-clause-fields : goal.returns-in-Idle-clause-fields
 returns-in-Idle-clause-fields c =

@@ -23,7 +23,7 @@ moves_so spec viewed mind goals read sweep next process blank move is within are
 
 pub bounds-deref-process : goal.bounds-deref-process
 bounds-deref-process c =
-    let left = shown_is_left (the_view c.self.inside) c.args.self.now c.as_slice.result.now c.process.result c.next_process.result c.in-Some.process c.self.view_is (omega (arith, c.requires.sweep, c.requires.goals)) c.as_slice.ensures.value c.process.ensures c.next_process.ensures c.in-Some.is in
+    let left = shown_is_left (the_view c.self.inside) c.args.self.now c.as_slice.result.now c.process.result c.next_process.result c.in-Some.process c.self.view_is (omega (arith, c.requires.1.sweep, c.requires.1.goals)) c.as_slice.ensures.value c.process.ensures c.next_process.ensures c.in-Some.is in
     omega (arith, left.below, ap (λ (l : List Goal). length l) c.deref.ensures.0)
 
 pub offset_bounds-deref-process : goal.offset_bounds-deref-process
@@ -31,15 +31,15 @@ offset_bounds-deref-process c = omega (arith, bounds-deref-process c, c.deref.en
 
 pub first_move_at-requires-clause-process : goal.first_move_at-requires-clause-process
 first_move_at-requires-clause-process c =
-    let left = shown_is_left (the_view c.self.inside) c.args.self.now c.as_slice.result.now c.process.result c.next_process.result c.in-Some.process c.self.view_is (omega (arith, c.requires.sweep, c.requires.goals)) c.as_slice.ensures.value c.process.ensures c.next_process.ensures c.in-Some.is in
-    omega (arith, left.below, ap (λ (m : MindState). length m.goals) c.self.view_is, c.requires.goals)
+    let left = shown_is_left (the_view c.self.inside) c.args.self.now c.as_slice.result.now c.process.result c.next_process.result c.in-Some.process c.self.view_is (omega (arith, c.requires.1.sweep, c.requires.1.goals)) c.as_slice.ensures.value c.process.ensures c.next_process.ensures c.in-Some.is in
+    omega (arith, left.below, ap (λ (m : MindState). length m.goals) c.self.view_is, c.requires.1.goals)
 
 pub returns : goal.returns
-returns c = moves_so c.args.spec.now (the_view c.self.inside) c.args.self.now c.as_slice.result.now c.deref.result.now c.process.result c.next_process.result c.in-Some.process (Write 0 0) c.first_move_at.result c.self.view_is (omega (arith, c.requires.sweep, c.requires.goals)) c.as_slice.ensures.value c.process.ensures c.next_process.ensures c.in-Some.is c.deref.ensures.0 (omega (arith, c.if-turns_taken-turns.false, c.turns.ensures.value, c.turns_taken.ensures, ap (λ (m : MindState). m.turns) c.self.view_is))
+returns c = moves_so c.args.spec.now (the_view c.self.inside) c.args.self.now c.as_slice.result.now c.deref.result.now c.process.result c.next_process.result c.in-Some.process (Write 0 0) c.first_move_at.result c.self.view_is (omega (arith, c.requires.1.sweep, c.requires.1.goals)) c.as_slice.ensures.value c.process.ensures c.next_process.ensures c.in-Some.is c.deref.ensures.0 (omega (arith, c.if-turns_taken-turns.false, c.turns.ensures.value, c.turns_taken.ensures, ap (λ (m : MindState). m.turns) c.self.view_is))
     (c.first_move_at.ensures ∙ ap (λ (number : ℕ). first_move_at (get_or c.deref.result.now c.in-Some.process (Write 0 0)) c.args.spec.now number c.in-Some.process) (c.number.ensures ∙ ap (λ (m : MindState). m.number) (sym c.self.view_is)))
 
 pub first_move_at-requires-clause-round : goal.first_move_at-requires-clause-round
 first_move_at-requires-clause-round c =
-    let left = shown_is_left (the_view c.self.inside) c.args.self.now c.as_slice.result.now c.process.result c.next_process.result c.in-Some.process c.self.view_is (omega (arith, c.requires.sweep, c.requires.goals)) c.as_slice.ensures.value c.process.ensures c.next_process.ensures c.in-Some.is in
+    let left = shown_is_left (the_view c.self.inside) c.args.self.now c.as_slice.result.now c.process.result c.next_process.result c.in-Some.process c.self.view_is (omega (arith, c.requires.1.sweep, c.requires.1.goals)) c.as_slice.ensures.value c.process.ensures c.next_process.ensures c.in-Some.is in
     let below = first_move_at-requires-clause-process c in
-    subst (λ (goal : Goal). IsGoal c.args.spec.now.rounds goal) (ap (λ (m : MindState). goal_at m.goals c.in-Some.process) (sym c.self.view_is) ∙ get_or_default c.self.inside.goals.items c.in-Some.process Done (Write 0 0) left.below ∙ ap (λ (l : List Goal). get_or l c.in-Some.process (Write 0 0)) (sym c.deref.ensures.0)) (c.requires.rounds c.in-Some.process below)
+    subst (λ (goal : Goal). IsGoal c.args.spec.now.rounds goal) (ap (λ (m : MindState). goal_at m.goals c.in-Some.process) (sym c.self.view_is) ∙ get_or_default c.self.inside.goals.items c.in-Some.process Done (Write 0 0) left.below ∙ ap (λ (l : List Goal). get_or l c.in-Some.process (Write 0 0)) (sym c.deref.ensures.0)) (c.requires.1.rounds c.in-Some.process below)

@@ -3,4 +3,4 @@ use Rattle.simulator.proofs.Stepping.{words_some}
 use Rattle.simulator.proofs.mind.Mind.show_move.Goals as goal
 
 pub word-requires-2 : goal.word-requires-2
-word-requires-2 c = omega (arith, c.word.ensures, c.requires.word, (words_some c.args.spec.now c.requires.is_mind.limits).1)
+word-requires-2 c = omega (arith, c.word.ensures, c.requires.word, (words_some c.args.spec.now c.requires.is_mind.1.limits).1)

@@ -1,0 +1,200 @@
+//! The lines of a turn: the operation of each done by a memory, and taken in.
+ghost use Rattle.std.specs.Prelude.{◌≡◌, ◌≢◌, ◌⊎◌, ◌<◌, ◌≤◌};
+ghost use Rattle.simulator.specs.declared.turn.Turn.TheVariants.{Still};
+ghost use Rattle.simulator.specs.Moves.{IsOperation, move_at, move_of, taken_at};
+ghost use Rattle.simulator.specs.Ranges.{IsMind, at_line};
+ghost use Rattle.simulator.specs.Runs.{Runs};
+ghost use Rattle.simulator.specs.Turns.{counted};
+
+use crate::goal::Goal;
+use crate::line::Line;
+use crate::memory::Memory;
+use crate::mind::Mind;
+use crate::turn::Turn;
+use crate::words::chosen_in;
+use room_spec::Spec;
+use safe_agreement::has_level;
+
+/// What an atomic step was answered, what has become of the turn, and the line that comes then.
+#[derive(Clone, Copy)]
+struct Taken {
+    answer: u64,
+    turn: Turn,
+    line: Line,
+}
+
+impl Mind {
+    /// Takes up to so many atomic steps, each done by the memory, until a turn ends. Answers how many it
+    /// took, and what has become of the turn.
+    #[inline(always)]
+    #[tactic(auto, using(crate::proofs::Onward::runs_nothing))]
+    pub fn run_with<C, M: Memory<C>>(
+        &mut self,
+        spec: &Spec,
+        most: u64,
+        context: &C,
+        memory: &mut M,
+    ) -> (u64, Turn)
+        requires is_mind { IsMind spec.now self.old }
+        requires operation { IsOperation (move_of spec.now self.old) }
+        requires serves { M.serves memory.old context.now spec.now self.old }
+        // Each step was the operation that the mind wanted then, whose answer the mind took in, and no
+        // turn ended before the last step.
+        ensures runs { Runs M.does spec.now memory.old self.old result.0 memory.new self.new result.1 }
+        ensures most { result.0 ≤ most }
+        ensures some { 0 < most → 0 < result.0 }
+        // It stops before so many steps only at the end of a turn.
+        ensures ended { (result.0 ≡ most) ⊎ (result.1 ≢ Still) }
+        ensures is_mind { IsMind spec.now self.new }
+        ensures serves { M.serves memory.new context.now spec.now self.new }
+        ensures goes_on { result.1 ≡ Still → IsOperation (move_of spec.now self.new) }
+    {
+        let mut line = self.current_line(); // The mind's own is behind it until the end.
+        let mut count = 0;
+        while count < most {
+            let taken = self.take_step(spec, line, context, memory);
+            line = taken.line;
+            count += 1;
+            match taken.turn {
+                Turn::Still => {}
+                ended => {
+                    self.stand_at(line);
+                    return (count, ended);
+                }
+            }
+        }
+        self.stand_at(line);
+        (most, Turn::Still)
+    }
+
+    #[inline(always)]
+    fn current_line(&self) -> Line
+        ensures { result ≡ self.now.line }
+    {
+        self.line
+    }
+
+    #[inline(always)]
+    fn stand_at(&mut self, line: Line)
+        ensures { self.new ≡ at_line line self.old }
+    {
+        self.line = line;
+    }
+
+    /// Takes the atomic step of this line, which is known beside the mind: what the mind has for its line
+    /// makes no difference, and may be an earlier one afterwards.
+    #[inline(always)]
+    fn take_step<C, M: Memory<C>>(
+        &mut self,
+        spec: &Spec,
+        line: Line,
+        context: &C,
+        memory: &mut M,
+    ) -> Taken
+        requires is_mind { IsMind spec.now (at_line line self.old) }
+        requires operation { IsOperation (move_at line spec.now self.old) }
+        requires serves { M.serves memory.old context.now spec.now (at_line line self.old) }
+        ensures does { M.does memory.old (move_at line spec.now self.old) result.answer memory.new }
+        ensures mind { at_line result.line self.new ≡ (taken_at line spec.now (counted self.old) result.answer).mind }
+        ensures turn { result.turn ≡ (taken_at line spec.now (counted self.old) result.answer).turn }
+    {
+        match line {
+            Line::Rest => {
+                let answer = self.asked_of(spec, line, context, memory);
+                let turn = self.open(spec, answer);
+                self.stands(answer, turn)
+            }
+            Line::Raise => {
+                let answer = self.asked_of(spec, line, context, memory);
+                goes_on(answer, Line::Snap)
+            }
+            Line::Snap => {
+                let answer = self.asked_of(spec, line, context, memory);
+                let turn = self.snap(spec, answer);
+                self.stands(answer, turn)
+            }
+            Line::Show => {
+                let answer = self.asked_of(spec, line, context, memory);
+                let turn = self.show(spec);
+                self.stands(answer, turn)
+            }
+            Line::Enter => {
+                let answer = self.asked_of(spec, line, context, memory);
+                goes_on(answer, Line::Look)
+            }
+            Line::Look => {
+                let answer = self.asked_of(spec, line, context, memory);
+                let saw_two = has_level(answer, spec.m(), 2);
+                goes_on(answer, Line::Leave { saw_two })
+            }
+            Line::Leave { .. } => {
+                let answer = self.asked_of(spec, line, context, memory);
+                goes_on(answer, Line::Ask)
+            }
+            Line::Ask => {
+                let answer = self.asked_of(spec, line, context, memory);
+                let turn = self.ask(chosen_in(spec, answer));
+                self.stands(answer, turn)
+            }
+            Line::GetView { chosen } => {
+                let answer = self.asked_of(spec, line, context, memory);
+                let turn = self.get_view(spec, chosen, answer);
+                self.stands(answer, turn)
+            }
+            Line::Values => {
+                let answer = self.asked_of(spec, line, context, memory);
+                let turn = self.get_value(spec, answer);
+                self.stands(answer, turn)
+            }
+            Line::Out { .. } => {
+                let answer = self.asked_of(spec, line, context, memory);
+                let turn = self.end(Turn::Useful, Goal::Done);
+                self.stands(answer, turn)
+            }
+        }
+    }
+
+    /// Lets the memory do the operation of this line, counts it, and answers it.
+    #[inline(always)]
+    fn asked_of<C, M: Memory<C>>(
+        &mut self,
+        spec: &Spec,
+        line: Line,
+        context: &C,
+        memory: &mut M,
+    ) -> u64
+        requires is_mind { IsMind spec.now (at_line line self.old) }
+        requires operation { IsOperation (move_at line spec.now self.old) }
+        requires serves { M.serves memory.old context.now spec.now (at_line line self.old) }
+        ensures does { M.does memory.old (move_at line spec.now self.old) result memory.new }
+        ensures mind { self.new ≡ counted self.old }
+    {
+        let next = self.move_at(spec, line);
+        self.count_step();
+        memory.operate(context, next)
+    }
+
+    /// At the line that the mind has itself.
+    #[inline(always)]
+    fn stands(&self, answer: u64, turn: Turn) -> Taken
+        ensures { (result.answer ≡ answer) × (result.turn ≡ turn) × (at_line result.line self.now ≡ self.now) }
+    {
+        Taken {
+            answer,
+            turn,
+            line: self.line,
+        }
+    }
+}
+
+/// The turn goes on at this line.
+#[inline(always)]
+fn goes_on(answer: u64, line: Line) -> Taken
+    ensures { (result.answer ≡ answer) × (result.turn ≡ Still) × (result.line ≡ line) }
+{
+    Taken {
+        answer,
+        turn: Turn::Still,
+        line,
+    }
+}
