@@ -1,17 +1,25 @@
 -- Events fed one by one.
 use Rattle.std.proofs.Common.{◌≡◌, ◌∙◌, ℕ, ◌+◌, true, List, [], ◌∷◌, ◌++◌, Result, Ok, Err, refl, sym, ap}
 use Rattle.room_spec.specs.Rooms.{RoomSpec}
-use Rattle.transcript.specs.Lines.{line_in}
+use Rattle.transcript.specs.Lines.{line_in, line_said, LineParts}
 use Rattle.transcript.specs.declared.event.Event.{Event}
 use Rattle.transcript.specs.declared.fault.LineFault.{LineFault}
-use Rattle.history_checker.specs.Verdicts.{FedEvent, has_room}
+use Rattle.history_checker.specs.Verdicts.{FedEvent, RoomState, feed_code, has_room, specs_of}
+use Rattle.history_checker.specs.Shown.{HasFed, IsUnfed}
+use Rattle.history_checker.specs.declared.rooms.FeedFault.{FeedFault}
+use Rattle.history_checker.specs.declared.rooms.FeedFault.TheVariants.{BadLine, NoRoom}
 use Rattle.bgsim_console.specs.declared.fault.IoFault.{IoFault}
 use Rattle.bgsim_console.specs.declared.fault.IoFault.TheVariants.{Read, Write, TooLong, BadInput, Run as RunFailed, Memory}
 use Rattle.bgsim_console.specs.Check.{of_known_room, then_fed, fed_from, IsFaultOf}
 
-pub known_fed : (rooms : List RoomSpec) (line : ℕ) (said : Result (List ℕ × Event) LineFault) (read : List ℕ × Event) → Ok read ≡ said → has_room read.0 rooms ≡ true
-    → of_known_room rooms line said ≡ Ok (record { name = read.0; event = read.1; line = line })
-known_fed rooms line said read is known = rw (sym is, known) refl
+-- what became of a line, by its parts
+pub line_fed : (rooms : List RoomState) (after : List RoomState) (line : ℕ) (text : List ℕ) (parts : LineParts) → line_in text ≡ line_said parts → (fed : HasFed parts line rooms after) → of_known_room (specs_of rooms) line (line_in text) ≡ Ok fed.one
+line_fed rooms after line text parts says fed =
+    rw (says, fed.said, fed.known) (ap (λ (n : ℕ). Ok (record { name = fed.one.name; event = fed.one.event; line = n })) (sym fed.numbered))
+
+pub line_unfed : (rooms : List RoomSpec) (line : ℕ) (text : List ℕ) (parts : LineParts) (fault : FeedFault) → line_in text ≡ line_said parts → IsUnfed parts rooms fault → of_known_room rooms line (line_in text) ≡ Err (line, feed_code fault)
+line_unfed rooms line text parts (BadLine fault) says bad = rw (says, bad) refl
+line_unfed rooms line text parts (NoRoom none) says unknown = rw (says, unknown.1, unknown.2) refl
 
 pub fed_step : (rooms : List RoomSpec) (fed : List FedEvent) (line : ℕ) (text : List ℕ) (texts : List (List ℕ)) (one : FedEvent) → of_known_room rooms line (line_in text) ≡ Ok one
     → fed_from rooms fed line (text ∷ texts) ≡ fed_from rooms (fed ++ one ∷ []) (line + 1) texts

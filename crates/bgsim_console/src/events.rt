@@ -5,10 +5,10 @@ ghost use Rattle.history_checker.specs.Verdicts.{FedEvent, HasProcessed, specs_o
 ghost use Rattle.bgsim_console.specs.Lines.{text_lines};
 ghost use Rattle.bgsim_console.specs.Check.{of_known_room, fed_from, IsFaultOf};
 
-use crate::fault::IoFault;
+use crate::fault::{IoFault, bad_input};
 use crate::lines::next_line;
 use history_checker::Rooms;
-use transcript::read_line;
+use transcript::EventLine;
 
 /// Feeds the rooms the events of a transcript, whose first line has this number.
 pub fn feed_events(rooms: &mut Rooms, first_line: u64, transcript: &[u8]) -> Result<(), IoFault>
@@ -33,29 +33,12 @@ fn feed_line(rooms: &mut Rooms, line: u64, text: &[u8]) -> Result<(), IoFault>
     ensures rooms { specs_of rooms.new ≡ specs_of rooms.old }
     ensures err { IfErr result (IsFaultOf (of_known_room (specs_of rooms.old) line (line_in text.now))) }
 {
-    if rooms.feed_said(text, line) {
-        return Ok(());
-    }
-    read_and_feed(rooms, line, text)
-}
-
-fn read_and_feed(rooms: &mut Rooms, line: u64, text: &[u8]) -> Result<(), IoFault>
-    ensures fed { OnOk result ((one : FedEvent) × (of_known_room (specs_of rooms.old) line (line_in text.now) ≡ Ok one) × ((fed : List FedEvent) → HasProcessed rooms.old fed → HasProcessed rooms.new (fed ++ one ∷ []))) }
-    ensures rooms { specs_of rooms.new ≡ specs_of rooms.old }
-    ensures err { IfErr result (IsFaultOf (of_known_room (specs_of rooms.old) line (line_in text.now))) }
-{
-    let (name, event) = match read_line(text) {
-        Ok(read) => read,
-        Err(fault) => {
-            let code = fault.code();
-            return Err(IoFault::BadInput { line, code });
-        }
+    let parts = match EventLine::split(text) {
+        Ok(parts) => parts,
+        Err(fault) => return Err(bad_input(line, fault.code())),
     };
-    match rooms.feed(&name, &event, line) {
+    match rooms.feed_line(&parts, line) {
         Ok(()) => Ok(()),
-        Err(fault) => {
-            let code = fault.code();
-            Err(IoFault::BadInput { line, code })
-        }
+        Err(fault) => Err(bad_input(line, fault.code())),
     }
 }

@@ -1,6 +1,6 @@
 //! How an engine ends.
 ghost use Rattle.std.specs.Prelude.{◌≡◌};
-ghost use Rattle.bgsim_console.specs.declared.fault.IoFault.TheVariants.{Memory, Run};
+ghost use Rattle.bgsim_console.specs.declared.fault.IoFault.TheVariants.{BadInput, Memory, Run};
 ghost use Rattle.bgsim_console.specs.Ends.{outcome_status, fault_status};
 
 use scheduler::RunFault;
@@ -61,6 +61,13 @@ impl IoFault {
             _ => 2,
         }
     }
+}
+
+/// The fault of an input that has one of this code on this line.
+pub fn bad_input(line: u64, code: u16) -> IoFault
+    ensures { result ≡ BadInput line code }
+{
+    IoFault::BadInput { line, code }
 }
 
 impl From<AllocError> for IoFault {

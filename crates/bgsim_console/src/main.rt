@@ -14,8 +14,6 @@ mod device_tests;
 mod engine;
 mod events;
 mod fault;
-#[cfg(test)]
-mod feeding_tests;
 mod input;
 mod judge;
 mod laws;

@@ -5,7 +5,7 @@ ghost use Rattle.room_spec.specs.Blocks.{IsHeadRight, block_in, room_in};
 ghost use Rattle.bgsim_console.specs.Run.{all_blocks};
 ghost use Rattle.bgsim_console.specs.Check.{no_blocks, refuse, open_room, after_block, pass_lines, blocks_in, fault_text, BeginsWithBlock, IsEnded, IsFaultOr};
 
-use crate::fault::IoFault;
+use crate::fault::{IoFault, bad_input};
 use crate::lines::count_lines;
 use crate::report::{write_refused, write_refused_code};
 use crate::script::block_extent;
@@ -204,10 +204,7 @@ pub fn read_blocks(alloc: Global, input: &[u8]) -> Result<(Setup, &[u8]), IoFaul
             return Ok((setup, later.unwrap_or(&[])));
         }
         let Some(end) = find_end(rest) else {
-            return Err(IoFault::BadInput {
-                line: setup.line + count_lines(rest),
-                code: ENDED_EARLY,
-            });
+            return Err(bad_input(setup.line + count_lines(rest), ENDED_EARLY));
         };
         let len = (end.body + 4).min(rest.len());
         setup.take_ended(alloc, &rest[..len], end, &mut protocols)?;

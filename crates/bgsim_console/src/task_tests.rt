@@ -4,7 +4,7 @@ use protocol_lang::threshold;
 use room_spec::{Spec, read_block};
 use std::alloc::Global;
 use std::test::*;
-use transcript::Event;
+use transcript::{Event, EventLine};
 
 /// A room of three processes, which decide behind this test, and whose task allows one value.
 fn room_of(alloc: Global, test: &str) -> Result<Spec, Fail> {
@@ -52,7 +52,8 @@ fn task_of_no_run(rt: HostRuntime) -> Result<(), Fail> {
     let spec = room_of(rt.alloc(), "count >= n - 1")?;
     assert!(rt; rooms.add(rt.alloc(), spec).is_ok());
     for (line, number) in [("vote 0 decide 5", 1), ("vote 1 decide 3", 2)] {
-        assert!(rt; rooms.feed_said(line.as_bytes(), number));
+        let line = EventLine::split(line.as_bytes())?;
+        assert!(rt; rooms.feed_line(&line, number).is_ok());
     }
     assert!(rt; rooms.verdict(0) == Some(Verdict::Broken(1)));
     assert!(rt; rooms.task_verdict(0) == Some(TaskVerdict::Broken(2)));

@@ -1,5 +1,6 @@
-//! What no input shows of room blocks and event lines: calls that the program doesn't make, and messages.
+//! What no input shows of room blocks, event lines and checked rooms: calls that the program doesn't make, and messages.
 use crate::tests::ONE;
+use history_checker::{AddFault, FeedFault, NoRoom};
 use protocol_lang::ParseFault;
 use room_spec::{SpecFault, read_body};
 use std::alloc::Global;
@@ -92,5 +93,21 @@ fn messages_of_line_faults(rt: HostRuntime) -> Result<(), Fail> {
         let found = format!(in rt.alloc(); "{fault}")?;
         assert_eq!(rt; found.as_str(), text);
     }
+    Ok(())
+}
+
+#[test]
+fn messages_of_rooms(rt: HostRuntime) -> Result<(), Fail> {
+    let found = format!(in rt.alloc();
+        "{}; {}; {NoRoom}; {}; {}",
+        AddFault::NameTaken,
+        AddFault::OutOfMemory,
+        FeedFault::NoRoom(NoRoom),
+        FeedFault::BadLine(LineFault::BadNumber)
+    )?;
+    assert_eq!(rt;
+        found.as_str(),
+        "a room has this name already; out of memory; no room has this name; no room has this name; bad number"
+    );
     Ok(())
 }

@@ -2,7 +2,7 @@ mod Tracking
 mod Runs
 mod Feeding
 mod RoomLists
-mod ToldLines
+mod SaidLines
 mod Rows
 mod Tallies
 mod Certifying

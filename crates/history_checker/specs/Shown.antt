@@ -1,13 +1,14 @@
--- Lines that say events, as their bytes.
-use Rattle.std.specs.Prelude.{◌≡◌, ◌≤◌, ℕ, true, List, [], ◌∷◌, ◌++◌, Option, Ok, length, map, suc, take}
-use Rattle.std.specs.Fmt.{decimal}
-use Rattle.std.specs.List.{AllByRecursion, flat_map, join_with_byte, sum_by}
+-- Rows as the bytes that say them, and lines that are fed.
+use Rattle.std.specs.Prelude.{◌≡◌, ◌≤◌, ℕ, true, false, List, [], ◌∷◌, ◌++◌, Option, Ok, Err, length, map, suc, take}
+use Rattle.std.specs.List.{AllByRecursion, flat_map, sum_by}
 use Rattle.protocol_lang.specs.Limits.{IsEntry}
-use Rattle.transcript.specs.Grammar.{HasValues, entry_text, event_fields}
-use Rattle.transcript.specs.Lines.{line_in}
-use Rattle.transcript.specs.Runs.{process_of}
+use Rattle.room_spec.specs.Rooms.{RoomSpec}
+use Rattle.transcript.specs.Grammar.{entry_text}
+use Rattle.transcript.specs.Lines.{LineParts, line_said}
 use Rattle.transcript.specs.declared.event.Event.{Event}
 use Rattle.history_checker.specs.Verdicts.{FedEvent, HasProcessed, RoomState, has_room, specs_of}
+use Rattle.history_checker.specs.declared.rooms.FeedFault.{FeedFault}
+use Rattle.history_checker.specs.declared.rooms.FeedFault.TheVariants.{BadLine, NoRoom}
 
 -- entries, each behind a space
 abbrev pub spaced : List (Option ℕ) → List ℕ
@@ -32,21 +33,15 @@ pub record IsShown (entries : List (Option ℕ)) (text widths : List ℕ) : Type
   pub widths_are : widths ≡ map width entries
   pub few : length entries ≤ 16
 
--- the first field and the process of a line, and what stands behind these
-pub record IsParted (line name : List ℕ) (p : ℕ) (deed : List ℕ) : Type 0 where
-  pub text : line ≡ name ++ 32 ∷ (decimal p ++ 32 ∷ deed)
-  pub process : p ≤ 15
-
--- in the line of this event of process p that stands behind the process
-pub record SaysDeed (deed : List ℕ) (p : ℕ) (event : Event) : Type 0 where
-  pub text : decimal p ++ 32 ∷ deed ≡ join_with_byte 32 (event_fields event)
-  pub process : process_of event ≡ p
-  pub values : HasValues event
-
--- the line with this number says an event of one of the rooms, which they have then processed
-pub record HasFed (line : List ℕ) (number : ℕ) (old new : List RoomState) : Type 0 where
+-- the line with these parts and this number says an event of one of the rooms, which they have then processed
+pub record HasFed (line : LineParts) (number : ℕ) (old new : List RoomState) : Type 0 where
   pub one : FedEvent
-  pub said : line_in line ≡ Ok (one.name, one.event)
+  pub said : line_said line ≡ Ok (one.name, one.event)
   pub known : has_room one.name (specs_of old) ≡ true
   pub numbered : one.line ≡ number
   pub processed : (fed : List FedEvent) → HasProcessed old fed → HasProcessed new (fed ++ one ∷ [])
+
+-- the line with these parts says no event, or one of a room that isn't there
+abbrev pub IsUnfed : LineParts → List RoomSpec → FeedFault → Type 0
+IsUnfed line rooms (BadLine fault) = line_said line ≡ Err fault
+IsUnfed line rooms (NoRoom none) = (read : List ℕ × Event) × (line_said line ≡ Ok read) × (has_room read.0 rooms ≡ false)

@@ -4,6 +4,7 @@ use Rattle.std.specs.List.{All, filter, list_any}
 use Rattle.std.specs.Str.{bytes_eq}
 use Rattle.room_spec.specs.Rooms.{RoomSpec}
 use Rattle.transcript.specs.declared.event.Event.{Event}
+use Rattle.transcript.specs.Faults.{code_of as line_code}
 use Rattle.transcript.specs.Runs.{IsRun, IsFirstBreak}
 use Rattle.transcript.specs.Tasks.{IsFirstExcess, KeepsTask}
 use Rattle.history_checker.specs.declared.process.Process.{Process}
@@ -11,6 +12,8 @@ use Rattle.history_checker.specs.declared.rooms.Verdict.{Verdict}
 use Rattle.history_checker.specs.declared.rooms.Verdict.TheVariants.{Run, Broken}
 use Rattle.history_checker.specs.declared.rooms.AddFault.{AddFault}
 use Rattle.history_checker.specs.declared.rooms.AddFault.TheVariants.{NameTaken, OutOfMemory}
+use Rattle.history_checker.specs.declared.rooms.FeedFault.{FeedFault}
+use Rattle.history_checker.specs.declared.rooms.FeedFault.TheVariants.{BadLine, NoRoom}
 use Rattle.history_checker.specs.declared.rooms.TaskVerdict.{TaskVerdict}
 use Rattle.history_checker.specs.declared.rooms.TaskVerdict.TheVariants as tasks
 use Rattle.history_checker.specs.Processes.{Tracks}
@@ -105,6 +108,11 @@ has_room name specs = list_any (bytes_eq name) (names_of specs)
 abbrev pub add_code : AddFault → ℕ
 add_code NameTaken = 41
 add_code OutOfMemory = 8
+
+-- the numbers of the faults of feeding a line
+abbrev pub feed_code : FeedFault → ℕ
+feed_code (BadLine fault) = line_code fault
+feed_code (NoRoom none) = 40
 
 -- the rooms of a map from their names, in its order
 abbrev pub rooms_in : List (List ℕ × RoomState) → List RoomState

@@ -9,9 +9,8 @@ mod row;
 mod spelled;
 mod tally;
 mod task;
-mod told;
 
 pub use bound::certified;
 pub use history::check;
-pub use rooms::{AddFault, NoRoom, Rooms, Specs, TaskVerdict, Verdict};
+pub use rooms::{AddFault, FeedFault, NoRoom, Rooms, Specs, TaskVerdict, Verdict};
 pub use task::check_task;

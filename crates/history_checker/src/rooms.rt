@@ -1,18 +1,18 @@
 //! Verdicts on many rooms, whose events come mixed.
-ghost use Rattle.std.specs.Prelude.{◌≡◌, ◌↔◌, ◌≤◌, ℕ, List, true, length, [], ◌∷◌, ◌++◌, IsTrue, IsFalse, IsOk, IfOk, IsErrOf, OnOk, OnErr, None, Some, MatchOption, IfSome, IsSomeAnd, is_some, option_map, slice_get};
+ghost use Rattle.std.specs.Prelude.{◌≡◌, ◌↔◌, ◌≤◌, ℕ, List, true, false, length, [], ◌∷◌, ◌++◌, IsTrue, IsFalse, IsOk, IfOk, IfErr, IsErrOf, OnOk, OnErr, None, Some, MatchOption, IfSome, IsSomeAnd, is_some, option_map, slice_get};
 ghost use Rattle.std.specs.List.{position};
 ghost use Rattle.std.specs.Str.{bytes_eq};
 ghost use Rattle.room_spec.specs.Names.{is_name};
 ghost use Rattle.room_spec.specs.Rooms.{RoomSpec};
-ghost use Rattle.history_checker.specs.Verdicts.{FedEvent, HasProcessed, HasProcessedOwn, IsAfter, StandsAfter, TaskStands, IsVerdict, IsTaskAnswer, specs_of, names_of, has_room, fed_to, add_code};
-ghost use Rattle.history_checker.specs.Shown.{HasFed, SaysDeed, SaysRow};
+ghost use Rattle.transcript.specs.Lines.{event_said};
+ghost use Rattle.history_checker.specs.Verdicts.{FedEvent, HasProcessed, HasProcessedOwn, IsAfter, StandsAfter, TaskStands, IsVerdict, IsTaskAnswer, specs_of, names_of, has_room, fed_to, add_code, feed_code};
+ghost use Rattle.history_checker.specs.Shown.{HasFed, IsUnfed, SaysRow};
 
 use crate::history::open;
 use crate::process::{Process, follow};
 use crate::row::Row;
 use crate::spelled::Spelled;
 use crate::tally::Tally;
-use crate::told::{behind_snap, event_told, parts_of};
 use indexmap::IndexMap;
 use indexmap::map::IntoValues;
 use protocol_lang::View;
@@ -20,7 +20,7 @@ use room_spec::{Name, Spec};
 use std::alloc::{AllocError, Global};
 use std::marker::Model;
 use thiserror::Error;
-use transcript::Event;
+use transcript::{Event, EventLine, LineFault};
 
 /// Whether a room's events are a run of its protocol on write-snapshot memory.
 #[derive(Clone, Copy, Debug, PartialEq, Eq)]
@@ -76,6 +76,29 @@ impl NoRoom {
         ensures { result ≡ 40 }
     {
         40
+    }
+}
+
+/// Why a line was not fed.
+#[derive(Clone, Copy, Debug, PartialEq, Eq, Error)]
+pub enum FeedFault {
+    /// It says no event.
+    #[error("{0}")]
+    BadLine(LineFault),
+    /// It says one of a room that isn't there.
+    #[error("{0}")]
+    NoRoom(NoRoom),
+}
+
+impl FeedFault {
+    /// The number by which reports name the fault: that of the line's own fault, or 40.
+    pub fn code(self) -> u16
+        ensures { result ≡ feed_code self }
+    {
+        match self {
+            FeedFault::BadLine(fault) => fault.code(),
+            FeedFault::NoRoom(fault) => fault.code(),
+        }
     }
 }
 
@@ -276,41 +299,41 @@ impl Rooms {
         Ok(())
     }
 
-    /// Feeds the event of a transcript's line, which has this number, if the line says an event of one
-    /// of the rooms. No other line is read: they change nothing, and the answer is `false`. This takes
-    /// no memory.
-    ///
-    /// It is there for speed: most lines say events, and most snapshots of a run are right, which is
-    /// seen without reading their entries.
-    pub fn feed_said(&mut self, line: &[u8], number: u64) -> bool
-        ensures shown { IsTrue result → HasFed line.now number self.old self.new }
+    /// Feeds the event of a transcript's line, which has this number, to its room. A line that says no event of one of the rooms
+    /// changes nothing. This takes no memory.
+    pub fn feed_line(&mut self, line: &EventLine<'_>, number: u64) -> Result<(), FeedFault>
+        ensures fed { OnOk result (HasFed line.now number self.old self.new) }
         ensures rooms { specs_of self.new ≡ specs_of self.old }
-        ensures other { IsFalse result → self.new ≡ self.old }
+        // A bad line comes before an unknown room.
+        ensures fault { IfErr result (IsUnfed line.now (specs_of self.old)) }
+        ensures err { OnErr result (self.new ≡ self.old) }
     {
-        let Some((name, p, deed)) = parts_of(line) else {
-            return false;
-        };
+        let name = line.name();
         let Some(index) = self.index_spelled(name) else {
-            return false;
+            return Err(fault_of_stray(line));
         };
-        let Some(event) = self.event_of(index, p, deed) else {
-            return false;
+        let event = match self.event_of(index, line) {
+            Ok(event) => event,
+            Err(fault) => return Err(FeedFault::BadLine(fault)),
         };
         self.feed_at(index, name, &event, number);
-        true
+        Ok(())
     }
 
-    /// What process `p` of the room of this index did, by what stands behind its number. A
-    /// snapshot that the room's row shows is told without reading its entries.
-    fn event_of(&self, index: usize, p: u8, deed: &[u8]) -> Option<Event>
-        ensures { IfSome result (SaysDeed deed.now p) }
+    /// The event that a line says of the room of this index. Most snapshots of a run are right: one that the room's row shows is not
+    /// read entry by entry.
+    fn event_of(&self, index: usize, line: &EventLine<'_>) -> Result<Event, LineFault>
+        ensures { result ≡ event_said line.now }
     {
-        if let Some(entries) = behind_snap(deed) {
-            if let Some(row) = self.row_said(index, entries) {
-                return Some(Event::Snap { p, row });
+        if line.is_snap() {
+            if let Some(row) = self.row_said(index, line.values()) {
+                return Ok(Event::Snap {
+                    p: line.process(),
+                    row,
+                });
             }
         }
-        event_told(p, deed)
+        line.event()
     }
 
     /// The index of the room of this name.
@@ -352,7 +375,7 @@ impl Rooms {
 
     /// The row of the room of this index, if it has one that the text says.
     fn row_said(&self, index: usize, text: &[u8]) -> Option<View>
-        ensures { IfSome result (λ row. SaysRow text.now row.items × (1 ≤ length row.items) × (length row.items ≤ 16)) }
+        ensures { IfSome result (λ row. SaysRow (32 ∷ text.now) row.items × (length row.items ≤ 16)) }
     {
         let (_, room) = self.rooms.get_index(index)?;
         let row = room.row.as_ref()?;
@@ -407,6 +430,16 @@ impl Rooms {
     {
         let (_, room) = self.rooms.get_index(index)?;
         room.task_verdict()
+    }
+}
+
+/// Why a line whose first field is no room's name can't be fed.
+fn fault_of_stray(line: &EventLine<'_>) -> FeedFault
+    ensures { (rooms : List RoomSpec) → has_room line.now.name rooms ≡ false → IsUnfed line.now rooms result }
+{
+    match line.read() {
+        Ok(_) => FeedFault::NoRoom(NoRoom),
+        Err(fault) => FeedFault::BadLine(fault),
     }
 }
 

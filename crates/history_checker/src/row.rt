@@ -65,12 +65,14 @@ impl Row {
         Ok(row)
     }
 
-    /// Whether the text says these entries, of which there is one at least.
+    /// Whether the text says these entries, with a space between each two.
     pub(crate) fn is_said_by(&self, text: &[u8]) -> bool
-        ensures said { IsTrue result → SaysRow text.now self.now }
-        ensures some { IsTrue result → 1 ≤ length self.now }
+        ensures { IsTrue result → SaysRow (32 ∷ text.now) self.now }
     {
-        !self.last.is_empty() && self.text.as_slice() == text
+        match self.text.as_slice().split_first() {
+            Some((_, entries)) => entries == text,
+            None => false,
+        }
     }
 
     pub(crate) fn entries(&self) -> Result<View, AllocError>

@@ -1,7 +1,7 @@
 -- The lemmas that proofs of the crates above may name: this crate promises them, as it does the clauses of
 -- its functions. All others are its own.
 pub use Rattle.transcript.proofs.Agreeing.{In, contains_in, decides_few, decides_inputs, different_in, in_contains, in_without, no_more, one_more}
-pub use Rattle.transcript.proofs.Events.{line_again, row_found}
+pub use Rattle.transcript.proofs.Events.{row_spelled}
 pub use Rattle.transcript.proofs.Fields.{no_space_in}
 pub use Rattle.transcript.proofs.Histories.{latest-push, none_seen, quiet, same}
 pub use Rattle.transcript.proofs.Numbers.{digits_of-decimal, number_of-decimal, number_spelled}

@@ -44,7 +44,7 @@ up_to_found most (Some m) n e =
     let same : m ≡ n = let again = g.1 in cc in
     (ap Some same, omega (arith, leb-true m most g.0))
 
-number_found : (most : ℕ) (field : List ℕ) (n : ℕ) → most ≤ greatest → number_in most field ≡ Ok n → (field ≡ decimal n) × (n ≤ most)
+pub number_found : (most : ℕ) (field : List ℕ) (n : ℕ) → most ≤ greatest → number_in most field ≡ Ok n → (field ≡ decimal n) × (n ≤ most)
 number_found most field n small e =
     let found = up_to_found most (number_of field) n e in
     (number_spelled field n found.0 (omega (arith, found.1)), found.1)
@@ -151,7 +151,7 @@ line_found line name event e =
 
 -- ---- what a line says is read
 
-number_again : (most n : ℕ) → most ≤ greatest → n ≤ most → number_in most (decimal n) ≡ Ok n
+pub number_again : (most n : ℕ) → most ≤ greatest → n ≤ most → number_in most (decimal n) ≡ Ok n
 number_again most n small le = rw (number_of-decimal n (omega arith), le-leb n most le) refl
 
 is_no_dot : (n : ℕ) → n ≤ greatest → bytes_eq (decimal n) (codes ".") ≡ false
@@ -192,6 +192,12 @@ IsField-entry (Some value) small = IsField-decimal value small
 IsField-entries : (entries : List (Option ℕ)) → AllByRecursion IsEntry entries → AllByRecursion (IsField 10) (map entry_text entries)
 IsField-entries [] small = tt
 IsField-entries (entry ∷ entries) small = (IsField-entry entry small.0, IsField-entries entries small.1)
+
+-- the entries of a row, as the text that they are
+pub row_spelled : (values : List ℕ) (entries : List (Option ℕ)) → IsRow entries → values ≡ join_with_byte 32 (map entry_text entries) → row_in (fields_of values) ≡ Ok entries
+row_spelled values [] row is = let some = row.some in absurd (omega arith)
+row_spelled values (entry ∷ entries) row is =
+    rw (is, fields_of-join 10 (entry_text entry) (map entry_text entries) (IsField-entry entry row.values.0) (IsField-entries entries row.values.1)) (row_again (entry ∷ entries) row)
 
 IsField-event : (event : Event) → process_of event ≤ 15 → HasValues event → AllByRecursion (IsField 10) (event_fields event)
 IsField-event (Write p v) process small = (IsField-decimal p (omega arith), (IsField-codes (codes "write") refl (omega arith), (IsField-decimal v small, tt)))

@@ -1,5 +1,6 @@
 pub mod CallerLemmas
 mod Events
+mod Cutting
 mod Fields
 mod Numbers
 mod Rows

@@ -1,5 +1,5 @@
 -- How an event line is read: by its fields, up to the first fault.
-use Rattle.std.specs.Prelude.{◌≡◌, ℕ, List, [], ◌∷◌, length, Option, Some, None, Result, Ok, Err, nat_le, nat_lt, if◌then◌else◌, codes}
+use Rattle.std.specs.Prelude.{◌≡◌, ◌≤◌, ℕ, List, [], ◌∷◌, length, Option, Some, None, Result, Ok, Err, nat_le, nat_lt, if◌then◌else◌, codes, decimal}
 use Rattle.std.specs.Str.{bytes_eq}
 use Rattle.protocol_lang.specs.Numbers.{greatest, number_of}
 use Rattle.room_spec.specs.Names.{is_name}
@@ -76,6 +76,29 @@ named_event (name ∷ fields) = if is_name name then event_in fields >>= of_room
 -- the room's name and the event that a line says, or its first fault
 abbrev pub line_in : List ℕ → Result (List ℕ × Event) LineFault
 line_in line = if nat_lt 256 (length line) then Err TooLong else named_event (fields_of line)
+
+-- ---- the same in two steps: a line is cut into its parts, and these are read
+
+-- the first field, the number of the process, the word, and what stands behind it
+pub record LineParts : Type 0 where
+  pub name : List ℕ
+  pub process : ℕ
+  pub word : List ℕ
+  pub values : List ℕ
+
+-- the line's fields are those of its parts
+pub record IsCutInto (line : List ℕ) (parts : LineParts) : Type 0 where
+  pub short : length line ≤ 256
+  pub fields : fields_of line ≡ parts.name ∷ decimal parts.process ∷ parts.word ∷ fields_of parts.values
+  pub process : parts.process ≤ 15
+
+-- the event that they say, whatever the name is
+abbrev pub event_said : LineParts → Result Event LineFault
+event_said parts = event_of parts.word (fields_of parts.values) parts.process
+
+-- the same with the name, which has to be one
+abbrev pub line_said : LineParts → Result (List ℕ × Event) LineFault
+line_said parts = if is_name parts.name then event_said parts >>= of_room parts.name else Err BadName
 
 -- what a function returned, seen by `view`, is what reading gives
 abbrev pub Gives : {X Y : Type 0} → (X → Y) → Result X LineFault → Result Y LineFault → Type 0

@@ -2,10 +2,12 @@
 #![tactic(auto)]
 
 mod event;
+mod event_line;
 mod fault;
 pub mod laws;
 mod line;
 
 pub use event::Event;
+pub use event_line::EventLine;
 pub use fault::LineFault;
-pub use line::{append_event, read_line, read_row, write_event};
+pub use line::{append_event, read_line, write_event};

@@ -1,7 +1,12 @@
-use Rattle.history_checker.proofs.ToldLines.{says_row}
+use Rattle.std.proofs.Common.{◌≡◌, ◌∷◌, ◌∙◌, ℕ, List, true, sym, ap, subst, Ok}
+use Rattle.transcript.specs.Faults.{is_snap}
+use Rattle.transcript.specs.declared.event.Event.TheVariants.{Snap}
+use Rattle.history_checker.specs.Shown.{SaysRow}
+use Rattle.history_checker.proofs.SaidLines.{says_snap}
 use Rattle.history_checker.proofs.rooms.Rooms.event_of.Goals as goal
 
-pub returns-in-Some-row_said : goal.returns-in-Some-row_said
-returns-in-Some-row_said c =
-    let said = c.in-Some-row_said.ensures in
-    says_row c.args.p c.args.deed.now c.in-Some.entries.now c.in-Some-row_said.row c.in-Some.ensures said.0 said.1 said.2
+pub returns-in-Some : goal.returns-in-Some
+returns-in-Some c =
+    let snap : is_snap c.args.line.now.word ≡ true = sym c.is_snap.ensures ∙ c.if-is_snap.true in
+    let says = subst (λ (values : List ℕ). SaysRow (32 ∷ values) c.in-Some.row.items) c.values.ensures c.in-Some.ensures.0 in
+    ap (λ (p : ℕ). Ok (Snap p c.in-Some.row)) c.process.ensures ∙ sym (says_snap c.args.line.now c.in-Some.row snap says c.in-Some.ensures.1)

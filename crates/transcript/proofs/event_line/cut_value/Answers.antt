@@ -1,6 +1,6 @@
 use Rattle.std.proofs.Common.{sym}
 use Rattle.transcript.proofs.Rows.{value_two}
-use Rattle.transcript.proofs.line.read_value.Goals as goal
+use Rattle.transcript.proofs.event_line.cut_value.Goals as goal
 
 pub returns-in_default-Some : goal.returns-in_default-Some
 returns-in_default-Some c =

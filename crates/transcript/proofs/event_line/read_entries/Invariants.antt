@@ -3,7 +3,7 @@ use Rattle.std.specs.Option.{option_copied}
 use Rattle.room_spec.specs.Texts.{pieces_of, is_space, fields_of}
 use Rattle.transcript.specs.Lines.{entries_in}
 use Rattle.transcript.proofs.Rows.{with_front}
-use Rattle.transcript.proofs.line.read_entries.Given as goal
+use Rattle.transcript.proofs.event_line.read_entries.Given as goal
 
 abbrev pub invariant-loop-rest : goal.invariant-loop-rest
 invariant-loop-rest l = record {

@@ -3,7 +3,7 @@ use Rattle.std.proofs.lemmas.Result.{err_from_is_err_and}
 use Rattle.std.specs.Option.{option_copied}
 use Rattle.room_spec.specs.Texts.{pieces_of, is_space}
 use Rattle.transcript.proofs.Rows.{goes_on, ends}
-use Rattle.transcript.proofs.line.read_entries.Goals as goal
+use Rattle.transcript.proofs.event_line.read_entries.Goals as goal
 
 pub loop-rest-preserved : goal.loop-rest-preserved
 loop-rest-preserved c =
