@@ -16,9 +16,11 @@ use std::alloc::{AllocError, Global};
 use std::sync::Wait;
 use std::thread::Threads;
 
-/// The most rooms that run at the same time. While it runs a room takes some 4 KB, however short its
-/// block is.
-const ROOMS_AT_ONCE: usize = 128;
+/// The most rooms that run at the same time, by the number of workers: with many of them more, since
+/// threads are started for each part. While it runs a room takes some 4 KB, however short its block is.
+fn rooms_at_once(workers: u8) -> usize {
+    if workers < 4 { 128 } else { 256 }
+}
 
 /// A text of reports, and the outcome that goes with it.
 #[derive(Drop)]
@@ -63,7 +65,7 @@ fn run_in_parts<H: Threads + Wait + Sync, G: Gate + Sync>(
     ensures err { IfErr result (MayEndRun workers) }
 {
     loop {
-        let part = next_part(alloc, &mut left)?;
+        let part = next_part(alloc, &mut left, rooms_at_once(workers))?;
         run_part(rt, alloc, part, workers, gate, output)?;
         if left.is_empty() {
             return Ok(());
@@ -71,8 +73,8 @@ fn run_in_parts<H: Threads + Wait + Sync, G: Gate + Sync>(
     }
 }
 
-/// Takes the specs of the rooms that run next off the front: all that are left where they are few.
-fn next_part(alloc: Global, left: &mut Specs) -> Result<Vec<Spec>, AllocError>
+/// Takes the specs of the rooms that run next off the front: so many, or all that are left.
+fn next_part(alloc: Global, left: &mut Specs, most: usize) -> Result<Vec<Spec>, AllocError>
     ensures part { IfOk result (λ part. left.old ≡ part.items ++ left.new) }
     // Where some are left, some were taken.
     ensures fewer { OnOk result (0 < length left.new → length left.new < length left.old) }
@@ -80,7 +82,7 @@ fn next_part(alloc: Global, left: &mut Specs) -> Result<Vec<Spec>, AllocError>
     let mut part = Vec::new(alloc);
     while let Some(spec) = left.take_first() {
         part.push(spec)?;
-        if part.len() == ROOMS_AT_ONCE {
+        if part.len() == most {
             return Ok(part);
         }
     }

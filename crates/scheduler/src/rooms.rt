@@ -66,11 +66,15 @@ impl From<AllocError> for RunFault {
 /// reports each.
 ///
 /// The tasks are the simulators of all rooms, in the order of the rooms and then of their numbers; the
-/// t-th, counted from 0, goes to worker t modulo their number. Each worker goes round its tasks on a
-/// thread of its own: a visit passes the gate, with the number of the worker and of its visit, both
-/// counted from 0, and then takes a [`turn`](crate::turn) with the fuse that the spec gives the
-/// simulator. A task that has stopped is not visited again. Which steps interleave is the threads'
-/// affair; whichever do, each result is one that its own spec alone allows.
+/// t-th, counted from 0, goes to worker t modulo their number. Each worker goes round its tasks: a visit
+/// passes the gate, with the number of the worker and of its visit, both counted from 0, and then takes
+/// a [`turn`](crate::turn) with the fuse that the spec gives the simulator. A task that has stopped is
+/// not visited again. Which steps interleave is the threads' affair; whichever do, each result is one
+/// that its own spec alone allows.
+///
+/// Worker 0 works on the calling thread, which has opened the rooms before; each other worker on a thread
+/// of its own. When all tasks have stopped, the calling thread takes them back, and then no more threads
+/// than there are workers, the calling one among them, close, settle and report the rooms.
 ///
 /// # Errors
 ///
@@ -102,11 +106,11 @@ pub fn run_rooms<R: Threads + Wait + Sync, G: Gate + Sync>(
 
 /// How many rooms a thread ends at least, where more than one does: a thread for a few rooms takes more
 /// time than it saves, and memory of its own.
-const ROOMS_A_THREAD: usize = 64;
+const ROOMS_A_THREAD: usize = 32;
 
 /// How many threads end so many rooms: no more than there are workers. One does where it is 0.
 fn ending_threads(rooms: usize, workers: u8) -> u8
-    ensures { result ≡ min workers (rooms / 64) }
+    ensures { result ≡ min workers (rooms / 32) }
 {
     usize::from(workers).min(rooms / ROOMS_A_THREAD) as u8
 }

@@ -1,4 +1,4 @@
-//! Workers, each of whom goes round its simulators on a thread of its own.
+//! Workers, each of whom goes round its simulators on a thread of its own: the first on the one that asks.
 ghost use Rattle.std.specs.Prelude.{◌≡◌, ◌≢◌, ◌+◌, ◌≤◌, ℕ, IfErr, IfOk, OnOk, length, map};
 ghost use Rattle.std.specs.List.{All};
 ghost use Rattle.scheduler.specs.declared.rooms.RunFault.TheVariants.{Workers};
@@ -88,8 +88,8 @@ impl<'a> Promise<Result<Vec<Stopped>, AllocError>> for Given<'a> {
     ghost kept_by = { λ given result. IfOk result (λ done. BringsBack given.rooms.now given.tasks.value.items done.items) };
 }
 
-/// Runs all tasks, each queue by a worker of its own on a thread of its own, all at the same time, and
-/// brings them back.
+/// Runs all tasks, each queue by a worker of its own, all at the same time, and brings them back. The
+/// first worker has the calling thread, each other one a thread of its own.
 pub(crate) fn run_all<R: Threads + Wait + Sync, G: Gate + Sync>(
     rt: &R,
     alloc: Global,
@@ -143,7 +143,8 @@ fn run_within<'s, E, R: Threads + Sync, G: Gate + Sync>(
     Ok(keepers)
 }
 
-/// Starts a worker for each queue, the last first; then joins them, and takes back what they bring.
+/// Starts a thread for the worker of each queue but the first, the last one first, and then does the
+/// first one's work; then joins them, and takes back what they bring.
 fn start_each<'s, E, R: Threads + Sync, G: Gate + Sync>(
     rt: &R,
     alloc: Global,
@@ -165,6 +166,11 @@ fn start_each<'s, E, R: Threads + Sync, G: Gate + Sync>(
         return Ok(());
     };
     let worker = queues.len() as u8;
+    if worker == 0 {
+        let done = work(alloc, rooms, tasks, gate, worker)?;
+        bring_back(rooms, keepers, done);
+        return Ok(());
+    }
     let given = Given {
         rooms,
         tasks: Snapshot::of(&tasks),

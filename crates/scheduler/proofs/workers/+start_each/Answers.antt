@@ -19,3 +19,8 @@ pub start_each-others-requires-clause-tasks : goal.start_each-others-requires-cl
 start_each-others-requires-clause-tasks g t c κs within =
     all_init (λ (tasks : List Task). All (λ task. IsTaskOf c.args.rooms.now task) tasks) own c.pop.new.self.items c.in-Some.tasks
     (subst (λ (l : List (VecDeque Task Global)). AreTasksOf c.args.rooms.now (map own l)) c.in-Some.ensures.items c.requires.tasks)
+
+pub work-requires : goal.work-requires
+work-requires g t c =
+    all_last (λ (tasks : List Task). All (λ task. IsTaskOf c.args.rooms.now task) tasks) own c.pop.new.self.items c.in-Some.tasks
+    (subst (λ (l : List (VecDeque Task Global)). AreTasksOf c.args.rooms.now (map own l)) c.in-Some.ensures.items c.requires.tasks)
