@@ -3,7 +3,7 @@ use Rattle.std.specs.Prelude.{◌≡◌, ◌⊎◌, ℕ, ◌+◌, ◌≤◌, ◌
 use Rattle.std.specs.List.{All, flat_map, list_all}
 use Rattle.std.specs.Str.{bytes_eq}
 use Rattle.protocol_lang.specs.Faults.{code_of as protocol_code}
-use Rattle.protocol_lang.specs.Grammar.{place_of}
+use Rattle.protocol_lang.specs.FirstFaults.{place_of}
 use Rattle.room_spec.specs.Faults.{code_of as block_code}
 use Rattle.room_spec.specs.Rooms.{RoomSpec}
 use Rattle.room_spec.specs.Texts.{first_line, later_lines}

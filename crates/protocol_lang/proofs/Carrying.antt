@@ -12,16 +12,16 @@ use Rattle.protocol_lang.specs.declared.token.Token.{Token}
 use Rattle.protocol_lang.specs.declared.token.Token.TheVariants as tokens
 use Rattle.protocol_lang.specs.declared.token.Word.TheVariants as words
 use Rattle.protocol_lang.specs.declared.token.Symbol.TheVariants as symbols
-use Rattle.protocol_lang.specs.declared.parser.Expected.{Expected}
-use Rattle.protocol_lang.specs.declared.parser.Expected.TheVariants as next
-use Rattle.protocol_lang.specs.declared.parser.Part.{Part}
-use Rattle.protocol_lang.specs.declared.parser.Part.TheVariants as parts
-use Rattle.protocol_lang.specs.declared.parser.Opener.{Opener}
-use Rattle.protocol_lang.specs.declared.parser.Opener.TheVariants as openers
-use Rattle.protocol_lang.specs.declared.parser.Level.{Level}
-use Rattle.protocol_lang.specs.declared.parser.Refusal.{Refusal}
-use Rattle.protocol_lang.specs.declared.formula.Instruction.{Instruction}
-use Rattle.protocol_lang.specs.declared.formula.Instruction.TheVariants as instructions
+use Rattle.protocol_lang.specs.declared.state.Expected.{Expected}
+use Rattle.protocol_lang.specs.declared.state.Expected.TheVariants as next
+use Rattle.protocol_lang.specs.declared.state.Part.{Part}
+use Rattle.protocol_lang.specs.declared.state.Part.TheVariants as parts
+use Rattle.protocol_lang.specs.declared.state.Opener.{Opener}
+use Rattle.protocol_lang.specs.declared.state.Opener.TheVariants as openers
+use Rattle.protocol_lang.specs.declared.state.Level.{Level}
+use Rattle.protocol_lang.specs.declared.state.Refusal.{Refusal}
+use Rattle.protocol_lang.specs.declared.draft.Instruction.{Instruction}
+use Rattle.protocol_lang.specs.declared.draft.Instruction.TheVariants as instructions
 use Rattle.protocol_lang.specs.declared.tree.Name.{Name}
 use Rattle.protocol_lang.specs.declared.tree.Call.{Call}
 use Rattle.protocol_lang.specs.declared.tree.Operator.{Operator}

@@ -8,8 +8,9 @@ use Rattle.protocol_lang.specs.Numbers.{greatest, is_digit, number_of}
 use Rattle.protocol_lang.specs.Tokens.{is_blank, is_letter, is_end, word_of, symbol_of}
 use Rattle.protocol_lang.specs.Trees.{Expression, Tree}
 use Rattle.protocol_lang.specs.Formulas.{trees}
-use Rattle.protocol_lang.specs.Grammar.{Written, CanFollow, IsOutOfPlace, IsNoToken, IsTooDeep, IsRuleMore, IsViewBefore, WantOpen, IsFirstFault, place_of}
-use Rattle.protocol_lang.specs.Reading.{word_token, number_token, symbol_token, token_at, extent_of, past_blanks, next_token, State, opening, step, fault_at, stepped, one_token, onward, run, most_tokens, tree_read, reading, IsReading}
+use Rattle.protocol_lang.specs.Grammar.{Written}
+use Rattle.protocol_lang.specs.FirstFaults.{CanFollow, IsOutOfPlace, IsNoToken, IsTooDeep, IsRuleMore, IsViewBefore, WantOpen, IsFirstFault, place_of}
+use Rattle.protocol_lang.specs.Reading.{word_token, number_token, symbol_token, token_at, extent_of, past_blanks, next_token, State, opening, step, fault_at, refused_at, one_token, onward, run, most_tokens, tree_read, reading, IsReading}
 use Rattle.protocol_lang.specs.declared.fault.ParseFault.{ParseFault}
 use Rattle.protocol_lang.specs.declared.fault.ParseFault.TheVariants.{TooLong, BadToken, Unexpected, TooDeep, TooManyRules, ViewInFirst, NumberTooLarge, OutOfMemory}
 use Rattle.protocol_lang.specs.declared.token.Token.{Token}
@@ -17,10 +18,10 @@ use Rattle.protocol_lang.specs.declared.token.Token.TheVariants as tokens
 use Rattle.protocol_lang.specs.declared.token.Word.{Word}
 use Rattle.protocol_lang.specs.declared.token.Symbol.{Symbol}
 use Rattle.protocol_lang.specs.declared.lexer.Placed.{Placed}
-use Rattle.protocol_lang.specs.declared.parser.Expected.{Expected}
-use Rattle.protocol_lang.specs.declared.parser.Expected.TheVariants as next
-use Rattle.protocol_lang.specs.declared.parser.Refusal.{Refusal}
-use Rattle.protocol_lang.specs.declared.parser.Refusal.TheVariants as refusals
+use Rattle.protocol_lang.specs.declared.state.Expected.{Expected}
+use Rattle.protocol_lang.specs.declared.state.Expected.TheVariants as next
+use Rattle.protocol_lang.specs.declared.state.Refusal.{Refusal}
+use Rattle.protocol_lang.specs.declared.state.Refusal.TheVariants as refusals
 use Rattle.protocol_lang.proofs.Carrying.{writings, state_of, ends_of, step_of}
 use Rattle.protocol_lang.proofs.Going.{Goes, took, spelled_some, is_no_end}
 use Rattle.protocol_lang.proofs.Holds.{Holds, HoldsAt, holds_first}
@@ -176,7 +177,7 @@ place_cause text at refusals.TooManyRules cause = (at, cause)
 place_cause text at refusals.ViewInFirst cause = cause
 place_cause text at refusals.OutOfMemory cause = tt
 
-stepped_err : (at : ℕ) (r : Result (State Expression) Refusal) (fault : ParseFault) → stepped at r ≡ Err fault → (refusal : Refusal) × (r ≡ Err refusal) × (fault_at at refusal ≡ fault)
+stepped_err : (at : ℕ) (r : Result (State Expression) Refusal) (fault : ParseFault) → refused_at at r ≡ Err fault → (refusal : Refusal) × (r ≡ Err refusal) × (fault_at at refusal ≡ fault)
 stepped_err at (Ok s) fault e = absurd cc
 stepped_err at (Err refusal) fault e = (refusal, refl, cc)
 
@@ -184,7 +185,7 @@ cause_of : (text : List ℕ) (fault : ParseFault) → Stops text 0 (opening tree
 cause_of text fault stop =
     elim (bind_err (next_token text stop.stop) (behind_token trees stop.there) fault (sym (one_is trees text stop.stop stop.there) ∙ stop.failed)) [
       | inl failed ↦ own_cause text fault stop (token_own text stop.stop fault failed) stop.stop failed stop refl
-      | inr read ↦ elim (bind_err (stepped read.0.at (step trees stop.there read.0.token)) (λ s'. Ok (s', cond (is_end read.0.token) None (Some read.0.end))) fault read.2) [
+      | inr read ↦ elim (bind_err (refused_at read.0.at (step trees stop.there read.0.token)) (λ s'. Ok (s', cond (is_end read.0.token) None (Some read.0.end))) fault read.2) [
         | inl failed ↦
             let refusal = stepped_err read.0.at (step trees stop.there read.0.token) fault failed in
             subst (IsFirstFault text) refusal.2 (place_cause text read.0.at refusal.0 (out_of_place text fault stop read.0 refusal.0 read.1 refusal.1))
@@ -225,7 +226,7 @@ no_long_token : (text : List ℕ) (from : ℕ) (s : State Expression) → one_to
 no_long_token text from s e =
     elim (bind_err (next_token text from) (behind_token trees s) TooLong (sym (one_is trees text from s) ∙ e)) [
       | inl failed ↦ token_own text from TooLong failed
-      | inr read ↦ elim (bind_err (stepped read.0.at (step trees s read.0.token)) (λ s'. Ok (s', cond (is_end read.0.token) None (Some read.0.end))) TooLong read.2) [
+      | inr read ↦ elim (bind_err (refused_at read.0.at (step trees s read.0.token)) (λ s'. Ok (s', cond (is_end read.0.token) None (Some read.0.end))) TooLong read.2) [
         | inl failed ↦ let refusal = stepped_err read.0.at (step trees s read.0.token) TooLong failed in no_refusal read.0.at refusal.0 refusal.2
         | inr never ↦ absurd (let e = never.2 in cc)
       ]

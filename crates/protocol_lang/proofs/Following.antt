@@ -6,7 +6,8 @@ use Rattle.std.proofs.lemmas.List.{append-nil}
 use Rattle.protocol_lang.specs.Tokens.{is_end}
 use Rattle.protocol_lang.specs.Trees.{Expression}
 use Rattle.protocol_lang.specs.Formulas.{trees}
-use Rattle.protocol_lang.specs.Grammar.{Written, AreTokens, tree_tokens, Begins, CanFollow, WantOperand, AreBegun}
+use Rattle.protocol_lang.specs.Grammar.{Written, tree_tokens}
+use Rattle.protocol_lang.specs.FirstFaults.{AreTokens, Begins, CanFollow, WantOperand, AreBegun}
 use Rattle.protocol_lang.specs.Reading.{State, opening, step, one_token, onward, run, tree_read}
 use Rattle.protocol_lang.specs.declared.fault.ParseFault.{ParseFault}
 use Rattle.protocol_lang.specs.declared.fault.ParseFault.TheVariants.{TooLong}
@@ -14,12 +15,12 @@ use Rattle.protocol_lang.specs.declared.token.Token.{Token}
 use Rattle.protocol_lang.specs.declared.token.Token.TheVariants as tokens
 use Rattle.protocol_lang.specs.declared.token.Word.TheVariants as words
 use Rattle.protocol_lang.specs.declared.token.Symbol.TheVariants as symbols
-use Rattle.protocol_lang.specs.declared.parser.Expected.{Expected}
-use Rattle.protocol_lang.specs.declared.parser.Expected.TheVariants as next
-use Rattle.protocol_lang.specs.declared.parser.Part.{Part}
-use Rattle.protocol_lang.specs.declared.parser.Part.TheVariants as parts
-use Rattle.protocol_lang.specs.declared.parser.Level.{Level}
-use Rattle.protocol_lang.specs.declared.parser.Refusal.{Refusal}
+use Rattle.protocol_lang.specs.declared.state.Expected.{Expected}
+use Rattle.protocol_lang.specs.declared.state.Expected.TheVariants as next
+use Rattle.protocol_lang.specs.declared.state.Part.{Part}
+use Rattle.protocol_lang.specs.declared.state.Part.TheVariants as parts
+use Rattle.protocol_lang.specs.declared.state.Level.{Level}
+use Rattle.protocol_lang.specs.declared.state.Refusal.{Refusal}
 use Rattle.protocol_lang.specs.declared.tree.Kind.{Kind}
 use Rattle.protocol_lang.specs.declared.tree.Kind.TheVariants as kinds
 use Rattle.protocol_lang.specs.declared.tree.Comparator.{Comparator}

@@ -5,7 +5,7 @@ use Rattle.std.proofs.lemmas.List.{length-append}
 use Rattle.std.proofs.lemmas.Fmt.{decimal_nonempty}
 use Rattle.protocol_lang.specs.Tokens.{is_end, word_spelling}
 use Rattle.protocol_lang.specs.Formulas.{Operands}
-use Rattle.protocol_lang.specs.Reading.{past_blanks, next_token, State, ended, in_outermost, step_at, step, stepped, one_token, onward, run}
+use Rattle.protocol_lang.specs.Reading.{past_blanks, next_token, State, ended, in_outermost, step_at, step, refused_at, one_token, onward, run}
 use Rattle.protocol_lang.specs.Grammar.{IsSpelled, Spells}
 use Rattle.protocol_lang.specs.declared.fault.ParseFault.{ParseFault}
 use Rattle.protocol_lang.specs.declared.token.Word.{Word}
@@ -14,12 +14,12 @@ use Rattle.protocol_lang.specs.declared.token.Token.{Token}
 use Rattle.protocol_lang.specs.declared.token.Token.TheVariants as tokens
 use Rattle.protocol_lang.specs.declared.token.Symbol.TheVariants as symbols
 use Rattle.protocol_lang.specs.declared.lexer.Placed.{Placed}
-use Rattle.protocol_lang.specs.declared.parser.Expected.{Expected}
-use Rattle.protocol_lang.specs.declared.parser.Expected.TheVariants as next
-use Rattle.protocol_lang.specs.declared.parser.Part.{Part}
-use Rattle.protocol_lang.specs.declared.parser.Part.TheVariants as parts
-use Rattle.protocol_lang.specs.declared.parser.Level.{Level}
-use Rattle.protocol_lang.specs.declared.parser.Refusal.{Refusal}
+use Rattle.protocol_lang.specs.declared.state.Expected.{Expected}
+use Rattle.protocol_lang.specs.declared.state.Expected.TheVariants as next
+use Rattle.protocol_lang.specs.declared.state.Part.{Part}
+use Rattle.protocol_lang.specs.declared.state.Part.TheVariants as parts
+use Rattle.protocol_lang.specs.declared.state.Level.{Level}
+use Rattle.protocol_lang.specs.declared.state.Refusal.{Refusal}
 use Rattle.protocol_lang.proofs.Steps.{bind_ok, placed, token_takes, end_takes, token_again, end_again}
 use Rattle.protocol_lang.proofs.Onward.{one_then}
 
@@ -66,7 +66,7 @@ module _ {A : Type 0} (made : Operands A) where
 
   -- ---- one token
 
-  stepped_ok : (at : ℕ) (r : Result (State A) Refusal) (s : State A) → stepped at r ≡ Ok s → r ≡ Ok s
+  stepped_ok : (at : ℕ) (r : Result (State A) Refusal) (s : State A) → refused_at at r ≡ Ok s → r ≡ Ok s
   stepped_ok at (Ok t) s e = cc
   stepped_ok at (Err refusal) s e = absurd cc
 
@@ -84,7 +84,7 @@ module _ {A : Type 0} (made : Operands A) where
   unfolding one_token
   took text from s s' end e =
       let read = bind_ok (next_token text from) _ (s', end) e in
-      let after = bind_ok (stepped read.0.at (step made s read.0.token)) (λ t. Ok (t, cond (is_end read.0.token) None (Some read.0.end))) (s', end) read.2 in
+      let after = bind_ok (refused_at read.0.at (step made s read.0.token)) (λ t. Ok (t, cond (is_end read.0.token) None (Some read.0.end))) (s', end) read.2 in
       let both : (after.0, cond (is_end read.0.token) None (Some read.0.end)) ≡ (s', end) = ap (pair_of s' end) after.2 in
       let state : after.0 ≡ s' = ap (λ (p : State A × Option ℕ). p.0) both in
       record {

@@ -10,10 +10,10 @@ use Rattle.protocol_lang.specs.Reading.{State, with_waiting, behind_operand, is_
 use Rattle.protocol_lang.specs.declared.token.Token.{Token}
 use Rattle.protocol_lang.specs.declared.token.Token.TheVariants as tokens
 use Rattle.protocol_lang.specs.declared.token.Symbol.TheVariants as symbols
-use Rattle.protocol_lang.specs.declared.parser.Part.{Part}
-use Rattle.protocol_lang.specs.declared.parser.Opener.{Opener}
-use Rattle.protocol_lang.specs.declared.parser.Opener.TheVariants as openers
-use Rattle.protocol_lang.specs.declared.parser.Level.{Level}
+use Rattle.protocol_lang.specs.declared.state.Part.{Part}
+use Rattle.protocol_lang.specs.declared.state.Opener.{Opener}
+use Rattle.protocol_lang.specs.declared.state.Opener.TheVariants as openers
+use Rattle.protocol_lang.specs.declared.state.Level.{Level}
 use Rattle.protocol_lang.specs.declared.tree.Operator.{Operator}
 use Rattle.protocol_lang.proofs.Carrying.{writings}
 

@@ -8,12 +8,12 @@ use Rattle.protocol_lang.specs.Numbers.{greatest, is_digit, number_of}
 use Rattle.protocol_lang.specs.Tokens.{is_blank, is_letter, is_end, word_of, symbol_of}
 use Rattle.protocol_lang.specs.Trees.{Expression}
 use Rattle.protocol_lang.specs.Formulas.{Operands, trees}
-use Rattle.protocol_lang.specs.Reading.{◌>>=◌, word_token, number_token, symbol_token, token_at, extent_of, past_blanks, next_token, State, step, fault_at, stepped, one_token, onward, run, opening, most_tokens, tree_read, reading, Takes}
-use Rattle.protocol_lang.specs.Grammar.{place_of, SameThrough}
+use Rattle.protocol_lang.specs.Reading.{◌>>=◌, word_token, number_token, symbol_token, token_at, extent_of, past_blanks, next_token, State, step, fault_at, refused_at, one_token, onward, run, opening, most_tokens, tree_read, reading, Takes}
+use Rattle.protocol_lang.specs.FirstFaults.{place_of, SameThrough}
 use Rattle.protocol_lang.specs.declared.fault.ParseFault.{ParseFault}
 use Rattle.protocol_lang.specs.declared.fault.ParseFault.TheVariants.{TooLong, BadToken, Unexpected, TooDeep, TooManyRules, ViewInFirst, NumberTooLarge, OutOfMemory}
-use Rattle.protocol_lang.specs.declared.parser.Refusal.{Refusal}
-use Rattle.protocol_lang.specs.declared.parser.Refusal.TheVariants as refusals
+use Rattle.protocol_lang.specs.declared.state.Refusal.{Refusal}
+use Rattle.protocol_lang.specs.declared.state.Refusal.TheVariants as refusals
 use Rattle.protocol_lang.specs.declared.token.Word.{Word}
 use Rattle.protocol_lang.specs.declared.token.Symbol.{Symbol}
 use Rattle.protocol_lang.specs.declared.lexer.Placed.{Placed}
@@ -130,12 +130,12 @@ second : {X Y : Type 0} (x x' : X) (y y' : Y) → read_as x y ≡ read_as x' y' 
 second x x' y y' e = ap (second_or y) e
 
 module _ {A : Type 0} where
-  stepped_place : (at place : ℕ) (r : Result (State A) Refusal) (fault : ParseFault) → stepped at r ≡ Err fault → place_of fault ≡ Some place → place ≡ at
+  stepped_place : (at place : ℕ) (r : Result (State A) Refusal) (fault : ParseFault) → refused_at at r ≡ Err fault → place_of fault ≡ Some place → place ≡ at
   stepped_place at place (Ok s) fault e is = absurd cc
   stepped_place at place (Err refusal) fault e is = let same : fault_at at refusal ≡ fault = cc in refusal_place at place refusal (ap place_of same ∙ is)
 
   abbrev pub behind_token : Operands A → State A → Placed → Result (State A × Option ℕ) ParseFault
-  behind_token made s read = stepped read.at (step made s read.token) >>= λ s'. Ok (s', cond (is_end read.token) None (Some read.end))
+  behind_token made s read = refused_at read.at (step made s read.token) >>= λ s'. Ok (s', cond (is_end read.token) None (Some read.end))
 
   pub one_is : (made : Operands A) (text : List ℕ) (from : ℕ) (s : State A) → one_token made text from s ≡ (next_token text from >>= behind_token made s)
   unfolding one_token
@@ -148,7 +148,7 @@ module _ {A : Type 0} where
   one_fault made text from place s fault e is =
       elim (bind_err (next_token text from) (behind_token made s) fault (sym (one_is made text from s) ∙ e)) [
         | inl failed ↦ let here = next_fault text from fault failed in cc
-        | inr read ↦ elim (bind_err (stepped read.0.at (step made s read.0.token)) (λ s'. Ok (s', cond (is_end read.0.token) None (Some read.0.end))) fault read.2) [
+        | inr read ↦ elim (bind_err (refused_at read.0.at (step made s read.0.token)) (λ s'. Ok (s', cond (is_end read.0.token) None (Some read.0.end))) fault read.2) [
           | inl failed ↦ stepped_place read.0.at place (step made s read.0.token) fault failed is ∙ (token_reads text from read.0 read.1).place
           | inr never ↦ absurd (let e = never.2 in cc)
         ]
@@ -157,7 +157,7 @@ module _ {A : Type 0} where
   one_end : (made : Operands A) (text : List ℕ) (from end : ℕ) (s s' : State A) → one_token made text from s ≡ Ok (s', Some end) → (read : Placed) × (next_token text from ≡ Ok read) × (read.end ≡ end)
   one_end made text from end s s' e =
       let read = bind_ok (next_token text from) (behind_token made s) (s', Some end) (sym (one_is made text from s) ∙ e) in
-      let after = bind_ok (stepped read.0.at (step made s read.0.token)) (λ s'. Ok (s', cond (is_end read.0.token) None (Some read.0.end))) (s', Some end) read.2 in
+      let after = bind_ok (refused_at read.0.at (step made s read.0.token)) (λ s'. Ok (s', cond (is_end read.0.token) None (Some read.0.end))) (s', Some end) read.2 in
       let last : cond (is_end read.0.token) None (Some read.0.end) ≡ Some end = second after.0 s' (cond (is_end read.0.token) None (Some read.0.end)) (Some end) after.2 in
       (read.0, read.1, end_is (is_end read.0.token) read.0.end end last)
 

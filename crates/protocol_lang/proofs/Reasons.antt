@@ -5,22 +5,23 @@ use Rattle.std.proofs.lemmas.List.Sums.{sum_by-cons}
 use Rattle.std.proofs.lemmas.Bool.{cases_Bool, cases_lt, lt-ltb, le-ltb}
 use Rattle.protocol_lang.specs.Tokens.{name_of, call_of, operator_of, comparator_of, kind_of, reads_view}
 use Rattle.protocol_lang.specs.Trees.{is_sum}
-use Rattle.protocol_lang.specs.Grammar.{Written, is_when, is_open, is_close, is_semicolon, AsksForView}
+use Rattle.protocol_lang.specs.Grammar.{Written}
+use Rattle.protocol_lang.specs.FirstFaults.{is_when, is_open, is_close, is_semicolon, AsksForView}
 use Rattle.protocol_lang.specs.Reading.{State, is_hidden, is_first, opened, word_operand, operand, call_opened, with_infix, closed, first_ended, left_ended, right_ended, action_rule_ended, last_ended, ended, in_outermost, behind, begun, rule, last, ending, step_at, step}
 use Rattle.protocol_lang.specs.declared.token.Token.{Token}
 use Rattle.protocol_lang.specs.declared.token.Token.TheVariants as tokens
 use Rattle.protocol_lang.specs.declared.token.Word.{Word}
 use Rattle.protocol_lang.specs.declared.token.Word.TheVariants as words
 use Rattle.protocol_lang.specs.declared.token.Symbol.TheVariants as symbols
-use Rattle.protocol_lang.specs.declared.parser.Expected.{Expected}
-use Rattle.protocol_lang.specs.declared.parser.Expected.TheVariants as next
-use Rattle.protocol_lang.specs.declared.parser.Part.{Part}
-use Rattle.protocol_lang.specs.declared.parser.Part.TheVariants as parts
-use Rattle.protocol_lang.specs.declared.parser.Opener.{Opener}
-use Rattle.protocol_lang.specs.declared.parser.Opener.TheVariants as openers
-use Rattle.protocol_lang.specs.declared.parser.Level.{Level}
-use Rattle.protocol_lang.specs.declared.parser.Refusal.{Refusal}
-use Rattle.protocol_lang.specs.declared.parser.Refusal.TheVariants as refusals
+use Rattle.protocol_lang.specs.declared.state.Expected.{Expected}
+use Rattle.protocol_lang.specs.declared.state.Expected.TheVariants as next
+use Rattle.protocol_lang.specs.declared.state.Part.{Part}
+use Rattle.protocol_lang.specs.declared.state.Part.TheVariants as parts
+use Rattle.protocol_lang.specs.declared.state.Opener.{Opener}
+use Rattle.protocol_lang.specs.declared.state.Opener.TheVariants as openers
+use Rattle.protocol_lang.specs.declared.state.Level.{Level}
+use Rattle.protocol_lang.specs.declared.state.Refusal.{Refusal}
+use Rattle.protocol_lang.specs.declared.state.Refusal.TheVariants as refusals
 use Rattle.protocol_lang.specs.declared.tree.Name.{Name}
 use Rattle.protocol_lang.specs.declared.tree.Call.{Call}
 use Rattle.protocol_lang.specs.declared.tree.Operator.{Operator}

@@ -11,8 +11,8 @@ use Rattle.protocol_lang.specs.Reading.{State, opening, step, run, most_tokens, 
 use Rattle.protocol_lang.specs.declared.fault.ParseFault.{ParseFault}
 use Rattle.protocol_lang.specs.declared.token.Token.{Token}
 use Rattle.protocol_lang.specs.declared.token.Token.TheVariants as tokens
-use Rattle.protocol_lang.specs.declared.parser.Expected.TheVariants as next
-use Rattle.protocol_lang.specs.declared.parser.Refusal.{Refusal}
+use Rattle.protocol_lang.specs.declared.state.Expected.TheVariants as next
+use Rattle.protocol_lang.specs.declared.state.Refusal.{Refusal}
 use Rattle.protocol_lang.proofs.Steps.{bind_ok}
 use Rattle.protocol_lang.proofs.Onward.{reading_by}
 use Rattle.protocol_lang.proofs.Carrying.{writings, state_of, ends_of, step_of, tree_read_of}

@@ -7,19 +7,19 @@ use Rattle.std.proofs.lemmas.Bool.{cases_Bool, cases_lt, lt-ltb, le-ltb, ltb-fal
 use Rattle.protocol_lang.specs.Tokens.{name_of, call_of, operator_of, comparator_of, kind_of, is_end}
 use Rattle.protocol_lang.specs.Trees.{is_sum, RuleOf, Tree}
 use Rattle.protocol_lang.specs.Formulas.{Operands, trees}
-use Rattle.protocol_lang.specs.Reading.{◌>>=◌, extent_of, past_blanks, next_token, State, opening, is_hidden, is_first, opened, word_operand, operand, call_opened, with_infix, closed, first_ended, left_ended, right_ended, action_rule_ended, last_ended, ended, in_outermost, behind, begun, rule, last, step_at, step, fault_at, stepped, one_token, onward, run, most_tokens, tree_read, reading, IsReading}
-use Rattle.protocol_lang.specs.Grammar.{place_of, AreTokens, is_when, IsLocal}
+use Rattle.protocol_lang.specs.Reading.{◌>>=◌, extent_of, past_blanks, next_token, State, opening, is_hidden, is_first, opened, word_operand, operand, call_opened, with_infix, closed, first_ended, left_ended, right_ended, action_rule_ended, last_ended, ended, in_outermost, behind, begun, rule, last, step_at, step, fault_at, refused_at, one_token, onward, run, most_tokens, tree_read, reading, IsReading}
+use Rattle.protocol_lang.specs.FirstFaults.{place_of, AreTokens, is_when, IsLocal}
 use Rattle.protocol_lang.specs.declared.fault.ParseFault.{ParseFault}
 use Rattle.protocol_lang.specs.declared.fault.ParseFault.TheVariants.{TooLong, BadToken, Unexpected, TooDeep, TooManyRules, ViewInFirst, NumberTooLarge, OutOfMemory}
-use Rattle.protocol_lang.specs.declared.parser.Refusal.{Refusal}
-use Rattle.protocol_lang.specs.declared.parser.Refusal.TheVariants as refusals
-use Rattle.protocol_lang.specs.declared.parser.Expected.{Expected}
-use Rattle.protocol_lang.specs.declared.parser.Expected.TheVariants as next
-use Rattle.protocol_lang.specs.declared.parser.Part.{Part}
-use Rattle.protocol_lang.specs.declared.parser.Part.TheVariants as parts
-use Rattle.protocol_lang.specs.declared.parser.Opener.{Opener}
-use Rattle.protocol_lang.specs.declared.parser.Opener.TheVariants as openers
-use Rattle.protocol_lang.specs.declared.parser.Level.{Level}
+use Rattle.protocol_lang.specs.declared.state.Refusal.{Refusal}
+use Rattle.protocol_lang.specs.declared.state.Refusal.TheVariants as refusals
+use Rattle.protocol_lang.specs.declared.state.Expected.{Expected}
+use Rattle.protocol_lang.specs.declared.state.Expected.TheVariants as next
+use Rattle.protocol_lang.specs.declared.state.Part.{Part}
+use Rattle.protocol_lang.specs.declared.state.Part.TheVariants as parts
+use Rattle.protocol_lang.specs.declared.state.Opener.{Opener}
+use Rattle.protocol_lang.specs.declared.state.Opener.TheVariants as openers
+use Rattle.protocol_lang.specs.declared.state.Level.{Level}
 use Rattle.protocol_lang.specs.declared.token.Word.TheVariants as words
 use Rattle.protocol_lang.specs.declared.token.Symbol.TheVariants as symbols
 use Rattle.protocol_lang.specs.declared.token.Token.{Token}
@@ -225,7 +225,7 @@ module _ {A : Type 0} where
     pub behind : from ≤ at
     pub rests : (other : List ℕ) → SameUpTo text other at → run made most other from s ≡ Err TooManyRules
 
-  stepped_too_many : (at : ℕ) (r : Result (State A) Refusal) → stepped at r ≡ Err TooManyRules → r ≡ refused_with refusals.TooManyRules
+  stepped_too_many : (at : ℕ) (r : Result (State A) Refusal) → refused_at at r ≡ Err TooManyRules → r ≡ refused_with refusals.TooManyRules
   stepped_too_many at (Ok s) e = absurd cc
   stepped_too_many at (Err refusal) e = ap refused_with (too_many_at at refusal (let same : fault_at at refusal ≡ TooManyRules = cc in same))
 
@@ -281,7 +281,7 @@ module _ {A : Type 0} where
       elim (bind_err (one_token made text from s) (onward (run made most text)) TooManyRules (sym (run_is made most text from s) ∙ e)) [
         | inl failed ↦ elim (bind_err (next_token text from) (behind_token made s) TooManyRules (sym (one_is made text from s) ∙ failed)) [
           | inl own ↦ absurd (let placed : place_of TooManyRules ≡ Some (past_blanks text from) = next_fault text from TooManyRules own in cc)
-          | inr read ↦ elim (bind_err (stepped read.0.at (step made s read.0.token)) (λ s'. Ok (s', cond (is_end read.0.token) None (Some read.0.end))) TooManyRules read.2) [
+          | inr read ↦ elim (bind_err (refused_at read.0.at (step made s read.0.token)) (λ s'. Ok (s', cond (is_end read.0.token) None (Some read.0.end))) TooManyRules read.2) [
             | inl refused ↦ here made most text from s read.0 few read.1 (stepped_too_many read.0.at (step made s read.0.token) refused) failed
             | inr other ↦ absurd (let e = other.2 in cc)
           ]

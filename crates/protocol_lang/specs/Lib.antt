@@ -11,6 +11,7 @@ pub mod Comparisons
 pub mod Named
 pub mod Reading
 pub mod Grammar
+pub mod FirstFaults
 pub mod Printing
 pub mod Outlines
 pub mod Thresholds

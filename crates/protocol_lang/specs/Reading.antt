@@ -13,17 +13,17 @@ use Rattle.protocol_lang.specs.declared.token.Symbol.TheVariants as symbols
 use Rattle.protocol_lang.specs.declared.token.Token.{Token}
 use Rattle.protocol_lang.specs.declared.token.Token.TheVariants as tokens
 use Rattle.protocol_lang.specs.declared.lexer.Placed.{Placed}
-use Rattle.protocol_lang.specs.declared.parser.Expected.{Expected}
-use Rattle.protocol_lang.specs.declared.parser.Expected.TheVariants as next
-use Rattle.protocol_lang.specs.declared.parser.Part.{Part}
-use Rattle.protocol_lang.specs.declared.parser.Part.TheVariants as parts
-use Rattle.protocol_lang.specs.declared.parser.Opener.{Opener}
-use Rattle.protocol_lang.specs.declared.parser.Opener.TheVariants as openers
-use Rattle.protocol_lang.specs.declared.parser.Level.{Level}
-use Rattle.protocol_lang.specs.declared.parser.Refusal.{Refusal}
-use Rattle.protocol_lang.specs.declared.parser.Refusal.TheVariants as refusals
-use Rattle.protocol_lang.specs.declared.formula.Instruction.{Instruction}
-use Rattle.protocol_lang.specs.declared.formula.Instruction.TheVariants as instructions
+use Rattle.protocol_lang.specs.declared.state.Expected.{Expected}
+use Rattle.protocol_lang.specs.declared.state.Expected.TheVariants as next
+use Rattle.protocol_lang.specs.declared.state.Part.{Part}
+use Rattle.protocol_lang.specs.declared.state.Part.TheVariants as parts
+use Rattle.protocol_lang.specs.declared.state.Opener.{Opener}
+use Rattle.protocol_lang.specs.declared.state.Opener.TheVariants as openers
+use Rattle.protocol_lang.specs.declared.state.Level.{Level}
+use Rattle.protocol_lang.specs.declared.state.Refusal.{Refusal}
+use Rattle.protocol_lang.specs.declared.state.Refusal.TheVariants as refusals
+use Rattle.protocol_lang.specs.declared.draft.Instruction.{Instruction}
+use Rattle.protocol_lang.specs.declared.draft.Instruction.TheVariants as instructions
 use Rattle.protocol_lang.specs.declared.fault.ParseFault.{ParseFault}
 use Rattle.protocol_lang.specs.declared.fault.ParseFault.TheVariants.{TooLong, BadToken, Unexpected, TooDeep, TooManyRules, ViewInFirst, NumberTooLarge, OutOfMemory}
 use Rattle.protocol_lang.specs.declared.tree.Name.{Name}
@@ -257,15 +257,15 @@ fault_at at refusals.TooManyRules = TooManyRules
 fault_at at refusals.ViewInFirst = ViewInFirst at
 fault_at at refusals.OutOfMemory = OutOfMemory
 
-abbrev pub stepped : {A : Type 0} → ℕ → Result (State A) Refusal → Result (State A) ParseFault
-stepped at (Ok s) = Ok s
-stepped at (Err refusal) = Err (fault_at at refusal)
+abbrev pub refused_at : {A : Type 0} → ℕ → Result (State A) Refusal → Result (State A) ParseFault
+refused_at at (Ok s) = Ok s
+refused_at at (Err refusal) = Err (fault_at at refusal)
 
 -- what follows the next token from a place on, and the place after it unless it is the text's end
 unfoldable pub one_token : {A : Type 0} → Operands A → List ℕ → ℕ → State A → Result (State A × Option ℕ) ParseFault
 one_token made text from s =
     next_token text from
-    >>= λ placed. stepped placed.at (step made s placed.token)
+    >>= λ placed. refused_at placed.at (step made s placed.token)
     >>= λ s'. Ok (s', if is_end placed.token then None else Some placed.end)
 
 abbrev pub onward : {A : Type 0} → (ℕ → State A → Result (State A) ParseFault) → State A × Option ℕ → Result (State A) ParseFault

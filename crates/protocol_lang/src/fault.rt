@@ -1,7 +1,7 @@
 //! Why a text is no protocol.
 ghost use Rattle.std.specs.Prelude.{◌≡◌};
 ghost use Rattle.protocol_lang.specs.Faults.{code_of};
-ghost use Rattle.protocol_lang.specs.Grammar.{place_of};
+ghost use Rattle.protocol_lang.specs.FirstFaults.{place_of};
 
 use thiserror::Error;
 

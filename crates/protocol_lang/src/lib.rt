@@ -1,6 +1,8 @@
 //! The protocol language of bgsim: its texts, and what they mean.
 #![tactic(auto)]
 
+mod comparison;
+mod draft;
 mod environment;
 mod fault;
 mod formula;
@@ -11,10 +13,13 @@ mod number;
 mod opcode;
 mod outline;
 mod parser;
+mod piece;
 mod printer;
 mod protocol;
 mod rules;
+mod spelling;
 mod stack;
+mod state;
 mod token;
 mod tree;
 mod waiting;

@@ -4,10 +4,11 @@ ghost use Rattle.std.specs.List.{find, list_all};
 ghost use Rattle.std.specs.Option.{option_map};
 ghost use Rattle.protocol_lang.specs.Meaning.{holds, applies, action, action_of, action_in, first_value, next_action};
 
+use crate::comparison::Comparison;
 use crate::environment::Environment;
 use crate::formula::MOST_WAITING;
 use crate::protocol::Protocol;
-use crate::rules::{ActionRule, Comparison, Rule, Tree};
+use crate::rules::{ActionRule, Rule, Tree};
 use crate::tree::Kind;
 use arrayvec::ArrayVec;
 

@@ -1,152 +1,22 @@
 //! The grammar, read from left to right.
-ghost use Rattle.std.specs.Prelude.{◌≡◌, ◌≤◌, ◌<◌, ⊤, [], ◌∷◌, ◌++◌, length, Option, Some, None, Result, Ok, Err, OnOk, IfOk, IfErr, IfSome};
-ghost use Rattle.protocol_lang.specs.Formulas.{trees, after, last_of};
+ghost use Rattle.std.specs.Prelude.{◌≡◌, ◌≤◌, ◌<◌, length, Option, Some, None, Result, Ok, Err, OnOk, IfOk, IfErr, IfSome};
+ghost use Rattle.protocol_lang.specs.Formulas.{trees, after};
 ghost use Rattle.protocol_lang.specs.Tokens.{operator_of, kind_of};
-ghost use Rattle.protocol_lang.specs.Reading.{Ends, Takes, one_token, IsReading, cleared, opening, step, step_at, operand, word_operand, opened, call_opened, behind, closed, in_outermost, ended, first_ended, left_ended, right_ended, action_rule_ended, last_ended, begun, rule, last, ending, with_waiting, with_operand, behind_operand, with_infix, enclosed, value_read, compared_with, is_hidden, is_first, last_kind, tree_read, fault_at, reading};
+ghost use Rattle.protocol_lang.specs.Reading.{Ends, Takes, one_token, IsReading, cleared, opening, step, operand, word_operand, opened, call_opened, behind, closed, in_outermost, first_ended, left_ended, right_ended, action_rule_ended, last_ended, begun, rule, last, ending, with_waiting, with_operand, behind_operand, with_infix, value_read, compared_with, is_first, last_kind, tree_read};
 
+use crate::comparison::Comparison;
+use crate::draft::{Draft, Instruction};
 use crate::fault::ParseFault;
-use crate::formula::{Draft, Formula, Instruction};
+use crate::formula::Formula;
 use crate::lexer::next_token;
-use crate::rules::{ActionRule, Comparison, Conditions, Rule, Rules, Tree};
+use crate::rules::{ActionRule, Conditions, Rule, Rules, Tree};
 use crate::stack::Stack;
+use crate::state::{Expected, Level, Opener, Part, Refusal};
 use crate::token::{Symbol, Token, Word};
 use crate::tree::{Call, Comparator, Kind, Name, Operator};
-use std::alloc::{AllocError, Global};
+use std::alloc::Global;
 use std::marker::Model;
 use std::mem;
-
-/// What may stand next.
-#[derive(Clone, Copy)]
-pub enum Expected {
-    /// The word `first`.
-    First,
-    /// A number, a name, a call or an opening parenthesis.
-    Operand,
-    /// The opening parenthesis of a call.
-    Open(Call),
-    /// What may follow an operand.
-    Operator,
-    /// `when` or `else`.
-    Rule,
-    /// `write` or `decide` behind `else`.
-    Last,
-    /// The text's end.
-    End,
-}
-
-/// The part of the text to which an expression belongs.
-#[derive(Clone, Copy)]
-pub enum Part {
-    /// The value of the first write.
-    First,
-    /// The left side of a comparison.
-    Left,
-    /// Its right side.
-    Right(Comparator),
-    /// The value of a rule.
-    ActionRule(Kind),
-    /// The value of the last action.
-    Last(Kind),
-}
-
-/// What opened an expression.
-#[derive(Clone, Copy)]
-pub enum Opener {
-    /// A parenthesis, or nothing where it is the outermost.
-    Group,
-    /// A call.
-    Call(Call),
-}
-
-/// What waits for its right operand within one pair of parentheses: a sum, a product, or both.
-#[derive(Clone, Copy)]
-pub struct Level {
-    pub opener: Opener,
-    pub sum: Option<Operator>,
-    pub product: Option<Operator>,
-}
-
-impl Level {
-    fn new(opener: Opener) -> Level
-        ensures { result ≡ record { opener = opener; sum = None; product = None } }
-    {
-        Level {
-            opener,
-            sum: None,
-            product: None,
-        }
-    }
-}
-
-impl Default for Level {
-    fn default() -> Level {
-        Level::new(Opener::Group)
-    }
-}
-
-/// Why a token can't stand where it stands.
-#[derive(Clone, Copy)]
-pub enum Refusal {
-    Unexpected,
-    TooDeep,
-    TooManyRules,
-    ViewInFirst,
-    /// Nothing is wrong with the token, but memory was refused.
-    OutOfMemory,
-}
-
-impl From<AllocError> for Refusal {
-    ghost use Rattle.std.specs.Prelude.{◌≡◌};
-    ghost use Rattle.protocol_lang.specs.declared.parser.Refusal.{Refusal};
-
-    ghost from_gives = { λ error refusal. refusal ≡ Refusal.OutOfMemory };
-
-    fn from(_: AllocError) -> Refusal {
-        Refusal::OutOfMemory
-    }
-}
-
-impl Refusal {
-    /// The fault of a token at this place.
-    fn at(self, at: usize) -> ParseFault
-        ensures { result ≡ fault_at at self }
-    {
-        match self {
-            Refusal::Unexpected => ParseFault::Unexpected(at),
-            Refusal::TooDeep => ParseFault::TooDeep(at),
-            Refusal::TooManyRules => ParseFault::TooManyRules,
-            Refusal::ViewInFirst => ParseFault::ViewInFirst(at),
-            Refusal::OutOfMemory => ParseFault::OutOfMemory,
-        }
-    }
-}
-
-impl Part {
-    /// Whether the name asks for a view in a place that has none.
-    fn hides(self, name: Name) -> bool
-        ensures { result ≡ is_hidden self name }
-    {
-        match self {
-            Part::First => name.reads_view(),
-            _ => false,
-        }
-    }
-
-    fn is_first(self) -> bool
-        ensures { result ≡ is_first self }
-    {
-        matches!(self, Part::First)
-    }
-
-    fn last_kind(self) -> Kind
-        ensures { result ≡ last_kind self }
-    {
-        match self {
-            Part::Last(kind) => kind,
-            _ => Kind::Write,
-        }
-    }
-}
 
 /// The longest text of a protocol, in bytes.
 const MAX_TEXT: usize = 4096;

@@ -2,7 +2,8 @@
 ghost use Rattle.std.specs.Prelude.{◌≡◌, IfOk, IfErr};
 ghost use Rattle.protocol_lang.specs.Reading.{IsReading, IsReadAs};
 ghost use Rattle.protocol_lang.specs.Trees.{Tree as ProtocolTree};
-ghost use Rattle.protocol_lang.specs.Grammar.{IsText, IsLocal, IsFirstFault};
+ghost use Rattle.protocol_lang.specs.Grammar.{IsText};
+ghost use Rattle.protocol_lang.specs.FirstFaults.{IsLocal, IsFirstFault};
 
 use crate::fault::ParseFault;
 use crate::parser;

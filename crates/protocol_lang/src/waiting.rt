@@ -1,13 +1,14 @@
-//! A protocol that waits for all but so many processes.
+//! Protocols whose processes wait for all but some number of them.
 ghost use Rattle.std.specs.Prelude.{◌≡◌, ◌↔◌, ◌∷◌, [], ℕ, IsTrue, Some};
-ghost use Rattle.protocol_lang.specs.Comparisons.{comparison_of};
+ghost use Rattle.protocol_lang.specs.Comparisons.{comparison_by};
 ghost use Rattle.protocol_lang.specs.Trees.{Named};
 ghost use Rattle.protocol_lang.specs.Thresholds.{decides_least, sees_all_but, waits_for_all_but, writes_own};
 
+use crate::comparison::Test;
 use crate::formula::Formula;
 use crate::outline::Outline;
 use crate::protocol::Protocol;
-use crate::rules::{ActionRule, Rule, Test};
+use crate::rules::{ActionRule, Rule};
 use crate::tree::{Comparator, Kind, Name};
 
 /// The number f, where the protocol is `first input; when count >= n - f decide min; else write mine;` but for parentheses and
@@ -41,7 +42,7 @@ fn missed_by(rule: &Rule) -> Option<u32>
 
 /// The number f, where the comparison is `count >= n - f`.
 fn missed_in(test: &Test) -> Option<u32>
-    ensures { (f : ℕ) → (result ≡ Some f) ↔ (comparison_of test.now ≡ sees_all_but f) }
+    ensures { (f : ℕ) → (result ≡ Some f) ↔ (comparison_by test.now ≡ sees_all_but f) }
 {
     let Test::Formulas(left, Comparator::GreaterOrEqual, right) = test else {
         return None;

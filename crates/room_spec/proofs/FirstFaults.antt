@@ -14,7 +14,7 @@ use Rattle.protocol_lang.specs.Numbers.{number_of}
 use Rattle.protocol_lang.specs.Trees.{Named}
 use Rattle.protocol_lang.specs.Limits.{HasSmallNumerals}
 use Rattle.protocol_lang.specs.Reading.{reading, run, one_token, next_token}
-use Rattle.protocol_lang.specs.Grammar as texts
+use Rattle.protocol_lang.specs.FirstFaults as texts
 use Rattle.protocol_lang.specs.declared.protocol.Protocol.{Protocol}
 use Rattle.protocol_lang.specs.declared.tree.Name.TheVariants as names
 use Rattle.protocol_lang.specs.declared.tree.Kind.TheVariants as kinds

@@ -5,7 +5,7 @@ use Rattle.std.specs.Fmt.{decimal}
 use Rattle.protocol_lang.specs.Numbers.{number_of}
 use Rattle.protocol_lang.specs.Reading.{reading}
 use Rattle.protocol_lang.specs.Grammar.{IsText}
-use Rattle.protocol_lang.specs.Grammar as texts
+use Rattle.protocol_lang.specs.FirstFaults as texts
 use Rattle.protocol_lang.specs.declared.fault.ParseFault.{ParseFault}
 use Rattle.room_spec.specs.Names.{is_name}
 use Rattle.room_spec.specs.Rooms.{RoomSpec, AreFuses, IsTaskIn, IsWithinLimits, bits_of, is_value, most_bits, processes}

@@ -1,5 +1,0 @@
-use Rattle.std.proofs.Common.{rules}
-use Rattle.protocol_lang.proofs.parser.Part.hides.Goals as goal
-
-pub returns-in-First : goal.returns-in-First
-returns-in-First c = search rules
