@@ -15,7 +15,7 @@ use Rattle.bgsim_console.specs.Script.{Entry}
 use Rattle.bgsim_console.specs.declared.fault.IoFault.{IoFault}
 use Rattle.bgsim_console.specs.declared.fault.IoFault.TheVariants.{Read, Write, TooLong, BadInput, Run, Memory}
 use Rattle.bgsim_console.proofs.Scripts.{behind}
-use Rattle.bgsim_console.specs.Play.{AreDone, Done, Replied, HasPlayed, HasRun, IsDone, commands_of, replies_in, command_of, reply_of, done_text, is_lacking, is_refusal, is_refused}
+use Rattle.bgsim_console.specs.Play.{AreDone, Done, Replied, HasPlayed, HasRun, IsDone, commands_of, replies_in, commands_in, reply_of, done_text, is_lacking, is_refusal, is_refused}
 
 -- ---- the service
 
@@ -64,12 +64,12 @@ replied command reply service after output now refused refused_now lacking lacki
     one_more all (Replied command reply) service after output now refused refused_now lacking lacking_now played run text refusal lack
   where
     run : HasRun (commands_of (all ++ Replied command reply ∷ [])) (replies_in (all ++ Replied command reply ∷ [])) after
-    run = subst (λ (cs : List Command). HasRun cs (replies_in (all ++ Replied command reply ∷ [])) after) (sym (flat_map-append command_of all (Replied command reply ∷ [])))
+    run = subst (λ (cs : List Command). HasRun cs (replies_in (all ++ Replied command reply ∷ [])) after) (sym (flat_map-append commands_in all (Replied command reply ∷ [])))
         (subst (λ (rs : List Reply). HasRun (commands_of all ++ command ∷ []) rs after) (sym (flat_map-append reply_of all (Replied command reply ∷ [])))
         (of_ran _ _ after (goes_on (commands_of all) (replies_in all) command reply service after (as_ran _ _ service played.ran) applies)))
 
 -- a block that was refused
-pub refused_one : (done : Done) (all : List Done) (service after : Entries) (output now : List ℕ) (refused refused_now lacking lacking_now : Bool) → command_of done ≡ [] → reply_of done ≡ [] → is_refused done ≡ true → after ≡ service
+pub refused_one : (done : Done) (all : List Done) (service after : Entries) (output now : List ℕ) (refused refused_now lacking lacking_now : Bool) → commands_in done ≡ [] → reply_of done ≡ [] → is_refused done ≡ true → after ≡ service
     → now ≡ output ++ done_text done → refused_now ≡ true → lacking_now ≡ (lacking || is_lacking done)
     → HasPlayed all service output refused lacking → HasPlayed (all ++ done ∷ []) after now refused_now lacking_now
 refused_one done all service after output now refused refused_now lacking lacking_now no_command no_reply is_refusal same text refusal lack played =
@@ -79,7 +79,7 @@ refused_one done all service after output now refused refused_now lacking lackin
     none_more of none = flat_map-append of all (done ∷ []) ∙ ap (λ (l : List _). flat_map of all ++ (l ++ [])) none ∙ append-nil (flat_map of all)
 
     run : HasRun (commands_of (all ++ done ∷ [])) (replies_in (all ++ done ∷ [])) after
-    run = subst (λ (cs : List Command). HasRun cs (replies_in (all ++ done ∷ [])) after) (sym (none_more command_of no_command))
+    run = subst (λ (cs : List Command). HasRun cs (replies_in (all ++ done ∷ [])) after) (sym (none_more commands_in no_command))
         (subst (λ (rs : List Reply). HasRun (commands_of all) rs after) (sym (none_more reply_of no_reply)) (subst (λ (e : Entries). HasRun (commands_of all) (replies_in all) e) (sym same) played.ran))
 
 pub none_played : (service : Entries) (output : List ℕ) → service ≡ [] → output ≡ [] → HasPlayed [] service output false false

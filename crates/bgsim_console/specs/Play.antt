@@ -53,10 +53,10 @@ AreDone (entry ∷ entries) (done ∷ all) = IsDone entry done × AreDone entrie
 AreDone [] (done ∷ all) = ⊥
 AreDone (entry ∷ entries) [] = ⊥
 
-abbrev pub command_of : Done → List Command
-command_of (Replied command reply) = command ∷ []
-command_of (Faulty line fault) = []
-command_of (Unread line) = []
+abbrev pub commands_in : Done → List Command
+commands_in (Replied command reply) = command ∷ []
+commands_in (Faulty line fault) = []
+commands_in (Unread line) = []
 
 abbrev pub reply_of : Done → List Reply
 reply_of (Replied command reply) = reply ∷ []
@@ -64,7 +64,7 @@ reply_of (Faulty line fault) = []
 reply_of (Unread line) = []
 
 abbrev pub commands_of : List Done → List Command
-commands_of all = flat_map command_of all
+commands_of all = flat_map commands_in all
 
 abbrev pub replies_in : List Done → List Reply
 replies_in all = flat_map reply_of all

@@ -127,13 +127,13 @@ is_step ready.Idle = false
 is_step ready.OutOfTurns = false
 
 -- a turn has at most so many atomic steps, in whatever room
-abbrev pub most_steps : RoomSpec → ℕ
-most_steps spec = greatest_limit * spec.turns
+abbrev pub step_bound : RoomSpec → ℕ
+step_bound spec = greatest_limit * spec.turns
 
 abbrev pub room_kind : KindOf RoomState
 room_kind = record {
   count = λ room. room.spec.simulators;
-  most = λ room. most_steps room.spec;
+  most = λ room. step_bound room.spec;
   has_crashed = has_crashed;
   in_turn = λ room i. not (is_resting (sweep_at room i).mind.line);
   has_step = λ room i. is_step (ready_at room i);

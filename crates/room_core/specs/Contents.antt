@@ -17,8 +17,8 @@ or_zero number = unwrap_or number 0
 abbrev pub entry_of : RoomSpec → Fields → ℕ → ℕ → Option ℕ
 entry_of spec fields p row = shown spec fields p row
 
-abbrev pub shown_by : RoomSpec → Fields → StepMap → List (Option ℕ)
-shown_by spec fields snapshot = passed.shown_by spec fields (row_of spec.simulators (processes spec) snapshot)
+abbrev pub shown_by_map : RoomSpec → Fields → StepMap → List (Option ℕ)
+shown_by_map spec fields snapshot = passed.shown_by spec fields (row_of spec.simulators (processes spec) snapshot)
 
 -- The write of process p in round r has this value: the first by its input, each later one by what was agreed on before it.
 pub data IsDue (spec : RoomSpec) (fields : Fields) (p r value : ℕ) : Type 0 where

@@ -20,7 +20,7 @@ use Rattle.room_core.specs.declared.reply.StepReply.TheVariants.{Crashed, NoSimu
 use Rattle.room_core.specs.declared.reply.CrashReply.{CrashReply}
 use Rattle.room_core.specs.declared.reply.CrashReply.TheVariants as crash_replies
 use Rattle.room_core.specs.Rooms.{ScheduleEvent, steps, crashes}
-use Rattle.room_core.specs.Calls.{Call, Step, Crash, Settle, Reply, Stepping, Crashing, Settled, is_step, most_steps, reply_when}
+use Rattle.room_core.specs.Calls.{Call, Step, Crash, Settle, Reply, Stepping, Crashing, Settled, is_step, step_bound, reply_when}
 use Rattle.room_core.specs.Settling.{KindOf, settled}
 
 -- the step number of each simulator for each process: how often it has counted a write of the process
@@ -215,7 +215,7 @@ fields_after_crash spec fields i = if nat_le spec.simulators i then fields else 
 abbrev pub fields_kind : RoomSpec → KindOf Fields
 fields_kind spec = record {
   count = λ fields. spec.simulators;
-  most = λ fields. most_steps spec;
+  most = λ fields. step_bound spec;
   has_crashed = λ fields i. fields.crashed i;
   in_turn = λ fields i. not (is_resting (fields.mind i).line);
   has_step = λ fields i. is_step (ready_in spec fields i);

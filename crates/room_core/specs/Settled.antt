@@ -1,5 +1,5 @@
 -- What has become of a process in a room that has settled.
-use Rattle.std.specs.Prelude.{◌≡◌, ℕ, ◌<◌, ◌≤◌, true}
+use Rattle.std.specs.Prelude.{◌≡◌, ℕ, ◌<◌, ◌≤◌, true, false}
 use Rattle.protocol_lang.specs.declared.meaning.Action.TheVariants.{Write}
 use Rattle.room_spec.specs.Rooms.{RoomSpec}
 use Rattle.room_core.specs.Fields.{Fields}
@@ -16,3 +16,10 @@ pub data IsSettledFor (spec : RoomSpec) (fields : Fields) (j : ℕ) : Type 0 whe
 pub data IsDecidedOrHeld (spec : RoomSpec) (fields : Fields) (j : ℕ) : Type 0 where
   has_decided : has_out spec fields j ≡ true → IsDecidedOrHeld spec fields j
   is_held : (i k : ℕ) → i < spec.simulators → fields.crashed i ≡ true → 1 ≤ k → k ≤ spec.rounds → fields.level i j k ≡ 1 → IsDecidedOrHeld spec fields j
+
+-- Some simulator that hasn't crashed has a turn left.
+pub record HasTurnLeft (spec : RoomSpec) (fields : Fields) : Type 0 where
+  pub simulator : ℕ
+  pub below : simulator < spec.simulators
+  pub alive : fields.crashed simulator ≡ false
+  pub turns : (fields.mind simulator).turns < spec.turns

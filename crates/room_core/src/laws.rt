@@ -12,10 +12,10 @@ ghost use Rattle.simulator.specs.declared.goal.Goal.TheVariants.{Spent};
 ghost use Rattle.room_core.specs.Moments.{IsMoment, IsScan};
 ghost use Rattle.simulator.specs.Minds.{current_round};
 ghost use Rattle.simulator.specs.declared.line.Line.TheVariants.{Show};
-ghost use Rattle.room_core.specs.Settled.{IsDecidedOrHeld, IsSettledFor};
+ghost use Rattle.room_core.specs.Settled.{HasTurnLeft, IsDecidedOrHeld, IsSettledFor};
 ghost use Rattle.room_core.specs.Settling.{steps_while};
 ghost use Rattle.simulator.specs.Sweeps.{is_resting};
-ghost use Rattle.room_core.specs.Calls.{Call, RoomState, configuration_of, has_crashed, marked, most_steps, moved, opening_state, replies_to, room_after_calls, room_after_step, room_kind, sweep_at, with_sweep, woken};
+ghost use Rattle.room_core.specs.Calls.{Call, RoomState, configuration_of, has_crashed, marked, step_bound, moved, opening_state, replies_to, room_after_calls, room_after_step, room_kind, sweep_at, with_sweep, woken};
 ghost use Rattle.room_core.specs.Fields.{Fields, HasLineIn, IsLegalIn, levels_at, line, entry_of_steps, fields_after_call, fields_after_calls, fields_after_settle, opening_fields, replay_fields, replies_in, with_crash};
 ghost use Rattle.room_spec.specs.Sizes.{sizes_in};
 ghost use Rattle.room_core.specs.Reading.{AgreeIn, AreFieldsOf, Reads, fields_in};
@@ -128,8 +128,8 @@ pub fn agreements_last()
 /// where it goes on to an end, idle or out of turns, within `(n * rounds + 1) * n` turns. So the
 /// number of steps at which settling gives up is never reached.
 pub fn runs_end()
-    ensures turn { (room : RoomState) (i : ℕ) → IsWithinLimits room.spec → IsOneInterleaving (configuration_of room) → i < room.spec.simulators → has_crashed room i ≡ false → room_kind.in_turn (steps_while room_after_step room_kind.in_turn (most_steps room.spec) room i) i ≡ false }
-    ensures alone { (room : RoomState) (i : ℕ) → IsWithinLimits room.spec → IsOneInterleaving (configuration_of room) → i < room.spec.simulators → has_crashed room i ≡ false → room_kind.has_step (steps_while room_after_step room_kind.has_step (most_steps room.spec) room i) i ≡ false }
+    ensures turn { (room : RoomState) (i : ℕ) → IsWithinLimits room.spec → IsOneInterleaving (configuration_of room) → i < room.spec.simulators → has_crashed room i ≡ false → room_kind.in_turn (steps_while room_after_step room_kind.in_turn (step_bound room.spec) room i) i ≡ false }
+    ensures alone { (room : RoomState) (i : ℕ) → IsWithinLimits room.spec → IsOneInterleaving (configuration_of room) → i < room.spec.simulators → has_crashed room i ≡ false → room_kind.has_step (steps_while room_after_step room_kind.has_step (step_bound room.spec) room i) i ≡ false }
     ensures turns { (room : RoomState) (i most : ℕ) → IsWithinLimits room.spec → IsOneInterleaving (configuration_of room) → i < room.spec.simulators → has_crashed room i ≡ false → (sweep_at (steps_while room_after_step room_kind.has_step most room i) i).mind.turns ≤ (sweep_at room i).mind.turns + (processes room.spec * room.spec.rounds + 1) * processes room.spec }
 {}
 
@@ -183,7 +183,7 @@ pub fn values_in_range()
 /// or has made all its writes and is asked for one more, or is held by a simulator that has crashed
 /// inside an agreement on one of its snapshots. And everyone else stands between two turns.
 pub fn settles()
-    ensures settled { (room : RoomState) (fields : Fields) → IsWithinLimits room.spec → AreFieldsOf room fields → (i j : ℕ) → i < room.spec.simulators → j < processes room.spec → (fields_after_settle room.spec fields).crashed i ≡ false → ((fields_after_settle room.spec fields).mind i).turns < room.spec.turns → IsSettledFor room.spec (fields_after_settle room.spec fields) j }
+    ensures settled { (room : RoomState) (fields : Fields) → IsWithinLimits room.spec → AreFieldsOf room fields → HasTurnLeft room.spec (fields_after_settle room.spec fields) → (j : ℕ) → j < processes room.spec → IsSettledFor room.spec (fields_after_settle room.spec fields) j }
     ensures rests { (room : RoomState) (fields : Fields) → IsWithinLimits room.spec → AreFieldsOf room fields → (i : ℕ) → i < room.spec.simulators → (fields_after_settle room.spec fields).crashed i ≡ false → is_resting ((fields_after_settle room.spec fields).mind i).line ≡ true }
 {}
 

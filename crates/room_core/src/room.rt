@@ -21,7 +21,7 @@ ghost use Rattle.room_core.specs.Agreements.{AgreementsStay};
 ghost use Rattle.room_core.specs.Moments.{IsScan};
 ghost use Rattle.room_core.specs.Reading.{AreFieldsOf, Reads};
 ghost use Rattle.room_core.specs.Calls.{CountsQuietTurns, crash_reply, configuration_of, has_crashed, marked, opening_state, ready_at, room_after_crash, room_after_settle, room_after_step, room_after_steps, room_kind, step_reply, sweep_at, with_sweep, woken};
-ghost use Rattle.room_core.specs.Settled.{IsDecidedOrHeld, IsSettledFor};
+ghost use Rattle.room_core.specs.Settled.{HasTurnLeft, IsDecidedOrHeld, IsSettledFor};
 ghost use Rattle.room_core.specs.Settles.{Settles};
 ghost use Rattle.room_core.specs.Settling.{each_in_order, ran_alone, turn_ended};
 
@@ -250,9 +250,9 @@ impl RoomCore {
         // What was agreed on stays.
         ensures agreement { (fields : Fields) → AreFieldsOf self.old fields → AgreementsStay self.old.spec fields (fields_after_settle self.old.spec fields) }
         // Where a simulator that hasn't crashed has a turn left, each process has decided, is spent, or is held by one that has.
-        ensures settled { (fields : Fields) → AreFieldsOf self.old fields → (i j : ℕ) → i < self.old.spec.simulators → j < processes self.old.spec → (fields_after_settle self.old.spec fields).crashed i ≡ false → ((fields_after_settle self.old.spec fields).mind i).turns < self.old.spec.turns → IsSettledFor self.old.spec (fields_after_settle self.old.spec fields) j }
+        ensures settled { (fields : Fields) → AreFieldsOf self.old fields → HasTurnLeft self.old.spec (fields_after_settle self.old.spec fields) → (j : ℕ) → j < processes self.old.spec → IsSettledFor self.old.spec (fields_after_settle self.old.spec fields) j }
         // By a protocol that waits for all but f, in two rounds or more, none is spent.
-        ensures certified { (fields : Fields) → AreFieldsOf self.old fields → (f : ℕ) → IsCertified self.old.spec f → 2 ≤ self.old.spec.rounds → (i j : ℕ) → i < self.old.spec.simulators → j < processes self.old.spec → (fields_after_settle self.old.spec fields).crashed i ≡ false → ((fields_after_settle self.old.spec fields).mind i).turns < self.old.spec.turns → IsDecidedOrHeld self.old.spec (fields_after_settle self.old.spec fields) j }
+        ensures certified { (fields : Fields) → AreFieldsOf self.old fields → (f : ℕ) → IsCertified self.old.spec f → 2 ≤ self.old.spec.rounds → HasTurnLeft self.old.spec (fields_after_settle self.old.spec fields) → (j : ℕ) → j < processes self.old.spec → IsDecidedOrHeld self.old.spec (fields_after_settle self.old.spec fields) j }
     {
         self.finish_turns();
         self.run_each();

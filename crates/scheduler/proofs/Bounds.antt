@@ -5,7 +5,7 @@ use Rattle.simulator.specs.Bounds.{answered_all, IsReadyThroughout}
 use Rattle.simulator.specs.Minds.{MindState}
 use Rattle.simulator.specs.Sweeps.{SweepState}
 use Rattle.simulator.proofs.CallerLemmas.{turns_bounded}
-use Rattle.room_core.specs.Calls.{most_steps}
+use Rattle.room_core.specs.Calls.{step_bound}
 use Rattle.ruled_room.specs.Parts.{IsSweepOf, RoomName, SimulatorData, stepped_with}
 use Rattle.ruled_room.specs.declared.stop.Stop.{Stop}
 use Rattle.scheduler.specs.Drives.{Drives, GoesOn, IsWithinFuse, TakesTurn, after_steps}
@@ -61,6 +61,6 @@ pub ends_drive : (fuse : Option ℕ) (start at new : SimulatorData) (result : Op
 ends_drive fuse start at new result stop way is takes =
     way.reaches stop new (drive_stops fuse at stop new (subst (λ (r : Option Stop). TakesTurn fuse at r new) is takes))
 
-pub left_less : (at next : SimulatorData) (room : RoomName) → next.room ≡ at.room → at.room ≡ room → at.sweep.mind.steps < next.sweep.mind.steps → next.sweep.mind.steps ≤ most_steps room.spec → left next < left at
+pub left_less : (at next : SimulatorData) (room : RoomName) → next.room ≡ at.room → at.room ≡ room → at.sweep.mind.steps < next.sweep.mind.steps → next.sweep.mind.steps ≤ step_bound room.spec → left next < left at
 left_less at next room same is more most =
-    omega (arith, more, most, ap (λ (r : RoomName). most_steps r.spec) same, ap (λ (r : RoomName). most_steps r.spec) is)
+    omega (arith, more, most, ap (λ (r : RoomName). step_bound r.spec) same, ap (λ (r : RoomName). step_bound r.spec) is)

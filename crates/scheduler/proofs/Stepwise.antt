@@ -9,7 +9,7 @@ use Rattle.simulator.specs.declared.sweep.Ready.TheVariants as ready
 use Rattle.simulator.specs.Minds.{MindState, unfinished_in}
 use Rattle.simulator.proofs.CallerLemmas.{idle_waits, kept, bounded, moves, stays_in_turn, steps_by_one}
 use Rattle.simulator.specs.Ranges.{turn_limit}
-use Rattle.room_core.specs.Calls.{most_steps}
+use Rattle.room_core.specs.Calls.{step_bound}
 use Rattle.room_core.proofs.CallerLemmas.{steps_within}
 use Rattle.ruled_room.specs.Parts.{IsSweepOf, RoomName, SimulatorData, stepped_with}
 use Rattle.ruled_room.specs.declared.stop.Stop.{Stop}
@@ -161,13 +161,13 @@ begins fuse start = record { room = refl; number = refl; reaches = λ result new
 
 -- how many steps it may still take
 abbrev pub left : SimulatorData → ℕ
-left at = most_steps at.room.spec - at.sweep.mind.steps
+left at = step_bound at.room.spec - at.sweep.mind.steps
 
 -- one step more
 record HasStepped (fuse : Option ℕ) (at next : SimulatorData) : Type 0 where
   steps : next.sweep.mind.steps ≡ at.sweep.mind.steps + 1
   stays : is_resting next.sweep.mind.line ≡ false → next.sweep.mind.turn_steps ≡ at.sweep.mind.turn_steps + 1
-  most : next.sweep.mind.steps ≤ most_steps at.room.spec
+  most : next.sweep.mind.steps ≤ step_bound at.room.spec
   within : IsWithinFuse fuse at.sweep.mind.steps → IsWithinFuse fuse next.sweep.mind.steps
 
 steps_one : (fuse : Option ℕ) (at : SimulatorData) (answer : ℕ) → IsSweepOf at.room.spec at.number at.sweep → stop_at fuse at ≡ None → HasStepped fuse at (stepped_with at answer)
@@ -209,7 +209,7 @@ pub record HasTurned (fuse : Option ℕ) (start new : SimulatorData) : Type 0 wh
   pub room : new.room ≡ start.room
   pub number : new.number ≡ start.number
   pub more : start.sweep.mind.steps < new.sweep.mind.steps
-  pub most : new.sweep.mind.steps ≤ most_steps start.room.spec
+  pub most : new.sweep.mind.steps ≤ step_bound start.room.spec
   pub bound : new.sweep.mind.steps + start.sweep.mind.turn_steps ≤ start.sweep.mind.steps + turn_limit start.room.spec
 
 pub ends_turn : (fuse : Option ℕ) (start at new : SimulatorData) (answer : ℕ) → IsOnWay fuse start at → IsSweepOf at.room.spec at.number at.sweep → stop_at fuse at ≡ None → new ≡ stepped_with at answer → is_resting new.sweep.mind.line ≡ true → HasTurned fuse start new
@@ -222,7 +222,7 @@ ends_turn fuse start at new answer way is none to rests =
       room = way.room;
       number = way.number;
       more = omega (arith, way.more, one.steps);
-      most = subst (λ (spec : RoomSpec). (stepped_with at answer).sweep.mind.steps ≤ most_steps spec) (ap (λ (room : RoomName). room.spec) way.room) one.most;
+      most = subst (λ (spec : RoomSpec). (stepped_with at answer).sweep.mind.steps ≤ step_bound spec) (ap (λ (room : RoomName). room.spec) way.room) one.most;
       bound = omega (arith, way.in_turn, one.steps, limit_here fuse start at way is);
     }) rests
 

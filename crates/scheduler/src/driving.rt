@@ -2,7 +2,7 @@
 ghost use Rattle.std.specs.Prelude.{◌≡◌, ◌+◌, ◌*◌, ◌<◌, ◌≤◌, IfNone, IfSome};
 ghost use Rattle.room_spec.specs.Rooms.{processes};
 ghost use Rattle.simulator.specs.Ranges.{turn_limit};
-ghost use Rattle.room_core.specs.Calls.{most_steps};
+ghost use Rattle.room_core.specs.Calls.{step_bound};
 ghost use Rattle.ruled_room.specs.Parts.{IsSweepOf};
 ghost use Rattle.scheduler.specs.Drives.{Advances, Drives, HasStopped, IsWithinFuse, TakesTurn, stop_at};
 
@@ -21,7 +21,7 @@ pub fn turn(simulator: &mut Simulator, room: &RuledRoom, fuse: &Fuse) -> Option<
     ensures fuse { IsWithinFuse fuse.now simulator.old.sweep.mind.steps → IsWithinFuse fuse.now simulator.new.sweep.mind.steps }
     ensures same { (simulator.new.room ≡ simulator.old.room) × (simulator.new.number ≡ simulator.old.number) }
     // Steps are taken before a turn's end, and never more in all than all turns have.
-    ensures more { IfNone result ((simulator.old.sweep.mind.steps < simulator.new.sweep.mind.steps) × (simulator.new.sweep.mind.steps ≤ most_steps room.now.spec)) }
+    ensures more { IfNone result ((simulator.old.sweep.mind.steps < simulator.new.sweep.mind.steps) × (simulator.new.sweep.mind.steps ≤ step_bound room.now.spec)) }
     // With those that its open turn had taken these are no more than a turn may take.
     ensures bound { simulator.new.sweep.mind.steps + simulator.old.sweep.mind.turn_steps ≤ simulator.old.sweep.mind.steps + turn_limit room.now.spec }
 {

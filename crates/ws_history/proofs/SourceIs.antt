@@ -9,7 +9,7 @@ use Rattle.protocol_lang.specs.Meaning.{next_action}
 use Rattle.protocol_lang.specs.declared.meaning.Action.TheVariants as actions
 use Rattle.room_spec.specs.Rooms.{RoomSpec, processes}
 use Rattle.transcript.specs.Runs.{IsRun}
-use Rattle.ws_history.specs.Histories.{Snapshot, asks, history_from}
+use Rattle.ws_history.specs.Histories.{Snapshot, asks_after, history_from}
 use Rattle.ws_history.specs.Passed.{IsOfPassed}
 use Rattle.sim_memory.proofs.CallerLemmas.{row_length}
 use Rattle.room_core.specs.Fields.{Fields}
@@ -63,8 +63,8 @@ gone_beyond spec fields p r less = or_left _ _ (or_right _ _ (lt-ltb r (greatest
 
 -- ---- the source
 
--- what a row shows, and what the protocol asks for after it, is the same by the source as by the fields
-asks_are : (spec : RoomSpec) (fields : Fields) (s : Snapshot) → asks spec (source_of spec fields) s ≡ room.asks spec fields s.process s.round
+-- what a row shows, and what the protocol asks_after for after it, is the same by the source as by the fields
+asks_are : (spec : RoomSpec) (fields : Fields) (s : Snapshot) → asks_after spec (source_of spec fields) s ≡ room.asks spec fields s.process s.round
 asks_are spec fields s =
     let row = row_at spec fields s.process s.round in
     ap (λ (n : ℕ). next_action spec.protocol (slice_index spec.inputs s.process) s.process s.round (map (λ p. shown spec fields p (slice_index row p)) (range_with_len 0 n)))

@@ -11,7 +11,7 @@ use Rattle.room_spec.specs.declared.version.Version.TheVariants.{One}
 use Rattle.transcript.specs.Runs.{IsRun}
 use Rattle.transcript.specs.declared.event.Event.TheVariants.{Write, Snap, Decide}
 use Rattle.sim_memory.specs.Steps.{IsRowAtMost}
-use Rattle.ws_history.specs.Histories.{Snapshot, Source, row_of, entry_of, asks, history_from, IsAgreed, IsBefore, IsSource}
+use Rattle.ws_history.specs.Histories.{Snapshot, Source, row_of, entry_of, asks_after, history_from, IsAgreed, IsBefore, IsSource}
 use Rattle.ws_history.specs.Orders.{in_order}
 use Rattle.ws_history.proofs.Order.{snapshot_at, not_empty, cons_cases, cons_first, cons_rest}
 use Rattle.ws_history.proofs.Alternation.{history_is_run}
@@ -115,7 +115,7 @@ third_agreed = record {
       (λ h. absurd (omega arith)) p low less;
   shows = below_two (λ q. entry_of worked (snapshot_at 0 2) q ≤ 2) (omega arith) (omega arith);
   goes_on = λ less. absurd (omega arith);
-  decides = λ v is. (subst (λ (u : ℕ). asks room worked (snapshot_at 0 2) ≡ actions.Decide u) (let same : 7 ≡ v = cc in same) refl, refl);
+  decides = λ v is. (subst (λ (u : ℕ). asks_after room worked (snapshot_at 0 2) ≡ actions.Decide u) (let same : 7 ≡ v = cc in same) refl, refl);
 }
 
 pub same_row : (row : List ℕ) → IsRowAtMost row row

@@ -91,9 +91,9 @@ abbrev pub IsRising : Source → List Snapshot → Type 0
 IsRising src [] = ⊤
 IsRising src (s ∷ rest) = ((t : Snapshot) → Contains rest t → IsBefore src s t) × IsRising src rest
 
--- what the protocol asks for after a snapshot
-abbrev pub asks : RoomSpec → Source → Snapshot → Action
-asks spec src s = next_action spec.protocol (slice_index spec.inputs s.process) s.process s.round (shown_row src s)
+-- what the protocol asks_after for after a snapshot
+abbrev pub asks_after : RoomSpec → Source → Snapshot → Action
+asks_after spec src s = next_action spec.protocol (slice_index spec.inputs s.process) s.process s.round (shown_row src s)
 
 -- what is known of one agreed snapshot
 pub record IsAgreed (spec : RoomSpec) (src : Source) (s : Snapshot) : Type 0 where
@@ -105,8 +105,8 @@ pub record IsAgreed (spec : RoomSpec) (src : Source) (s : Snapshot) : Type 0 whe
   -- a process writes again only after a snapshot that was agreed on
   pub before : (p r : ℕ) → p < processes spec → 1 ≤ r → r < entry_of src s p → Contains src.order (record { process = p; round = r })
   pub shows : (p : ℕ) → p < processes spec → entry_of src s p ≤ src.greatest p
-  pub goes_on : s.round < src.greatest s.process → asks spec src s ≡ actions.Write (src.written s.process (s.round + 1))
-  pub decides : (v : ℕ) → src.decision s.process s.round ≡ Some v → (asks spec src s ≡ actions.Decide v) × (src.greatest s.process ≡ s.round)
+  pub goes_on : s.round < src.greatest s.process → asks_after spec src s ≡ actions.Write (src.written s.process (s.round + 1))
+  pub decides : (v : ℕ) → src.decision s.process s.round ≡ Some v → (asks_after spec src s ≡ actions.Decide v) × (src.greatest s.process ≡ s.round)
 
 -- what makes the history of a source a run
 pub record IsSource (spec : RoomSpec) (src : Source) : Type 0 where

@@ -5,7 +5,7 @@ use Rattle.protocol_lang.specs.Meaning.{first_value}
 use Rattle.protocol_lang.specs.declared.meaning.Action.TheVariants as actions
 use Rattle.room_spec.specs.Rooms.{RoomSpec, processes}
 use Rattle.sim_memory.specs.Steps.{IsRowAtMost}
-use Rattle.ws_history.specs.Histories.{Snapshot, Source, row_of, entry_of, asks}
+use Rattle.ws_history.specs.Histories.{Snapshot, Source, row_of, entry_of, asks_after}
 use Rattle.ws_history.specs.Orders.{in_order, all_passed, IsPassed}
 
 -- what is known of one passed agreement
@@ -16,8 +16,8 @@ pub record IsKnown (spec : RoomSpec) (src : Source) (passed : ℕ → ℕ → Bo
   -- a process writes again only after an agreement that is passed
   pub before : (p r : ℕ) → p < processes spec → 1 ≤ r → r < entry_of src s p → passed p r ≡ true
   pub shows : (p : ℕ) → p < processes spec → entry_of src s p ≤ src.greatest p
-  pub goes_on : s.round < src.greatest s.process → asks spec src s ≡ actions.Write (src.written s.process (s.round + 1))
-  pub decides : (v : ℕ) → src.decision s.process s.round ≡ Some v → (asks spec src s ≡ actions.Decide v) × (src.greatest s.process ≡ s.round)
+  pub goes_on : s.round < src.greatest s.process → asks_after spec src s ≡ actions.Write (src.written s.process (s.round + 1))
+  pub decides : (v : ℕ) → src.decision s.process s.round ≡ Some v → (asks_after spec src s ≡ actions.Decide v) × (src.greatest s.process ≡ s.round)
 
 -- a source whose snapshots are the agreements that are passed, in order
 pub record IsOfPassed (spec : RoomSpec) (src : Source) (passed : ℕ → ℕ → Bool) : Type 0 where

@@ -24,7 +24,7 @@ use Rattle.room_core.specs.declared.reply.CrashReply.{CrashReply}
 use Rattle.room_core.specs.declared.reply.StepReply.TheVariants.{Crashed, NoSimulator}
 use Rattle.room_core.specs.declared.reply.CrashReply.TheVariants as crash_replies
 use Rattle.room_core.specs.Rooms.{Configuration, ScheduleEvent, steps, crashes, opening, stepped, crashed_by, HasLine, IsAlive, IsOneInterleaving, IsRoom, IsShaped}
-use Rattle.room_core.specs.Calls.{RoomState, configuration_of, opening_state, sweep_at, has_crashed, with_sweep, sweep_after, taken_by, moved, woken, reply_when, room_when, ready_at, step_reply, room_after_step, crash_reply, marked, room_after_crash, is_step, most_steps, room_kind, room_after_settle, Call, Step, Crash, Settle, Stepping, Crashing, reply_to, room_after_call, replies_to, room_after_calls}
+use Rattle.room_core.specs.Calls.{RoomState, configuration_of, opening_state, sweep_at, has_crashed, with_sweep, sweep_after, taken_by, moved, woken, reply_when, room_when, ready_at, step_reply, room_after_step, crash_reply, marked, room_after_crash, is_step, step_bound, room_kind, room_after_settle, Call, Step, Crash, Settle, Stepping, Crashing, reply_to, room_after_call, replies_to, room_after_calls}
 use Rattle.room_core.specs.Fields.{StepMap, Fields, changed, opening_fields, first_line_at, first_line, line_on, line, with_crash, fields_after, replay_fields, ready_in, fields_when, step_reply_in, fields_after_step, crash_reply_in, fields_after_crash, fields_kind, fields_after_settle, reply_in, fields_after_call, replies_in, fields_after_calls}
 use Rattle.room_core.specs.Reading.{worded, without_quiet, AreFieldsOf, Reads}
 use Rattle.room_core.specs.Tracks.{StandsFor}
@@ -375,7 +375,7 @@ module _ (P : Fields → Type 0) (spec : RoomSpec) (limits : IsWithinLimits spec
   settling = record {
     count = λ room fields is. ap (λ (s : RoomSpec). s.simulators) is.same;
     other_count = λ room fields is. refl;
-    most = λ room fields is. ap most_steps is.same;
+    most = λ room fields is. ap step_bound is.same;
     crashed = λ room fields i below is. (fields_stand room fields (subst IsWithinLimits (sym is.same) limits) is.are).reads.crashed i (subst (λ (s : RoomSpec). i < s.simulators) (sym is.same) below);
     in_turn = λ room fields i below is. in_turn_alike P spec limits room fields i below is;
     has_step = λ room fields i below is. has_step_alike P spec limits room fields i below is;

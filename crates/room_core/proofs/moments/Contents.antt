@@ -15,7 +15,7 @@ use Rattle.sim_memory.proofs.CallerLemmas.{row_at, holder_of_is, holder_merged}
 use Rattle.simulator.proofs.CallerLemmas.{added, added_more, added_none}
 use Rattle.room_core.specs.Fields.{StepMap, Fields, entry_of_steps, holder_of_steps, shown_value}
 use Rattle.room_core.specs.Agreements.{first_with, written, asks}
-use Rattle.room_core.specs.Contents.{or_zero, entry_of, shown_by, IsDue, first_write, next_write, IsSmallEntry, AreSmall}
+use Rattle.room_core.specs.Contents.{or_zero, entry_of, shown_by_map, IsDue, first_write, next_write, IsSmallEntry, AreSmall}
 
 -- ---- the first of a list that passes a test
 
@@ -124,21 +124,21 @@ padded_first row all (suc more) entries room none are =
     (padded_by (eqb (row (length entries)) 0) all entries (added row more (entries ++ None ∷ []))
     (λ is. padded_first row all more (entries ++ None ∷ []) (omega arith) none (first_more entries all None (omega arith) are (empty is))) are)
 
-pub length_of_shown : (spec : RoomSpec) (fields : Fields) (snapshot : StepMap) → length (shown_by spec fields snapshot) ≡ processes spec
+pub length_of_shown : (spec : RoomSpec) (fields : Fields) (snapshot : StepMap) → length (shown_by_map spec fields snapshot) ≡ processes spec
 length_of_shown spec fields snapshot = length-map-range_with_len (λ p. entry_of spec fields p (get_or (row_of spec.simulators (processes spec) snapshot) p 0)) 0 (processes spec)
 
-pub shown_at : (spec : RoomSpec) (fields : Fields) (snapshot : StepMap) (p : ℕ) → p < processes spec → get_or (shown_by spec fields snapshot) p None ≡ entry_of spec fields p (entry_of_steps spec snapshot p)
+pub shown_at : (spec : RoomSpec) (fields : Fields) (snapshot : StepMap) (p : ℕ) → p < processes spec → get_or (shown_by_map spec fields snapshot) p None ≡ entry_of spec fields p (entry_of_steps spec snapshot p)
 shown_at spec fields snapshot p below =
     get_or-map-range_with_len (λ q. entry_of spec fields q (get_or (row_of spec.simulators (processes spec) snapshot) q 0)) 0 (processes spec) p p None below (omega arith)
     ∙ ap (λ (row : ℕ). entry_of spec fields p row) (row_at spec.simulators (processes spec) snapshot p below)
 
-pub shown_none : (spec : RoomSpec) (fields : Fields) (snapshot : StepMap) (p : ℕ) → p < processes spec → entry_of_steps spec snapshot p ≡ 0 → get_or (shown_by spec fields snapshot) p None ≡ None
+pub shown_none : (spec : RoomSpec) (fields : Fields) (snapshot : StepMap) (p : ℕ) → p < processes spec → entry_of_steps spec snapshot p ≡ 0 → get_or (shown_by_map spec fields snapshot) p None ≡ None
 shown_none spec fields snapshot p below is = shown_at spec fields snapshot p below ∙ ap (λ (row : ℕ). entry_of spec fields p row) is
 
 -- two fields show the same, where they have written the same
-pub shown_same : (spec : RoomSpec) (fields after : Fields) (snapshot : StepMap) → ((p : ℕ) → p < processes spec → entry_of_steps spec snapshot p ≢ 0 → written spec after p (entry_of_steps spec snapshot p) ≡ written spec fields p (entry_of_steps spec snapshot p)) → shown_by spec after snapshot ≡ shown_by spec fields snapshot
+pub shown_same : (spec : RoomSpec) (fields after : Fields) (snapshot : StepMap) → ((p : ℕ) → p < processes spec → entry_of_steps spec snapshot p ≢ 0 → written spec after p (entry_of_steps spec snapshot p) ≡ written spec fields p (entry_of_steps spec snapshot p)) → shown_by_map spec after snapshot ≡ shown_by_map spec fields snapshot
 shown_same spec fields after snapshot same =
-    ext_get_or None (shown_by spec after snapshot) (shown_by spec fields snapshot) (length_of_shown spec after snapshot ∙ sym (length_of_shown spec fields snapshot))
+    ext_get_or None (shown_by_map spec after snapshot) (shown_by_map spec fields snapshot) (length_of_shown spec after snapshot ∙ sym (length_of_shown spec fields snapshot))
     (λ p within.
     let long = length_of_shown spec after snapshot in
     let below : p < processes spec = omega arith in

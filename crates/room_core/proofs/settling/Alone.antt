@@ -37,7 +37,7 @@ within_by (GetView chosen) spec taken turn_steps word collects entries charged i
 within_by Values spec taken turn_steps word collects entries charged is few most = omega arith
 within_by (Out decision) spec taken turn_steps word collects entries charged is few most = omega arith
 
-pub steps_within : (spec : RoomSpec) (mind : MindState) → IsMind spec mind → mind.steps ≤ calls.most_steps spec
+pub steps_within : (spec : RoomSpec) (mind : MindState) → IsMind spec mind → mind.steps ≤ calls.step_bound spec
 steps_within spec mind is =
     let most = within_by mind.line spec mind.steps mind.turn_steps mind.word mind.collects (length mind.entries) (greatest_limit * mind.turns) is.counted is.few (omega (arith, bounded spec mind is, limit_most spec is.limits)) in
     omega (arith, most, is.turns)
@@ -59,7 +59,7 @@ pub record HasStepped (room after : RoomState) (i : ℕ) : Type 0 where
   pub up : IsUp (moved room i) i
   pub own : sweep_at (moved room i) i ≡ sweep_after (taken_by room i) (sweep_at room i).quiet
   pub more : steps_of (moved room i) i ≡ steps_of room i + 1
-  pub within : steps_of (moved room i) i ≤ calls.most_steps room.spec
+  pub within : steps_of (moved room i) i ≤ calls.step_bound room.spec
 
 pub step_up : (room : RoomState) (i : ℕ) → IsUp room i → ready_at room i ≡ ready.Step → HasStepped room (room_after_step room i) i
 step_up room i up is =
@@ -78,7 +78,7 @@ step_up room i up is =
 
 -- how many it may still take
 abbrev pub left : RoomState → ℕ → ℕ
-left room i = calls.most_steps room.spec - steps_of room i
+left room i = calls.step_bound room.spec - steps_of room i
 
 -- ---- while a test holds with which a step is to be taken
 
@@ -113,7 +113,7 @@ module _ (test : RoomState → ℕ → Bool) (i : ℕ) (means : Means test i) wh
   more_by false one two room same = refl
 
   -- more than enough changes nothing
-  enough : (most : ℕ) (room : RoomState) → IsUp room i → calls.most_steps room.spec ≤ most + steps_of room i → Ran most room ≡ Ran (suc most) room
+  enough : (most : ℕ) (room : RoomState) → IsUp room i → calls.step_bound room.spec ≤ most + steps_of room i → Ran most room ≡ Ran (suc most) room
   enough zero room up within = end_by (test room i) refl
     where
       end_by : (b : Bool) → test room i ≡ b → room ≡ cond b (room_after_step room i) room
@@ -123,9 +123,9 @@ module _ (test : RoomState → ℕ → Bool) (i : ℕ) (means : Means test i) wh
       let next = step_up room i up (means room is) in
       subst (λ (r : RoomState). Ran most r ≡ Ran (suc most) r) (sym next.is) (enough most (moved room i) next.up (omega (arith, next.more, within))))
 
-  goes_on : (room : RoomState) → IsUp room i → test room i ≡ true → Ran (calls.most_steps room.spec) room ≡ Ran (calls.most_steps room.spec) (moved room i)
+  goes_on : (room : RoomState) → IsUp room i → test room i ≡ true → Ran (calls.step_bound room.spec) room ≡ Ran (calls.step_bound room.spec) (moved room i)
   goes_on room up is =
-      let most = calls.most_steps room.spec in
+      let most = calls.step_bound room.spec in
       let next = step_up room i up (means room is) in
       enough most room up (omega arith)
       ∙ ap (λ (b : Bool). cond b (Ran most (room_after_step room i)) room) is
@@ -139,7 +139,7 @@ module _ (test : RoomState → ℕ → Bool) (i : ℕ) (means : Means test i) wh
   pub record IsRunning (start room : RoomState) : Type 0 where
     pub up : IsUp room i
     pub same : room.spec ≡ start.spec
-    pub ends : Ran (calls.most_steps room.spec) room ≡ Ran (calls.most_steps start.spec) start
+    pub ends : Ran (calls.step_bound room.spec) room ≡ Ran (calls.step_bound start.spec) start
 
   pub starts : (room : RoomState) → IsUp room i → IsRunning room room
   starts room up = record { up = up; same = refl; ends = refl }
@@ -150,8 +150,8 @@ module _ (test : RoomState → ℕ → Bool) (i : ℕ) (means : Means test i) wh
       subst (λ (r : RoomState). IsRunning start r × (left r i < left room i)) (sym (to ∙ next.is))
       (record { up = next.up; same = on.same; ends = sym (goes_on room on.up is) ∙ on.ends }, omega (arith, next.more, next.within))
 
-  pub ended : (start room : RoomState) → IsRunning start room → test room i ≡ false → Ran (calls.most_steps start.spec) start ≡ room
-  ended start room on is = sym on.ends ∙ stops (calls.most_steps room.spec) room is
+  pub ended : (start room : RoomState) → IsRunning start room → test room i ≡ false → Ran (calls.step_bound start.spec) start ≡ room
+  ended start room on is = sym on.ends ∙ stops (calls.step_bound room.spec) room is
 
 -- ---- it comes to an end
 
@@ -164,7 +164,7 @@ either_by P true on stop goes ends = goes refl
 either_by P false on stop goes ends = ends refl
 
 module _ (test : RoomState → ℕ → Bool) (i : ℕ) (means : Means test i) where
-  pub finished : (most : ℕ) (room : RoomState) → IsUp room i → calls.most_steps room.spec ≤ most + steps_of room i → test (Ran test i means most room) i ≡ false
+  pub finished : (most : ℕ) (room : RoomState) → IsUp room i → calls.step_bound room.spec ≤ most + steps_of room i → test (Ran test i means most room) i ≡ false
   finished zero room up within = not_true (test room i) (λ is. let next = step_up room i up (means room is) in omega (arith, next.more, next.within, within))
   finished (suc most) room up within =
       either_by (λ r. test r i ≡ false) (test room i) (Ran test i means most (room_after_step room i)) room
@@ -223,8 +223,8 @@ took_none room i up other = other_by (ready_at room i) (λ is. other (sym (repli
 pub alone_is : (room start end after : RoomState) (i : ℕ) → has_crashed room i ≡ false → start ≡ with_sweep room i (woken (sweep_at room i)) → IsRunning has_step i (has_step_means i) start end → has_step end i ≡ false → after ≡ room_after_step end i → after ≡ ran_alone room_kind room i
 alone_is room start end after i alive is on stopped to =
     let ran = ended has_step i (has_step_means i) start end on stopped in
-    to ∙ ap (λ (r : RoomState). room_after_step r i) (sym ran ∙ ap (λ (r : RoomState). steps_while room_after_step has_step (calls.most_steps r.spec) r i) is)
-    ∙ sym (ap (λ (b : Bool). cond b room (room_after_step (steps_while room_after_step has_step (calls.most_steps room.spec) (with_sweep room i (woken (sweep_at room i))) i) i)) alive)
+    to ∙ ap (λ (r : RoomState). room_after_step r i) (sym ran ∙ ap (λ (r : RoomState). steps_while room_after_step has_step (calls.step_bound r.spec) r i) is)
+    ∙ sym (ap (λ (b : Bool). cond b room (room_after_step (steps_while room_after_step has_step (calls.step_bound room.spec) (with_sweep room i (woken (sweep_at room i))) i) i)) alive)
 
 -- ---- one simulator after the other
 

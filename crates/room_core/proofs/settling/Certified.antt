@@ -14,7 +14,7 @@ use Rattle.room_core.specs.Agreements.{IsFixedAt, asks, greatest_step, has_out, 
 use Rattle.room_core.specs.Calls.{RoomState}
 use Rattle.room_core.specs.Fields.{Fields, fields_after_settle}
 use Rattle.room_core.specs.Reading.{AreFieldsOf}
-use Rattle.room_core.specs.Settled.{IsSettledFor, decided, spent, held, IsDecidedOrHeld, has_decided, is_held}
+use Rattle.room_core.specs.Settled.{HasTurnLeft, IsSettledFor, decided, spent, held, IsDecidedOrHeld, has_decided, is_held}
 use Rattle.room_core.proofs.agreements.Promises.{passed_fixed}
 use Rattle.room_core.proofs.moments.Visits.{fixed_shows_all}
 use Rattle.room_core.proofs.settling.Ending.{settled_for}
@@ -60,14 +60,14 @@ module _ (room : RoomState) (fields : Fields) (limits : IsWithinLimits room.spec
   decided_or_held j two within (held i k below crashed first last one) = is_held i k below crashed first last one
 
 -- So of each process once the room has settled.
-pub certified_for : (room : RoomState) (fields : Fields) → IsWithinLimits room.spec → AreFieldsOf room fields → (f : ℕ) → IsCertified room.spec f → 2 ≤ room.spec.rounds → (i j : ℕ) → i < room.spec.simulators → j < processes room.spec
-    → (fields_after_settle room.spec fields).crashed i ≡ false → ((fields_after_settle room.spec fields).mind i).turns < room.spec.turns → IsDecidedOrHeld room.spec (fields_after_settle room.spec fields) j
-certified_for room fields limits are f certified two i j below low alive left =
+pub certified_for : (room : RoomState) (fields : Fields) → IsWithinLimits room.spec → AreFieldsOf room fields → (f : ℕ) → IsCertified room.spec f → 2 ≤ room.spec.rounds → HasTurnLeft room.spec (fields_after_settle room.spec fields) → (j : ℕ) → j < processes room.spec
+    → IsDecidedOrHeld room.spec (fields_after_settle room.spec fields) j
+certified_for room fields limits are f certified two left j low =
     let spec = room.spec in
     let after = fields_after_settle spec fields in
     let has = settled_over spec limits room fields refl are in
     let back = sym has.is.same in
-    let settled : IsSettledFor spec after j = settled_for room fields limits are i j below low alive left in
+    let settled : IsSettledFor spec after j = settled_for room fields limits are left j low in
     subst (λ (s : RoomSpec). IsDecidedOrHeld s after j) has.is.same
     (decided_or_held has.room after (subst IsWithinLimits back limits) has.is.are f (subst (λ (s : RoomSpec). IsCertified s f) back certified) j
     (subst (λ (s : RoomSpec). 2 ≤ s.rounds) back two) (subst (λ (s : RoomSpec). j < processes s) back low) (subst (λ (s : RoomSpec). IsSettledFor s after j) back settled))

@@ -10,7 +10,7 @@ use Rattle.room_core.specs.Calls.{RoomState}
 use Rattle.room_core.specs.Fields.{Fields, levels_at, fields_after_settle}
 use Rattle.room_core.specs.Reading.{AreFieldsOf}
 use Rattle.room_core.specs.Agreements.{is_out, outs_at, has_out, is_clean}
-use Rattle.room_core.specs.Settled.{IsSettledFor, decided, spent, held}
+use Rattle.room_core.specs.Settled.{HasTurnLeft, IsSettledFor, decided, spent, held}
 use Rattle.room_core.proofs.settling.Quieted.{IsStuck, stored, passed, inside}
 use Rattle.room_core.proofs.settling.Idling.{one_or_none, crashed_inside}
 use Rattle.room_core.proofs.settling.InOrder.{settled_over}
@@ -38,16 +38,16 @@ settled_by spec fields j crashed low (passed value fixed action) = elim (one_or_
 ]
 settled_by spec fields j crashed low (inside a k below dead first last one) = held a k below dead first last one
 
-pub settled_for : (room : RoomState) (fields : Fields) → IsWithinLimits room.spec → AreFieldsOf room fields → (i j : ℕ) → i < room.spec.simulators → j < processes room.spec
-    → (fields_after_settle room.spec fields).crashed i ≡ false → ((fields_after_settle room.spec fields).mind i).turns < room.spec.turns → IsSettledFor room.spec (fields_after_settle room.spec fields) j
-settled_for room fields limits are i j below low alive left =
+pub settled_for : (room : RoomState) (fields : Fields) → IsWithinLimits room.spec → AreFieldsOf room fields → HasTurnLeft room.spec (fields_after_settle room.spec fields) → (j : ℕ) → j < processes room.spec
+    → IsSettledFor room.spec (fields_after_settle room.spec fields) j
+settled_for room fields limits are left j low =
     let spec = room.spec in
     let after = fields_after_settle spec fields in
     let has = settled_over spec limits room fields refl are in
     let rounds = limits.shape.rounds_range in
     let crashed : (a : ℕ) → a < spec.simulators → after.level a j spec.rounds ≡ 1 → after.crashed a ≡ true = λ a within one.
     crashed_inside has.room after (subst IsWithinLimits (sym has.is.same) limits) has.is.are a j spec.rounds (has.is.holds.rests a within) one in
-    elim (has.is.holds.over i below alive) [
-      | inl out ↦ absurd (omega arith)
+    elim (has.is.holds.over left.simulator left.below left.alive) [
+      | inl out ↦ absurd (omega (arith, out, left.turns))
       | inr stuck ↦ settled_by spec after j crashed rounds.0 (stuck j low)
     ]

@@ -8,7 +8,7 @@ use Rattle.simulator.specs.declared.sweep.Ready.{Ready}
 use Rattle.simulator.specs.declared.sweep.Ready.TheVariants as ready
 use Rattle.simulator.specs.Minds.{MindOf, unfinished_in}
 use Rattle.simulator.specs.Sweeps.{is_resting}
-use Rattle.room_core.specs.Calls.{RoomState, configuration_of, is_step, most_steps, room_after_step, room_kind}
+use Rattle.room_core.specs.Calls.{RoomState, configuration_of, is_step, step_bound, room_after_step, room_kind}
 use Rattle.room_core.specs.Fields.{StepMap, Fields, changed, ready_in, fields_after_step, fields_kind, fields_after_settle}
 use Rattle.room_core.specs.Reading.{AreFieldsOf}
 use Rattle.room_core.specs.Settling.{steps_while, turn_ended, ran_alone, in_order}
@@ -94,10 +94,10 @@ module _ (spec : RoomSpec) (limits : IsWithinLimits spec) where
     | inr alive ↦
         let room = has.room in
         let up = up_at room fields i has.is.same has.is.are below alive in
-        let most = most_steps spec in
+        let most = step_bound spec in
         let on = ran (RestBelow i) i in_turn (fields_kind spec).in_turn most (in_turn_same (RestBelow i) i below)
         (λ r f same are holds. λ a less. rests_kept i f (fields_after_step spec f i) a (λ e. omega (arith, e, less)) (kept_at r f i same are) (holds a less)) room fields has.is in
-        let stopped = finished in_turn i (in_turn_means i) most room up (omega (arith, ap most_steps has.is.same)) in
+        let stopped = finished in_turn i (in_turn_means i) most room up (omega (arith, ap step_bound has.is.same)) in
         let last : (fields_kind spec).in_turn end i ≡ false = sym (in_turn_same (RestBelow i) i below (steps_while room_after_step in_turn most room i) end on) ∙ stopped in
         subst (Has (RestBelow (suc i))) (sym (ap (λ (b : Bool). cond b fields end) alive))
         (record {
@@ -113,7 +113,7 @@ module _ (spec : RoomSpec) (limits : IsWithinLimits spec) where
   ]
     where
       end : Fields
-      end = steps_while (fields_after_step spec) (fields_kind spec).in_turn (most_steps spec) fields i
+      end = steps_while (fields_after_step spec) (fields_kind spec).in_turn (step_bound spec) fields i
 
       rests_by : (b : Bool) → not b ≡ false → b ≡ true
       rests_by true is = refl
@@ -216,7 +216,7 @@ module _ (spec : RoomSpec) (limits : IsWithinLimits spec) where
       start = record fields { quiet = changed fields.quiet i 0 }
 
       end : Fields
-      end = steps_while (fields_after_step spec) (fields_kind spec).has_step (most_steps spec) start i
+      end = steps_while (fields_after_step spec) (fields_kind spec).has_step (step_bound spec) start i
 
       after : Fields
       after = fields_after_step spec end i
@@ -225,13 +225,13 @@ module _ (spec : RoomSpec) (limits : IsWithinLimits spec) where
       over_after alive =
           let room = has.room in
           let same = has.is.same in
-          let most = most_steps spec in
+          let most = step_bound spec in
           let woke : AreFieldsOf (room_kind.wake room i) start = woken_fields room fields i (limits_of room same) (below_of room i same below) has.is.are in
           let first = room_kind.wake room i in
           let begins : IsSettling (IsAlone i) spec first start = record { same = same; are = woke; holds = alone_awake i fields has.is.holds } in
           let on = ran (IsAlone i) i has_step (fields_kind spec).has_step most (has_step_same (IsAlone i) i below) (alone_step i) first start begins in
           let last = steps_while room_after_step has_step most first i in
-          let stopped = finished has_step i (has_step_means i) most first (up_at first start i same woke below alive) (omega (arith, ap most_steps same)) in
+          let stopped = finished has_step i (has_step_means i) most first (up_at first start i same woke below alive) (omega (arith, ap step_bound same)) in
           let stops : is_step (ready_in spec end i) ≡ false = sym (has_step_same (IsAlone i) i below last end on) ∙ stopped in
           let stop = stop_at last end i (ready_in spec end i) on.same on.are below on.holds refl stops in
           let kept = kept_at last end i on.same on.are in

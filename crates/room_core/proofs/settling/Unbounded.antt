@@ -1,7 +1,7 @@
 -- Settling is never cut off by its bound.
 use Rattle.std.proofs.Common.{◌≡◌, ℕ, zero, suc, ◌+◌, ◌<◌, ◌≤◌, Bool, true, false, cond, refl, sym, ap, ◌∙◌, subst, arith}
 use Rattle.room_spec.specs.Rooms.{RoomSpec, IsWithinLimits}
-use Rattle.room_core.specs.Calls.{RoomState, configuration_of, has_crashed, most_steps, room_after_settle, room_after_step, room_kind, moved}
+use Rattle.room_core.specs.Calls.{RoomState, configuration_of, has_crashed, step_bound, room_after_settle, room_after_step, room_kind, moved}
 use Rattle.room_core.specs.Fields.{Fields, changed, fields_after_step}
 use Rattle.room_core.specs.Reading.{AreFieldsOf}
 use Rattle.room_core.specs.Rooms.{IsRoom}
@@ -20,7 +20,7 @@ module _ (test : RoomState → ℕ → Bool) (i : ℕ) (means : Means test i) wh
   abbrev While : RoomState → RoomState → Type 0
   While = StepsWhile room_after_step test i
 
-  runs_out : (most : ℕ) (room : RoomState) → IsUp room i → most_steps room.spec ≤ most + steps_of room i → While room (Ran test i means most room)
+  runs_out : (most : ℕ) (room : RoomState) → IsUp room i → step_bound room.spec ≤ most + steps_of room i → While room (Ran test i means most room)
   runs_out zero room up within =
       Stops room (not_on (test room i) refl)
     where
@@ -75,32 +75,32 @@ record IsDone (does : ℕ → RoomState → RoomState → Type 0) (i : ℕ) (roo
 
 turn_done : (room : RoomState) (i : ℕ) → i < room.spec.simulators → IsReached room → IsDone (EndsTurn room_kind) i room (turn_ended room_kind room i)
 turn_done room i below is =
-    let ran = steps_while room_after_step in_turn (most_steps room.spec) room i in
+    let ran = steps_while room_after_step in_turn (step_bound room.spec) room i in
     record {
       did = record {
         crashed = λ gone. ap (λ (b : Bool). cond b room ran) gone;
         alive = λ alive. subst (StepsWhile room_after_step in_turn i room) (sym (ap (λ (b : Bool). cond b room ran) alive))
-            (runs_out in_turn i (in_turn_means i) (most_steps room.spec) room (up_of room i is below alive) (omega arith));
+            (runs_out in_turn i (in_turn_means i) (step_bound room.spec) room (up_of room i is below alive) (omega arith));
       };
-      reached = either_by IsReached (has_crashed room i) room ran (λ gone. is) (λ alive. while_reached in_turn i (most_steps room.spec) room is);
+      reached = either_by IsReached (has_crashed room i) room ran (λ gone. is) (λ alive. while_reached in_turn i (step_bound room.spec) room is);
       same = same_spec_ended room i;
     }
 
 alone_done : (room : RoomState) (i : ℕ) → i < room.spec.simulators → IsReached room → IsDone (RunsAlone room_kind) i room (ran_alone room_kind room i)
 alone_done room i below is =
     let awake = room_kind.wake room i in
-    let ran = steps_while room_after_step has_step (most_steps awake.spec) awake i in
+    let ran = steps_while room_after_step has_step (step_bound awake.spec) awake i in
     record {
       did = record {
         crashed = λ gone. ap (λ (b : Bool). cond b room (room_after_step ran i)) gone;
         alive = λ alive. (
           ran,
-          runs_out has_step i (has_step_means i) (most_steps awake.spec) awake (woken_up room awake i (up_of room i is below alive) refl) (omega arith),
+          runs_out has_step i (has_step_means i) (step_bound awake.spec) awake (woken_up room awake i (up_of room i is below alive) refl) (omega arith),
           ap (λ (b : Bool). cond b room (room_after_step ran i)) alive,
         );
       };
       reached = either_by IsReached (has_crashed room i) room (room_after_step ran i) (λ gone. is)
-          (λ alive. step_reached ran i (while_reached has_step i (most_steps awake.spec) awake (woken_reached room i below is)));
+          (λ alive. step_reached ran i (while_reached has_step i (step_bound awake.spec) awake (woken_reached room i below is)));
       same = same_spec_alone room i;
     }
 

@@ -21,7 +21,7 @@ use Rattle.simulator.specs.declared.line.Line.TheVariants.{Raise, GetView, Value
 use Rattle.simulator.specs.Minds.{MindOf, goal_at, current_goal, current_round}
 use Rattle.room_core.specs.Fields.{StepMap, Fields, levels_at, entry_of_steps, shown_value}
 use Rattle.room_core.specs.Agreements.{IsFixedAt, asks, first_with, view_at, written}
-use Rattle.room_core.specs.Contents.{or_zero, shown_by, IsDue, first_write, next_write, AreSmall}
+use Rattle.room_core.specs.Contents.{or_zero, shown_by_map, IsDue, first_write, next_write, AreSmall}
 use Rattle.room_core.proofs.agreements.Staying.{LevelsStay}
 use Rattle.room_core.proofs.agreements.Fixing.{fixed_has_least}
 use Rattle.room_core.proofs.moments.Contents.{first_has, due_only, ValuesDue, ValuesLow, small_more, padded_small, shown_value_is, AreFirst, first_more, padded_first, length_of_shown, shown_at, shown_none, shown_same}
@@ -41,7 +41,7 @@ pub record IsGathered (spec : RoomSpec) (fields : Fields) (j k : ℕ) (snapshot 
   pub fixed : IsFixedAt spec fields j k
   pub first : 1 ≤ k
   pub view : AreSameSteps spec.simulators (processes spec) snapshot (view_at spec fields j k)
-  pub so_far : AreFirst entries (shown_by spec fields snapshot)
+  pub so_far : AreFirst entries (shown_by_map spec fields snapshot)
   pub small : AreSmall entries
 
 pub record IsDeciding (spec : RoomSpec) (fields : Fields) (j k decision : ℕ) : Type 0 where
@@ -97,7 +97,7 @@ module _ (spec : RoomSpec) (fields : Fields) (within : ViewsWithin spec fields) 
       let at = known.chosen i chosen below turn.stands in
       let chosen_view = fields.view chosen mind.sweep (current_round mind) in
       let view = (view_loaded spec fields (own_of fields i) chosen).snapshot in
-      let all = shown_by spec fields view in
+      let all = shown_by_map spec fields view in
       let long : length all ≡ processes spec = length_of_shown spec fields view in
       record {
         fixed = at.fixed;
@@ -110,7 +110,7 @@ module _ (spec : RoomSpec) (fields : Fields) (within : ViewsWithin spec fields) 
   loaded_by reading (loads_value turn less row) =
       let mind = fields.mind i in
       let at = known.reading i below turn.stands in
-      let all = shown_by spec fields mind.snapshot in
+      let all = shown_by_map spec fields mind.snapshot in
       let p = length mind.entries in
       let entry : Option ℕ = Some (min (shown_value spec fields mind.snapshot p) greatest) in
       let long : length all ≡ processes spec = length_of_shown spec fields mind.snapshot in
@@ -133,15 +133,15 @@ module _ (spec : RoomSpec) (fields : Fields) (within : ViewsWithin spec fields) 
   full reading reads all =
       let at = loaded reading reads in
       let long = length_of_shown spec fields reading.snapshot in
-      ap length (at.so_far ∙ take_all (length reading.entries) (shown_by spec fields reading.snapshot) (omega (arith, long, all))) ∙ long
+      ap length (at.so_far ∙ take_all (length reading.entries) (shown_by_map spec fields reading.snapshot) (omega (arith, long, all))) ∙ long
 
   -- all entries gathered are those that the process sees
   pub acts : (reading : MindOf StepMap) → IsReading spec fields (own_of fields i) reading → processes spec ≤ length reading.entries → action_of spec reading ≡ asks spec fields reading.sweep (current_round reading)
   acts reading reads all =
       let at = loaded reading reads in
       let long = length_of_shown spec fields reading.snapshot in
-      let entries : reading.entries ≡ shown_by spec fields (view_at spec fields reading.sweep (current_round reading)) =
-      at.so_far ∙ take_all (length reading.entries) (shown_by spec fields reading.snapshot) (omega (arith, long, all)) ∙ ap (λ (row : List ℕ). agreements.shown_by spec fields row) (row_same spec.simulators (processes spec) reading.snapshot (view_at spec fields reading.sweep (current_round reading)) at.view) in
+      let entries : reading.entries ≡ shown_by_map spec fields (view_at spec fields reading.sweep (current_round reading)) =
+      at.so_far ∙ take_all (length reading.entries) (shown_by_map spec fields reading.snapshot) (omega (arith, long, all)) ∙ ap (λ (row : List ℕ). agreements.shown_by spec fields row) (row_same spec.simulators (processes spec) reading.snapshot (view_at spec fields reading.sweep (current_round reading)) at.view) in
       ap (λ (view : List (Option ℕ)). next_action spec.protocol (slice_index spec.inputs reading.sweep) reading.sweep (current_round reading) view) entries
 
 -- ---- from one moment to the next
@@ -162,7 +162,7 @@ module _ (spec : RoomSpec) (fields after : Fields) (some : 0 < spec.simulators) 
       let is = first_has spec after p r a below (omega arith) in
       due_only spec fields p r (written spec after p r) (written spec fields p r) (due_after (first_with spec after p r) p r is.0 below' first is.1) (known.values (first_with spec fields p r) p r was.0 below' first was.1)
 
-  shown_kept : (snapshot : StepMap) → AreAtMost spec.simulators (processes spec) snapshot fields.step → shown_by spec after snapshot ≡ shown_by spec fields snapshot
+  shown_kept : (snapshot : StepMap) → AreAtMost spec.simulators (processes spec) snapshot fields.step → shown_by_map spec after snapshot ≡ shown_by_map spec fields snapshot
   shown_kept snapshot low =
       shown_same spec fields after snapshot (λ p below' other.
       let who = merged_reached spec.simulators snapshot p some in
@@ -170,8 +170,8 @@ module _ (spec : RoomSpec) (fields after : Fields) (some : 0 < spec.simulators) 
       let e = who.2 in
       written_kept who.0 p (entry_of_steps spec snapshot p) who.1 below' (omega arith) (omega arith))
 
-  pub all_kept : (p k : ℕ) → 1 ≤ k → IsFixedAt spec fields p k → shown_by spec after (view_at spec after p k) ≡ shown_by spec fields (view_at spec fields p k)
-  all_kept p k first at = ap (λ (map : StepMap). shown_by spec after map) (view_kept p k first at) ∙ shown_kept (view_at spec fields p k) (view_within spec fields within p k first at)
+  pub all_kept : (p k : ℕ) → 1 ≤ k → IsFixedAt spec fields p k → shown_by_map spec after (view_at spec after p k) ≡ shown_by_map spec fields (view_at spec fields p k)
+  all_kept p k first at = ap (λ (map : StepMap). shown_by_map spec after map) (view_kept p k first at) ∙ shown_kept (view_at spec fields p k) (view_within spec fields within p k first at)
 
   pub asks_kept : (p k : ℕ) → 1 ≤ k → IsFixedAt spec fields p k → asks spec after p k ≡ asks spec fields p k
   asks_kept p k first at = ap (λ (view : List (Option ℕ)). next_action spec.protocol (slice_index spec.inputs p) p k view) (all_kept p k first at)

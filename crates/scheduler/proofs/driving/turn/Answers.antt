@@ -1,6 +1,6 @@
 use Rattle.std.proofs.Common.{◌+◌, ◌≤◌, sym, ◌∙◌, subst}
 use Rattle.simulator.specs.Ranges.{turn_limit}
-use Rattle.room_core.specs.Calls.{most_steps}
+use Rattle.room_core.specs.Calls.{step_bound}
 use Rattle.ruled_room.specs.Parts.{RoomName}
 use Rattle.scheduler.specs.Drives.{HasStopped}
 use Rattle.scheduler.proofs.Stepwise.{told_on, told_end, told_stop}
@@ -24,7 +24,7 @@ returns-then-resting-clause-fuse c =
 pub returns-then-resting-clause-more : goal.returns-then-resting-clause-more
 returns-then-resting-clause-more c =
     let at = told_end c.args.fuse.now c.args.simulator.now c.loop-stop.simulator c.advance.new.simulator c.advance.result c.loop-stop.invariant c.advance.ensures.sweep c.in_default.is c.advance.ensures.stop c.advance.ensures.step (sym c.resting.ensures ∙ c.if-resting.true) in
-    (at.more, subst (λ (room : RoomName). c.advance.new.simulator.sweep.mind.steps ≤ most_steps room.spec) c.requires at.most)
+    (at.more, subst (λ (room : RoomName). c.advance.new.simulator.sweep.mind.steps ≤ step_bound room.spec) c.requires at.most)
 
 pub loop-stop-smaller : goal.loop-stop-smaller
 loop-stop-smaller c =

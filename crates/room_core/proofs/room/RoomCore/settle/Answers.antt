@@ -27,7 +27,7 @@ pub returns-clause-agreement : goal.returns-clause-agreement
 returns-clause-agreement c = λ fields are. agreements_stay c.args.self.now fields Settle c.finish_turns.ensures.is_room.shape.limits are
 
 pub returns-clause-settled : goal.returns-clause-settled
-returns-clause-settled c = λ fields are i j below low alive left. settled_for c.args.self.now fields c.finish_turns.ensures.is_room.shape.limits are i j below low alive left
+returns-clause-settled c = λ fields are left j low. settled_for c.args.self.now fields c.finish_turns.ensures.is_room.shape.limits are left j low
 
 pub returns-clause-certified : goal.returns-clause-certified
-returns-clause-certified c = λ fields are f certified two i j below low alive left. certified_for c.args.self.now fields c.finish_turns.ensures.is_room.shape.limits are f certified two i j below low alive left
+returns-clause-certified c = λ fields are f certified two left j low. certified_for c.args.self.now fields c.finish_turns.ensures.is_room.shape.limits are f certified two left j low
