@@ -61,7 +61,7 @@ fn answered<H: Threads + Wait + Sync, R: Read, W: Write>(
     }
 }
 
-/// It takes one byte a call, and fails once it has taken so many.
+/// It takes one byte a call, and fails once it has taken `room`.
 #[derive(Drop)]
 struct Filling {
     taken: Vec<u8>,
@@ -85,7 +85,7 @@ impl Write for Filling {
     }
 }
 
-/// What a row's mode answers where its input comes byte by byte and the reader fails after so many,
+/// What a row's mode answers where its input comes byte by byte and the reader fails after `fails`,
 /// and how many bytes it writes.
 fn read_so_far<H: Threads + Wait + Sync>(
     threads: &H,

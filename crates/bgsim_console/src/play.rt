@@ -129,7 +129,7 @@ impl Player {
         write_refused_code(&mut self.output, number, Refusal::OutOfMemory.code())
     }
 
-    /// What it has come to. The service is let go.
+    /// The output and the ending. Drops the service.
     fn ended(self) -> Played
         ensures output { result.output ≡ self.output }
         ensures ending { result.ending ≡ ending_if self.lacking self.refused }

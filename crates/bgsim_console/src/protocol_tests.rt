@@ -43,7 +43,7 @@ fn shortest_texts(rt: HostRuntime) -> Result<(), Fail> {
     Ok(())
 }
 
-/// `head`, and then `part` so many times, and then `tail`.
+/// `head`, then `part` `count` times, then `tail`.
 fn repeated(
     alloc: Global,
     head: &str,

@@ -50,7 +50,7 @@ pub fn run_blocks<H: Threads + Wait + Sync, G: Gate + Sync>(
     Ok(Ran { output, outcome })
 }
 
-/// Runs the rooms of these specs, so many at the same time, and puts their reports behind the output.
+/// Runs the rooms of these specs, at most [`ROOMS_AT_ONCE`] at a time, and puts their reports behind the output.
 /// What a part of them took is let go before the next.
 fn run_in_parts<H: Threads + Wait + Sync, G: Gate + Sync>(
     rt: &H,

@@ -17,7 +17,7 @@ const REST: &str =
 
 const PAIR: &str = "bgsim 1\nroom pair\ninputs 7 3\nsimulators 2\nrounds 1\nturns 100\n";
 
-/// What a run by so many workers answers, and what it writes.
+/// What a run by `workers` workers answers, and what it writes.
 fn ran<H: Threads + Wait + Sync>(
     threads: &H,
     alloc: Global,
@@ -73,7 +73,7 @@ fn rooms(alloc: Global, count: u64) -> Result<String, Fail> {
     Ok(text)
 }
 
-/// What a run by so many workers answers, and who came to its gate.
+/// What a run by `workers` workers answers, and who came to its gate.
 fn gated<H: Threads + Wait + Sync>(
     threads: &H,
     alloc: Global,

@@ -39,7 +39,7 @@ impl Tally {
         Ok(Some(Box::new(alloc, tally)?))
     }
 
-    /// Takes in an event, which stands on this line, of a room whose task allows so many values.
+    /// Takes in an event, which stands on this line, of a room whose task allows `most` values.
     pub fn feed(&mut self, spec: &Spec, most: usize, event: &Event, line: u64)
         requires { most ≤ 16 }
         ensures { (fed : List FedEvent) (one : FedEvent) → one.event ≡ event.now → one.line ≡ line

@@ -32,7 +32,7 @@ impl Decided {
         }
     }
 
-    /// Takes one more decision in, if a task of so many values allows it.
+    /// Takes one more decision in, if a task of at most `most` values allows it.
     #[tactic(auto, using(crate::proofs::Tallies::refuses))]
     fn take(&mut self, spec: &Spec, most: usize, v: u32) -> bool
         requires { most ≤ 16 }
@@ -51,7 +51,7 @@ impl Decided {
         true
     }
 
-    /// Takes an event in, if a task of so many values allows it. Those that decide nothing change nothing.
+    /// Takes an event in, if a task of at most `most` values allows it. Those that decide nothing change nothing.
     pub fn follow(&mut self, spec: &Spec, most: usize, event: &Event) -> bool
         requires { most ≤ 16 }
         ensures { HasDecided spec.now most event.now self.old result self.new }
@@ -77,7 +77,7 @@ pub fn check_task(spec: &Spec, events: &[Event]) -> Result<(), usize>
     }
 }
 
-/// The same of a task that allows so many different values.
+/// The same of a task that allows `most` different values.
 fn check_agreement(spec: &Spec, most: usize, events: &[Event]) -> Result<(), usize>
     requires { most ≤ 16 }
     ensures keeps { IsOk result ↔ KeepsTask spec.now most events.now }

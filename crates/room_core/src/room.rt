@@ -207,7 +207,7 @@ impl RoomCore {
         ensures most { result ≤ most }
         // It took all that it could.
         ensures stopped { result < most → step_reply self.new i ≢ replies.Stepped }
-        // In its fields it is so many calls of the replay, each of which is answered so.
+        // In its fields it is as many calls of the replay, each answered `Stepped`.
         ensures fields { (fields : Fields) → AreFieldsOf self.old fields → AreFieldsOf self.new (fields_after_steps self.old.spec fields i result) }
         ensures replies { (fields : Fields) (count : ℕ) → AreFieldsOf self.old fields → count < result → step_reply_in self.old.spec (fields_after_steps self.old.spec fields i count) i ≡ replies.Stepped }
         // What was agreed on stays.
@@ -372,7 +372,7 @@ fn run_turn(sweep: &mut Sweep, spec: &Spec, words: &mut RoomWords, most: u64) ->
     taken
 }
 
-/// So many words that are 0.
+/// `count` words that are 0.
 fn zeros(alloc: Global, count: usize) -> Result<Vec<u64>, AllocError>
     ensures { IfOk result (λ words. words.items ≡ replicate count 0) }
 {
@@ -389,7 +389,7 @@ fn opening_sweeps(alloc: Global, spec: &Spec) -> Result<Vec<Sweep>, AllocError>
     Ok(sweeps)
 }
 
-/// Marks for so many simulators of whom nobody has crashed.
+/// `m` marks: none has crashed.
 fn nobody(m: usize) -> ArrayVec<bool, 8>
     requires { m ≤ 8 }
     ensures { result.items ≡ replicate m false }

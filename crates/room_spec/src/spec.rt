@@ -208,7 +208,7 @@ impl Spec {
     }
 }
 
-/// The binary digits of a step number of a room with so many rounds.
+/// The binary digits of a step number, by the room's number of rounds.
 pub(crate) fn bits(rounds: usize) -> usize
     ensures { result ≡ bits_of rounds }
 {
@@ -220,7 +220,7 @@ pub(crate) fn bits(rounds: usize) -> usize
     }
 }
 
-/// How many memory words a room of so many simulators, processes and rounds has, 1 to 4.
+/// How many memory words a room of `m` simulators, `n` processes and these rounds has, 1 to 4.
 #[tactic(auto, unfolding(crate::specs::Sizes::memory_words))]
 pub(crate) fn memory_words(m: usize, n: usize, rounds: usize) -> u8
     requires { IsShape n m (bits_of rounds) rounds }

@@ -192,7 +192,7 @@ fn first_sweep(alloc: Global, spec: &Spec, i: usize) -> Result<BoxedSweep, Alloc
     BoxedSweep::new(alloc, Sweep::new(spec, i))
 }
 
-/// Marks for so many simulators of whom nobody has crashed.
+/// `m` marks: none has crashed.
 fn nobody(m: usize) -> ArrayVec<bool, 8>
     requires { m ≤ 8 }
     ensures { result.items ≡ replicate m false }

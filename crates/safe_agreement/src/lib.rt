@@ -31,7 +31,7 @@ pub fn resolved(levels: &[u8]) -> Option<usize>
     ensures exact { result ≡ resolved_of levels.now }
     // It is the least simulator at level 2 of a clean agreement.
     ensures found { IfSome result (λ simulator. IsResolvedTo levels.now simulator) }
-    // It is there for each clean agreement.
+    // There is one for each clean agreement.
     ensures none { IfNone result (IsClean levels.now → ⊥) }
 {
     if levels.contains(&1) {

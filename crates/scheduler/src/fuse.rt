@@ -21,7 +21,7 @@ impl Model for Fuse {
 }
 
 impl Fuse {
-    /// It crashes where it has taken exactly so many steps.
+    /// It crashes where it has taken exactly `steps` steps.
     pub fn after(steps: u64) -> Fuse
         ensures { result ≡ Some steps }
     {
@@ -35,7 +35,7 @@ impl Fuse {
         Fuse { after: None }
     }
 
-    /// Whether it has burnt down after so many steps.
+    /// Whether it has burnt down after `steps` steps.
     pub(crate) fn is_burnt(&self, steps: u64) -> bool
         ensures { result ≡ is_burnt self.now steps }
     {

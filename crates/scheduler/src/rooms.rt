@@ -108,14 +108,14 @@ pub fn run_rooms<R: Threads + Wait + Sync, G: Gate + Sync>(
 /// time than it saves, and memory of its own.
 const ROOMS_A_THREAD: usize = 32;
 
-/// How many threads end so many rooms: no more than there are workers. One does where it is 0.
+/// How many threads close the rooms: at most one a worker. 0 means the calling thread alone.
 fn ending_threads(rooms: usize, workers: u8) -> u8
     ensures { result ≡ min workers (rooms / 32) }
 {
     usize::from(workers).min(rooms / ROOMS_A_THREAD) as u8
 }
 
-/// Ends all rooms, by so many threads at the same time: each ends an equal part of them.
+/// Closes and reports all rooms on `threads` threads, an equal part on each.
 #[cycle(parts)]
 fn finish_by<R: Threads>(
     rt: &R,
@@ -146,7 +146,7 @@ fn finish_by<R: Threads>(
     Ok(both(first?, rest?)?)
 }
 
-/// Leaves so many rooms, the first, and gives the others.
+/// Splits off the rooms from `count` on.
 fn cut(
     rooms: &mut Vec<RuledRoom>,
     keepers: &mut Vec<Keeper>,

@@ -42,7 +42,7 @@ impl Refusal {
 pub enum Reply {
     /// The room is open.
     Begun,
-    /// The simulator took so many steps, and this was the last answer to it.
+    /// The simulator took `taken` steps, and the last call for one was answered by `last`.
     Steps { taken: u16, last: StepReply },
     /// Whether the simulator has crashed now, or had before.
     Crash(CrashReply),

@@ -76,7 +76,7 @@ pub(crate) fn unfinished_in(goals: &[Goal]) -> usize
     goals.iter().filter(|goal| goal.is_unfinished()).count()
 }
 
-/// Whether more than so many processes are neither done nor spent.
+/// Whether more than `count` processes are neither done nor spent.
 pub(crate) fn more_unfinished(goals: &[Goal], count: u8) -> bool
     ensures { result ≡ nat_lt count (unfinished_in goals.now) }
 {

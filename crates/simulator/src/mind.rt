@@ -184,7 +184,7 @@ impl Mind {
         unfinished_in(self.goals.as_slice())
     }
 
-    /// Whether something is left to do for more than so many processes.
+    /// Whether something is left to do for more than `count` processes.
     pub(crate) fn more_unfinished(&self, count: u8) -> bool
         ensures { result ≡ nat_lt count (unfinished_in self.now.goals) }
     {

@@ -97,7 +97,7 @@ fn in_round(shape: &Shape, row: usize, round: usize) -> usize
     row * shape.rounds + (round - 1)
 }
 
-/// The number of a word among the words of so many views, each of which has all of them.
+/// The number of a memory word of a view among those of all views, by the view's number.
 fn in_words(shape: &Shape, view: usize, word: usize) -> usize
     requires few { view < 1920 }
     requires word { IsMemoryWord (sizes_of shape.now) word }

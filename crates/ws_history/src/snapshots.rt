@@ -16,8 +16,7 @@ use crate::reading::{
 use room_core::RoomCore;
 use std::alloc::{AllocError, Global};
 
-/// The snapshot of a process after so many writes of its own: how many writes of all processes it
-/// shows, and of each. Snapshots go by that sum, and then by process; no two that a room has passed share both.
+/// A snapshot of a process: how many writes of all processes it shows, and of each. Snapshots go by that sum, and then by process; no two that a room has passed share both.
 #[derive(Default, Drop, PartialEq, Eq, PartialOrd, Ord)]
 pub(crate) struct Agreed {
     pub(crate) sum: usize,

@@ -53,7 +53,7 @@ impl<'a> Line<'a> {
         }
     }
 
-    /// The same, with so many workers.
+    /// The same, with this number of workers.
     pub fn with_workers(self, workers: u8) -> Line<'a>
         ensures { result ≡ record self.entry { workers = workers } }
     {
