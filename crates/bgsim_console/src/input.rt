@@ -1,7 +1,7 @@
 //! The whole of a reader's bytes.
 ghost use Rattle.bgsim_console.specs.Ends.{is_read_failed};
 ghost use Rattle.std.specs.Prelude.{◌≡◌, ◌||◌, ◌+◌, ◌≤◌, ◌<◌, false, IfOk, IfErr, IfSome, length};
-ghost use Rattle.bgsim_console.specs.Reading.{IsPiece, IsReadFault, IsWholeInput, MayEnd};
+ghost use Rattle.bgsim_console.specs.Reading.{IsPiece, IsReadFault, IsWholeInput, MayEnd, most_bytes};
 
 use crate::device::Device;
 use crate::fault::IoFault;
@@ -18,7 +18,7 @@ const PIECE: usize = 65536;
 pub fn read_input<R: Read>(alloc: Global, reader: &mut Device<R>) -> Result<Vec<u8>, IoFault>
     requires { reader.old.failed ≡ false }
     ensures whole { IfSome (R.remaining reader.old.inner) (λ input. IsWholeInput input result) }
-    ensures short { IfOk result (λ text. length text.items ≤ 16777216) }
+    ensures short { IfOk result (λ text. length text.items ≤ most_bytes) }
     ensures err { IfErr result IsReadFault }
     ensures failed { reader.new.failed ≡ is_read_failed result }
     ensures reads { reader.new.calls ≤ reader.old.calls + 16777217 }
@@ -46,9 +46,9 @@ fn read_piece<R: Read>(
     text: &mut Vec<u8>,
 ) -> Result<usize, IoFault>
     requires room { 0 < length piece.old }
-    requires short { length text.old.items ≤ 16777216 }
+    requires short { length text.old.items ≤ most_bytes }
     ensures given { IfOk result (IsPiece (R.remaining reader.old.inner) (R.remaining reader.new.inner) text.old.items text.new.items) }
-    ensures short { IfOk result (λ count. length text.new.items ≤ 16777216) }
+    ensures short { IfOk result (λ count. length text.new.items ≤ most_bytes) }
     ensures err { IfErr result (MayEnd (R.remaining reader.old.inner) text.old.items) }
     ensures failed { reader.new.failed ≡ (reader.old.failed || is_read_failed result) }
     ensures grows { IfOk result (λ count. length text.new.items ≡ length text.old.items + count) }

@@ -2,6 +2,7 @@
 ghost use Rattle.std.specs.Prelude.{◌≡◌, ◌≤◌, List, Ok, IfOk, IfErr, length};
 ghost use Rattle.history_checker.specs.Verdicts.{FedEvent, HasProcessed, specs_of};
 ghost use Rattle.bgsim_console.specs.Check.{IsFaultOr, MayLackMemory, IsOutput, IsOutputFor, input_says, is_well, outcome_if};
+ghost use Rattle.bgsim_console.specs.Reading.{most_bytes};
 
 use crate::events::feed_events;
 use crate::fault::{IoFault, Outcome};
@@ -20,7 +21,7 @@ pub struct Answer {
 
 /// Judges an input.
 pub fn judge(alloc: Global, input: &[u8]) -> Result<Answer, IoFault>
-    requires { length input.now ≤ 16777216 }
+    requires { length input.now ≤ most_bytes }
     ensures output { IfOk result (λ answer. IsOutputFor input.now answer.outcome answer.output) }
     ensures err { IfErr result (IsFaultOr (MayLackMemory input.now) (input_says input.now)) }
 {

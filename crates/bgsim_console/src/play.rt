@@ -6,10 +6,10 @@ ghost use Rattle.service_core.specs.Runs.{is_want};
 ghost use Rattle.bgsim_console.specs.Check.{IsFaultOr, fault_text, refused_line};
 ghost use Rattle.bgsim_console.specs.Play.{AreDone, Done, HasPlayed, IsDone, IsPlayFor, PlaysOn, Replied, ending_if, is_refusal};
 ghost use Rattle.bgsim_console.specs.ReplyTexts.{reply_text, sim_in};
-ghost use Rattle.bgsim_console.specs.declared.fault.IoFault.TheVariants.{BadInput};
 ghost use Rattle.bgsim_console.specs.Script.{Entry, Open, command_in, entry_at, is_open, script_from, script_says};
+ghost use Rattle.bgsim_console.specs.Reading.{most_bytes};
 
-use crate::fault::{IoFault, Outcome};
+use crate::fault::{IoFault, Outcome, bad_input};
 use crate::judge::outcome_if;
 use crate::lines::count_lines;
 use crate::reply::write_reply;
@@ -34,7 +34,7 @@ pub struct Played {
 
 /// Judges a script, and does what it asks for where it has no fault.
 pub fn play(alloc: Global, script: &[u8]) -> Result<Played, IoFault>
-    requires { length script.now ≤ 16777216 }
+    requires { length script.now ≤ most_bytes }
     ensures text { IfOk result (λ played. IsPlayFor script.now played.ending played.output) }
     // Want of memory hides no bad line.
     ensures err { IfErr result (IsFaultOr (IsOk (script_says script.now)) (script_says script.now)) }
@@ -198,7 +198,7 @@ fn is_want(reply: &Reply) -> bool
 
 /// Does what a script asks for, up to its first bad line.
 fn play_script(alloc: Global, script: &[u8]) -> Result<Player, IoFault>
-    requires { length script.now ≤ 16777216 }
+    requires { length script.now ≤ most_bytes }
     ensures played { IfOk result (λ player. (entries : List Entry) × (all : List Done) × (script_says script.now ≡ Ok entries) × AreDone entries all × HasPlayed all player.service player.output player.refused player.lacking) }
     ensures err { IfErr result (IsFaultOr (IsOk (script_says script.now)) (script_says script.now)) }
 {
@@ -210,7 +210,7 @@ fn play_script(alloc: Global, script: &[u8]) -> Result<Player, IoFault>
             return Err(judge_unplayed(rest, number));
         };
         if !good {
-            return Err(bad_line(number));
+            return Err(bad_input(number, BAD_COMMAND));
         }
         number += 1 + count_lines(block);
         rest = later;
@@ -228,7 +228,7 @@ fn judge_unplayed(text: &[u8], first: u64) -> IoFault
     let mut number = first;
     while let Some((line, block, later)) = next_entry(rest) {
         if !is_good(line) {
-            return bad_line(number);
+            return bad_input(number, BAD_COMMAND);
         }
         number += 1 + count_lines(block);
         rest = later;
@@ -240,13 +240,4 @@ fn is_good(line: &[u8]) -> bool
     ensures { result ≡ (is_open line.now || is_some (command_in line.now)) }
 {
     is_open(line) || read_command(line).is_some()
-}
-
-fn bad_line(line: u64) -> IoFault
-    ensures { result ≡ BadInput line 60 }
-{
-    IoFault::BadInput {
-        line,
-        code: BAD_COMMAND,
-    }
 }

@@ -13,12 +13,7 @@ use transcript::Event;
 use ws_history::{ProcessState, Report};
 
 /// Writes the lines of a reply to a command for the room of this name and for this simulator of it.
-pub fn write_reply(
-    output: &mut Text,
-    name: &[u8],
-    sim: u8,
-    reply: &Reply,
-) -> Result<(), AllocError>
+pub fn write_reply(output: &mut Text, name: &[u8], sim: u8, reply: &Reply) -> Result<(), AllocError>
     ensures { OnOk result (output.new ≡ output.old ++ reply_text name.now sim reply.now) }
 {
     match reply {
@@ -60,12 +55,7 @@ fn step_end(reply: StepReply) -> &'static [u8]
     }
 }
 
-fn write_crash(
-    output: &mut Text,
-    name: &[u8],
-    sim: u8,
-    reply: CrashReply,
-) -> Result<(), AllocError>
+fn write_crash(output: &mut Text, name: &[u8], sim: u8, reply: CrashReply) -> Result<(), AllocError>
     ensures { OnOk result (output.new ≡ output.old ++ (name.now ++ (codes " crash " ++ (decimal sim ++ (codes " " ++ (crash_word reply ++ codes "\n")))))) }
 {
     output.put_two(name, b" crash")?;
@@ -248,11 +238,7 @@ fn write_entries(
 }
 
 /// Writes a space and an entry: a value, or `.` for nothing.
-fn write_entry(
-    output: &mut Text,
-    shown: &mut Numeral,
-    entry: Option<u32>,
-) -> Result<(), AllocError>
+fn write_entry(output: &mut Text, shown: &mut Numeral, entry: Option<u32>) -> Result<(), AllocError>
     ensures { OnOk result (output.new ≡ output.old ++ 32 ∷ entry_text entry) }
 {
     let Some(value) = entry else {

@@ -98,12 +98,7 @@ pub fn write_task(
 }
 
 /// Writes what is broken, in these words, and the number of the line that breaks it.
-fn write_broken(
-    output: &mut Text,
-    name: &Name,
-    words: &[u8],
-    line: u64,
-) -> Result<(), AllocError>
+fn write_broken(output: &mut Text, name: &Name, words: &[u8], line: u64) -> Result<(), AllocError>
     ensures { OnOk result (output.new ≡ output.old ++ (name.now ++ (words.now ++ (codes " " ++ (decimal line ++ codes "\n"))))) }
 {
     output.put_two(name.as_str().as_bytes(), words)?;

@@ -3,6 +3,7 @@ ghost use Rattle.std.specs.Prelude.{◌≡◌, ◌<◌, ◌≤◌, ◌++◌, IfE
 ghost use Rattle.std.specs.List.{flat_map};
 ghost use Rattle.bgsim_console.specs.ReplyTexts.{report_text};
 ghost use Rattle.bgsim_console.specs.Run.{AddsReports, AreWorkers, IsRunFor, MayEndRun};
+ghost use Rattle.bgsim_console.specs.Reading.{most_bytes};
 
 use crate::fault::{IoFault, Outcome};
 use crate::judge::outcome_if;
@@ -16,11 +17,9 @@ use std::alloc::{AllocError, Global};
 use std::sync::Wait;
 use std::thread::Threads;
 
-/// The most rooms that run at the same time, by the number of workers: with many of them more, since
-/// threads are started for each part. While it runs a room takes some 4 KB, however short its block is.
-fn rooms_at_once(workers: u8) -> usize {
-    if workers < 4 { 128 } else { 256 }
-}
+/// The most rooms that run at the same time. While it runs a room takes some 4 KB, however short its
+/// block is.
+const ROOMS_AT_ONCE: usize = 128;
 
 /// A text of reports, and the outcome that goes with it.
 #[derive(Drop)]
@@ -37,7 +36,7 @@ pub fn run_blocks<H: Threads + Wait + Sync, G: Gate + Sync>(
     workers: u8,
     gate: &G,
 ) -> Result<Ran, IoFault>
-    requires { length input.items ≤ 16777216 }
+    requires { length input.items ≤ most_bytes }
     ensures output { IfOk result (λ ran. IsRunFor workers input.items ran.outcome ran.output) }
     ensures err { IfErr result (MayEndRun workers) }
 {
@@ -65,7 +64,7 @@ fn run_in_parts<H: Threads + Wait + Sync, G: Gate + Sync>(
     ensures err { IfErr result (MayEndRun workers) }
 {
     loop {
-        let part = next_part(alloc, &mut left, rooms_at_once(workers))?;
+        let part = next_part(alloc, &mut left)?;
         run_part(rt, alloc, part, workers, gate, output)?;
         if left.is_empty() {
             return Ok(());
@@ -73,8 +72,8 @@ fn run_in_parts<H: Threads + Wait + Sync, G: Gate + Sync>(
     }
 }
 
-/// Takes the specs of the rooms that run next off the front: so many, or all that are left.
-fn next_part(alloc: Global, left: &mut Specs, most: usize) -> Result<Vec<Spec>, AllocError>
+/// Takes the specs of the rooms that run next off the front: all that are left where they are few.
+fn next_part(alloc: Global, left: &mut Specs) -> Result<Vec<Spec>, AllocError>
     ensures part { IfOk result (λ part. left.old ≡ part.items ++ left.new) }
     // Where some are left, some were taken.
     ensures fewer { OnOk result (0 < length left.new → length left.new < length left.old) }
@@ -82,7 +81,7 @@ fn next_part(alloc: Global, left: &mut Specs, most: usize) -> Result<Vec<Spec>, 
     let mut part = Vec::new(alloc);
     while let Some(spec) = left.take_first() {
         part.push(spec)?;
-        if part.len() == most {
+        if part.len() == ROOMS_AT_ONCE {
             return Ok(part);
         }
     }

@@ -4,6 +4,7 @@ ghost use Rattle.bgsim_console.specs.declared.fault.IoFault.TheVariants.{Memory}
 ghost use Rattle.room_spec.specs.Blocks.{IsHeadRight, block_in, room_in};
 ghost use Rattle.bgsim_console.specs.Run.{all_blocks};
 ghost use Rattle.bgsim_console.specs.Check.{no_blocks, refuse, open_room, after_block, pass_lines, blocks_in, fault_text, BeginsWithBlock, IsEnded, IsFaultOr};
+ghost use Rattle.bgsim_console.specs.Reading.{most_bytes};
 
 use crate::fault::{IoFault, bad_input};
 use crate::lines::count_lines;
@@ -189,7 +190,7 @@ fn read_lines<'a>(
 /// Takes the blocks up to the line `events`: what they say, and the text behind that line.
 #[tactic(auto, unfolding(crate::specs::Check::blocks_from))]
 pub fn read_blocks(alloc: Global, input: &[u8]) -> Result<(Setup, &[u8]), IoFault>
-    requires { length input.now ≤ 16777216 }
+    requires { length input.now ≤ most_bytes }
     ensures read { IfOk result (λ read. blocks_in input.now ≡ Ok (read.0, read.1.now)) }
     ensures fits { IfOk result (λ read. read.0.line + length read.1.now < 2 ^ 64) }
     ensures err { IfErr result (IsFaultOr (BeginsWithBlock input.now) (blocks_in input.now)) }
@@ -216,7 +217,7 @@ pub fn read_blocks(alloc: Global, input: &[u8]) -> Result<(Setup, &[u8]), IoFaul
 /// it is cut off, and refused.
 #[tactic(auto, unfolding(crate::specs::Run::all_blocks_from))]
 pub fn read_all_blocks(alloc: Global, input: &[u8]) -> Result<Setup, IoFault>
-    requires { length input.now ≤ 16777216 }
+    requires { length input.now ≤ most_bytes }
     ensures read { IfOk result (λ setup. setup ≡ all_blocks input.now) }
     ensures err { IfErr result (λ fault. fault ≡ Memory) }
 {

@@ -33,7 +33,7 @@ returns-then-not-is_good c = λ all whole.
     let line = c.in-Some.line.now in
     let block = c.in-Some.block.now in
     let read = script_from all c.args.first c.args.text.now in
-    subst (λ (fault : IoFault). IsFaultOr (IsOk read) read fault) (sym c.bad_line.ensures)
+    subst (λ (fault : IoFault). IsFaultOr (IsOk read) read fault) (sym c.bad_input.ensures)
     (bad_entry inv.0 number c.loop-line.rest.now line block inv.1 read (number, 60) inv.2 c.in-Some.ensures.none c.in-Some.ensures.line c.in-Some.ensures.block
     (bad_line number line block (sym c.is_good.ensures ∙ c.if-not-is_good.true)) inv.3)
 

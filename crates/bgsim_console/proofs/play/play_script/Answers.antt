@@ -40,7 +40,7 @@ returns-then-not-good-clause-err c =
     let line = c.in-Some.line.now in
     let block = c.in-Some.block.now in
     let read = script_says c.args.script.now in
-    subst (λ (fault : IoFault). IsFaultOr (IsOk read) read fault) (sym c.bad_line.ensures)
+    subst (λ (fault : IoFault). IsFaultOr (IsOk read) read fault) (sym c.bad_input.ensures)
     (bad_entry inv.0 number c.loop-line.rest.now line block inv.1 read (number, 60) inv.3 c.in-Some.ensures.none c.in-Some.ensures.line c.in-Some.ensures.block
     (bad_line number line block (sym c.in-Ok.ensures.good ∙ c.if-not-good.true)) inv.4)
 

@@ -13,7 +13,7 @@ goes_to_values c =
     let spec = c.args.spec.now in
     let mind = the_view c.self.inside in
     let shown : eqb (entry_in spec mind.snapshot (length mind.entries)) 0 ≡ false =
-        subst (λ (at : ℕ). eqb (entry_in spec mind.snapshot at) 0 ≡ false) c.len-process.ensures.value (c.notes_some.ensures c.if-notes_some.true) in
+    subst (λ (at : ℕ). eqb (entry_in spec mind.snapshot at) 0 ≡ false) c.len-process.ensures.value (c.notes_some.ensures c.if-notes_some.true) in
     let less : length mind.entries < processes spec = omega arith in
     gathers_on spec (entry_in spec c.args.self.now.snapshot) c.args.self.now
     (subst (λ (mind : MindState). length mind.entries < processes spec) c.self.view_is less)
