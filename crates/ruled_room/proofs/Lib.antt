@@ -1,5 +1,7 @@
+pub mod CallerLemmas
 mod Moving
 mod Running
+mod Turning
 mod Sharing
 mod Ends
 mod Homes

@@ -1,7 +1,6 @@
 -- A simulator's step keeps the rule.
-use Rattle.std.proofs.Common.{◌≡◌, ◌≢◌, ℕ, zero, suc, ◌<◌, false, List, [], ◌∷◌, ◌++◌, map, length, get_or, set, take, refl, sym, ap, ◌∙◌, subst, inr, ⊎_elim, arith, Option, Some, None}
+use Rattle.std.proofs.Common.{◌≡◌, ◌≢◌, ℕ, zero, suc, ◌<◌, false, List, [], ◌∷◌, ◌++◌, length, get_or, set, take, refl, sym, ap, ◌∙◌, subst, inr, ⊎_elim, arith, Option, Some, None}
 use Rattle.std.specs.Prelude.{replicate}
-use Rattle.std.specs.Option.{option_map}
 use Rattle.std.proofs.lemmas.List.{length-map, length-set, get_or-set_other, map-set, set-get_or}
 use mathlib.Core.Option.{some, some-injective, some-ne-none}
 use lib.ListN.{get_elem?}
@@ -21,6 +20,7 @@ use Rattle.ruled_room.specs.Views.{alone, further, mind_of, minds_of_all, noted,
 use Rattle.ruled_room.specs.Rule.{AreHeldBy, room_of, word_count, IsBlank, IsRunning, Kept}
 use Rattle.ruled_room.specs.Runs.{IsInterleavingOf, operation_in}
 use Rattle.ruled_room.proofs.Running.{goes_on, map_there}
+use Rattle.ruled_room.specs.Seats.{only-further}
 
 pub only-here : (i : ℕ) (x : Progress) → get_or (only i x) i None ≡ Some x
 only-here zero x = refl
@@ -31,10 +31,6 @@ only-else zero x zero y e = (refl, sym (cc))
 only-else zero x (suc j) y e = absurd (cc)
 only-else (suc i) x zero y e = absurd (cc)
 only-else (suc i) x (suc j) y e = let h = only-else i x j y e in (ap suc h.0, h.1)
-
-pub only-further : (spec : RoomSpec) (move : Move) (i : ℕ) (x : Progress) (a : ℕ) → map (option_map (further spec move a)) (only i x) ≡ only i (further spec move a x)
-only-further spec move zero x a = refl
-only-further spec move (suc i) x a = ap (λ (l : List (Option Progress)). None ∷ l) (only-further spec move i x a)
 
 pub take-set_any : {X : Type 0} (n : ℕ) (l : List X) (i : ℕ) (x : X) → take n (set l i x) ≡ set (take n l) i x
 take-set_any zero l i x = refl

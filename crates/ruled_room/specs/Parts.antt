@@ -1,14 +1,15 @@
 -- What a contract sees of a room on shared words, its keeper and its simulators.
-use Rattle.std.specs.Prelude.{◌≡◌, ℕ, ◌<◌, Bool, true, false, not, ◌&&◌, List, [], length, map, IsSome, is_some, Option, Some, None, slice_index_or, slice_set}
+use Rattle.std.specs.Prelude.{◌≡◌, ◌⊎◌, ℕ, suc, ◌-◌, ◌<◌, ◌≤◌, Bool, true, false, not, ◌&&◌, List, [], ◌∷◌, length, map, take, IsSome, is_some, Option, Some, None, slice_index_or, slice_set}
 use Rattle.std.specs.List.{range_with_len}
 use Rattle.std.specs.Option.{option_map}
 use Rattle.atomic_table.specs.Seated.{TableId}
 use Rattle.room_spec.specs.Rooms.{RoomSpec}
+use Rattle.simulator.specs.Bounds.{IsReadyThroughout}
 use Rattle.simulator.specs.Minds.{MindState}
 use Rattle.simulator.specs.Moves.{move_of, taken}
 use Rattle.simulator.specs.Quiet.{IsQuietCount}
 use Rattle.simulator.specs.Ranges.{IsMind}
-use Rattle.simulator.specs.Sweeps.{SweepState, opening_sweep}
+use Rattle.simulator.specs.Sweeps.{SweepState, is_resting, opening_sweep}
 use Rattle.room_core.specs.Calls.{sweep_after, woken}
 use Rattle.room_core.specs.declared.reply.StepReply.{StepReply}
 use Rattle.room_core.specs.declared.reply.StepReply.TheVariants.{Stepped, Idle, OutOfTurns, Crashed, NoSimulator}
@@ -60,6 +61,34 @@ TakesStep old Idle new = new ≡ with_woken old
 TakesStep old OutOfTurns new = new ≡ old
 TakesStep old Crashed new = ⊥
 TakesStep old NoSimulator new = ⊥
+
+-- the simulator after one step for each of these answers of the room's words
+abbrev pub after_steps : SimulatorData → List ℕ → SimulatorData
+after_steps start [] = start
+after_steps start (answer ∷ answers) = after_steps (stepped_with start answer) answers
+
+-- its turn is open after each of the first `count` steps
+abbrev pub StaysInTurn : SimulatorData → List ℕ → ℕ → Type 0
+StaysInTurn start answers count = (k : ℕ) → k < count → is_resting (after_steps start (take (suc k) answers)).sweep.mind.line ≡ false
+
+-- Steps of one turn, at most so many, and one at least where any may be taken. It was ready for each. The last alone may have ended
+-- the turn, and has where they are fewer.
+pub record StepsInTurn (most : ℕ) (old new : SimulatorData) : Type 0 where
+  pub answers : List ℕ
+  pub is : new ≡ after_steps old answers
+  pub ready : IsReadyThroughout old.room.spec old.sweep answers
+  pub stays : StaysInTurn old answers (length answers - 1)
+  pub within : length answers ≤ most
+  pub some : 0 < most → 0 < length answers
+  pub ended : (length answers ≡ most) ⊎ (is_resting new.sweep.mind.line ≡ true)
+
+-- as TakesStep, with up to so many steps of one turn
+abbrev pub TakesSteps : ℕ → SimulatorData → StepReply → SimulatorData → Type 0
+TakesSteps most old Stepped new = StepsInTurn most old new
+TakesSteps most old Idle new = new ≡ with_woken old
+TakesSteps most old OutOfTurns new = new ≡ old
+TakesSteps most old Crashed new = ⊥
+TakesSteps most old NoSimulator new = ⊥
 
 -- ---- keepers
 

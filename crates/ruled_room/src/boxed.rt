@@ -1,13 +1,14 @@
 //! A sweep with a place of its own in memory.
-ghost use Rattle.std.specs.Prelude.{◌≡◌, IfOk};
-ghost use Rattle.simulator.specs.Minds.{MindState};
-ghost use Rattle.simulator.specs.Moves.{IsOperation, move_of, taken};
+ghost use Rattle.std.specs.Prelude.{◌≡◌, ◌≢◌, ◌⊎◌, ◌<◌, ◌≤◌, IfOk};
+ghost use Rattle.simulator.specs.Moves.{IsOperation, move_of};
 ghost use Rattle.simulator.specs.Ranges.{IsMind};
-ghost use Rattle.simulator.specs.Sweeps.{is_resting, ready_of};
-ghost use Rattle.room_core.specs.Calls.{sweep_after, woken};
+ghost use Rattle.simulator.specs.Runs.{Runs};
+ghost use Rattle.simulator.specs.Sweeps.{quiet_after, ready_of};
+ghost use Rattle.simulator.specs.declared.turn.Turn.TheVariants.{Still};
+ghost use Rattle.room_core.specs.Calls.{woken};
 
 use room_spec::Spec;
-use simulator::{Mind, Ready, Sweep};
+use simulator::{Memory, Mind, Ready, Sweep, Turn};
 use std::alloc::{AllocError, Global};
 use std::marker::Model;
 
@@ -46,14 +47,28 @@ impl BoxedSweep {
         self.sweep.ready(spec)
     }
 
-    /// Takes in what the atomic step answered that its mind wants next.
-    pub(crate) fn take(&mut self, spec: &Spec, answer: u64)
+    /// Takes up to so many atomic steps, each operation by the memory, until a turn ends, and counts the turn.
+    #[inline(always)]
+    pub(crate) fn run_with<C, M: Memory<C>>(
+        &mut self,
+        spec: &Spec,
+        most: u64,
+        context: &C,
+        memory: &mut M,
+    ) -> (u64, Turn)
         requires is_mind { IsMind spec.now self.old.mind }
         requires operation { IsOperation (move_of spec.now self.old.mind) }
-        ensures { self.new ≡ sweep_after (taken spec.now self.old.mind answer) self.old.quiet }
+        requires serves { M.serves memory.old context.now spec.now self.old.mind }
+        ensures runs { Runs M.does spec.now memory.old self.old.mind result.0 memory.new self.new.mind result.1 }
+        ensures quiet { self.new.quiet ≡ quiet_after result.1 self.old.quiet }
+        ensures most { result.0 ≤ most }
+        ensures some { 0 < most → 0 < result.0 }
+        ensures ended { (result.0 ≡ most) ⊎ (result.1 ≢ Still) }
+        ensures is_mind { IsMind spec.now self.new.mind }
     {
-        let turn = self.sweep.mind_mut().take(spec, answer);
+        let (taken, turn) = self.sweep.mind_mut().run_with(spec, most, context, memory);
         self.sweep.note(turn);
+        (taken, turn)
     }
 
     pub(crate) fn wake(&mut self)

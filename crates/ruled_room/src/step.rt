@@ -1,21 +1,18 @@
 //! A simulator that was given away, and its steps.
-ghost use Rattle.std.specs.Prelude.{◌≡◌, ℕ, ◌<◌, []};
+ghost use Rattle.std.specs.Prelude.{◌≡◌, ℕ, ◌<◌};
 ghost use Rattle.simulator.specs.Minds.{goal_at};
-ghost use Rattle.simulator.specs.Moves.{IsOperation, move_of};
 ghost use Rattle.simulator.specs.Quiet.{HasNoWrite};
-ghost use Rattle.simulator.specs.Ranges.{IsMind};
 ghost use Rattle.simulator.specs.Sweeps.{is_resting, ready_of};
 ghost use Rattle.room_core.specs.Calls.{reply_when};
 ghost use Rattle.room_core.specs.declared.reply.StepReply.TheVariants.{Idle};
-ghost use Rattle.ruled_room.specs.Parts.{IsSweepOf, TakesStep};
-ghost use Rattle.ruled_room.specs.Views.{alone, done_by, noted, progress_in};
+ghost use Rattle.ruled_room.specs.Parts.{IsSweepOf, TakesStep, TakesSteps};
 
 use crate::boxed::BoxedSweep;
 use crate::room::RuledRoom;
 use crate::rule::{Adds, Loads, Stores, Subtracts, View};
 use atomic_table::Seat;
 use room_core::StepReply;
-use simulator::{Mind, Move, Ready};
+use simulator::{Memory, Mind, Move, Ready};
 use std::marker::Model;
 
 /// One simulator, which any thread may step. What it has in mind is its own: no other thread sees it.
@@ -81,11 +78,20 @@ impl Simulator {
         // Whoever is idle has no write left to make: each process stands at an ask, or is done or spent.
         ensures waits { result ≡ Idle → (process : ℕ) → HasNoWrite (goal_at self.new.sweep.mind.goals process) }
     {
+        self.run(room, 1)
+    }
+
+    /// Takes atomic steps as `step` does, up to so many, if it has one to take: those of one turn, the
+    /// open one or else the next, and none behind its end.
+    pub fn run(&mut self, room: &RuledRoom, most: u64) -> StepReply
+        requires { self.old.room ≡ room.now }
+        ensures reply { result ≡ reply_when (ready_of self.old.room.spec self.old.sweep.mind self.old.sweep.quiet) }
+        ensures steps { TakesSteps most self.old result self.new }
+        ensures waits { result ≡ Idle → (process : ℕ) → HasNoWrite (goal_at self.new.sweep.mind.goals process) }
+    {
         match self.sweep.ready(&room.spec) {
             Ready::Step => {
-                let next = self.sweep.mind().next_move(&room.spec);
-                let answer = perform(room, &mut self.seat, self.sweep.mind(), next);
-                self.sweep.take(&room.spec, answer);
+                self.sweep.run_with(&room.spec, most, room, &mut self.seat);
                 StepReply::Stepped
             }
             Ready::Idle => {
@@ -97,26 +103,32 @@ impl Simulator {
     }
 }
 
-/// Does the operation on the table, and answers what it answered.
-fn perform(room: &RuledRoom, seat: &mut Seat<(), View>, mind: &Mind, next: Move) -> u64
-    requires table { seat.old.table_id ≡ room.now.table }
-    requires seat { seat.old.me ≡ (alone room.now.spec mind.now.number (record { mind = mind.now; operations = done_by (progress_in seat.old.me.0 mind.now.number) }), []) }
-    requires is_mind { IsMind room.now.spec mind.now }
-    requires operation { IsOperation (move_of room.now.spec mind.now) }
-    requires next { next ≡ move_of room.now.spec mind.now }
-    ensures { (seat.new.table_id ≡ seat.old.table_id) × (seat.new.id ≡ seat.old.id) × (seat.new.me ≡ (noted next result seat.old.me.0, [])) }
-{
-    match next {
-        Move::Load(index) => room.table.shared.load::<Loads>(seat, index),
-        Move::Store(index, number) => {
-            room.table.shared.store::<Stores>(seat, index, number);
-            number
+/// The seat of a simulator does its operations on the table of the room.
+impl Memory<RuledRoom> for Seat<(), View> {
+    ghost use Rattle.std.specs.Prelude.{◌≡◌, []};
+    ghost use Rattle.std.proofs.Common.{◌∙◌};
+    ghost use Rattle.ruled_room.specs.Views.{noted};
+    ghost use Rattle.ruled_room.specs.Seats.{IsSeatOf, seat_goes_on};
+
+    ghost serves = { λ seat room spec mind. (seat.table_id ≡ room.table) × (room.spec ≡ spec) × IsSeatOf spec mind seat.me };
+
+    // The operation is noted in the seat with its answer, and no other is.
+    ghost does = { λ seat next answer after. (after.table_id ≡ seat.table_id) × (after.id ≡ seat.id) × (after.me ≡ (noted next answer seat.me.0, [])) };
+
+    #[inline(always)]
+    fn operate(&mut self, room: &RuledRoom, next: Move) -> u64 {
+        let table = &room.table.shared;
+        match next {
+            Move::Load(index) => table.load::<Loads>(self, index),
+            Move::Store(index, number) => {
+                table.store::<Stores>(self, index, number);
+                number
+            }
+            Move::Add(index, number) => table.fetch_add::<Adds>(self, index, number),
+            Move::Sub(index, number) => table.fetch_sub::<Subtracts>(self, index, number),
+            Move::Finished | Move::OutOfTurns => 0,
         }
-        Move::Add(index, number) => room.table.shared.fetch_add::<Adds>(seat, index, number),
-        Move::Sub(index, number) => room
-            .table
-            .shared
-            .fetch_sub::<Subtracts>(seat, index, number),
-        Move::Finished | Move::OutOfTurns => 0,
     }
+
+    ghost goes_on = { λ seat room spec mind answer next served is_mind operation done. (done.0 ∙ served.0, served.1, seat_goes_on spec mind answer seat.me next.me served.2 done.2) };
 }

@@ -6,16 +6,13 @@ use Rattle.simulator.specs.Minds.{MindState}
 use Rattle.simulator.specs.Sweeps.{SweepState}
 use Rattle.simulator.proofs.CallerLemmas.{turns_bounded}
 use Rattle.room_core.specs.Calls.{step_bound}
-use Rattle.ruled_room.specs.Parts.{IsSweepOf, RoomName, SimulatorData, stepped_with}
+use Rattle.ruled_room.specs.Parts.{IsSweepOf, RoomName, SimulatorData, after_steps, stepped_with}
+use Rattle.ruled_room.proofs.CallerLemmas.{sweep_after_steps}
 use Rattle.ruled_room.specs.declared.stop.Stop.{Stop}
-use Rattle.scheduler.specs.Drives.{Drives, GoesOn, IsWithinFuse, TakesTurn, after_steps}
+use Rattle.scheduler.specs.Drives.{Drives, GoesOn, IsWithinFuse, TakesTurn}
 use Rattle.scheduler.proofs.Stepwise.{drive_more, drive_stops, goes, left, same_stopped}
 
 -- ---- its steps are those of a sweep that is ready for each
-
-sweep_of_steps : (start : SimulatorData) (answers : List ℕ) → (after_steps start answers).sweep ≡ answered_all start.room.spec start.sweep answers
-sweep_of_steps start [] = refl
-sweep_of_steps start (answer ∷ answers) = sweep_of_steps (stepped_with start answer) answers
 
 pub ready_for_all : (fuse : Option ℕ) (start : SimulatorData) (answers : List ℕ) → GoesOn fuse start answers → IsReadyThroughout start.room.spec start.sweep answers
 ready_for_all fuse start [] on = tt
@@ -26,7 +23,7 @@ ready_for_all fuse start (answer ∷ answers) on =
 pub end_mind : (fuse : Option ℕ) (start : SimulatorData) (stop : Stop) (new : SimulatorData) (drives : Drives fuse start stop new) → new.sweep.mind ≡ (answered_all start.room.spec start.sweep drives.answers).mind
 end_mind fuse start stop new drives =
     let same = same_stopped stop (after_steps start drives.answers) in
-    ap (λ (n : SimulatorData). n.sweep.mind) drives.is ∙ same.2 ∙ ap (λ (sweep : SweepState). sweep.mind) (sweep_of_steps start drives.answers)
+    ap (λ (n : SimulatorData). n.sweep.mind) drives.is ∙ same.2 ∙ ap (λ (sweep : SweepState). sweep.mind) (sweep_after_steps start drives.answers)
 
 abbrev pub most_turns : RoomSpec → ℕ
 most_turns spec = (processes spec * spec.rounds + 1) * processes spec

@@ -1,13 +1,13 @@
 -- A simulator that takes step after step until it stops: why it stops, and the steps before. A fuse is the number of atomic
 -- steps after which it crashes, or none.
-use Rattle.std.specs.Prelude.{◌≡◌, ℕ, suc, ◌<◌, ◌≤◌, ◌-◌, Bool, true, false, List, [], ◌∷◌, length, take, Option, Some, None, ◌==◌, if◌then◌else◌, ⊤}
+use Rattle.std.specs.Prelude.{◌≡◌, ◌⊎◌, ℕ, ◌+◌, ◌<◌, ◌≤◌, ◌-◌, Bool, true, false, List, length, take, Option, Some, None, ◌==◌, if◌then◌else◌, ⊤}
 use Rattle.room_spec.specs.Rooms.{RoomSpec}
 use Rattle.simulator.specs.Minds.{goal_at}
 use Rattle.simulator.specs.Quiet.{HasNoWrite}
 use Rattle.simulator.specs.Sweeps.{SweepState, is_resting, ready_of}
 use Rattle.simulator.specs.declared.sweep.Ready.{Ready}
 use Rattle.simulator.specs.declared.sweep.Ready.TheVariants as ready
-use Rattle.ruled_room.specs.Parts.{SimulatorData, stepped_with, with_woken}
+use Rattle.ruled_room.specs.Parts.{SimulatorData, StaysInTurn, after_steps, with_woken}
 use Rattle.ruled_room.specs.declared.stop.Stop.{Stop}
 use Rattle.ruled_room.specs.declared.stop.Stop.TheVariants.{Idle, OutOfTurns, Crashed}
 
@@ -22,6 +22,11 @@ is_burnt (Some after) steps = after == steps
 abbrev pub IsWithinFuse : Option ℕ → ℕ → Type 0
 IsWithinFuse None steps = ⊤
 IsWithinFuse (Some after) steps = steps ≤ after
+
+-- So many steps more are left before it burns down: the greatest number of 64 bits where it doesn't.
+pub record HasLeft (fuse : Option ℕ) (steps left : ℕ) : Type 0 where
+  pub whole : (more : ℕ) → more < left → is_burnt fuse (steps + more) ≡ false
+  pub burnt : (is_burnt fuse (steps + left) ≡ true) ⊎ (left ≡ 18446744073709551615)
 
 abbrev pub stop_when : Ready → Option Stop
 stop_when ready.Step = None
@@ -50,23 +55,9 @@ HasStopped fuse spec OutOfTurns sweep = (is_burnt fuse sweep.mind.steps ≡ fals
 
 -- ---- its steps
 
--- the simulator after one step for each of these answers of the room's words
-abbrev pub after_steps : SimulatorData → List ℕ → SimulatorData
-after_steps start [] = start
-after_steps start (answer ∷ answers) = after_steps (stepped_with start answer) answers
-
 -- before none of these steps would it stop
 abbrev pub GoesOn : Option ℕ → SimulatorData → List ℕ → Type 0
 GoesOn fuse start answers = (k : ℕ) → k < length answers → stop_at fuse (after_steps start (take k answers)) ≡ None
-
--- its turn is open after each of the first `count` steps
-abbrev pub StaysInTurn : SimulatorData → List ℕ → ℕ → Type 0
-StaysInTurn start answers count = (k : ℕ) → k < count → is_resting (after_steps start (take (suc k) answers)).sweep.mind.line ≡ false
-
--- one step, or none
-abbrev pub Advances : SimulatorData → Option Stop → SimulatorData → Type 0
-Advances old None new = (answer : ℕ) × (new ≡ stepped_with old answer)
-Advances old (Some stop) new = new ≡ stopped stop old
 
 -- ---- up to a stop
 

@@ -4,7 +4,7 @@ ghost use Rattle.room_spec.specs.Rooms.{processes};
 ghost use Rattle.simulator.specs.Ranges.{turn_limit};
 ghost use Rattle.room_core.specs.Calls.{step_bound};
 ghost use Rattle.ruled_room.specs.Parts.{IsSweepOf};
-ghost use Rattle.scheduler.specs.Drives.{Advances, Drives, HasStopped, IsWithinFuse, TakesTurn, stop_at};
+ghost use Rattle.scheduler.specs.Drives.{Drives, HasLeft, HasStopped, IsWithinFuse, TakesTurn};
 
 use crate::fuse::Fuse;
 use crate::gate::Gate;
@@ -12,7 +12,7 @@ use room_core::StepReply;
 use ruled_room::{RuledRoom, Simulator, Stop};
 
 /// Lets a simulator take its steps up to the end of a turn, the open one or else the next, or until
-/// it stops. The fuse is tested before each step, also before one that would find it idle.
+/// it stops. The fuse comes before each step, also before one that would find it idle.
 pub fn turn(simulator: &mut Simulator, room: &RuledRoom, fuse: &Fuse) -> Option<Stop>
     requires { simulator.old.room ≡ room.now }
     // Nothing exactly after a step that ended a turn, the last that it takes; else why it stopped.
@@ -25,14 +25,27 @@ pub fn turn(simulator: &mut Simulator, room: &RuledRoom, fuse: &Fuse) -> Option<
     // With those that its open turn had taken these are no more than a turn may take.
     ensures bound { simulator.new.sweep.mind.steps + simulator.old.sweep.mind.turn_steps ≤ simulator.old.sweep.mind.steps + turn_limit room.now.spec }
 {
-    loop {
-        if let Some(stop) = advance(simulator, room, fuse) {
-            return Some(stop);
-        }
-        if simulator.resting() {
-            return None;
-        }
+    let left = steps_left(simulator, fuse);
+    if left == 0 {
+        return Some(Stop::Crashed);
     }
+    let reply = simulator.run(room, left);
+    match reply {
+        StepReply::Stepped if simulator.resting() => None,
+        StepReply::Stepped => Some(Stop::Crashed),
+        StepReply::Idle => Some(Stop::Idle),
+        StepReply::OutOfTurns => Some(Stop::OutOfTurns),
+        // a simulator on shared words has its number, and the keeper alone marks crashes
+        StepReply::Crashed | StepReply::NoSimulator => unreachable!(),
+    }
+}
+
+/// How many steps its fuse allows it from now on.
+fn steps_left(simulator: &Simulator, fuse: &Fuse) -> u64
+    ensures left { HasLeft fuse.now simulator.now.sweep.mind.steps result }
+    ensures sweep { IsSweepOf simulator.now.room.spec simulator.now.number simulator.now.sweep }
+{
+    fuse.left(simulator.mind().steps_taken())
 }
 
 /// Lets a simulator take turn after turn until it stops, and passes the gate before each: as the worker
@@ -57,24 +70,5 @@ pub fn drive(simulator: &mut Simulator, room: &RuledRoom, fuse: &Fuse, gate: &im
             return stop;
         }
         visit = visit.saturating_add(1);
-    }
-}
-
-/// One step, or why it takes none.
-fn advance(simulator: &mut Simulator, room: &RuledRoom, fuse: &Fuse) -> Option<Stop>
-    requires { simulator.old.room ≡ room.now }
-    ensures stop { result ≡ stop_at fuse.now simulator.old }
-    ensures step { Advances simulator.old result simulator.new }
-    ensures sweep { IsSweepOf simulator.old.room.spec simulator.old.number simulator.old.sweep }
-{
-    if fuse.is_burnt(simulator.mind().steps_taken()) {
-        return Some(Stop::Crashed);
-    }
-    match simulator.step(room) {
-        StepReply::Stepped => None,
-        StepReply::Idle => Some(Stop::Idle),
-        StepReply::OutOfTurns => Some(Stop::OutOfTurns),
-        // a simulator on shared words has its number, and the keeper alone marks crashes
-        StepReply::Crashed | StepReply::NoSimulator => unreachable!(),
     }
 }

@@ -1,6 +1,6 @@
 //! When a simulator crashes.
 ghost use Rattle.std.specs.Prelude.{◌≡◌, Some, None};
-ghost use Rattle.scheduler.specs.Drives.{is_burnt};
+ghost use Rattle.scheduler.specs.Drives.{HasLeft};
 
 use std::marker::Model;
 
@@ -35,13 +35,13 @@ impl Fuse {
         Fuse { after: None }
     }
 
-    /// Whether it has burnt down after `steps` steps.
-    pub(crate) fn is_burnt(&self, steps: u64) -> bool
-        ensures { result ≡ is_burnt self.now steps }
+    /// How many steps it allows after `steps`, or the greatest number where it won't burn down.
+    pub(crate) fn left(&self, steps: u64) -> u64
+        ensures { HasLeft self.now steps result }
     {
         match self.after {
-            Some(after) => after == steps,
-            None => false,
+            Some(after) if after >= steps => after - steps,
+            _ => u64::MAX,
         }
     }
 }

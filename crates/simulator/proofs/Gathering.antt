@@ -7,7 +7,7 @@ use Rattle.std.proofs.lemmas.List.Sums.{take_while-cons}
 use Rattle.room_spec.specs.Rooms.{RoomSpec, processes}
 use Rattle.simulator.specs.declared.line.Line.TheVariants.{Values}
 use Rattle.simulator.specs.Minds.{MindState}
-use Rattle.simulator.specs.Turns.{acted, gathered, gathered_all, goes_on, padded, TakenOf}
+use Rattle.simulator.specs.Turns.{gathered, gathered_all, goes_on, padded}
 
 -- Entries are only added, `more` at most; and where fewer are added, the row shows a write of the next process.
 pub record IsPadded (row : ℕ → ℕ) (more : ℕ) (entries after : List (Option ℕ)) : Type 0 where

@@ -9,14 +9,15 @@ use Rattle.simulator.specs.declared.line.Line.{Line}
 use Rattle.simulator.specs.declared.line.Line.TheVariants.{Rest, Raise, Snap, Show, Enter, Look, Leave, Ask, GetView, Values, Out}
 use Rattle.simulator.specs.declared.operation.Move.{Move}
 use Rattle.simulator.specs.declared.operation.Move.TheVariants.{OutOfTurns}
+use Rattle.simulator.specs.declared.turn.Turn.{Turn}
 use Rattle.simulator.specs.declared.turn.Turn.TheVariants.{Still}
 use Rattle.simulator.specs.declared.sweep.Ready.TheVariants.{Step}
-use Rattle.simulator.specs.Bounds.{IsReadyThroughout, answered, answered_all}
+use Rattle.simulator.specs.Bounds.{IsReadyThroughout, answered_all}
 use Rattle.simulator.specs.Minds.{MindState, goal_at, next_process}
 use Rattle.simulator.specs.Moves.{IsOperation, chosen_in, entry_in, first_move, first_move_at, is_again, loaded, move_at, move_of, taken, taken_at}
 use Rattle.simulator.specs.Ranges.{at_line}
-use Rattle.simulator.specs.Runs.{Asked, Runs, taken_along}
-use Rattle.simulator.specs.Sweeps.{SweepState, is_resting, ready_between, ready_of}
+use Rattle.simulator.specs.Runs.{Asked, LeavesTurn, Runs, taken_along}
+use Rattle.simulator.specs.Sweeps.{is_resting, quiet_after, ready_between, ready_of}
 use Rattle.simulator.specs.Turns.{TakenOf, acted, asked, begun, collected, counted, gathered, gathered_all, goes_on, most_collects, on_word, opened, opened_at, padded, scanned, words_in}
 use Rattle.simulator.proofs.Stepping.{open_moves}
 
@@ -31,26 +32,22 @@ asked_more does spec memory mind [] last answer next asked done = (next, rw aske
 asked_more does spec memory mind (x ∷ answers) last answer next asked done =
     (asked.0, asked.1, asked_more does spec asked.0 (taken spec mind x).mind answers last answer next asked.2 done)
 
-answered_more : (spec : RoomSpec) (sweep : SweepState) (answers : List ℕ) (answer : ℕ) → answered_all spec sweep (answers ++ answer ∷ []) ≡ answered spec (answered_all spec sweep answers) answer
-answered_more spec sweep [] answer = refl
-answered_more spec sweep (x ∷ answers) answer = answered_more spec (answered spec sweep x) answers answer
-
-ready_more : (spec : RoomSpec) (sweep : SweepState) (answers : List ℕ) (answer : ℕ) → IsReadyThroughout spec sweep answers → ready_of spec (answered_all spec sweep answers).mind (answered_all spec sweep answers).quiet ≡ Step → IsReadyThroughout spec sweep (answers ++ answer ∷ [])
-ready_more spec sweep [] answer all ready = (ready, tt)
-ready_more spec sweep (x ∷ answers) answer all ready = (all.0, ready_more spec (answered spec sweep x) answers answer all.1 ready)
+turn_more : (spec : RoomSpec) (mind : MindState) (answers : List ℕ) (answer : ℕ) → LeavesTurn spec mind answers Still → LeavesTurn spec mind (answers ++ answer ∷ []) (taken spec (taken_along spec mind answers) answer).turn
+turn_more spec mind [] answer leaves = refl
+turn_more spec mind (x ∷ []) answer leaves = (leaves, refl)
+turn_more spec mind (x ∷ y ∷ answers) answer leaves = (leaves.0, turn_more spec (taken spec mind x).mind (y ∷ answers) answer leaves.1)
 
 pub runs_nothing : {M : Type 0} (does : M → Move → ℕ → M → Type 0) (spec : RoomSpec) (memory : M) (mind : MindState) → Runs does spec memory mind 0 memory mind Still
-runs_nothing does spec memory mind = record { answers = []; as_many = refl; mind_is = refl; asked = refl; sweep = λ quiet. refl; ready = λ quiet is. tt }
+runs_nothing does spec memory mind = record { answers = []; as_many = refl; mind_is = refl; asked = refl; turn_is = refl }
 
--- While no turn has ended, one step more. Whoever was ready at first is ready still.
-pub runs_more : {M : Type 0} (does : M → Move → ℕ → M → Type 0) (spec : RoomSpec) (memory : M) (mind : MindState) (count : ℕ) (last : M) (after : MindState) (answer : ℕ) (next : M) → Runs does spec memory mind count last after Still → ((quiet : ℕ) → ready_of spec mind quiet ≡ Step → ready_of spec after quiet ≡ Step) → does last (move_of spec after) answer next → Runs does spec memory mind (count + 1) next (taken spec after answer).mind (taken spec after answer).turn
-runs_more does spec memory mind count last after answer next runs stays done = record {
+-- While no turn has ended, one step more.
+pub runs_more : {M : Type 0} (does : M → Move → ℕ → M → Type 0) (spec : RoomSpec) (memory : M) (mind : MindState) (count : ℕ) (last : M) (after : MindState) (answer : ℕ) (next : M) → Runs does spec memory mind count last after Still → does last (move_of spec after) answer next → Runs does spec memory mind (count + 1) next (taken spec after answer).mind (taken spec after answer).turn
+runs_more does spec memory mind count last after answer next runs done = record {
   answers = runs.answers ++ answer ∷ [];
   as_many = grind (arith, length-append, runs.as_many);
   mind_is = rw runs.mind_is (sym (taken_more spec mind runs.answers answer));
   asked = asked_more does spec memory mind runs.answers last answer next runs.asked (subst (λ m. does last (move_of spec m) answer next) runs.mind_is done);
-  sweep = λ quiet. answered_more spec (record { mind = mind; quiet = quiet }) runs.answers answer ∙ ap (λ (sweep : SweepState). answered spec sweep answer) (runs.sweep quiet);
-  ready = λ quiet is. ready_more spec (record { mind = mind; quiet = quiet }) runs.answers answer (runs.ready quiet is) (subst (λ (sweep : SweepState). ready_of spec sweep.mind sweep.quiet ≡ Step) (sym (runs.sweep quiet)) (stays quiet is));
+  turn_is = rw runs.mind_is (turn_more spec mind runs.answers answer runs.turn_is);
 }
 
 -- ---- a turn that hasn't ended wants an operation next
@@ -115,8 +112,11 @@ open_taken (GetView chosen) spec mind answer operation still = open_word spec (G
 open_taken Values spec mind answer operation still = open_gathered (entry_in spec mind.snapshot) spec _ (counted mind) still
 open_taken (Out decision) spec mind answer operation still = absurd cc
 
+pub stays_open : (spec : RoomSpec) (mind : MindState) (answer : ℕ) → IsOperation (move_of spec mind) → (taken spec mind answer).turn ≡ Still → is_resting (taken spec mind answer).mind.line ≡ false
+stays_open spec mind answer operation still = open_taken mind.line spec mind answer operation still
+
 pub moves_on : (spec : RoomSpec) (mind : MindState) (answer : ℕ) → IsOperation (move_of spec mind) → (taken spec mind answer).turn ≡ Still → IsOperation (move_of spec (taken spec mind answer).mind)
-moves_on spec mind answer operation still = open_moves spec (taken spec mind answer).mind (open_taken mind.line spec mind answer operation still)
+moves_on spec mind answer operation still = open_moves spec (taken spec mind answer).mind (stays_open spec mind answer operation still)
 
 open_ready : (b : Bool) (spec : RoomSpec) (mind : MindState) (quiet : ℕ) → b ≡ false → cond b (ready_between spec mind quiet) Step ≡ Step
 open_ready true spec mind quiet is = absurd cc
@@ -124,7 +124,25 @@ open_ready false spec mind quiet is = refl
 
 -- and whoever stands in it is ready
 pub ready_on : (spec : RoomSpec) (mind : MindState) (answer : ℕ) → IsOperation (move_of spec mind) → (taken spec mind answer).turn ≡ Still → (quiet : ℕ) → ready_of spec (taken spec mind answer).mind quiet ≡ Step
-ready_on spec mind answer operation still quiet = open_ready _ spec (taken spec mind answer).mind quiet (open_taken mind.line spec mind answer operation still)
+ready_on spec mind answer operation still quiet = open_ready _ spec (taken spec mind answer).mind quiet (stays_open spec mind answer operation still)
+
+-- ---- the sweep of a mind along a run
+
+-- its quiet turns change at the end alone
+pub answered_along : (spec : RoomSpec) (mind : MindState) (quiet : ℕ) (answers : List ℕ) (turn : Turn) → LeavesTurn spec mind answers turn → answered_all spec (record { mind = mind; quiet = quiet }) answers ≡ record { mind = taken_along spec mind answers; quiet = quiet_after turn quiet }
+answered_along spec mind quiet [] turn leaves = ap (λ (t : Turn). record { mind = mind; quiet = quiet_after t quiet }) (sym leaves)
+answered_along spec mind quiet (x ∷ []) turn leaves = ap (λ (t : Turn). record { mind = (taken spec mind x).mind; quiet = quiet_after t quiet }) leaves
+answered_along spec mind quiet (x ∷ y ∷ answers) turn leaves =
+    let after = (taken spec mind x).mind in
+    ap (λ (t : Turn). answered_all spec (record { mind = after; quiet = quiet_after t quiet }) (y ∷ answers)) leaves.0 ∙ answered_along spec after quiet (y ∷ answers) turn leaves.1
+
+-- whoever was ready at first is ready for each step
+pub ready_along : (spec : RoomSpec) (mind : MindState) (quiet : ℕ) (answers : List ℕ) (turn : Turn) → LeavesTurn spec mind answers turn → IsOperation (move_of spec mind) → ready_of spec mind quiet ≡ Step → IsReadyThroughout spec (record { mind = mind; quiet = quiet }) answers
+ready_along spec mind quiet [] turn leaves operation ready = tt
+ready_along spec mind quiet (x ∷ []) turn leaves operation ready = (ready, tt)
+ready_along spec mind quiet (x ∷ y ∷ answers) turn leaves operation ready =
+    let next = quiet_after (taken spec mind x).turn quiet in
+    (ready, ready_along spec (taken spec mind x).mind next (y ∷ answers) turn leaves.1 (moves_on spec mind x operation leaves.0) (ready_on spec mind x operation leaves.0 next))
 
 -- ---- a line wants the same of a mind, and makes the same of it, whatever line it has itself
 

@@ -148,6 +148,14 @@ rests spec mind answer = let is = stepped spec mind answer in is.rests
 pub rests_of : (spec : RoomSpec) (mind after : MindState) (turn : Turn) (answer : ℕ) → after ≡ (taken spec mind answer).mind → turn ≡ (taken spec mind answer).turn → turn ≢ Still → after.turn_steps ≡ 0
 rests_of spec mind after turn answer is turn_is ends = ap (λ (m : MindState). m.turn_steps) is ∙ rests spec mind answer (λ e. ends (turn_is ∙ e))
 
+-- whoever has ended its turn stands between two
+pub turn_ends : (spec : RoomSpec) (mind : MindState) (answer : ℕ) → (taken spec mind answer).turn ≢ Still → is_resting (taken spec mind answer).mind.line ≡ true
+turn_ends spec mind answer ends = by (is_resting (taken spec mind answer).mind.line) refl
+  where
+    by : (b : Bool) → is_resting (taken spec mind answer).mind.line ≡ b → b ≡ true
+    by true is = refl
+    by false is = absurd (omega (arith, rests spec mind answer ends, stays_in_turn spec mind answer is))
+
 -- ---- in an open turn a mind always wants an operation
 
 leave_operation : (saw_two : Bool) (index unit : ℕ) → IsOperation (leave_by saw_two index unit)

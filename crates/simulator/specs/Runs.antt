@@ -2,12 +2,10 @@
 use Rattle.std.specs.Prelude.{◌≡◌, ℕ, List, [], ◌∷◌, length}
 use Rattle.room_spec.specs.Rooms.{RoomSpec}
 use Rattle.simulator.specs.declared.operation.Move.{Move}
-use Rattle.simulator.specs.declared.sweep.Ready.TheVariants.{Step}
 use Rattle.simulator.specs.declared.turn.Turn.{Turn}
-use Rattle.simulator.specs.Bounds.{IsReadyThroughout, answered_all}
+use Rattle.simulator.specs.declared.turn.Turn.TheVariants.{Still}
 use Rattle.simulator.specs.Minds.{MindState}
 use Rattle.simulator.specs.Moves.{move_of, taken}
-use Rattle.simulator.specs.Sweeps.{quiet_after, ready_of}
 
 -- the mind after these answers
 abbrev pub taken_along : RoomSpec → MindState → List ℕ → MindState
@@ -20,6 +18,13 @@ Asked does spec memory mind [] last = memory ≡ last
 Asked does spec memory mind (answer ∷ answers) last =
     (next : _) × does memory (move_of spec mind) answer next × Asked does spec next (taken spec mind answer).mind answers last
 
+-- Each answer but the last left the turn open, and the last made this of it.
+abbrev pub LeavesTurn : RoomSpec → MindState → List ℕ → Turn → Type 0
+LeavesTurn spec mind [] turn = turn ≡ Still
+LeavesTurn spec mind (answer ∷ []) turn = (taken spec mind answer).turn ≡ turn
+LeavesTurn spec mind (answer ∷ next ∷ answers) turn =
+    ((taken spec mind answer).turn ≡ Still) × LeavesTurn spec (taken spec mind answer).mind (next ∷ answers) turn
+
 -- So many atomic steps, each the operation that the mind wanted then, lead from this memory and mind to those others, and
 -- no turn ended before the last of them, which made this of the turn.
 pub record Runs {M : Type 0} (does : M → Move → ℕ → M → Type 0) (spec : RoomSpec) (memory : M) (mind : MindState) (count : ℕ) (last : M) (after : MindState) (turn : Turn) : Type 0 where
@@ -27,5 +32,4 @@ pub record Runs {M : Type 0} (does : M → Move → ℕ → M → Type 0) (spec 
   pub as_many : length answers ≡ count
   pub mind_is : after ≡ taken_along spec mind answers
   pub asked : Asked does spec memory mind answers last
-  pub sweep : (quiet : ℕ) → answered_all spec (record { mind = mind; quiet = quiet }) answers ≡ record { mind = after; quiet = quiet_after turn quiet }
-  pub ready : (quiet : ℕ) → ready_of spec mind quiet ≡ Step → IsReadyThroughout spec (record { mind = mind; quiet = quiet }) answers
+  pub turn_is : LeavesTurn spec mind answers turn

@@ -28,3 +28,24 @@ pub trait Memory<C> {
     // After that it serves the mind that takes the answer in.
     ghost goes_on: { (memory : Self) (context : C) (spec : RoomSpec) (mind : MindState) (answer : ℕ) (next : Self) → serves memory context spec mind → IsMind spec mind → IsOperation (move_of spec mind) → does memory (move_of spec mind) answer next → serves next context spec (taken spec mind answer).mind };
 }
+
+/// A memory that nobody looks into: this is its answer to each operation.
+#[derive(Drop)]
+pub(crate) struct Told {
+    pub(crate) answer: u64,
+}
+
+impl Memory<()> for Told {
+    ghost use Rattle.std.specs.Prelude.{◌≡◌, ⊤};
+
+    ghost serves = { λ told context spec mind. ⊤ };
+
+    ghost does = { λ told next answer after. answer ≡ told.answer };
+
+    #[inline(always)]
+    fn operate(&mut self, _context: &(), _next: Move) -> u64 {
+        self.answer
+    }
+
+    ghost goes_on = { λ told context spec mind answer next served is_mind operation done. tt };
+}

@@ -1,24 +1,19 @@
 //! What a simulator has in mind.
-ghost use Rattle.std.specs.Prelude.{◌≡◌, ◌≢◌, ◌+◌, ◌*◌, ◌<◌, ◌≤◌, nat_lt};
-ghost use Rattle.room_spec.specs.Rooms.{processes};
+ghost use Rattle.std.specs.Prelude.{◌≡◌, ◌<◌, nat_lt};
 ghost use Rattle.room_spec.specs.Sizes.{sizes_in};
 ghost use Rattle.view_table.specs.Places.{words_of};
-ghost use Rattle.simulator.specs.declared.turn.Turn.TheVariants.{Still};
 ghost use Rattle.simulator.specs.Minds.{opening_mind, unfinished_in};
-ghost use Rattle.simulator.specs.Moves.{IsOperation, IsWithin, move_of, taken};
-ghost use Rattle.simulator.specs.Ranges.{IsMind, turn_limit};
+ghost use Rattle.simulator.specs.Moves.{IsWithin, move_of};
+ghost use Rattle.simulator.specs.Ranges.{IsMind};
 ghost use Rattle.simulator.specs.Sweeps.{is_resting};
 
 use crate::goal::{Goal, first_goals, more_unfinished, unfinished_in};
 use crate::line::Line;
 use crate::operation::Move;
 use crate::snapshot::Snapshot;
-use crate::turn::Turn;
-use crate::words::chosen_in;
 use arrayvec::ArrayVec;
 use protocol_lang::View;
 use room_spec::Spec;
-use safe_agreement::has_level;
 use std::marker::Model;
 
 /// What a simulator knows of its processes, where its sweep stands, how many turns and atomic steps
@@ -82,42 +77,6 @@ impl Mind {
         ensures within { IsWithin result (words_of (sizes_in spec.now)) }
     {
         self.move_at(spec, self.line)
-    }
-
-    /// Takes in what the atomic step answered, and says what has become of the turn. The answer
-    /// counts after a `Load` alone, and any answer will do: a step number above the room's rounds
-    /// reads as their number, and a value above 4294967295 as that.
-    #[tactic(auto, using(crate::proofs::Keeping::kept_of, crate::proofs::Stepping::bounded, crate::proofs::Limits::few_collects, crate::proofs::Stepping::rests))]
-    pub fn take(&mut self, spec: &Spec, answer: u64) -> Turn
-        requires is_mind { IsMind spec.now self.old }
-        requires operation { IsOperation (move_of spec.now self.old) }
-        ensures mind { self.new ≡ (taken spec.now self.old answer).mind }
-        ensures turn { result ≡ (taken spec.now self.old answer).turn }
-        ensures is_mind { IsMind spec.now self.new }
-        // A turn takes fewer atomic steps than its limit: n + 10 where the memory is one word, and for c words n + 7 + 2 * c and c for
-        // each of m * n * rounds + 2 collects.
-        ensures bound { self.new.turn_steps < turn_limit spec.now }
-        // A scan makes no more collects than the room has writes, and two.
-        ensures collects { self.new.collects ≤ spec.now.simulators * processes spec.now * spec.now.rounds + 2 }
-        ensures ended { result ≢ Still → self.new.turn_steps ≡ 0 }
-    {
-        self.count_step();
-        match self.line {
-            Line::Rest => self.open(spec, answer),
-            Line::Raise => self.go_on(Line::Snap),
-            Line::Snap => self.snap(spec, answer),
-            Line::Show => self.show(spec),
-            Line::Enter => self.go_on(Line::Look),
-            Line::Look => {
-                let saw_two = has_level(answer, spec.m(), 2);
-                self.go_on(Line::Leave { saw_two })
-            }
-            Line::Leave { .. } => self.go_on(Line::Ask),
-            Line::Ask => self.ask(chosen_in(spec, answer)),
-            Line::GetView { chosen } => self.get_view(spec, chosen, answer),
-            Line::Values => self.get_value(spec, answer),
-            Line::Out { .. } => self.end(Turn::Useful, Goal::Done),
-        }
     }
 
     /// Whether it stands between two turns.

@@ -1,14 +1,15 @@
 //! The lines of a turn: the operation of each done by a memory, and taken in.
-ghost use Rattle.std.specs.Prelude.{◌≡◌, ◌≢◌, ◌⊎◌, ◌<◌, ◌≤◌};
+ghost use Rattle.std.specs.Prelude.{◌≡◌, ◌≢◌, ◌⊎◌, ◌+◌, ◌*◌, ◌<◌, ◌≤◌};
+ghost use Rattle.room_spec.specs.Rooms.{processes};
 ghost use Rattle.simulator.specs.declared.turn.Turn.TheVariants.{Still};
-ghost use Rattle.simulator.specs.Moves.{IsOperation, move_at, move_of, taken_at};
-ghost use Rattle.simulator.specs.Ranges.{IsMind, at_line};
+ghost use Rattle.simulator.specs.Moves.{IsOperation, move_at, move_of, taken, taken_at};
+ghost use Rattle.simulator.specs.Ranges.{IsMind, at_line, turn_limit};
 ghost use Rattle.simulator.specs.Runs.{Runs};
 ghost use Rattle.simulator.specs.Turns.{counted};
 
 use crate::goal::Goal;
 use crate::line::Line;
-use crate::memory::Memory;
+use crate::memory::{Memory, Told};
 use crate::mind::Mind;
 use crate::turn::Turn;
 use crate::words::chosen_in;
@@ -65,6 +66,28 @@ impl Mind {
         }
         self.stand_at(line);
         (most, Turn::Still)
+    }
+
+    /// Takes in what the atomic step answered, and says what has become of the turn. The answer
+    /// counts after a `Load` alone, and any answer will do: a step number above the room's rounds
+    /// reads as their number, and a value above 4294967295 as that.
+    pub fn take(&mut self, spec: &Spec, answer: u64) -> Turn
+        requires is_mind { IsMind spec.now self.old }
+        requires operation { IsOperation (move_of spec.now self.old) }
+        ensures mind { self.new ≡ (taken spec.now self.old answer).mind }
+        ensures turn { result ≡ (taken spec.now self.old answer).turn }
+        ensures is_mind { IsMind spec.now self.new }
+        // A turn takes fewer atomic steps than its limit: n + 10 where the memory is one word, and for c words n + 7 + 2 * c and c for
+        // each of m * n * rounds + 2 collects.
+        ensures bound { self.new.turn_steps < turn_limit spec.now }
+        // A scan makes no more collects than the room has writes, and two.
+        ensures collects { self.new.collects ≤ spec.now.simulators * processes spec.now * spec.now.rounds + 2 }
+        ensures ended { result ≢ Still → self.new.turn_steps ≡ 0 }
+    {
+        let line = self.current_line();
+        let taken = self.take_step(spec, line, &(), &mut Told { answer });
+        self.stand_at(taken.line);
+        taken.turn
     }
 
     #[inline(always)]

@@ -11,6 +11,7 @@ use Rattle.simulator.specs.Moves.{IsOperation, answer_of, move_of, taken, words_
 use Rattle.simulator.specs.Bounds.{IsReadyThroughout, answered, answered_all}
 use Rattle.simulator.specs.Runs.{Asked, Runs}
 use Rattle.simulator.specs.Sweeps.{SweepState, quiet_after, ready_of}
+use Rattle.simulator.proofs.CallerLemmas.{answered_along, ready_along}
 use Rattle.room_core.specs.declared.reply.StepReply.TheVariants.{Stepped}
 use Rattle.room_core.specs.Calls.{IsCore, RoomState, moved, ready_at, room_after_step, room_after_steps, step_reply, sweep_at, sweep_after, taken_by}
 use Rattle.room_core.proofs.settling.Alone.{IsUp, step_up}
@@ -67,8 +68,11 @@ turned words does exact room i sweep (answer ∷ answers) memory last core up he
 pub runs_room : {M : Type 0} (words : M → List ℕ) (does : M → Move → ℕ → M → Type 0) → IsExact words does → (room : RoomState) (i : ℕ) (sweep : SweepState) (count : ℕ) (memory last : M) (mind : MindState) (turn : Turn) → IsCore room → IsUp room i → words memory ≡ room.words → sweep ≡ sweep_at room i → ready_at room i ≡ answers_to.Step → Runs does room.spec memory sweep.mind count last mind turn → HasTurned room i count (with_parts room i (words last) (record { mind = mind; quiet = quiet_after turn sweep.quiet }))
 runs_room words does exact room i sweep count memory last mind turn core up here is ready runs =
     let ready_here : ready_of room.spec sweep.mind sweep.quiet ≡ answers_to.Step = ap (λ (s : SweepState). ready_of room.spec s.mind s.quiet) is ∙ ready in
-    let run = turned words does exact room i sweep runs.answers memory last core up here is runs.asked (runs.ready sweep.quiet ready_here) in
-    subst (λ (s : SweepState). HasTurned room i count (with_parts room i (words last) s)) (runs.sweep sweep.quiet) (subst (λ (n : ℕ). HasTurned room i n (with_parts room i (words last) (answered_all room.spec sweep runs.answers))) runs.as_many run)
+    let operation : IsOperation (move_of room.spec sweep.mind) = subst (λ (s : SweepState). IsOperation (move_of room.spec s.mind)) (sym is) (operates room i (line_of room i up ready)) in
+    let all = ready_along room.spec sweep.mind sweep.quiet runs.answers turn runs.turn_is operation ready_here in
+    let run = turned words does exact room i sweep runs.answers memory last core up here is runs.asked all in
+    let last_sweep : answered_all room.spec sweep runs.answers ≡ record { mind = mind; quiet = quiet_after turn sweep.quiet } = answered_along room.spec sweep.mind sweep.quiet runs.answers turn runs.turn_is ∙ ap (λ (m : MindState). record { mind = m; quiet = quiet_after turn sweep.quiet }) (sym runs.mind_is) in
+    subst (λ (s : SweepState). HasTurned room i count (with_parts room i (words last) s)) last_sweep (subst (λ (n : ℕ). HasTurned room i n (with_parts room i (words last) (answered_all room.spec sweep runs.answers))) runs.as_many run)
 
 -- ---- one run after the other
 

@@ -1,4 +1,4 @@
-use Rattle.std.proofs.Common.{◌≡◌, ◌∙◌, ℕ, ◌<◌, Bool, false, List, length, eqb, sym, ap, subst, arith}
+use Rattle.std.proofs.Common.{◌≡◌, ◌∙◌, ℕ, ◌<◌, false, List, length, eqb, sym, ap, subst, arith}
 use Rattle.room_spec.specs.Rooms.{processes}
 use Rattle.simulator.specs.contracts.mind.Mind.{the_view}
 use Rattle.simulator.specs.declared.line.Line.TheVariants.{Values}

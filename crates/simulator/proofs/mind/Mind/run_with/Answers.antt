@@ -1,13 +1,11 @@
 use Rattle.std.proofs.Common.{◌≡◌, ◌∙◌, List, ℕ, inr, sym, ap, subst, arith}
-use Rattle.simulator.specs.declared.sweep.Ready.TheVariants.{Step}
 use Rattle.simulator.specs.declared.turn.Turn.TheVariants.{Still}
 use Rattle.simulator.specs.Minds.{MindState}
 use Rattle.simulator.specs.Moves.{IsOperation, move_of, taken}
 use Rattle.simulator.specs.Ranges.{IsMind, at_line}
-use Rattle.simulator.specs.Sweeps.{ready_of}
 use Rattle.simulator.specs.Turns.{TakenOf}
 use Rattle.simulator.proofs.Keeping.{kept}
-use Rattle.simulator.proofs.Onward.{move_aside, moves_on, ready_on, runs_more, runs_nothing, taken_aside}
+use Rattle.simulator.proofs.Onward.{move_aside, moves_on, runs_more, runs_nothing, taken_aside}
 use Rattle.simulator.proofs.mind.Mind.run_with.Goals as goal
 
 pub loop-count-init : goal.loop-count-init
@@ -19,7 +17,6 @@ loop-count-init g c =
       serves = rw is c.requires.serves;
       most = omega arith;
       runs = rw is (runs_nothing _ _ _ _);
-      stays = λ quiet ready. rw is ready;
     }
 
 pub loop-count-preserved : goal.loop-count-preserved
@@ -37,8 +34,7 @@ loop-count-preserved g c =
       operation = subst (λ (m : MindState). IsOperation (move_of spec m)) (sym is) (moves_on spec mind answer loop.operation still);
       serves = rw is (g.met.M.Memory.goes_on _ _ _ _ _ _ loop.serves loop.is_mind loop.operation done);
       most = omega arith;
-      runs = rw (is, ← still) (runs_more _ _ _ _ _ _ _ _ _ loop.runs loop.stays done);
-      stays = λ quiet ready. subst (λ (m : MindState). ready_of spec m quiet ≡ Step) (sym is) (ready_on spec mind answer loop.operation still quiet);
+      runs = rw (is, ← still) (runs_more _ _ _ _ _ _ _ _ _ loop.runs done);
     }
 
 pub returns-in_default : goal.returns-in_default
@@ -52,7 +48,7 @@ returns-in_default g c =
     let turn : c.take_step-taken.result.turn ≡ (taken spec mind answer).turn = c.take_step-taken.ensures.turn ∙ ap (λ (t : TakenOf (List ℕ)). t.turn) (sym aside) in
     let done = subst (λ next. g.M.Memory.does c.loop-count.memory next answer c.take_step-taken.new.memory) (sym (move_aside c.loop-count.line spec c.loop-count.self)) c.take_step-taken.ensures.does in
     record {
-      runs = rw (is, turn) (runs_more _ _ _ _ _ _ _ _ _ loop.runs loop.stays done);
+      runs = rw (is, turn) (runs_more _ _ _ _ _ _ _ _ _ loop.runs done);
       most = omega arith;
       some = λ less. omega arith;
       ended = inr c.in_default.not-Still;

@@ -1,9 +1,7 @@
-use Rattle.std.proofs.Common.{◌-◌, ◌≡◌, ℕ, ◌≤◌}
+use Rattle.std.proofs.Common.{◌-◌, ◌≤◌}
 use Rattle.simulator.specs.Moves.{IsOperation, move_of}
 use Rattle.simulator.specs.Ranges.{IsMind, at_line}
 use Rattle.simulator.specs.Runs.{Runs}
-use Rattle.simulator.specs.Sweeps.{ready_of}
-use Rattle.simulator.specs.declared.sweep.Ready.TheVariants.{Step}
 use Rattle.simulator.specs.declared.turn.Turn.TheVariants.{Still}
 use Rattle.simulator.proofs.mind.Mind.run_with.Given as goal
 
@@ -14,7 +12,6 @@ invariant-loop-count g l = record {
   serves : g.M.Memory.serves l.memory l.context l.spec (at_line l.line l.self);
   most : l.count ≤ l.most;
   runs : Runs g.M.Memory.does l.spec l.initial.memory l.initial.self l.count l.memory (at_line l.line l.self) Still;
-  stays : (quiet : ℕ) → ready_of l.spec l.initial.self quiet ≡ Step → ready_of l.spec (at_line l.line l.self) quiet ≡ Step;
 }
 
 abbrev pub decreases-loop-count : goal.decreases-loop-count
