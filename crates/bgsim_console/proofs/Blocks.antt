@@ -5,7 +5,7 @@ use Rattle.std.specs.Option.{option_map}
 use Rattle.std.specs.Str.{bytes_eq}
 use Rattle.std.proofs.lemmas.Fmt.{decimal_digit, decimal_step}
 use Rattle.std.proofs.Math.Nat.{min-le_right}
-use Rattle.std.proofs.lemmas.List.{length-append, length-drop, length-take-le, take_all}
+use Rattle.std.proofs.lemmas.List.{drop_all, length-append, length-drop, length-take-le, take_all}
 use Rattle.room_spec.specs.Rooms.{RoomSpec}
 use Rattle.room_spec.specs.Texts.{first_line}
 use Rattle.room_spec.specs.Blocks.{body_len, block_len}
@@ -31,6 +31,10 @@ bounded len most (Some body) is = let len_is : len ≡ min (body + 4) most = cc 
 
 pub within_text : (text : List ℕ) (len : ℕ) → Some len ≡ block_len text → len ≤ length text
 within_text text len is = bounded len (length text) (body_len text) is
+
+-- the block at the front of what is left, by bytes that are the same
+pub front_as : (rest block bytes : List ℕ) → bytes ≡ block → block_len rest ≡ Some (length block) → block ≡ take (length block) rest → (block_len rest ≡ Some (length bytes)) × (block ≡ take (length bytes) rest)
+front_as rest block bytes same found front = (found ∙ ap (λ (b : List ℕ). Some (length b)) (sym same), front ∙ ap (λ (b : List ℕ). take (length b) rest) (sym same))
 
 -- the text behind its first bytes, as a slice of it
 pub behind : (text : List ℕ) (n m : ℕ) → m ≡ length text → take (m - n) (drop n text) ≡ drop n text
@@ -111,3 +115,10 @@ unfolding all_blocks_from
 all_taken zero setup rest none = refl
 all_taken (suc most) setup [] none = refl
 all_taken (suc most) setup (byte ∷ bytes) none = absurd (omega arith)
+
+-- what is left has no line `end`, and is refused whole
+pub rest_refused : (most : ℕ) (setup now : Setup) (rest : List ℕ) → length rest ≤ most → 0 < length rest → block_len rest ≡ None → now ≡ after_block setup rest → all_blocks_from most setup rest ≡ now
+rest_refused most setup now rest most_is some none now_is =
+    let whole : take (length rest) rest ≡ rest = take_all (length rest) rest (omega arith) in
+    let next = step_all most setup now rest [] (length rest) most_is some (sym (ap (or_all rest) none)) some (omega arith) (now_is ∙ ap (after_block setup) (sym whole)) (sym (drop_all (length rest) rest (omega arith))) in
+    next.2 ∙ all_taken next.0 now [] refl

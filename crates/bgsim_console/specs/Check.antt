@@ -7,7 +7,7 @@ use Rattle.protocol_lang.specs.FirstFaults.{place_of}
 use Rattle.room_spec.specs.Faults.{code_of as block_code}
 use Rattle.room_spec.specs.Rooms.{RoomSpec}
 use Rattle.room_spec.specs.Texts.{first_line, later_lines}
-use Rattle.room_spec.specs.Blocks.{body_len, block_len, block_in}
+use Rattle.room_spec.specs.Blocks.{block_len, block_in}
 use Rattle.room_spec.specs.declared.fault.SpecFault.{SpecFault}
 use Rattle.room_spec.specs.declared.fault.SpecFault.TheVariants.{BadLine, BadProtocol, CrashLine, Repeated, TaskLine}
 use Rattle.transcript.specs.Faults.{code_of as line_code}
@@ -79,10 +79,10 @@ pass_lines count setup = record { rooms = setup.rooms; refused = setup.refused; 
 abbrev pub after_block : Setup → List ℕ → Setup
 after_block setup block = pass_lines (length (text_lines block)) (open_block setup (block_in block))
 
--- the first line `end` of the block stands behind so many bytes, and is the last of so many lines
-pub record IsEnded (block : List ℕ) (body lines : ℕ) : Type 0 where
-  pub body_is : body_len block ≡ Some body
-  pub lines_are : length (text_lines block) ≡ lines
+-- what was read of a block is what it says, or its fault
+abbrev pub ReadsBlock : List ℕ → Result RoomSpec SpecFault → Type 0
+ReadsBlock block (Ok room) = block_in block ≡ Ok (room, length block)
+ReadsBlock block (Err fault) = block_in block ≡ Err fault
 
 -- what ends the input early, with the number after the last line
 abbrev pub ended_early : Setup → List ℕ → Result (Setup × List ℕ) (ℕ × ℕ)

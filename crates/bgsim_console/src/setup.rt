@@ -1,22 +1,19 @@
 //! What the blocks of an input say.
-ghost use Rattle.std.specs.Prelude.{◌≡◌, ◌+◌, ◌<◌, ◌^◌, ◌≤◌, [], Ok, IfOk, IfErr, OnOk, length, codes, decimal};
+ghost use Rattle.std.specs.Prelude.{◌≡◌, ◌+◌, ◌<◌, ◌^◌, ◌≤◌, [], None, Ok, IfOk, IfErr, OnOk, length, codes, decimal};
 ghost use Rattle.bgsim_console.specs.declared.fault.IoFault.TheVariants.{Memory};
-ghost use Rattle.room_spec.specs.Blocks.{IsHeadRight, block_in, room_in};
+ghost use Rattle.room_spec.specs.Blocks.{IsHeadRight, block_in, block_len};
+ghost use Rattle.bgsim_console.specs.Lines.{text_lines};
 ghost use Rattle.bgsim_console.specs.Run.{all_blocks};
-ghost use Rattle.bgsim_console.specs.Check.{no_blocks, refuse, open_room, after_block, pass_lines, blocks_in, fault_text, BeginsWithBlock, IsEnded, IsFaultOr};
+ghost use Rattle.bgsim_console.specs.Check.{no_blocks, refuse, open_room, after_block, pass_lines, blocks_in, fault_text, BeginsWithBlock, IsFaultOr, ReadsBlock};
 ghost use Rattle.bgsim_console.specs.Reading.{most_bytes};
 
 use crate::fault::{IoFault, bad_input};
 use crate::lines::count_lines;
 use crate::report::{write_refused, write_refused_code};
-use crate::script::block_extent;
 use crate::text::Text;
 use history_checker::{AddFault, Rooms};
 use protocol_lang::ParseFault;
-use room_spec::{
-    BlockEnd, Protocols, Spec, SpecFault, cut, find_end, read_block, read_block_with,
-    read_body_with,
-};
+use room_spec::{Block, Protocols, Spec, SpecFault, cut, read_block};
 use std::alloc::{AllocError, Global};
 use std::marker::Model;
 
@@ -61,11 +58,11 @@ impl Setup {
         }
     }
 
-    /// Takes the next block, which has these bytes.
-    fn take_block<'a>(
+    /// Takes the next block.
+    fn take<'a>(
         &mut self,
         alloc: Global,
-        block: &'a [u8],
+        block: &Block<'a>,
         protocols: &mut Protocols<'a>,
     ) -> Result<(), IoFault>
         requires { self.old.line + length block.now < 2 ^ 64 }
@@ -73,34 +70,22 @@ impl Setup {
         ensures line { OnOk result (self.new.line ≤ self.old.line + length block.now) }
         ensures err { IfErr result (λ fault. fault ≡ Memory) }
     {
-        match read_room_with(alloc, block, protocols)? {
-            Ok((spec, _)) => self.open_room(alloc, spec)?,
-            Err(fault) => self.refuse_fault(fault)?,
-        }
-        self.pass_lines(count_lines(block));
-        Ok(())
-    }
-
-    /// Takes the next block, of which is known where it ends.
-    fn take_ended<'a>(
-        &mut self,
-        alloc: Global,
-        block: &'a [u8],
-        end: BlockEnd,
-        protocols: &mut Protocols<'a>,
-    ) -> Result<(), IoFault>
-        requires fits { self.old.line + length block.now < 2 ^ 64 }
-        requires ended { IsEnded block.now end.body end.lines }
-        requires within { (end.body ≤ length block.now) × (end.lines ≤ length block.now) }
-        ensures block { OnOk result (self.new ≡ after_block self.old block.now) }
-        ensures line { OnOk result (self.new.line ≤ self.old.line + length block.now) }
-        ensures err { IfErr result (λ fault. fault ≡ Memory) }
-    {
-        match read_lines(alloc, &block[..end.body], protocols)? {
+        match read_lines(alloc, block, protocols)? {
             Ok(spec) => self.open_room(alloc, spec)?,
             Err(fault) => self.refuse_fault(fault)?,
         }
-        self.pass_lines(end.lines as u64);
+        self.pass_lines(lines_of(block));
+        Ok(())
+    }
+
+    /// Refuses what is left of an input, which has no line `end`.
+    fn refuse_rest(&mut self, rest: &[u8]) -> Result<(), AllocError>
+        requires fits { self.old.line + length rest.now < 2 ^ 64 }
+        requires ends { block_len rest.now ≡ None }
+        ensures { OnOk result (self.new ≡ after_block self.old rest.now) }
+    {
+        self.refuse_fault(SpecFault::Truncated)?;
+        self.pass_lines(count_lines(rest));
         Ok(())
     }
 
@@ -139,6 +124,14 @@ impl Setup {
     }
 }
 
+/// How many lines a block has.
+fn lines_of(block: &Block<'_>) -> u64
+    ensures value { result ≡ length (text_lines block.now) }
+    ensures within { result ≤ length block.now }
+{
+    block.lines() as u64
+}
+
 /// Reads a block, unless memory is refused to its protocol.
 pub fn read_room(
     alloc: Global,
@@ -155,33 +148,16 @@ pub fn read_room(
 }
 
 /// The same for one of several blocks, which share protocols.
-fn read_room_with<'a>(
+fn read_lines<'a>(
     alloc: Global,
-    block: &'a [u8],
+    block: &Block<'a>,
     protocols: &mut Protocols<'a>,
-) -> Result<Result<(Spec, usize), SpecFault>, AllocError>
-    ensures read { IfOk result (λ read. read ≡ block_in block.now) }
+) -> Result<Result<Spec, SpecFault>, AllocError>
+    ensures read { IfOk result (λ read. ReadsBlock block.now read) }
     // Want of memory hides no fault of a line before the protocol's text, nor that this text is too long.
     ensures head { IfErr result (λ _. IsHeadRight (block_in block.now)) }
 {
-    match read_block_with(alloc, block, protocols) {
-        Err(SpecFault::BadProtocol(ParseFault::OutOfMemory)) => Err(AllocError),
-        read => Ok(read),
-    }
-}
-
-/// Reads the lines of a block that stand before its line `end`, unless memory is refused to its
-/// protocol.
-fn read_lines<'a>(
-    alloc: Global,
-    body: &'a [u8],
-    protocols: &mut Protocols<'a>,
-) -> Result<Result<Spec, SpecFault>, AllocError>
-    ensures read { IfOk result (λ read. read ≡ room_in body.now) }
-    // Want of memory hides no fault of a line before the protocol's text, nor that this text is too long.
-    ensures head { IfErr result (λ _. IsHeadRight (room_in body.now)) }
-{
-    match read_body_with(alloc, body, protocols) {
+    match block.read(alloc, protocols) {
         Err(SpecFault::BadProtocol(ParseFault::OutOfMemory)) => Err(AllocError),
         read => Ok(read),
     }
@@ -204,12 +180,11 @@ pub fn read_blocks(alloc: Global, input: &[u8]) -> Result<(Setup, &[u8]), IoFaul
             setup.pass_lines(1);
             return Ok((setup, later.unwrap_or(&[])));
         }
-        let Some(end) = find_end(rest) else {
+        let Some(block) = Block::at_front(rest) else {
             return Err(bad_input(setup.line + count_lines(rest), ENDED_EARLY));
         };
-        let len = (end.body + 4).min(rest.len());
-        setup.take_ended(alloc, &rest[..len], end, &mut protocols)?;
-        rest = &rest[len..];
+        setup.take(alloc, &block, &mut protocols)?;
+        rest = &rest[block.text().len()..];
     }
 }
 
@@ -224,10 +199,13 @@ pub fn read_all_blocks(alloc: Global, input: &[u8]) -> Result<Setup, IoFault>
     let mut setup = Setup::new(alloc);
     let mut protocols = Protocols::new(alloc);
     let mut rest = input;
-    while !rest.is_empty() {
-        let extent = block_extent(rest);
-        setup.take_block(alloc, &rest[..extent], &mut protocols)?;
-        rest = &rest[extent..];
+    while let Some(block) = Block::at_front(rest) {
+        setup.take(alloc, &block, &mut protocols)?;
+        rest = &rest[block.text().len()..];
     }
+    if rest.is_empty() {
+        return Ok(setup);
+    }
+    setup.refuse_rest(rest)?;
     Ok(setup)
 }

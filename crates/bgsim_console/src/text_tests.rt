@@ -1,17 +1,10 @@
 //! What no input shows of room blocks, event lines and checked rooms: calls that the program doesn't make, and messages.
-use crate::tests::ONE;
 use history_checker::{AddFault, FeedFault, NoRoom};
 use protocol_lang::ParseFault;
-use room_spec::{SpecFault, read_body};
+use room_spec::SpecFault;
 use std::alloc::Global;
 use std::test::*;
 use transcript::{LineFault, read_line, write_event};
-
-#[test]
-fn bodies_of_blocks(rt: HostRuntime) {
-    let body = ONE.strip_suffix("end\n").unwrap_or("");
-    assert!(rt; read_body(rt.alloc(), body.as_bytes()).is_ok());
-}
 
 /// Whether a fault has this message.
 fn says(alloc: Global, fault: SpecFault, text: &str) -> Result<bool, Fail> {

@@ -5,6 +5,7 @@ mod Blocks
 mod Inputs
 mod Lines
 mod Ends
+mod Fronts
 mod Numerals
 mod Heads
 mod Fuses

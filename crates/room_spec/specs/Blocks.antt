@@ -39,6 +39,13 @@ body_len text = option_map (λ before. extent_of (take before (lines_of text))) 
 abbrev pub block_len : List ℕ → Option ℕ
 block_len text = option_map (λ body. min (body + 4) (length text)) (body_len text)
 
+-- the text ends with its first line `end`: what stands before that line, and how many lines these are
+pub record IsEnded (text body : List ℕ) (lines : ℕ) : Type 0 where
+  pub body_is : body_len text ≡ Some (length body)
+  pub bytes : body ≡ take (length body) text
+  pub whole : block_len text ≡ Some (length text)
+  pub lines_are : option_map suc (position is_end (lines_of text)) ≡ Some lines
+
 -- ---- the lines, each read from the front of a text; it gives what it says and the lines after it
 
 -- what stands behind a word and its space at the front of a line

@@ -2,6 +2,8 @@
 #![tactic(auto)]
 
 mod block;
+mod block_lines;
+mod crash_lines;
 mod fault;
 pub mod laws;
 mod name;
@@ -10,9 +12,7 @@ mod spec;
 mod text;
 mod version;
 
-pub use block::{
-    BlockEnd, block_len, find_end, read_block, read_block_with, read_body, read_body_with,
-};
+pub use block::{Block, block_len, read_block};
 pub use fault::SpecFault;
 pub use name::Name;
 pub use protocols::Protocols;

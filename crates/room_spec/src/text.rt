@@ -2,7 +2,7 @@
 ghost use Rattle.std.specs.Prelude.{◌≡◌, ◌==◌, ◌∷◌, ◌<◌, ◌≤◌, ◌+◌, [], IfSome, MatchOption, length};
 ghost use Rattle.std.specs.Option.{option_copied};
 ghost use Rattle.std.specs.List.{before_first, after_first, position, slice_split};
-ghost use Rattle.room_spec.specs.Texts.{pieces_of};
+ghost use Rattle.room_spec.specs.Texts.{first_line, later_lines, pieces_of};
 
 use memchr::memchr;
 
@@ -32,6 +32,17 @@ pub fn cut_near(text: &[u8], byte: u8) -> (&[u8], Option<&[u8]>)
     };
     let rest = &text[place + 1..];
     (&text[..place], Some(rest))
+}
+
+/// The first line of `text` and the lines after it.
+pub(crate) fn split_line(text: &[u8]) -> (&[u8], &[u8])
+    ensures first { result.0.now ≡ first_line text.now }
+    ensures later { result.1.now ≡ later_lines text.now }
+{
+    match cut(text, b'\n') {
+        (line, Some(rest)) => (line, rest),
+        (line, None) => (line, &[]),
+    }
 }
 
 /// How many bytes are looked at one by one, before the rest is searched.

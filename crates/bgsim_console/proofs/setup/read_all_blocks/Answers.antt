@@ -1,33 +1,48 @@
-use Rattle.std.proofs.Common.{◌≡◌, ◌∙◌, ◌<◌, ℕ, length, refl, subst, sym, arith, rules}
-use Rattle.bgsim_console.proofs.Blocks.{all_taken, behind, bytes_left, line_bound, shorter_behind, some_extent, step_all}
+use Rattle.std.proofs.Common.{◌≡◌, ◌∙◌, ◌+◌, ◌<◌, ◌≤◌, ℕ, List, length, refl, subst, sym, ap, arith, rules}
+use Rattle.bgsim_console.specs.Check.{after_block}
+use Rattle.bgsim_console.specs.Script.{or_all}
+use Rattle.bgsim_console.proofs.BlockEnds.{positive_len}
+use Rattle.bgsim_console.proofs.Blocks.{all_taken, behind, bytes_left, front_as, line_bound, rest_refused, shorter_behind, step_all, within_text}
 use Rattle.bgsim_console.proofs.setup.read_all_blocks.Goals as goal
 
-pub loop-rest-smaller : goal.loop-rest-smaller
-loop-rest-smaller c =
-    let rest = c.loop-rest.rest.now in
-    let extent = c.block_extent-extent.result in
-    let some = bytes_left (length rest) c.is_empty.result c.is_empty.ensures c.loop-rest-test.true in
-    let positive = subst (λ (n : ℕ). 0 < n) (sym c.block_extent-extent.ensures.value) (some_extent rest some) in
-    shorter_behind rest extent _ refl positive c.block_extent-extent.ensures.within
+pub loop-block-smaller : goal.loop-block-smaller
+loop-block-smaller c =
+    let rest = c.loop-block.rest.now in
+    let len = length c.text.result.now in
+    let front = front_as rest c.in-Some.block c.text.result.now c.text.ensures c.in-Some.ensures.block.0 c.in-Some.ensures.block.1 in
+    shorter_behind rest len _ refl (positive_len rest len front.0) (within_text rest len (sym front.0))
 
-pub loop-rest-preserved : goal.loop-rest-preserved
-loop-rest-preserved c =
-    let inv = c.loop-rest.invariant in
-    let rest = c.loop-rest.rest.now in
-    let extent = c.block_extent-extent.result in
-    let within = c.block_extent-extent.ensures.within in
-    let value = c.block_extent-extent.ensures.value in
-    let some = bytes_left (length rest) c.is_empty.result c.is_empty.ensures c.loop-rest-test.true in
-    let positive = subst (λ (n : ℕ). 0 < n) (sym value) (some_extent rest some) in
-    let next = step_all inv.0 c.loop-rest.setup c.take_block.new.self rest _ extent inv.1 some value positive within c.in_ok-take_block.ensures.block (behind rest extent _ refl) in (
+pub loop-block-preserved : goal.loop-block-preserved
+loop-block-preserved c =
+    let rest = c.loop-block.rest.now in
+    let len = length c.text.result.now in
+    let front = front_as rest c.in-Some.block c.text.result.now c.text.ensures c.in-Some.ensures.block.0 c.in-Some.ensures.block.1 in
+    let inv = c.loop-block.invariant in
+    let positive = positive_len rest len front.0 in
+    let within = within_text rest len (sym front.0) in
+    let taken = c.in_ok-take.ensures.block ∙ ap (after_block c.loop-block.setup) front.1 in
+    let passed = subst (λ (bytes : List ℕ). c.take.new.self.line ≤ c.loop-block.setup.line + length bytes) front.1 c.in_ok-take.ensures.line in
+    let next = step_all inv.0 c.loop-block.setup c.take.new.self rest _ len inv.1 (omega (arith, positive, within)) (sym (ap (or_all rest) front.0)) positive within taken (behind rest len _ refl) in (
       next.0,
       next.1,
       inv.2 ∙ next.2,
-      line_bound rest extent _ c.loop-rest.setup.line c.take_block.new.self.line (length c.args.input.now) refl within c.in_ok-take_block.ensures.line inv.3,
+      line_bound rest len _ c.loop-block.setup.line c.take.new.self.line (length c.args.input.now) refl within passed inv.3,
     )
+
+pub take-requires : goal.take-requires
+take-requires c =
+    let within = within_text c.loop-block.rest.now (length c.in-Some.block) (sym c.in-Some.ensures.block.0) in
+    omega (arith, within, c.loop-block.invariant.3, c.requires)
+
+pub returns-then-is_empty-clause-read : goal.returns-then-is_empty-clause-read
+returns-then-is_empty-clause-read c =
+    let inv = c.loop-block.invariant in
+    let none : length c.loop-block.rest.now ≡ 0 = grind (arith, rules) in
+    sym (inv.2 ∙ all_taken inv.0 c.loop-block.setup c.loop-block.rest.now none)
 
 pub returns-clause-read : goal.returns-clause-read
 returns-clause-read c =
-    let inv = c.loop-rest.invariant in
-    let none : length c.loop-rest.rest.now ≡ 0 = grind (arith, rules) in
-    sym (inv.2 ∙ all_taken inv.0 c.loop-rest.setup c.loop-rest.rest.now none)
+    let inv = c.loop-block.invariant in
+    let rest = c.loop-block.rest.now in
+    let some = bytes_left (length rest) c.is_empty.result c.is_empty.ensures c.if-is_empty.false in
+    sym (inv.2 ∙ rest_refused inv.0 c.loop-block.setup c.refuse_rest.new.self rest inv.1 some c.in_default.ensures.none c.in_ok-refuse_rest.ensures)

@@ -3,8 +3,8 @@ use Rattle.bgsim_console.specs.Run.{all_blocks, all_blocks_from}
 use Rattle.bgsim_console.proofs.setup.read_all_blocks.Given as goal
 
 -- what is left says the rest
-abbrev pub invariant-loop-rest : goal.invariant-loop-rest
-invariant-loop-rest l = (most : ℕ) × (length l.rest ≤ most) × (all_blocks l.input ≡ all_blocks_from most l.setup l.rest) × (l.setup.line + length l.rest ≤ length l.input + 1)
+abbrev pub invariant-loop-block : goal.invariant-loop-block
+invariant-loop-block l = (most : ℕ) × (length l.rest ≤ most) × (all_blocks l.input ≡ all_blocks_from most l.setup l.rest) × (l.setup.line + length l.rest ≤ length l.input + 1)
 
-abbrev pub decreases-loop-rest : goal.decreases-loop-rest
-decreases-loop-rest l = length l.rest
+abbrev pub decreases-loop-block : goal.decreases-loop-block
+decreases-loop-block l = length l.rest

@@ -1,5 +1,23 @@
-use Rattle.std.proofs.Common.{rules}
+use Rattle.std.proofs.Common.{◌≡◌, ◌∙◌, ℕ, List, length, take, Some, Ok, ap, inl, sym, rules}
+use Rattle.std.proofs.lemmas.Result.{err_from_is_err_and}
+use Rattle.room_spec.specs.Blocks.{block_len}
+use Rattle.room_spec.proofs.Fronts.{front_says}
 use Rattle.room_spec.proofs.block.read_front.Goals as goal
 
-pub returns-in_err-end-clause-exact : goal.returns-in_err-end-clause-exact
-returns-in_err-end-clause-exact c = search rules
+pub returns-in_err-spec-clause-exact : goal.returns-in_err-spec-clause-exact
+returns-in_err-spec-clause-exact c =
+    let text = c.args.text.now in
+    let block = c.in_ok-block.block in
+    let len : block_len text ≡ Some (length block) = search rules in
+    let front : block ≡ take (length block) text = search rules in
+    let p = err_from_is_err_and c.from_residual-in_err-spec.result c.from_residual-in_err-spec.ensures.1 in
+    rw (p.1, p.2, ← front_says text block len front) c.in_err-spec.ensures
+
+pub returns-clause-exact : goal.returns-clause-exact
+returns-clause-exact c =
+    let text = c.args.text.now in
+    let block = c.in_ok-block.block in
+    let len : block_len text ≡ Some (length block) = search rules in
+    let front : block ≡ take (length block) text = search rules in
+    inl
+    (ap (λ (bytes : List ℕ). Ok (c.in_ok-spec.spec, length bytes)) c.block.view_is ∙ sym c.in_ok-spec.ensures ∙ front_says text block len front)

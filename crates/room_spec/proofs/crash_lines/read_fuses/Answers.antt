@@ -2,7 +2,7 @@ use Rattle.std.proofs.Common.{◌≡◌, ◌-◌, ◌∙◌, [], Some, None, Ok,
 use Rattle.std.proofs.lemmas.Result.{err_from_is_err_and}
 use Rattle.room_spec.specs.Blocks.{said_next, fuses_from, fuse_lines}
 use Rattle.room_spec.proofs.Fuses.{no_fuses, stops_at_fault, stops_at_protocol, goes_on, fuse_fits}
-use Rattle.room_spec.proofs.block.read_fuses.Goals as goal
+use Rattle.room_spec.proofs.crash_lines.read_fuses.Goals as goal
 
 pub loop-fuse-init : goal.loop-fuse-init
 loop-fuse-init c = rw c.new-fuses.ensures (record { few = omega arith; are = no_fuses c.args.simulators; so_far = ap (λ n. fuses_from (suc n) c.args.first c.args.simulators [] c.args.text.now) (omega arith) })

@@ -1,7 +1,7 @@
 use Rattle.std.proofs.Common.{sym, ap, ◌∙◌, min, ◌^◌}
 use Rattle.std.specs.Option.{option_map}
 use Rattle.room_spec.proofs.Fuses.{more_words}
-use Rattle.room_spec.proofs.block.fuse_from.Goals as goal
+use Rattle.room_spec.proofs.crash_lines.fuse_from.Goals as goal
 
 pub returns-then-is_some : goal.returns-then-is_some
 returns-then-is_some c =

@@ -5,7 +5,7 @@ use Rattle.room_spec.specs.Texts.{is_space, fields_of, pieces_of}
 use Rattle.room_spec.specs.Rooms.{is_value}
 use Rattle.room_spec.specs.Blocks.{numbers_of, inputs_of, in_range}
 use Rattle.room_spec.proofs.Inputs.{outcome}
-use Rattle.room_spec.proofs.block.inputs_from.Given as goal
+use Rattle.room_spec.proofs.block_lines.inputs_from.Given as goal
 
 abbrev pub invariant-loop-rest : goal.invariant-loop-rest
 invariant-loop-rest l = record {

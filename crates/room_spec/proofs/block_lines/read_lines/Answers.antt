@@ -14,7 +14,7 @@ use Rattle.std.proofs.lemmas.Grind.{common_steps}
 use Rattle.room_spec.proofs.Heads.{inputs_found, inputs_are_values}
 use Rattle.room_spec.proofs.Readings.{inputs_range, most_bits_few}
 use Rattle.room_spec.proofs.Memory.{kept_small, refused_on}
-use Rattle.room_spec.proofs.block.read_body_with.Goals as goal
+use Rattle.room_spec.proofs.block_lines.read_lines.Goals as goal
 
 -- what reading makes of the lines behind `rounds`
 abbrev behind : (version : Version) (name inputs : List ℕ × List ℕ) (simulators rounds : ℕ × List ℕ) → Result RoomSpec SpecFault

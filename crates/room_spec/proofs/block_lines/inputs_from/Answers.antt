@@ -6,7 +6,7 @@ use Rattle.room_spec.specs.Blocks.{inputs_of, in_range}
 use Rattle.room_spec.specs.Texts.{fields_of}
 use Rattle.protocol_lang.specs.Numbers.{number_of}
 use Rattle.room_spec.proofs.Inputs.{outcome_pushed, outcome_stopped, too_many, values_pushed, number_from}
-use Rattle.room_spec.proofs.block.inputs_from.Goals as goal
+use Rattle.room_spec.proofs.block_lines.inputs_from.Goals as goal
 
 pub loop-rest-preserved-in-Ok : goal.loop-rest-preserved-in-Ok
 loop-rest-preserved-in-Ok c =

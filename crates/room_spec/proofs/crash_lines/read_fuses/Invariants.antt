@@ -1,7 +1,7 @@
 use Rattle.std.proofs.Common.{◌≡◌, suc, ◌-◌, ◌≤◌, length}
 use Rattle.room_spec.specs.Rooms.{AreFuses}
 use Rattle.room_spec.specs.Blocks.{fuses_from, fuse_lines}
-use Rattle.room_spec.proofs.block.read_fuses.Given as goal
+use Rattle.room_spec.proofs.crash_lines.read_fuses.Given as goal
 
 abbrev pub invariant-loop-fuse : goal.invariant-loop-fuse
 invariant-loop-fuse l = record {

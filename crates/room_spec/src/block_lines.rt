@@ -1,0 +1,197 @@
+//! The lines of a room block.
+ghost use Rattle.std.specs.Prelude.{◌≡◌, ◌*◌, ◌≤◌, length, IfOk, IsSome, codes};
+ghost use Rattle.std.specs.Option.{option_copied};
+ghost use Rattle.room_spec.specs.Rooms.{IsTaskIn};
+ghost use Rattle.room_spec.specs.Texts.{fields_of};
+ghost use Rattle.room_spec.specs.Blocks.{version_of, version_line, name_line, inputs_of, in_range, inputs_line, number_line, task_of, task_words, task_line, line_behind_task, room_in, Gives, OrMemory};
+
+use crate::crash_lines::read_fuses;
+use crate::fault::SpecFault;
+use crate::name::Name;
+use crate::protocols::Protocols;
+use crate::spec::{
+    MAX_AGREED, MAX_PROCESSES, MAX_ROUNDS, MAX_SIMULATORS, MAX_TURNS, Spec, bits, memory_words,
+};
+use crate::text::{cut_near, split_line};
+use crate::version::Version;
+use arrayvec::ArrayVec;
+use protocol_lang::read_number;
+use std::alloc::Global;
+
+/// Reads the lines of a room block that stand before its line `end`. The fault is that of the first
+/// line that has one.
+#[tactic(auto, unfolding(crate::specs::Blocks::room_in))]
+pub(crate) fn read_lines<'a>(
+    alloc: Global,
+    body: &'a [u8],
+    protocols: &mut Protocols<'a>,
+) -> Result<Spec, SpecFault>
+    ensures { OrMemory result (room_in body.now) }
+{
+    let (version, rest) = read_version(body)?;
+    let (name, rest) = read_name(rest)?;
+    let (inputs, rest) = read_inputs(rest)?;
+    let (simulators, rest) = read_number_line(
+        rest,
+        4,
+        b"simulators ",
+        MAX_SIMULATORS as u16,
+        SpecFault::Simulators,
+    )?;
+    let (rounds, rest) = read_number_line(rest, 5, b"rounds ", MAX_ROUNDS, SpecFault::Rounds)?;
+    if usize::from(simulators) * inputs.len() * bits(usize::from(rounds)) > version.most_bits() {
+        return Err(SpecFault::TooWide);
+    }
+    let (turns, rest) = read_number_line(rest, 6, b"turns ", MAX_TURNS, SpecFault::Turns)?;
+    let (task, rest) = read_task(rest, version)?;
+    let (fuses, text) = read_fuses(rest, line_behind_task(task), simulators)?;
+    let protocol = protocols.read(alloc, text)?;
+    let words = memory_words(usize::from(simulators), inputs.len(), usize::from(rounds));
+    Ok(Spec {
+        version,
+        name,
+        inputs,
+        simulators: simulators as u8,
+        rounds: rounds as u8,
+        turns,
+        task,
+        fuses,
+        words,
+        protocol,
+    })
+}
+
+fn read_version(text: &[u8]) -> Result<(Version, &[u8]), SpecFault>
+    ensures { Gives (λ read. (read.0, read.1.now)) result (version_line text.now) }
+{
+    let (line, rest) = split_line(text);
+    let version = version_of(line)?;
+    Ok((version, rest))
+}
+
+fn version_of(line: &[u8]) -> Result<Version, SpecFault>
+    ensures { result ≡ version_of line.now }
+{
+    if line == b"bgsim 1".as_slice() {
+        Ok(Version::One)
+    } else if line == b"bgsim 2".as_slice() {
+        Ok(Version::Two)
+    } else {
+        Err(SpecFault::BadLine(1))
+    }
+}
+
+fn read_name(text: &[u8]) -> Result<(Name, &[u8]), SpecFault>
+    ensures { Gives (λ read. (read.0, read.1.now)) result (name_line text.now) }
+{
+    let (line, rest) = split_line(text);
+    let value = line
+        .strip_prefix(b"room ".as_slice())
+        .ok_or(SpecFault::BadLine(2))?;
+    let name = Name::read(value).ok_or(SpecFault::BadName)?;
+    Ok((name, rest))
+}
+
+fn read_inputs(text: &[u8]) -> Result<(ArrayVec<u32, MAX_PROCESSES>, &[u8]), SpecFault>
+    ensures { Gives (λ read. (read.0.items, read.1.now)) result (inputs_line text.now) }
+{
+    let (line, rest) = split_line(text);
+    let inputs = inputs_from(line)?;
+    Ok((inputs, rest))
+}
+
+fn inputs_from(line: &[u8]) -> Result<ArrayVec<u32, MAX_PROCESSES>, SpecFault>
+    ensures { Gives (λ values. values.items) result (in_range (inputs_of (fields_of line.now))) }
+{
+    let (word, mut rest) = cut_near(line, b' ');
+    if word != b"inputs".as_slice() {
+        return Err(SpecFault::BadLine(3));
+    }
+    let mut values = ArrayVec::new();
+    let mut fits = true;
+    while let Some(fields) = rest {
+        let (field, others) = cut_near(fields, b' ');
+        let number = read_number(field).ok_or(SpecFault::BadLine(3))?;
+        match u32::try_from(number) {
+            Ok(value) if !values.is_full() => values.push(value),
+            _ => fits = false,
+        }
+        rest = others;
+    }
+    if fits && !values.is_empty() {
+        Ok(values)
+    } else {
+        Err(SpecFault::Inputs)
+    }
+}
+
+/// Reads the line of the number `line`, which has a word and a number from 1 to `most`.
+fn read_number_line<'a>(
+    text: &'a [u8],
+    line: usize,
+    word: &[u8],
+    most: u16,
+    fault: SpecFault,
+) -> Result<(u16, &'a [u8]), SpecFault>
+    ensures value { Gives (λ read. (read.0, read.1.now)) result (number_line line word.now most fault text.now) }
+    ensures range { IfOk result (λ read. (1 ≤ read.0) × (read.0 ≤ most)) }
+{
+    let (found, rest) = split_line(text);
+    let value = found.strip_prefix(word).ok_or(SpecFault::BadLine(line))?;
+    let number = read_number(value).ok_or(SpecFault::BadLine(line))?;
+    match u16::try_from(number) {
+        Ok(number) if number >= 1 && number <= most => Ok((number, rest)),
+        _ => Err(fault),
+    }
+}
+
+/// Reads the line of the task, if the next line is one.
+fn read_task(text: &[u8], version: Version) -> Result<(Option<u8>, &[u8]), SpecFault>
+    ensures value { Gives (λ read. (read.0, read.1.now)) result (task_line version text.now) }
+    ensures range { IfOk result (λ read. IsTaskIn version read.0) }
+{
+    let (line, rest) = split_line(text);
+    let Some(words) = task_words(line, version) else {
+        return Ok((None, text));
+    };
+    let most = read_agreed(words)?;
+    Ok((Some(most), rest))
+}
+
+/// What stands behind the word `task` at the front of a line behind the turns.
+fn task_words(line: &[u8], version: Version) -> Option<&[u8]>
+    ensures words { option_copied result ≡ task_words version line.now }
+    ensures two { IsSome result → version ≡ Version.Two }
+{
+    match version {
+        Version::One => None,
+        Version::Two => line.strip_prefix(b"task ".as_slice()),
+    }
+}
+
+/// How many values a task allows, by the words behind `task`.
+fn read_agreed(words: &[u8]) -> Result<u8, SpecFault>
+    ensures value { result ≡ task_of words.now }
+    ensures range { IfOk result (λ most. (1 ≤ most) × (most ≤ 16)) }
+{
+    let most = words
+        .strip_prefix(b"agree ".as_slice())
+        .ok_or(SpecFault::TaskLine(7))?;
+    let most = read_number(most).ok_or(SpecFault::TaskLine(7))?;
+    if most >= 1 && most <= MAX_AGREED {
+        Ok(most as u8)
+    } else {
+        Err(SpecFault::TaskLine(7))
+    }
+}
+
+/// The number of the line behind the turns and the task.
+fn line_behind_task(task: Option<u8>) -> usize
+    ensures value { result ≡ line_behind_task task }
+    ensures few { result ≤ 8 }
+{
+    match task {
+        None => 7,
+        Some(_) => 8,
+    }
+}
