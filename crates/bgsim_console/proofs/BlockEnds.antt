@@ -1,5 +1,5 @@
 -- The lines of a block, as many as end with its line `end`.
-use Rattle.std.proofs.Common.{◌≡◌, ◌∙◌, ℕ, suc, ◌+◌, ◌<◌, ◌≤◌, List, [], ◌∷◌, ◌++◌, length, Option, Some, None, refl, sym, ap, arith, inl, inr}
+use Rattle.std.proofs.Common.{◌≡◌, ◌∙◌, ℕ, suc, ◌<◌, ◌≤◌, List, [], ◌∷◌, ◌++◌, length, Option, Some, None, refl, ap, arith, inl, inr}
 use Rattle.std.specs.Prelude.{codes, option_map}
 use Rattle.std.specs.List.{onto_first, position}
 use Rattle.std.proofs.lemmas.Bool.{cases_Bool}
@@ -10,7 +10,7 @@ use Rattle.room_spec.specs.Blocks.{body_len, block_len, is_end}
 use Rattle.room_spec.specs.Grammar.{text_of}
 use Rattle.room_spec.proofs.CallerLemmas.{end_found, end_place, len_ends, lines_to_end, some_body, with_line_end}
 use Rattle.bgsim_console.specs.Lines.{lines_in, text_lines}
-use Rattle.bgsim_console.proofs.Blocks.{some_bytes}
+use Rattle.bgsim_console.proofs.BlockSteps.{some_bytes}
 use Rattle.bgsim_console.proofs.LineLists.{before_more}
 
 -- behind its line `end` a block has a line end or nothing

@@ -1,16 +1,15 @@
 -- Events fed one by one.
-use Rattle.std.proofs.Common.{◌≡◌, ◌∙◌, ℕ, ◌+◌, true, List, [], ◌∷◌, ◌++◌, Result, Ok, Err, refl, sym, ap}
+use Rattle.std.proofs.Common.{◌≡◌, ◌∙◌, ℕ, ◌+◌, List, [], ◌∷◌, ◌++◌, Result, Ok, Err, refl, sym, ap}
 use Rattle.room_spec.specs.Rooms.{RoomSpec}
 use Rattle.transcript.specs.Lines.{line_in, line_said, LineParts}
-use Rattle.transcript.specs.declared.event.Event.{Event}
-use Rattle.transcript.specs.declared.fault.LineFault.{LineFault}
-use Rattle.history_checker.specs.Verdicts.{FedEvent, RoomState, feed_code, has_room, specs_of}
+use Rattle.history_checker.specs.Verdicts.{FedEvent, RoomState, feed_code, specs_of}
 use Rattle.history_checker.specs.Shown.{HasFed, IsUnfed}
 use Rattle.history_checker.specs.declared.rooms.FeedFault.{FeedFault}
 use Rattle.history_checker.specs.declared.rooms.FeedFault.TheVariants.{BadLine, NoRoom}
 use Rattle.bgsim_console.specs.declared.fault.IoFault.{IoFault}
 use Rattle.bgsim_console.specs.declared.fault.IoFault.TheVariants.{Read, Write, TooLong, BadInput, Run as RunFailed, Memory}
-use Rattle.bgsim_console.specs.Check.{of_known_room, then_fed, fed_from, IsFaultOf}
+use Rattle.bgsim_console.specs.Blocks.{IsFaultOf}
+use Rattle.bgsim_console.specs.Check.{of_known_room, then_fed, fed_from}
 
 -- what became of a line, by its parts
 pub line_fed : (rooms : List RoomState) (after : List RoomState) (line : ℕ) (text : List ℕ) (parts : LineParts) → line_in text ≡ line_said parts → (fed : HasFed parts line rooms after) → of_known_room (specs_of rooms) line (line_in text) ≡ Ok fed.one

@@ -1,4 +1,4 @@
-mod Blocks
+mod BlockSteps
 mod BlockEnds
 mod Commands
 mod LineLists
@@ -13,6 +13,7 @@ mod Playing
 mod Streams
 mod Feeding
 mod RunTexts
+mod SpecLists
 mod Verdicts
 mod Worked
 mod WorkedInputs

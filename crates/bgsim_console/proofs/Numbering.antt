@@ -20,7 +20,8 @@ use Rattle.transcript.specs.declared.event.Event.{Event}
 use Rattle.transcript.specs.declared.fault.LineFault.{LineFault}
 use Rattle.history_checker.specs.Verdicts.{FedEvent, has_room}
 use Rattle.bgsim_console.specs.Lines.{lines_in, text_lines}
-use Rattle.bgsim_console.specs.Check.{Setup, no_blocks, refuse, open_room, open_block, pass_lines, after_block, fault_text, refused_line, next_block, blocks_from, blocks_in, of_known_room, then_fed, fed_from, with_fed, events_behind, input_says}
+use Rattle.bgsim_console.specs.Blocks.{Setup, no_blocks, refuse, open_room, open_block, pass_lines, after_block, fault_text, refused_line}
+use Rattle.bgsim_console.specs.Check.{next_block, blocks_from, blocks_in, of_known_room, then_fed, fed_from, with_fed, events_behind, input_says}
 use Rattle.bgsim_console.specs.LineNumbers.{number_behind, Refusal, refusal_line, IsBlockText, AreBlocks, NoBlock, Opened, NameTaken, Faulty, AreTold, NoLine, OneMore, IsBadLine, with_events, EndsEarly, IsNumbered}
 use Rattle.bgsim_console.proofs.LineLists.{first_and_later}
 

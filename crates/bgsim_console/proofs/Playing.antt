@@ -9,7 +9,7 @@ use Rattle.service_core.specs.declared.command.Command.{Command}
 use Rattle.service_core.specs.declared.reply.Reply.{Reply}
 use Rattle.service_core.specs.Rooms.{Applies, Entries}
 use Rattle.service_core.proofs.CallerLemmas.{Ran, begins, goes_on}
-use Rattle.bgsim_console.specs.Check.{IsFaultOr}
+use Rattle.bgsim_console.specs.Blocks.{IsFaultOr}
 use Rattle.bgsim_console.specs.ReplyTexts.{reply_to_command}
 use Rattle.bgsim_console.specs.Script.{Entry}
 use Rattle.bgsim_console.specs.declared.fault.IoFault.{IoFault}

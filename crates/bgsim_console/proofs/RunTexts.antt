@@ -11,7 +11,7 @@ use Rattle.scheduler.specs.Results.{AreRoomRuns, IsRoomRun}
 use Rattle.scheduler.specs.declared.rooms.RoomResult.{RoomResult}
 use Rattle.scheduler.specs.declared.rooms.RunFault.{RunFault}
 use Rattle.scheduler.specs.declared.rooms.RunFault.TheVariants.{Workers}
-use Rattle.bgsim_console.specs.Check.{Setup, outcome_if}
+use Rattle.bgsim_console.specs.Blocks.{Setup, outcome_if}
 use Rattle.bgsim_console.specs.declared.fault.Outcome.{Outcome}
 use Rattle.bgsim_console.specs.ReplyTexts.{report_text}
 use Rattle.bgsim_console.specs.Run.{AddsReports, AreWorkers, IsRunText, report_texts}

@@ -14,7 +14,8 @@ use Rattle.history_checker.specs.Verdicts.{FedEvent, IsTaskAnswer, IsVerdict, fe
 use Rattle.history_checker.specs.declared.rooms.Verdict.{Verdict}
 use Rattle.history_checker.specs.declared.rooms.TaskVerdict.{TaskVerdict}
 use Rattle.bgsim_console.specs.declared.fault.Outcome.{Outcome}
-use Rattle.bgsim_console.specs.Check.{Judged, IsJustified, IsOutput, judged_line, is_well, outcome_if}
+use Rattle.bgsim_console.specs.Blocks.{outcome_if}
+use Rattle.bgsim_console.specs.Check.{Judged, IsJustified, IsOutput, judged_line, is_well}
 
 -- the verdicts on the first rooms stand behind the lines of the refused blocks
 abbrev pub SoFar : List RoomSpec → List ℕ → List FedEvent → ℕ → List ℕ → Bool → Type 0

@@ -11,7 +11,8 @@ use Rattle.room_spec.specs.declared.version.Version.TheVariants.{One}
 use Rattle.room_spec.specs.Blocks.{body_len, fuses_from, room_in}
 use Rattle.transcript.specs.declared.event.Event.TheVariants.{Write, Snap, Decide}
 use Rattle.history_checker.specs.Verdicts.{FedEvent}
-use Rattle.bgsim_console.specs.Check.{Setup, blocks_from, fed_from, input_says}
+use Rattle.bgsim_console.specs.Blocks.{Setup}
+use Rattle.bgsim_console.specs.Check.{blocks_from, fed_from, input_says}
 
 abbrev one : List ℕ
 one = codes "bgsim 1\nroom one\ninputs 5\nsimulators 1\nrounds 1\nturns 10\nprotocol\nfirst input;\nelse decide mine;\nend\n"

@@ -1,3 +1,4 @@
+pub mod Blocks
 pub mod Check
 pub mod CommandLine
 pub mod Ends

@@ -11,7 +11,7 @@ use Rattle.transcript.specs.declared.event.Event.{Event}
 use Rattle.transcript.specs.declared.fault.LineFault.{LineFault}
 use Rattle.history_checker.specs.Verdicts.{FedEvent, has_room}
 use Rattle.bgsim_console.specs.Lines.{text_lines}
-use Rattle.bgsim_console.specs.Check.{Setup, fault_text, refused_line}
+use Rattle.bgsim_console.specs.Blocks.{Setup, fault_text, refused_line}
 
 -- the number of the line that stands behind these, which begin the input
 abbrev pub number_behind : List (List ℕ) → ℕ

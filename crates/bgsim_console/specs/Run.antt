@@ -1,11 +1,12 @@
 -- What `run` answers for a file of rooms.
-use Rattle.std.specs.Prelude.{◌≡◌, ◌⊎◌, ℕ, suc, zero, ◌≤◌, ◌<◌, ◌==◌, List, [], ◌∷◌, ◌++◌, length, take, drop, Result, Ok, Err}
+use Rattle.std.specs.Prelude.{◌≡◌, ◌⊎◌, ℕ, suc, zero, ◌≤◌, ◌<◌, ◌==◌, List, [], ◌∷◌, ◌++◌, length, map, take, drop, Result, Ok, Err}
 use Rattle.room_spec.specs.Rooms.{RoomSpec}
+use Rattle.history_checker.specs.Verdicts.{names_of}
 use Rattle.scheduler.specs.Results.{AreRoomRuns}
 use Rattle.scheduler.specs.declared.rooms.RoomResult.{RoomResult}
 use Rattle.scheduler.specs.declared.rooms.RunFault.{RunFault}
 use Rattle.scheduler.specs.declared.rooms.RunFault.TheVariants.{Workers, Spawn, OutOfMemory}
-use Rattle.bgsim_console.specs.Check.{Setup, after_block, no_blocks, outcome_if}
+use Rattle.bgsim_console.specs.Blocks.{Setup, after_block, no_blocks, outcome_if}
 use Rattle.bgsim_console.specs.Reading.{most_bytes}
 use Rattle.bgsim_console.specs.ReplyTexts.{report_text}
 use Rattle.bgsim_console.specs.Script.{block_extent}
@@ -26,6 +27,16 @@ all_blocks_from (suc most) setup (byte ∷ bytes) =
 -- an input has no more blocks than bytes
 abbrev pub all_blocks : List ℕ → Setup
 all_blocks input = all_blocks_from (length input) no_blocks input
+
+-- ---- the rooms
+
+-- the specs of a map from names, in its order
+abbrev pub specs_in : List (List ℕ × RoomSpec) → List RoomSpec
+specs_in entries = map (λ entry. entry.1) entries
+
+-- each stands under its own name
+abbrev pub AreNamed : List (List ℕ × RoomSpec) → Type 0
+AreNamed entries = map (λ entry. entry.0) entries ≡ names_of (specs_in entries)
 
 -- ---- the text
 

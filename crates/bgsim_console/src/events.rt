@@ -3,7 +3,8 @@ ghost use Rattle.std.specs.Prelude.{◌≡◌, ◌+◌, ◌<◌, ◌^◌, ◌∷
 ghost use Rattle.transcript.specs.Lines.{line_in};
 ghost use Rattle.history_checker.specs.Verdicts.{FedEvent, HasProcessed, specs_of};
 ghost use Rattle.bgsim_console.specs.Lines.{text_lines};
-ghost use Rattle.bgsim_console.specs.Check.{of_known_room, fed_from, IsFaultOf};
+ghost use Rattle.bgsim_console.specs.Blocks.{IsFaultOf};
+ghost use Rattle.bgsim_console.specs.Check.{of_known_room, fed_from};
 
 use crate::fault::{IoFault, bad_input};
 use crate::lines::next_line;

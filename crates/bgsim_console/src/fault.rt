@@ -1,8 +1,10 @@
 //! How an engine ends.
 ghost use Rattle.std.specs.Prelude.{◌≡◌};
 ghost use Rattle.bgsim_console.specs.declared.fault.IoFault.TheVariants.{BadInput, Memory, Run};
+ghost use Rattle.bgsim_console.specs.Blocks.{outcome_if};
 ghost use Rattle.bgsim_console.specs.Ends.{outcome_status, fault_status};
 
+use crate::text::Text;
 use scheduler::RunFault;
 use std::alloc::AllocError;
 use thiserror::Error;
@@ -26,6 +28,24 @@ impl Outcome {
             Outcome::SomeRefused => 1,
         }
     }
+}
+
+/// The outcome where nothing was refused, each room's events are a run and no task is broken, or not.
+pub fn outcome_if(all_well: bool) -> Outcome
+    ensures { result ≡ outcome_if all_well }
+{
+    if all_well {
+        Outcome::AllWell
+    } else {
+        Outcome::SomeRefused
+    }
+}
+
+/// An output, and the outcome that goes with it.
+#[derive(Drop)]
+pub struct Answer {
+    pub output: Text,
+    pub outcome: Outcome,
 }
 
 /// Why an engine ended early.

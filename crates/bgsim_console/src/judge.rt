@@ -1,23 +1,18 @@
 //! The answer to a whole input.
 ghost use Rattle.std.specs.Prelude.{◌≡◌, ◌≤◌, List, Ok, IfOk, IfErr, length};
 ghost use Rattle.history_checker.specs.Verdicts.{FedEvent, HasProcessed, specs_of};
-ghost use Rattle.bgsim_console.specs.Check.{IsFaultOr, MayLackMemory, IsOutput, IsOutputFor, input_says, is_well, outcome_if};
+ghost use Rattle.bgsim_console.specs.Blocks.{IsFaultOr};
+ghost use Rattle.bgsim_console.specs.Check.{MayLackMemory, IsOutput, IsOutputFor, input_says, is_well};
 ghost use Rattle.bgsim_console.specs.Reading.{most_bytes};
 
+use crate::blocks::Setup;
 use crate::events::feed_events;
-use crate::fault::{IoFault, Outcome};
+use crate::fault::{Answer, IoFault, outcome_if};
 use crate::report::{write_task, write_verdict};
-use crate::setup::{Setup, read_blocks};
+use crate::setup::read_blocks;
 use crate::text::Text;
 use history_checker::{Rooms, TaskVerdict, Verdict};
 use std::alloc::{AllocError, Global};
-
-/// The output, and the outcome that goes with it.
-#[derive(Drop)]
-pub struct Answer {
-    pub output: Text,
-    pub outcome: Outcome,
-}
 
 /// Judges an input.
 pub fn judge(alloc: Global, input: &[u8]) -> Result<Answer, IoFault>
@@ -65,16 +60,5 @@ fn is_well(verdict: Verdict, task: Option<TaskVerdict>) -> bool
         (Verdict::Broken(_), _) => false,
         (Verdict::Run, Some(TaskVerdict::Broken(_))) => false,
         (Verdict::Run, _) => true,
-    }
-}
-
-/// The outcome where nothing was refused, each room's events are a run and no task is broken, or not.
-pub fn outcome_if(all_well: bool) -> Outcome
-    ensures { result ≡ outcome_if all_well }
-{
-    if all_well {
-        Outcome::AllWell
-    } else {
-        Outcome::SomeRefused
     }
 }

@@ -7,6 +7,7 @@ ghost use Rattle.clap.specs.Values.{kind_of};
 ghost use Rattle.bgsim_console.specs.Ends.{ending_status, fault_status, unread_status, words_status};
 ghost use Rattle.bgsim_console.specs.Modes.{IsAnswerIn};
 
+mod blocks;
 mod command_line;
 mod device;
 #[cfg(test)]
@@ -29,6 +30,7 @@ mod run;
 mod run_tests;
 mod script;
 mod setup;
+mod spec_list;
 mod steps;
 #[cfg(test)]
 mod task_tests;

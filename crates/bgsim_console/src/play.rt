@@ -3,19 +3,18 @@ ghost use Rattle.std.specs.Prelude.{◌≡◌, ◌≤◌, ◌<◌, ◌+◌, ◌^
 ghost use Rattle.service_core.specs.declared.command.Command.TheVariants.{Step};
 ghost use Rattle.service_core.specs.declared.reply.Reply.{Reply as ReplyData};
 ghost use Rattle.service_core.specs.Runs.{is_want};
-ghost use Rattle.bgsim_console.specs.Check.{IsFaultOr, fault_text, refused_line};
+ghost use Rattle.bgsim_console.specs.Blocks.{IsFaultOr, fault_text, refused_line};
 ghost use Rattle.bgsim_console.specs.Play.{AreDone, Done, HasPlayed, IsDone, IsPlayFor, PlaysOn, Replied, ending_if, is_refusal};
 ghost use Rattle.bgsim_console.specs.ReplyTexts.{reply_text, sim_in};
 ghost use Rattle.bgsim_console.specs.Script.{Entry, Open, command_in, entry_at, is_open, script_from, script_says};
 ghost use Rattle.bgsim_console.specs.Reading.{most_bytes};
 
-use crate::fault::{IoFault, Outcome, bad_input};
-use crate::judge::outcome_if;
+use crate::blocks::read_room;
+use crate::fault::{IoFault, Outcome, bad_input, outcome_if};
 use crate::lines::count_lines;
 use crate::reply::write_reply;
 use crate::report::{write_refused, write_refused_code};
 use crate::script::{is_open, next_entry, read_command};
-use crate::setup::read_room;
 use crate::steps::read_steps;
 use crate::text::Text;
 use room_spec::{Name, SpecFault};

@@ -2,7 +2,8 @@
 ghost use Rattle.std.specs.Prelude.{◌≡◌, ◌++◌, OnOk, codes, decimal};
 ghost use Rattle.protocol_lang.specs.Faults.{code_of};
 ghost use Rattle.protocol_lang.specs.FirstFaults.{place_of};
-ghost use Rattle.bgsim_console.specs.Check.{fault_text, numbers_behind, protocol_text, refused_line, task_line, verdict_line};
+ghost use Rattle.bgsim_console.specs.Blocks.{fault_text, numbers_behind, protocol_text, refused_line};
+ghost use Rattle.bgsim_console.specs.Check.{task_line, verdict_line};
 
 use crate::text::Text;
 use history_checker::{TaskVerdict, Verdict};

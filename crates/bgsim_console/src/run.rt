@@ -5,13 +5,13 @@ ghost use Rattle.bgsim_console.specs.ReplyTexts.{report_text};
 ghost use Rattle.bgsim_console.specs.Run.{AddsReports, AreWorkers, IsRunFor, MayEndRun};
 ghost use Rattle.bgsim_console.specs.Reading.{most_bytes};
 
-use crate::fault::{IoFault, Outcome};
-use crate::judge::outcome_if;
+use crate::blocks::Setup;
+use crate::fault::{Answer, IoFault, outcome_if};
 use crate::reply::write_report;
-use crate::setup::{Setup, read_all_blocks};
+use crate::setup::read_all_blocks;
 use crate::text::Text;
-use history_checker::Specs;
-use room_spec::Spec;
+use indexmap::map::IntoValues;
+use room_spec::{Name, Spec};
 use scheduler::{Gate, RoomResult, run_rooms};
 use std::alloc::{AllocError, Global};
 use std::sync::Wait;
@@ -21,13 +21,6 @@ use std::thread::Threads;
 /// block is.
 const ROOMS_AT_ONCE: usize = 128;
 
-/// A text of reports, and the outcome that goes with it.
-#[derive(Drop)]
-pub struct Ran {
-    pub output: Text,
-    pub outcome: Outcome,
-}
-
 /// Runs the rooms of an input's blocks, and puts their reports behind the lines of the refused blocks.
 pub fn run_blocks<H: Threads + Wait + Sync, G: Gate + Sync>(
     rt: &H,
@@ -35,18 +28,18 @@ pub fn run_blocks<H: Threads + Wait + Sync, G: Gate + Sync>(
     input: Vec<u8>,
     workers: u8,
     gate: &G,
-) -> Result<Ran, IoFault>
+) -> Result<Answer, IoFault>
     requires { length input.items ≤ most_bytes }
-    ensures output { IfOk result (λ ran. IsRunFor workers input.items ran.outcome ran.output) }
+    ensures output { IfOk result (λ answer. IsRunFor workers input.items answer.outcome answer.output) }
     ensures err { IfErr result (MayEndRun workers) }
 {
     let Setup { rooms, refused, .. } = read_all_blocks(alloc, &input)?;
     drop(input);
-    let specs = rooms.into_specs();
+    let specs = rooms.into_values();
     let outcome = outcome_if(refused.is_empty());
     let mut output = refused;
     run_in_parts(rt, alloc, specs, workers, gate, &mut output)?;
-    Ok(Ran { output, outcome })
+    Ok(Answer { output, outcome })
 }
 
 /// Runs the rooms of these specs, at most [`ROOMS_AT_ONCE`] at a time, and puts their reports behind the output.
@@ -54,7 +47,7 @@ pub fn run_blocks<H: Threads + Wait + Sync, G: Gate + Sync>(
 fn run_in_parts<H: Threads + Wait + Sync, G: Gate + Sync>(
     rt: &H,
     alloc: Global,
-    mut left: Specs,
+    mut left: IntoValues<Name, Spec>,
     workers: u8,
     gate: &G,
     output: &mut Text,
@@ -66,20 +59,20 @@ fn run_in_parts<H: Threads + Wait + Sync, G: Gate + Sync>(
     loop {
         let part = next_part(alloc, &mut left)?;
         run_part(rt, alloc, part, workers, gate, output)?;
-        if left.is_empty() {
+        if left.len() == 0 {
             return Ok(());
         }
     }
 }
 
 /// Takes the specs of the rooms that run next off the front: all that are left where they are few.
-fn next_part(alloc: Global, left: &mut Specs) -> Result<Vec<Spec>, AllocError>
+fn next_part(alloc: Global, left: &mut IntoValues<Name, Spec>) -> Result<Vec<Spec>, AllocError>
     ensures part { IfOk result (λ part. left.old ≡ part.items ++ left.new) }
     // Where some are left, some were taken.
     ensures fewer { OnOk result (0 < length left.new → length left.new < length left.old) }
 {
     let mut part = Vec::new(alloc);
-    while let Some(spec) = left.take_first() {
+    while let Some(spec) = left.next() {
         part.push(spec)?;
         if part.len() == ROOMS_AT_ONCE {
             return Ok(part);

@@ -12,5 +12,5 @@ mod task;
 
 pub use bound::certified;
 pub use history::check;
-pub use rooms::{AddFault, FeedFault, NoRoom, Rooms, Specs, TaskVerdict, Verdict};
+pub use rooms::{AddFault, FeedFault, NoRoom, Rooms, TaskVerdict, Verdict};
 pub use task::check_task;

@@ -14,7 +14,6 @@ use crate::row::Row;
 use crate::spelled::Spelled;
 use crate::tally::Tally;
 use indexmap::IndexMap;
-use indexmap::map::IntoValues;
 use protocol_lang::View;
 use room_spec::{Name, Spec};
 use std::alloc::{AllocError, Global};
@@ -386,15 +385,6 @@ impl Rooms {
         }
     }
 
-    /// The specs of the rooms, in order of adding. What was fed is given up.
-    pub fn into_specs(self) -> Specs
-        ensures { result ≡ specs_of self }
-    {
-        Specs {
-            rooms: self.rooms.into_values(),
-        }
-    }
-
     /// How many rooms there are.
     pub fn len(&self) -> usize
         ensures { result ≡ length (specs_of self.now) }
@@ -440,47 +430,5 @@ fn fault_of_stray(line: &EventLine<'_>) -> FeedFault
     match line.read() {
         Ok(_) => FeedFault::NoRoom(NoRoom),
         Err(fault) => FeedFault::BadLine(fault),
-    }
-}
-
-/// Specs of rooms, which are taken out one by one, in order of adding. This takes no memory.
-#[derive(Drop)]
-pub struct Specs {
-    rooms: IntoValues<Name, Room>,
-}
-
-impl Model for Specs {
-    ghost use Rattle.std.specs.Coded.{codes};
-    ghost use Rattle.protocol_lang.specs.Codes.{expression_code};
-    ghost use Rattle.std.specs.Prelude.{List};
-    ghost use Rattle.room_spec.specs.Names.{is_name};
-    ghost use Rattle.room_spec.specs.Rooms.{RoomSpec};
-    ghost use Rattle.history_checker.specs.Verdicts.{specs_of};
-
-    ghost Value = { List RoomSpec };
-
-    ghost coded = { Prim.hlevel (codes, expression_code) };
-
-    ghost view = { λ left. specs_of left.rooms };
-}
-
-impl Specs {
-    ghost use Rattle.std.specs.Prelude.{◌<◌, ◌==◌, IsSome};
-    ghost use Rattle.std.specs.Option.{option_to_list};
-
-    /// Takes the first one out, or gives `None` where none is left.
-    pub fn take_first(&mut self) -> Option<Spec>
-        ensures first { self.old ≡ option_to_list result ++ self.new }
-        ensures some { IsSome result ↔ (0 < length self.old) }
-    {
-        let Room { spec, .. } = self.rooms.next()?;
-        Some(spec)
-    }
-
-    /// Whether none is left.
-    pub fn is_empty(&self) -> bool
-        ensures { result ≡ (length self.now == 0) }
-    {
-        self.rooms.len() == 0
     }
 }

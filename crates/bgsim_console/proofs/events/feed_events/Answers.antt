@@ -4,7 +4,8 @@ use Rattle.room_spec.specs.Rooms.{RoomSpec}
 use Rattle.transcript.specs.Lines.{line_in}
 use Rattle.history_checker.specs.Verdicts.{FedEvent, specs_of}
 use Rattle.bgsim_console.specs.Lines.{text_lines}
-use Rattle.bgsim_console.specs.Check.{of_known_room, fed_from, IsFaultOf}
+use Rattle.bgsim_console.specs.Blocks.{IsFaultOf}
+use Rattle.bgsim_console.specs.Check.{of_known_room, fed_from}
 use Rattle.bgsim_console.proofs.Feeding.{fed_step, fed_end, fault_fed}
 use Rattle.bgsim_console.proofs.events.feed_events.Goals as goal
 

@@ -1,7 +1,8 @@
 use Rattle.std.proofs.Common.{◌+◌, ◌<◌, ◌^◌, length, sym, subst, arith, rules}
 use Rattle.std.proofs.lemmas.Result.{err_from_is_err_and}
-use Rattle.bgsim_console.specs.Check.{Setup, blocks_in}
-use Rattle.bgsim_console.proofs.Blocks.{blocks_fault}
+use Rattle.bgsim_console.specs.Blocks.{Setup}
+use Rattle.bgsim_console.specs.Check.{blocks_in}
+use Rattle.bgsim_console.proofs.BlockSteps.{blocks_fault}
 use Rattle.bgsim_console.proofs.judge.judge.Goals as goal
 
 pub feed_events-requires-clause-fits : goal.feed_events-requires-clause-fits

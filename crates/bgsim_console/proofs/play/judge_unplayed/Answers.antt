@@ -1,5 +1,5 @@
 use Rattle.std.proofs.Common.{◌++◌, ◌∷◌, ◌∙◌, [], refl, sym, subst, arith}
-use Rattle.bgsim_console.specs.Check.{IsFaultOr}
+use Rattle.bgsim_console.specs.Blocks.{IsFaultOr}
 use Rattle.bgsim_console.specs.Script.{script_from}
 use Rattle.bgsim_console.specs.declared.fault.IoFault.{IoFault}
 use Rattle.std.specs.Prelude.{IsOk}

@@ -1,6 +1,6 @@
-use Rattle.std.proofs.Common.{◌≡◌, ◌++◌, ◌∷◌, ◌∙◌, [], length, sym, subst, arith}
+use Rattle.std.proofs.Common.{◌++◌, ◌∷◌, ◌∙◌, [], length, sym, subst, arith}
 use Rattle.std.specs.Prelude.{IsOk}
-use Rattle.bgsim_console.specs.Check.{IsFaultOr}
+use Rattle.bgsim_console.specs.Blocks.{IsFaultOr}
 use Rattle.bgsim_console.specs.Script.{script_from, script_says}
 use Rattle.bgsim_console.specs.declared.fault.IoFault.{IoFault}
 use Rattle.bgsim_console.proofs.Scripts.{bad_entry, bad_line, behind_none, good_entry, script_ends, step_script}

@@ -10,8 +10,8 @@ pub loop-left-preserved : goal.loop-left-preserved
 loop-left-preserved g c =
     part_reported c.args.left c.loop-left.left c.in_ok-part.part.items c.next_part.new.left c.args.output.now c.loop-left.output c.run_part.new.output c.loop-left.invariant c.in_ok-part.ensures.part c.in_ok-run_part.ensures.reports
 
-pub returns-then-is_empty-clause-reports : goal.returns-then-is_empty-clause-reports
-returns-then-is_empty-clause-reports g c =
+pub returns-then-len-eq0-clause-reports : goal.returns-then-len-eq0-clause-reports
+returns-then-len-eq0-clause-reports g c =
     let so_far = part_reported c.args.left c.loop-left.left c.in_ok-part.part.items c.next_part.new.left c.args.output.now c.loop-left.output c.run_part.new.output c.loop-left.invariant c.in_ok-part.ensures.part c.in_ok-run_part.ensures.reports in
     let none : length c.next_part.new.left ≡ 0 = grind (arith, rules) in
     all_reported c.args.left c.next_part.new.left c.args.output.now c.run_part.new.output so_far none

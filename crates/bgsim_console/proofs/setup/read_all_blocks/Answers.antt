@@ -1,8 +1,8 @@
-use Rattle.std.proofs.Common.{◌≡◌, ◌∙◌, ◌+◌, ◌<◌, ◌≤◌, ℕ, List, length, refl, subst, sym, ap, arith, rules}
-use Rattle.bgsim_console.specs.Check.{after_block}
+use Rattle.std.proofs.Common.{◌≡◌, ◌∙◌, ◌+◌, ◌≤◌, ℕ, List, length, refl, subst, sym, ap, arith, rules}
+use Rattle.bgsim_console.specs.Blocks.{after_block}
 use Rattle.bgsim_console.specs.Script.{or_all}
 use Rattle.bgsim_console.proofs.BlockEnds.{positive_len}
-use Rattle.bgsim_console.proofs.Blocks.{all_taken, behind, bytes_left, front_as, line_bound, rest_refused, shorter_behind, step_all, within_text}
+use Rattle.bgsim_console.proofs.BlockSteps.{all_taken, behind, bytes_left, front_as, line_bound, rest_refused, shorter_behind, step_all, within_text}
 use Rattle.bgsim_console.proofs.setup.read_all_blocks.Goals as goal
 
 pub loop-block-smaller : goal.loop-block-smaller

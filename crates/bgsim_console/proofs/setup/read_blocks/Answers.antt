@@ -1,10 +1,11 @@
-use Rattle.std.proofs.Common.{◌≡◌, ◌∙◌, ◌+◌, ◌≤◌, ℕ, List, arith, inr, false, rules, subst, sym, ap, take, length, refl}
+use Rattle.std.proofs.Common.{◌≡◌, ◌∙◌, ◌+◌, ◌≤◌, ℕ, suc, List, arith, inl, inr, false, rules, subst, sym, ap, length, refl}
 use Rattle.std.proofs.lemmas.Grind.{common_steps}
 use Rattle.std.specs.Prelude.{codes}
 use Rattle.std.specs.Str.{bytes_eq}
 use Rattle.bgsim_console.proofs.BlockEnds.{positive_len}
-use Rattle.bgsim_console.proofs.Blocks.{front_as, within_text, behind, line_bound, shorter_behind, step_blocks, begins, refused_block}
-use Rattle.bgsim_console.specs.Check.{after_block, blocks_in, blocks_from}
+use Rattle.bgsim_console.proofs.BlockSteps.{front_as, within_text, behind, line_bound, shorter_behind, step_blocks, begins, refused_block}
+use Rattle.bgsim_console.specs.Blocks.{Setup, after_block, no_blocks}
+use Rattle.bgsim_console.specs.Check.{blocks_in, blocks_from}
 use Rattle.std.proofs.lemmas.Result.{err_from_is_err_and}
 use Rattle.bgsim_console.proofs.setup.read_blocks.Goals as goal
 
@@ -46,7 +47,11 @@ unfolding blocks_from
 returns-in_default-clause-err c = search rules
 
 pub loop-rest-init : goal.loop-rest-init
-loop-rest-init c = grind (arith, common_steps)
+loop-rest-init c =
+    let input = c.args.input.now in
+    let begun : c.new-setup.result ≡ no_blocks = c.new-setup.ensures in
+    let first : c.new-setup.result.line ≡ 1 = ap (λ (setup : Setup). setup.line) begun in
+    (length input, omega arith, ap (λ (setup : Setup). blocks_from (suc (length input)) setup input) (sym begun), omega (arith, first), inl refl)
 
 pub returns-then-eq-clause-fits : goal.returns-then-eq-clause-fits
 returns-then-eq-clause-fits c = grind (arith, common_steps)

@@ -1,6 +1,6 @@
 use Rattle.std.proofs.Common.{ℕ, ◌≤◌, length, subst, sym}
 use Rattle.bgsim_console.proofs.BlockEnds.{few_lines, lines_counted}
-use Rattle.bgsim_console.proofs.setup.lines_of.Goals as goal
+use Rattle.bgsim_console.proofs.blocks.lines_of.Goals as goal
 
 pub returns-clause-value : goal.returns-clause-value
 returns-clause-value c = sym (lines_counted c.args.block.now c.lines.result c.lines.ensures.whole c.lines.ensures.lines)

@@ -10,8 +10,9 @@ use Rattle.room_spec.specs.Rooms.{RoomSpec}
 use Rattle.room_spec.specs.Texts.{first_line}
 use Rattle.room_spec.specs.Blocks.{body_len, block_len}
 use Rattle.room_spec.specs.Grammar.{EndsAt, text_of}
-use Rattle.history_checker.specs.Verdicts.{RoomState, HasProcessed, has_room, specs_of}
-use Rattle.bgsim_console.specs.Check.{Setup, refuse, open_room, after_block, blocks_from, events_behind, BeginsWithBlock, IsFaultOr}
+use Rattle.history_checker.specs.Verdicts.{has_room}
+use Rattle.bgsim_console.specs.Blocks.{Setup, refuse, open_room, after_block, IsFaultOr}
+use Rattle.bgsim_console.specs.Check.{blocks_from, events_behind, BeginsWithBlock}
 use Rattle.bgsim_console.specs.Run.{all_blocks_from}
 use Rattle.bgsim_console.specs.Script.{block_extent, or_all}
 use Rattle.bgsim_console.specs.declared.fault.IoFault.{IoFault}
@@ -58,19 +59,19 @@ step_blocks (suc fewer) setup now rest later len most some within other found no
 opens : (setup : Setup) (room : RoomSpec) → has_room room.name setup.rooms ≡ true → open_room setup room ≡ refuse setup (codes "41")
 opens setup room known = rw known refl
 
-pub refused_name : (rooms after : List RoomState) (refused : List ℕ) (line : ℕ) (setup : Setup) (room : RoomSpec) (result : Setup) (code : List ℕ) → record { rooms = specs_of rooms; refused = refused; line = line } ≡ setup → after ≡ rooms
-    → has_room room.name (specs_of rooms) ≡ true → code ≡ codes "41" → result ≡ refuse (record { rooms = specs_of after; refused = refused; line = line }) code → result ≡ open_room setup room
-refused_name rooms after refused line setup room result code view_is same known code_is is =
-    is ∙ ap (refuse (record { rooms = specs_of after; refused = refused; line = line })) code_is ∙ ap (λ (rs : List RoomState). refuse (record { rooms = specs_of rs; refused = refused; line = line }) (codes "41")) same
+pub refused_name : {R : Type 0} (specs : R → List RoomSpec) (rooms after : R) (refused : List ℕ) (line : ℕ) (setup : Setup) (room : RoomSpec) (result : Setup) (code : List ℕ) → record { rooms = specs rooms; refused = refused; line = line } ≡ setup
+    → after ≡ rooms → has_room room.name (specs rooms) ≡ true → code ≡ codes "41" → result ≡ refuse (record { rooms = specs after; refused = refused; line = line }) code → result ≡ open_room setup room
+refused_name {R} specs rooms after refused line setup room result code view_is same known code_is is =
+    is ∙ ap (refuse (record { rooms = specs after; refused = refused; line = line })) code_is ∙ ap (λ (rs : R). refuse (record { rooms = specs rs; refused = refused; line = line }) (codes "41")) same
     ∙ ap (λ (s : Setup). refuse s (codes "41")) view_is ∙ sym (opens setup room (subst (λ (s : Setup). has_room room.name s.rooms ≡ true) view_is known))
 
 -- the code of a name that is taken, as it is written
 pub taken_code : decimal 41 ≡ codes "41"
 taken_code = decimal_step 41 (omega arith) (omega arith) ∙ ap (λ digits. digits ++ 49 ∷ []) (decimal_digit 4 (omega arith))
 
--- rooms that stay as they were still have processed nothing
-pub unfed_still : (rooms after : List RoomState) → after ≡ rooms → HasProcessed rooms [] → HasProcessed after []
-unfed_still rooms after same before = subst (λ (rs : List RoomState). HasProcessed rs []) (sym same) before
+-- rooms that stay as they were still have no events
+pub unfed_still : {R : Type 0} (is_unfed : R → Type 0) (rooms after : R) → after ≡ rooms → is_unfed rooms → is_unfed after
+unfed_still is_unfed rooms after same before = subst is_unfed (sym same) before
 
 -- want of memory comes only behind the beginning of a block
 pub begins : (input rest : List ℕ) (len : ℕ) → (rest ≡ input) ⊎ BeginsWithBlock input → bytes_eq (first_line rest) (codes "events") ≡ false → block_len rest ≡ Some len → BeginsWithBlock input
