@@ -10,7 +10,8 @@ use Rattle.std.proofs.lemmas.Slice.Eq.{bytes_eq-Decides}
 use Rattle.protocol_lang.specs.Numbers.{greatest, is_digit, number_of}
 use Rattle.room_spec.specs.Names.{is_name, is_name_byte}
 use Rattle.room_spec.specs.Texts.{fields_of, is_space}
-use Rattle.transcript.proofs.CallerLemmas.{no_space_in, number_spelled, digits_of-decimal, number_of-decimal}
+use Rattle.protocol_lang.proofs.CallerLemmas.{number_spelled, digits_of-decimal, number_of-decimal}
+use Rattle.transcript.proofs.CallerLemmas.{no_space_in}
 use Rattle.service_core.specs.declared.command.Command.{Command}
 use Rattle.service_core.specs.declared.command.Command.TheVariants.{Begin, Step, Crash, Settle, Report, Close}
 use Rattle.service_core.specs.Replies.{name_in}

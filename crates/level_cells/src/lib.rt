@@ -5,5 +5,5 @@ mod agreement;
 mod bits;
 pub mod laws;
 
-pub use agreement::levels;
+pub use agreement::{MAX_LEVELS, levels};
 pub use bits::{added, field, one_at, taken};

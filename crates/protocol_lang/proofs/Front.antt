@@ -15,7 +15,7 @@ use Rattle.protocol_lang.specs.declared.token.Symbol.{Symbol}
 use Rattle.protocol_lang.specs.declared.token.Symbol.TheVariants as symbols
 use Rattle.protocol_lang.specs.declared.token.Token.{Token}
 use Rattle.protocol_lang.specs.declared.token.Token.TheVariants as tokens
-use Rattle.protocol_lang.proofs.Numerals.{spelled, number_of-decimal, decimal_digits}
+use Rattle.protocol_lang.proofs.Numerals.{number_spelled, number_of-decimal, digits_of-decimal}
 use Rattle.protocol_lang.proofs.Runs.{run_ends, run_again}
 use Rattle.protocol_lang.proofs.Words.{word_spelled, word_again, word_letters, symbol_spelled, symbol_ends, symbol_again}
 
@@ -58,7 +58,7 @@ number_read : (at : ℕ) (digits : List ℕ) (number : Option ℕ) (token : Toke
 number_read at digits None token rest is ends e = absurd cc
 number_read at digits (Some n) token rest is ends e =
     let within = number_within at n token e in
-    rw (← within.1) ((spelled digits n is within.0, within.0), ends)
+    rw (← within.1) ((number_spelled digits n is within.0, within.0), ends)
 
 symbol_read : (at : ℕ) (text : List ℕ) (symbol : Option Symbol) (token : Token) → symbol_of text ≡ symbol → symbol_token at symbol ≡ Ok token → Stands token text (symbol_extent symbol)
 symbol_read at text None token is e = absurd cc
@@ -133,6 +133,6 @@ symbol_front at symbol rest is = record { read = ap (symbol_token at) is; takes 
 
 pub front_again : (at : ℕ) (token : Token) (bytes rest : List ℕ) → IsSpelled token bytes → EndsBefore (goes_on token) rest → Fronts at (bytes ++ rest) token (length bytes)
 front_again at (tokens.Word word) bytes rest is ends = rw is (word_front at (word_spelling word) rest word (word_again word) (word_letters word) ends)
-front_again at (tokens.Number n) bytes rest is ends = rw is.0 (number_front at n (decimal n) rest (number_of-decimal n is.1) is.1 (decimal_digits n is.1) ends)
+front_again at (tokens.Number n) bytes rest is ends = rw is.0 (number_front at n (decimal n) rest (number_of-decimal n is.1) is.1 (digits_of-decimal n is.1) ends)
 front_again at (tokens.Symbol symbol) bytes rest is ends = rw is (symbol_front at symbol rest (symbol_again symbol rest ends))
 front_again at tokens.End bytes rest is ends = absurd is

@@ -5,6 +5,7 @@ use Rattle.std.specs.List.{fold, list_all}
 use Rattle.std.specs.Option.{option_map}
 use Rattle.std.specs.Fmt.{decimal}
 use Rattle.std.proofs.lemmas.Bool.{and_parts, not-true, eqb-false, ne_eqb, cases_lt}
+use Rattle.std.proofs.lemmas.Option.{cond_some}
 use Rattle.std.proofs.lemmas.Str.Parse.{IsNumeralModel, numerals_by_fold}
 use Rattle.std.proofs.lemmas.Fmt.{digits_decimal, digits_value-decimal, decimal-digits_value, decimal_nonempty, decimal_digit, first_decimal}
 use Rattle.protocol_lang.specs.Numbers.{greatest, is_digit, value_of_digits, is_numeral, number_of}
@@ -32,34 +33,42 @@ numeral (first ∷ second ∷ text) p =
     let no_zero : first ≡ 48 → ⊥ = λ zero. omega (arith, p.leading zero) in
     rw (ne_eqb first 48 no_zero) p.digits
 
--- an option that is there under a test
-guard_some : {A : Type 0} (b : Bool) (x y : A) → cond b (Some x) None ≡ Some y → (b ≡ true) × (x ≡ y)
-guard_some true x y e = (refl, cc)
-guard_some false x y e = absurd cc
+-- ---- numbers of 64 bits
 
-pub spelled : (text : List ℕ) (n : ℕ) → number_of text ≡ Some n → n ≤ greatest → text ≡ decimal n
-spelled text n e small =
-    let g = guard_some (is_numeral text) (value_of_digits text) n e in
-    let p = plain text g.0 in
-    sym (decimal-digits_value numerals text p.digits p.some p.leading (omega (arith, g.1))) ∙ ap decimal g.1
+pub number_to : (text : List ℕ) (number : ℕ) → number_of text ≡ Some number → number < 2 ^ 64 → text ≡ decimal number
+number_to text number read small =
+    let parts = cond_some (is_numeral text) (value_of_digits text) number read in
+    let p = plain text parts.0 in
+    sym (decimal-digits_value numerals text p.digits p.some p.leading (omega (arith, parts.1))) ∙ ap decimal parts.1
 
-leading_alone : (n : ℕ) → n ≤ greatest → get_or (decimal n) 0 0 ≡ 48 → length (decimal n) ≡ 1
-leading_alone n small first =
-    elim (cases_lt 0 n) [ inl more ↦ absurd (omega (arith, first_decimal n more (omega arith))) | inr none ↦ ap length (decimal_digit n (omega arith)) ]
+pub decimal_digits : (number : ℕ) → number < 2 ^ 64 → list_all is_digit (decimal number) ≡ true
+decimal_digits number small = digits_decimal numerals number small
 
-pub decimal_digits : (n : ℕ) → n ≤ greatest → list_all is_digit (decimal n) ≡ true
-decimal_digits n small = digits_decimal numerals n (omega arith)
+leading_alone : (number : ℕ) → number < 2 ^ 64 → get_or (decimal number) 0 0 ≡ 48 → length (decimal number) ≡ 1
+leading_alone number small first =
+    elim (cases_lt 0 number) [ inl more ↦ absurd (omega (arith, first_decimal number more small)) | inr none ↦ ap length (decimal_digit number (omega arith)) ]
 
-decimal_plain : (n : ℕ) → n ≤ greatest → IsPlain (decimal n)
-decimal_plain n small = record {
-  digits = decimal_digits n small;
-  some = decimal_nonempty n (omega arith);
-  leading = leading_alone n small;
+decimal_plain : (number : ℕ) → number < 2 ^ 64 → IsPlain (decimal number)
+decimal_plain number small = record {
+  digits = decimal_digits number small;
+  some = decimal_nonempty number small;
+  leading = leading_alone number small;
 }
 
+pub number_from : (number : ℕ) → number < 2 ^ 64 → number_of (decimal number) ≡ Some number
+number_from number small =
+    rw (numeral (decimal number) (decimal_plain number small)) (ap Some (digits_value-decimal numerals number small))
+
+-- ---- numbers up to the greatest
+
+pub number_spelled : (text : List ℕ) (n : ℕ) → number_of text ≡ Some n → n ≤ greatest → text ≡ decimal n
+number_spelled text n read small = number_to text n read (omega (arith, small))
+
+pub digits_of-decimal : (n : ℕ) → n ≤ greatest → list_all is_digit (decimal n) ≡ true
+digits_of-decimal n small = decimal_digits n (omega (arith, small))
+
 pub number_of-decimal : (n : ℕ) → n ≤ greatest → number_of (decimal n) ≡ Some n
-number_of-decimal n small =
-    rw (numeral (decimal n) (decimal_plain n small)) (ap Some (digits_value-decimal numerals n (omega arith)))
+number_of-decimal n small = number_from n (omega (arith, small))
 
 capped_is : (o : Option ℕ) (n : ℕ) → n ≤ greatest → option_map (λ m. min m (2 ^ 32)) o ≡ Some n → o ≡ Some n
 capped_is None n small e = absurd cc
@@ -70,6 +79,6 @@ capped_is (Some m) n small e =
 -- a number that was read with a cap above the greatest
 pub capped_spelled : (text : List ℕ) (read : Option ℕ) (n : ℕ) → read ≡ option_map (λ m. min m (2 ^ 32)) (number_of text) → n ≤ greatest → (read ≡ Some n) ↔ (text ≡ decimal n)
 capped_spelled text read n value small = (
-  λ there. spelled text n (capped_is (number_of text) n small (sym value ∙ there)) small,
+  λ there. number_spelled text n (capped_is (number_of text) n small (sym value ∙ there)) small,
   λ written. rw (value, written, number_of-decimal n small) (ap Some (omega arith)),
 )

@@ -16,7 +16,7 @@ use Rattle.protocol_lang.specs.declared.token.Symbol.{Symbol}
 use Rattle.protocol_lang.specs.declared.token.Symbol.TheVariants as symbols
 use Rattle.protocol_lang.specs.declared.token.Token.{Token}
 use Rattle.protocol_lang.specs.declared.token.Token.TheVariants as tokens
-use Rattle.protocol_lang.proofs.Numerals.{decimal_digits}
+use Rattle.protocol_lang.proofs.Numerals.{digits_of-decimal}
 use Rattle.protocol_lang.proofs.Shortest.{one_if, size, ends_with_word, width, narrower, shortest_says, shortest_view, shortest_expression}
 
 -- ---- how many bytes tokens take
@@ -205,7 +205,7 @@ digits_end longer unlike (digit ∷ digits) rest all some = unlike digit (and_pa
 number_end : (longer : ℕ → Bool) → ((byte : ℕ) → is_digit byte ≡ true → longer byte ≡ false) → (value : ℕ) (rest : List ℕ) → leb value greatest ≡ true → EndsBefore longer (decimal value ++ rest)
 number_end longer unlike value rest small =
     let most = leb-true value greatest small in
-    digits_end longer unlike (decimal value) rest (decimal_digits value most) (decimal_nonempty value (omega (arith, most)))
+    digits_end longer unlike (decimal value) rest (digits_of-decimal value most) (decimal_nonempty value (omega (arith, most)))
 
 word_no_digit : (word : Word) (rest : List ℕ) → EndsBefore is_digit (word_spelling word ++ rest)
 word_no_digit words.First rest = refl

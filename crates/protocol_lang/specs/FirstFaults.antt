@@ -16,6 +16,7 @@ use Rattle.protocol_lang.specs.declared.fault.ParseFault.TheVariants.{TooLong, B
 use Rattle.protocol_lang.specs.declared.tree.Name.{Name}
 use Rattle.protocol_lang.specs.declared.tree.Call.{Call}
 use Rattle.protocol_lang.specs.Grammar.{IsFormed, Written, call_word, tree_tokens, word_for}
+use Rattle.protocol_lang.specs.declared.parser.TheConstants.{MAX_OPEN, MAX_RULES, MAX_TEXT}
 
 abbrev pub place_of : ParseFault → Option ℕ
 place_of TooLong = None
@@ -29,7 +30,7 @@ place_of OutOfMemory = None
 
 -- the other text has the same bytes up to the end of the token at this place, and that token ends there in both
 pub record SameThrough (text other : List ℕ) (at : ℕ) : Type 0 where
-  pub short : length other ≤ 4096
+  pub short : length other ≤ MAX_TEXT
   pub bytes : take (at + extent_of (drop at text)) other ≡ take (at + extent_of (drop at text)) text
   pub token_end : extent_of (drop at other) ≡ extent_of (drop at text)
 
@@ -51,7 +52,7 @@ pub record IsRuleTooMany (text : List ℕ) (at : ℕ) : Type 0 where
   pub before : List Token
   pub from : ℕ
   pub tokens : AreTokens text 0 before from
-  pub rules : count_by is_when before ≡ 32
+  pub rules : count_by is_when before ≡ MAX_RULES
   pub read : Placed
   pub token : next_token text from ≡ Ok read
   pub when : is_when read.token ≡ true
@@ -129,11 +130,11 @@ pub record IsNoToken (text : List ℕ) (at : ℕ) (fault : ParseFault) : Type 0 
 
 -- 32 parentheses are open, and a further one could be opened but for that
 abbrev pub IsTooDeep : List Token → Token → Type 0
-IsTooDeep before token = (is_open token ≡ true) × (count_by is_open before ≡ count_by is_close before + 32) × WantOpen before
+IsTooDeep before token = (is_open token ≡ true) × (count_by is_open before ≡ count_by is_close before + MAX_OPEN) × WantOpen before
 
 -- 32 rules were begun, and this would begin one more
 abbrev pub IsRuleMore : List Token → Token → Type 0
-IsRuleMore before token = (is_when token ≡ true) × (count_by is_when before ≡ 32)
+IsRuleMore before token = (is_when token ≡ true) × (count_by is_when before ≡ MAX_RULES)
 
 -- an operand is wanted in the first expression, and this one asks for the view
 abbrev pub IsViewBefore : List Token → Token → Type 0
@@ -141,7 +142,7 @@ IsViewBefore before token = AsksForView token × (count_by is_semicolon before �
 
 -- Why the text is refused: the first token that can't follow those before it, or is none.
 abbrev pub IsFirstFault : List ℕ → ParseFault → Type 0
-IsFirstFault text TooLong = 4096 < length text
+IsFirstFault text TooLong = MAX_TEXT < length text
 IsFirstFault text (BadToken at) = IsNoToken text at (BadToken at)
 IsFirstFault text (NumberTooLarge at) = IsNoToken text at (NumberTooLarge at)
 IsFirstFault text (Unexpected at) = IsOutOfPlace text at (λ before token. ⊤)

@@ -22,6 +22,7 @@ use Rattle.protocol_lang.specs.declared.tree.Comparator.{Comparator}
 use Rattle.protocol_lang.specs.declared.tree.Comparator.TheVariants as comparators
 use Rattle.protocol_lang.specs.declared.tree.Kind.{Kind}
 use Rattle.protocol_lang.specs.declared.tree.Kind.TheVariants as kinds
+use Rattle.protocol_lang.specs.declared.parser.TheConstants.{MAX_CONDITIONS, MAX_OPEN, MAX_RULES, MAX_TEXT}
 
 -- ---- expressions as they are written
 
@@ -103,7 +104,7 @@ depth_of (Operating operator left right) = max (depth_of left) (depth_of right)
 depth_of (Group inner) = suc (depth_of inner)
 
 abbrev pub is_expression : Written → Bool
-is_expression written = is_formed written && nat_le (depth_of written) 32
+is_expression written = is_formed written && nat_le (depth_of written) MAX_OPEN
 
 -- it asks for nothing that comes from the view
 abbrev pub needs_no_view : Written → Bool
@@ -150,13 +151,13 @@ abbrev pub is_comparison : ComparisonOf Written → Bool
 is_comparison comparison = is_expression comparison.left && is_expression comparison.right
 
 abbrev pub is_rule : RuleOf Written → Bool
-is_rule rule = nat_le 1 (length rule.conditions) && nat_le (length rule.conditions) 8 && list_all is_comparison rule.conditions && is_expression rule.action_rule.value
+is_rule rule = nat_le 1 (length rule.conditions) && nat_le (length rule.conditions) MAX_CONDITIONS && list_all is_comparison rule.conditions && is_expression rule.action_rule.value
 
 -- the text keeps to the grammar and to its limits
 pub record IsFormed (tree : TreeOf Written) : Type 0 where
   pub first : is_expression tree.first ≡ true
   pub no_view_in_first : needs_no_view tree.first ≡ true
-  pub most_rules : length tree.rules ≤ 32
+  pub most_rules : length tree.rules ≤ MAX_RULES
   pub rules : list_all is_rule tree.rules ≡ true
   pub last : is_expression tree.last.value ≡ true
 
@@ -208,5 +209,5 @@ pub record IsText (text : List ℕ) (tree : Tree) : Type 0 where
   pub written : TreeOf Written
   pub says : tree_of written ≡ tree
   pub formed : IsFormed written
-  pub short : length text ≤ 4096
+  pub short : length text ≤ MAX_TEXT
   pub spelled : Spells (tree_tokens written) text

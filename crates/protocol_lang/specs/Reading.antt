@@ -1,5 +1,5 @@
 -- How a text is read: token by token from the left, up to the first fault.
-use Rattle.std.specs.Prelude.{◌≡◌, ℕ, zero, suc, ◌+◌, ◌≤◌, Bool, true, false, ⊤, List, [], ◌∷◌, ◌++◌, length, drop, Option, Some, None, Result, Ok, Err, IsOk, nat_le, nat_lt, if◌then◌else◌}
+use Rattle.std.specs.Prelude.{◌≡◌, ℕ, zero, suc, ◌+◌, ◌-◌, ◌≤◌, Bool, true, false, ⊤, List, [], ◌∷◌, ◌++◌, length, drop, Option, Some, None, Result, Ok, Err, IsOk, nat_le, nat_lt, if◌then◌else◌}
 use Rattle.std.specs.List.{prefix_len, take_while}
 use Rattle.protocol_lang.specs.Numbers.{greatest, is_digit, number_of}
 use Rattle.protocol_lang.specs.Tokens.{is_blank, is_letter, word_of, symbol_spelling, symbol_of, name_of, call_of, operator_of, comparator_of, kind_of, is_end, reads_view}
@@ -13,6 +13,7 @@ use Rattle.protocol_lang.specs.declared.token.Symbol.TheVariants as symbols
 use Rattle.protocol_lang.specs.declared.token.Token.{Token}
 use Rattle.protocol_lang.specs.declared.token.Token.TheVariants as tokens
 use Rattle.protocol_lang.specs.declared.lexer.Placed.{Placed}
+use Rattle.protocol_lang.specs.declared.parser.TheConstants.{MAX_CONDITIONS, MAX_OPEN, MAX_RULES, MAX_TEXT}
 use Rattle.protocol_lang.specs.declared.state.Expected.{Expected}
 use Rattle.protocol_lang.specs.declared.state.Expected.TheVariants as next
 use Rattle.protocol_lang.specs.declared.state.Part.{Part}
@@ -132,7 +133,7 @@ is_first part = false
 
 abbrev pub opened : {A : Type 0} → Opener → State A → Result (State A) Refusal
 opened opener s =
-    if nat_lt (length s.outer) 32 then Ok (record s { expected = next.Operand; level = record { opener = opener; sum = None; product = None }; outer = s.level ∷ s.outer })
+    if nat_lt (length s.outer) MAX_OPEN then Ok (record s { expected = next.Operand; level = record { opener = opener; sum = None; product = None }; outer = s.level ∷ s.outer })
     else Err refusals.TooDeep
 
 abbrev pub word_operand : {A : Type 0} → Operands A → State A → Option Name → Option Call → Result (State A) Refusal
@@ -187,7 +188,7 @@ compared_with made comparator part s = record (cleared s) { expected = next.Oper
 
 abbrev pub right_ended : {A : Type 0} → Operands A → Comparator → State A → Token → Option Kind → Result (State A) Refusal
 right_ended made comparator s token (Some kind) = Ok (compared_with made comparator (parts.ActionRule kind) s)
-right_ended made comparator s (tokens.Word words.And) None = if nat_lt (length s.conditions) 7 then Ok (compared_with made comparator parts.Left s) else Err refusals.Unexpected
+right_ended made comparator s (tokens.Word words.And) None = if nat_lt (length s.conditions) (MAX_CONDITIONS - 1) then Ok (compared_with made comparator parts.Left s) else Err refusals.Unexpected
 right_ended made comparator s token None = Err refusals.Unexpected
 
 abbrev pub action_rule_ended : {A : Type 0} → Operands A → Kind → State A → Token → Result (State A) Refusal
@@ -222,7 +223,7 @@ begun s (tokens.Word words.First) = Ok (record s { expected = next.Operand })
 begun s token = Err refusals.Unexpected
 
 abbrev pub rule : {A : Type 0} → State A → Token → Result (State A) Refusal
-rule s (tokens.Word words.When) = if nat_lt (length s.rules) 32 then Ok (record s { expected = next.Operand; part = parts.Left }) else Err refusals.TooManyRules
+rule s (tokens.Word words.When) = if nat_lt (length s.rules) MAX_RULES then Ok (record s { expected = next.Operand; part = parts.Left }) else Err refusals.TooManyRules
 rule s (tokens.Word words.Else) = Ok (record s { expected = next.Last })
 rule s token = Err refusals.Unexpected
 
@@ -287,11 +288,11 @@ tree_read made s = record { first = s.first; rules = s.rules; last = record { ki
 
 -- more than the tokens of any text
 abbrev pub most_tokens : ℕ
-most_tokens = 4097
+most_tokens = MAX_TEXT + 1
 
 -- what a whole text says, or its first fault
 unfoldable pub reading : List ℕ → Result Tree ParseFault
-reading text = if nat_lt 4096 (length text) then Err TooLong else run trees most_tokens text 0 (opening trees) >>= λ s. Ok (tree_read trees s)
+reading text = if nat_lt MAX_TEXT (length text) then Err TooLong else run trees most_tokens text 0 (opening trees) >>= λ s. Ok (tree_read trees s)
 
 -- ---- what a function returned
 
@@ -314,7 +315,7 @@ pub data Reaches (text : List ℕ) : ℕ → State Expression → Type 0 where
 
 -- where memory may be refused: at a token that has no fault, behind others that have none
 pub record MayLackMemory (text : List ℕ) : Type 0 where
-  pub short : length text ≤ 4096
+  pub short : length text ≤ MAX_TEXT
   pub from : ℕ
   pub state : State Expression
   pub reached : Reaches text from state

@@ -17,19 +17,29 @@ pub fn numerals_are_small()
 
 /// What [`first`](crate::first) gives is at most the greatest value.
 pub fn first_is_value()
-    ensures { (tree : Tree) (input id n : ℕ) → HasSmallNumerals tree → input ≤ greatest → id ≤ greatest → n ≤ greatest → first_value tree input id n ≤ greatest }
+    ensures { (tree : Tree) (input id n : ℕ) →
+        HasSmallNumerals tree → input ≤ greatest → id ≤ greatest → n ≤ greatest →
+        first_value tree input id n ≤ greatest }
 {}
 
 /// What [`next`](crate::next) gives is at most the greatest value.
 pub fn next_is_value()
-    ensures { (tree : Tree) (input id round : ℕ) (view : List (Option ℕ)) → HasSmallNumerals tree → input ≤ greatest → id ≤ greatest → round ≤ greatest → length view ≤ greatest → AllByRecursion IsEntry view → action_value (next_action tree input id round view) ≤ greatest }
+    ensures { (tree : Tree) (input id round : ℕ) (view : List (Option ℕ)) →
+        HasSmallNumerals tree → input ≤ greatest → id ≤ greatest → round ≤ greatest → length view ≤ greatest → AllByRecursion IsEntry view →
+        action_value (next_action tree input id round view) ≤ greatest }
 {}
 
 /// A process that waits for all but f first writes its input. Where its view shows fewer, it writes its own entry again; else it
 /// decides the least value.
 pub fn waits_for_all_but_so_many()
     ensures first { (f input id n : ℕ) → first_value (waits_for_all_but f) input id n ≡ input }
-    ensures writes { (f input id round value : ℕ) (view : List (Option ℕ)) → next_action (waits_for_all_but f) input id round view ≡ Write value → entry view id ≡ value }
-    ensures waits { (f input id round value : ℕ) (view : List (Option ℕ)) → next_action (waits_for_all_but f) input id round view ≡ Write value → length view - f ≤ length (present view) → ⊥ }
-    ensures decides { (f input id round value : ℕ) (view : List (Option ℕ)) → next_action (waits_for_all_but f) input id round view ≡ Decide value → (length view - f ≤ length (present view)) × (least_of view ≡ value) }
+    ensures writes { (f input id round value : ℕ) (view : List (Option ℕ)) →
+        next_action (waits_for_all_but f) input id round view ≡ Write value →
+        entry view id ≡ value }
+    ensures waits { (f input id round value : ℕ) (view : List (Option ℕ)) →
+        next_action (waits_for_all_but f) input id round view ≡ Write value → length view - f ≤ length (present view) →
+        ⊥ }
+    ensures decides { (f input id round value : ℕ) (view : List (Option ℕ)) →
+        next_action (waits_for_all_but f) input id round view ≡ Decide value →
+        (length view - f ≤ length (present view)) × (least_of view ≡ value) }
 {}

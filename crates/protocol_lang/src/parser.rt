@@ -24,6 +24,9 @@ const MAX_TEXT: usize = 4096;
 /// The most rules of a protocol.
 const MAX_RULES: usize = 32;
 
+/// The most comparisons of a rule.
+const MAX_CONDITIONS: usize = 8;
+
 /// The most parentheses that are open at once.
 const MAX_OPEN: usize = 32;
 
@@ -52,7 +55,17 @@ impl Model for Parser {
 
     ghost coded = { Prim.hlevel (codes, expression_code) };
 
-    ghost view = { λ p. record { expected = p.expected; part = p.part; level = p.level; outer = p.outer; stack = p.draft; left = p.left; conditions = p.conditions; rules = p.rules; first = p.first } };
+    ghost view = { λ p. record {
+      expected = p.expected;
+      part = p.part;
+      level = p.level;
+      outer = p.outer;
+      stack = p.draft;
+      left = p.left;
+      conditions = p.conditions;
+      rules = p.rules;
+      first = p.first;
+    } };
 }
 
 impl Parser {
@@ -268,7 +281,7 @@ impl Parser {
     {
         match (token.kind(), token) {
             (Some(kind), _) => self.read_condition(comparator, Part::ActionRule(kind)),
-            (None, Token::Word(Word::And)) if self.conditions.len() < 7 => {
+            (None, Token::Word(Word::And)) if self.conditions.len() < MAX_CONDITIONS - 1 => {
                 self.read_condition(comparator, Part::Left)
             }
             (None, _) => Err(Refusal::Unexpected),

@@ -23,7 +23,8 @@ use Rattle.room_spec.specs.Grammar.{crash_line}
 use Rattle.room_spec.specs.declared.fault.SpecFault.{SpecFault}
 use Rattle.room_spec.specs.declared.fault.SpecFault.TheVariants.{BadLine, CrashLine, Repeated}
 use Rattle.room_spec.proofs.Lines.{passes_none}
-use Rattle.room_spec.proofs.Numerals.{number_to, number_from, decimal_passes, digit_no_space}
+use Rattle.protocol_lang.proofs.CallerLemmas.{number_to, number_from}
+use Rattle.room_spec.proofs.Numerals.{decimal_passes, digit_no_space}
 use Rattle.room_spec.proofs.Heads.{bind_ok, guard_ok, small_value, value_found, value_again, pieces_again}
 
 -- ---- fuses of different simulators

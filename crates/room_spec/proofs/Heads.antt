@@ -22,7 +22,8 @@ use Rattle.room_spec.specs.declared.version.Version.TheVariants.{One, Two}
 use Rattle.room_spec.specs.declared.fault.SpecFault.{SpecFault}
 use Rattle.room_spec.specs.declared.fault.SpecFault.TheVariants.{BadLine, BadName, Inputs, TaskLine}
 use Rattle.room_spec.proofs.Lines.{passes_none, pass_none, pieces_cut, pieces_one}
-use Rattle.room_spec.proofs.Numerals.{number_to, number_from, decimal_passes, digit_no_space}
+use Rattle.protocol_lang.proofs.CallerLemmas.{number_to, number_from}
+use Rattle.room_spec.proofs.Numerals.{decimal_passes, digit_no_space}
 
 -- ---- steps that did not fail
 

@@ -15,6 +15,8 @@ use Rattle.room_spec.specs.declared.fault.SpecFault.{SpecFault}
 use Rattle.room_spec.specs.declared.fault.SpecFault.TheVariants.{Truncated, BadLine, BadName, BadProtocol, Inputs, Simulators, Rounds, Turns, TooWide, CrashLine, Repeated, TaskLine}
 use Rattle.room_spec.specs.declared.version.Version.{Version}
 use Rattle.room_spec.specs.declared.version.Version.TheVariants.{One, Two}
+use Rattle.protocol_lang.specs.declared.meaning.TheConstants.{MAX_PROCESSES}
+use Rattle.room_spec.specs.declared.spec.TheConstants.{MAX_AGREED, MAX_ROUNDS, MAX_SIMULATORS, MAX_TURNS}
 
 -- one step, and then the next where it had no fault
 infixl 10 ◌>>=◌
@@ -81,7 +83,7 @@ inputs_of [] = None
 inputs_of (word ∷ fields) = if bytes_eq word (codes "inputs") then numbers_of fields else None
 
 abbrev pub are_inputs : List ℕ → Bool
-are_inputs values = nat_le 1 (length values) && nat_le (length values) 16 && list_all is_value values
+are_inputs values = nat_le 1 (length values) && nat_le (length values) MAX_PROCESSES && list_all is_value values
 
 abbrev pub in_range : Option (List ℕ) → Result (List ℕ) SpecFault
 in_range None = Err (BadLine 3)
@@ -105,7 +107,7 @@ fitting most bits = if nat_le bits most then Ok bits else Err TooWide
 -- how many values the task of the line behind the turns allows
 abbrev pub agreed : Option ℕ → Result ℕ SpecFault
 agreed None = Err (TaskLine 7)
-agreed (Some most) = if nat_le 1 most && nat_le most 16 then Ok most else Err (TaskLine 7)
+agreed (Some most) = if nat_le 1 most && nat_le most MAX_AGREED then Ok most else Err (TaskLine 7)
 
 -- the same, by the words behind `task`
 abbrev pub task_of : List ℕ → Result ℕ SpecFault
@@ -189,10 +191,10 @@ room_in body =
     version_line body
     >>= λ version. name_line version.1
     >>= λ name. inputs_line name.1
-    >>= λ inputs. number_line 4 (codes "simulators ") 8 Simulators inputs.1
-    >>= λ simulators. number_line 5 (codes "rounds ") 15 Rounds simulators.1
+    >>= λ inputs. number_line 4 (codes "simulators ") MAX_SIMULATORS Simulators inputs.1
+    >>= λ simulators. number_line 5 (codes "rounds ") MAX_ROUNDS Rounds simulators.1
     >>= λ rounds. fitting (most_bits version.0) (simulators.0 * length inputs.0 * bits_of rounds.0)
-    >>= λ bits. number_line 6 (codes "turns ") 65535 Turns rounds.1
+    >>= λ bits. number_line 6 (codes "turns ") MAX_TURNS Turns rounds.1
     >>= λ turns. task_line version.0 turns.1
     >>= λ task. fuse_lines (line_behind_task task.0) simulators.0 task.1
     >>= λ fuses. protocol_of (reading fuses.1)

@@ -15,6 +15,7 @@ use Rattle.room_spec.specs.declared.fault.SpecFault.{SpecFault}
 use Rattle.room_spec.specs.declared.fault.SpecFault.TheVariants.{Truncated, BadLine, BadName, BadProtocol, Inputs, Simulators, Rounds, Turns, TooWide, CrashLine, Repeated, TaskLine}
 use Rattle.room_spec.specs.declared.version.Version.{Version}
 use Rattle.room_spec.specs.declared.version.Version.TheVariants.{One, Two}
+use Rattle.room_spec.specs.declared.spec.TheConstants.{MAX_AGREED, MAX_ROUNDS, MAX_SIMULATORS, MAX_TURNS}
 
 -- ---- lines
 
@@ -52,7 +53,7 @@ abbrev pub version_text : Version → List ℕ
 version_text One = codes "bgsim 1"
 version_text Two = codes "bgsim 2"
 
--- the line of a task that allows so many different values
+-- the line of a task, by how many different values it allows
 abbrev pub agree_line : ℕ → List ℕ
 agree_line most = codes "task agree " ++ decimal most
 
@@ -127,14 +128,14 @@ IsOfText text fault = ⊤
 pub record IsHead (room : RoomSpec) : Type 0 where
   pub name : is_name room.name ≡ true
   pub inputs : are_inputs room.inputs ≡ true
-  pub simulators : (1 ≤ room.simulators) × (room.simulators ≤ 8)
-  pub rounds : (1 ≤ room.rounds) × (room.rounds ≤ 15)
-  pub turns : (1 ≤ room.turns) × (room.turns ≤ 65535)
+  pub simulators : (1 ≤ room.simulators) × (room.simulators ≤ MAX_SIMULATORS)
+  pub rounds : (1 ≤ room.rounds) × (room.rounds ≤ MAX_ROUNDS)
+  pub turns : (1 ≤ room.turns) × (room.turns ≤ MAX_TURNS)
   pub task : IsTaskIn room.version room.task
   pub fuses : AreFuses room.fuses room.simulators
   pub values : list_all (λ fuse. is_value fuse.1) room.fuses ≡ true
 
--- how many bits the step numbers of all simulators take, with so many rounds
+-- how many bits the step numbers of all simulators take, by the number of rounds
 abbrev pub width_of : RoomSpec → ℕ → ℕ
 width_of room rounds = room.simulators * processes room * bits_of rounds
 
@@ -176,9 +177,9 @@ HasForm (version ∷ name ∷ inputs ∷ simulators ∷ rounds ∷ turns ∷ nex
 abbrev pub IsOutOfRange : List ℕ → ℕ → List ℕ → Type 0
 IsOutOfRange word most line = (number : ℕ) × IsNumberLine word line number × ((number < 1) ⊎ (most < number))
 
--- the line tells so many rounds that the step numbers of the room need more bits than its version allows
+-- with the number of rounds that the line tells the step numbers of the room need more bits than its version allows
 abbrev pub IsTooWide : RoomSpec → List ℕ → Type 0
-IsTooWide room line = (rounds : ℕ) × (line ≡ codes "rounds " ++ decimal rounds) × (1 ≤ rounds) × (rounds ≤ 15) × (most_bits room.version < width_of room rounds)
+IsTooWide room line = (rounds : ℕ) × (line ≡ codes "rounds " ++ decimal rounds) × (1 ≤ rounds) × (rounds ≤ MAX_ROUNDS) × (most_bits room.version < width_of room rounds)
 
 -- the line is that of a fuse of one of the room's simulators
 abbrev pub IsFuseLine : RoomSpec → List ℕ → ℕ × ℕ → Type 0
@@ -186,7 +187,7 @@ IsFuseLine room line fuse = (line ≡ crash_line fuse) × (fuse.0 < room.simulat
 
 -- the line is that of a task
 abbrev pub IsTaskLine : List ℕ → ℕ → Type 0
-IsTaskLine line most = (line ≡ agree_line most) × (1 ≤ most) × (most ≤ 16)
+IsTaskLine line most = (line ≡ agree_line most) × (1 ≤ most) × (most ≤ MAX_AGREED)
 
 -- one of the lines is a crash of this simulator
 abbrev pub HasCrashOf : List (List ℕ) → ℕ → Type 0
@@ -199,9 +200,9 @@ IsReason (BadLine number) room before line = HasForm before line → ⊥
 IsReason BadName room before line = (name : List ℕ) × (line ≡ codes "room " ++ name) × (is_name name ≡ false)
 IsReason (BadProtocol fault) room before line = ⊥
 IsReason Inputs room before line = (numbers : List ℕ) × IsInputsLine line numbers × (are_inputs numbers ≡ false)
-IsReason Simulators room before line = IsOutOfRange (codes "simulators ") 8 line
-IsReason Rounds room before line = IsOutOfRange (codes "rounds ") 15 line
-IsReason Turns room before line = IsOutOfRange (codes "turns ") 65535 line
+IsReason Simulators room before line = IsOutOfRange (codes "simulators ") MAX_SIMULATORS line
+IsReason Rounds room before line = IsOutOfRange (codes "rounds ") MAX_ROUNDS line
+IsReason Turns room before line = IsOutOfRange (codes "turns ") MAX_TURNS line
 IsReason TooWide room before line = IsTooWide room line
 IsReason (CrashLine number) room before line = BeginsWith (codes "crash ") line × ((fuse : ℕ × ℕ) → IsFuseLine room line fuse → ⊥)
 IsReason (Repeated number) room before line = (fuse : ℕ × ℕ) × IsFuseLine room line fuse × HasCrashOf before fuse.0

@@ -9,6 +9,8 @@ use Rattle.protocol_lang.specs.Thresholds.{waits_for_all_but}
 use Rattle.room_spec.specs.Names.{is_name}
 use Rattle.room_spec.specs.declared.version.Version.{Version}
 use Rattle.room_spec.specs.declared.version.Version.TheVariants.{One, Two}
+use Rattle.protocol_lang.specs.declared.meaning.TheConstants.{MAX_PROCESSES}
+use Rattle.room_spec.specs.declared.spec.TheConstants.{MAX_AGREED, MAX_ROUNDS, MAX_SIMULATORS, MAX_TURNS}
 
 -- The version of its block, the room's name, the input of each process, the number of simulators, how often a process may
 -- write, how many turns each simulator has, how many different values its task lets the processes decide, if it has one, the
@@ -32,15 +34,15 @@ processes spec = length spec.inputs
 abbrev pub fuse_of : List (ℕ × ℕ) → ℕ → Option ℕ
 fuse_of fuses simulator = option_map (λ fuse. fuse.1) (find (λ fuse. fuse.0 == simulator) fuses)
 
--- the binary digits of a step number of a room with so many rounds
+-- the binary digits of a step number, by the number of a room's rounds
 abbrev pub bits_of : ℕ → ℕ
 bits_of rounds = if nat_lt rounds 2 then 1 else if nat_lt rounds 4 then 2 else if nat_lt rounds 8 then 3 else 4
 
 -- the numbers of processes, simulators and rounds of a room, and the width of a step number
 pub record IsShape (n m bits rounds : ℕ) : Type 0 where
-  pub n_range : (1 ≤ n) × (n ≤ 16)
-  pub m_range : (1 ≤ m) × (m ≤ 8)
-  pub rounds_range : (1 ≤ rounds) × (rounds ≤ 15)
+  pub n_range : (1 ≤ n) × (n ≤ MAX_PROCESSES)
+  pub m_range : (1 ≤ m) × (m ≤ MAX_SIMULATORS)
+  pub rounds_range : (1 ≤ rounds) × (rounds ≤ MAX_ROUNDS)
   pub width : bits ≡ bits_of rounds
   pub memory : m * n * bits ≤ 256
 
@@ -61,14 +63,14 @@ most_bits Two = 256
 abbrev pub IsTaskIn : Version → Option ℕ → Type 0
 IsTaskIn version None = ⊤
 IsTaskIn One (Some most) = ⊥
-IsTaskIn Two (Some most) = (1 ≤ most) × (most ≤ 16)
+IsTaskIn Two (Some most) = (1 ≤ most) × (most ≤ MAX_AGREED)
 
 -- the limits of every room
 pub record IsWithinLimits (spec : RoomSpec) : Type 0 where
   pub name : is_name spec.name ≡ true
   pub shape : IsShape (length spec.inputs) spec.simulators (bits_of spec.rounds) spec.rounds
   pub width : spec.simulators * length spec.inputs * bits_of spec.rounds ≤ most_bits spec.version
-  pub turns : (1 ≤ spec.turns) × (spec.turns ≤ 65535)
+  pub turns : (1 ≤ spec.turns) × (spec.turns ≤ MAX_TURNS)
   pub task : IsTaskIn spec.version spec.task
   pub fuses : AreFuses spec.fuses spec.simulators
   pub values : list_all is_value spec.inputs ≡ true

@@ -1,6 +1,7 @@
 -- The numbers that a room's memory depends on.
 use Rattle.std.specs.Prelude.{◌≤◌, ◌<◌, ℕ, ◌+◌, ◌-◌, ◌*◌, ◌/◌}
 use Rattle.room_spec.specs.Rooms.{RoomSpec, IsShape, bits_of, processes}
+use Rattle.room_spec.specs.declared.spec.TheConstants.{MAX_MEMORY_WORDS}
 
 -- how many processes and simulators a room has, how many binary digits a step number has, and how often a process may write
 pub record Sizes : Type 0 where
@@ -32,6 +33,6 @@ pub record AreMemoryWords (sizes : Sizes) : Type 0 where
   pub room : sizes.m * sizes.n ≤ memory_words sizes * fields_in_word sizes
   pub least : (memory_words sizes - 1) * fields_in_word sizes < sizes.m * sizes.n
   pub some : 1 ≤ memory_words sizes
-  pub few : memory_words sizes ≤ 4
+  pub few : memory_words sizes ≤ MAX_MEMORY_WORDS
   pub fields : 1 ≤ fields_in_word sizes
   pub bits : fields_in_word sizes * sizes.bits ≤ 64

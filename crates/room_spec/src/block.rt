@@ -100,7 +100,7 @@ struct BlockEnd {
 /// Finds where the room block at the front of `text` ends, or `None` where no line is `end`.
 fn find_end(text: &[u8]) -> Option<BlockEnd>
     ensures body { option_map (λ end. end.body) result ≡ body_len text.now }
-    // So many lines stand up to and with the first `end`.
+    // The lines up to and with the first `end`.
     ensures lines { option_map (λ end. end.lines) result ≡ option_map suc (position is_end (lines_of text.now)) }
     ensures within { IfSome result (λ end. end.body + 3 ≤ length text.now) }
 {

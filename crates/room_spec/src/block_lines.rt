@@ -172,7 +172,7 @@ fn task_words(line: &[u8], version: Version) -> Option<&[u8]>
 /// How many values a task allows, by the words behind `task`.
 fn read_agreed(words: &[u8]) -> Result<u8, SpecFault>
     ensures value { result ≡ task_of words.now }
-    ensures range { IfOk result (λ most. (1 ≤ most) × (most ≤ 16)) }
+    ensures range { IfOk result (λ most. (1 ≤ most) × (most ≤ MAX_AGREED)) }
 {
     let most = words
         .strip_prefix(b"agree ".as_slice())

@@ -19,7 +19,7 @@ pub(crate) fn read_fuses(
     simulators: u16,
 ) -> Result<(ArrayVec<(u8, u32), MAX_SIMULATORS>, &[u8]), SpecFault>
     requires first { first ≤ 8 }
-    requires simulators { simulators ≤ 8 }
+    requires simulators { simulators ≤ MAX_SIMULATORS }
     ensures value { Gives (λ read. (read.0.items, read.1.now)) result (fuse_lines first simulators text.now) }
     ensures fuses { IfOk result (λ read. AreFuses read.0.items simulators) }
 {
@@ -44,8 +44,8 @@ fn read_fuse(
     fuses: &[(u8, u32)],
 ) -> Result<Option<(u8, u32)>, SpecFault>
     requires first { first ≤ 8 }
-    requires simulators { simulators ≤ 8 }
-    requires fuses { length fuses.now ≤ 8 }
+    requires simulators { simulators ≤ MAX_SIMULATORS }
+    requires fuses { length fuses.now ≤ MAX_SIMULATORS }
     ensures { result ≡ said_next first simulators fuses.now line.now }
 {
     let number = first + fuses.len();
@@ -80,7 +80,7 @@ fn read_fuse_of_simulator(
     number: usize,
     simulators: u16,
 ) -> Result<(u8, u32), SpecFault>
-    requires { simulators ≤ 8 }
+    requires { simulators ≤ MAX_SIMULATORS }
     ensures { result ≡ of_simulator number simulators (fuse_in (fields_of words.now)) }
 {
     let (simulator, steps) = fuse_from(words).ok_or(SpecFault::CrashLine(number))?;

@@ -10,8 +10,12 @@ ghost use Rattle.room_spec.specs.Sizes.{Sizes, AreSizes, AreMemoryWords, memory_
 /// A room's inputs are at most the greatest value, and so is all that its protocol makes of them.
 pub fn values_are_small()
     ensures inputs { (spec : RoomSpec) (j : ℕ) → IsWithinLimits spec → slice_index spec.inputs j ≤ greatest }
-    ensures first { (spec : RoomSpec) (j : ℕ) → IsWithinLimits spec → j < processes spec → first_value spec.protocol (slice_index spec.inputs j) j (processes spec) ≤ greatest }
-    ensures next { (spec : RoomSpec) (j round : ℕ) (view : List (Option ℕ)) → IsWithinLimits spec → j < processes spec → round ≤ spec.rounds → length view ≡ processes spec → AllByRecursion IsEntry view → action_value (next_action spec.protocol (slice_index spec.inputs j) j round view) ≤ greatest }
+    ensures first { (spec : RoomSpec) (j : ℕ) →
+        IsWithinLimits spec → j < processes spec →
+        first_value spec.protocol (slice_index spec.inputs j) j (processes spec) ≤ greatest }
+    ensures next { (spec : RoomSpec) (j round : ℕ) (view : List (Option ℕ)) →
+        IsWithinLimits spec → j < processes spec → round ≤ spec.rounds → length view ≡ processes spec → AllByRecursion IsEntry view →
+        action_value (next_action spec.protocol (slice_index spec.inputs j) j round view) ≤ greatest }
 {}
 
 /// A room has the least number of memory words that have room for all its step numbers, at most four; and one where

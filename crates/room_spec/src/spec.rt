@@ -17,7 +17,10 @@ use std::sync::Arc;
 pub const MAX_SIMULATORS: usize = 8;
 
 /// The most rounds of a room.
-pub(crate) const MAX_ROUNDS: u16 = 15;
+pub const MAX_ROUNDS: u16 = 15;
+
+/// The most memory words of a room.
+pub const MAX_MEMORY_WORDS: usize = 4;
 
 /// The most turns of a simulator.
 pub(crate) const MAX_TURNS: u16 = 65535;
@@ -60,7 +63,7 @@ impl Shape {
     /// How many memory words hold the step numbers of all simulators, 1 to 4.
     pub fn memory_words(&self) -> usize
         ensures value { result ≡ memory_words (sizes_of self.now) }
-        ensures range { (1 ≤ result) × (result ≤ 4) }
+        ensures range { (1 ≤ result) × (result ≤ MAX_MEMORY_WORDS) }
     {
         self.words
     }
@@ -94,9 +97,31 @@ impl Model for Spec {
 
     ghost coded = { Prim.hlevel (codes, expression_code) };
 
-    ghost view = { λ s. record { version = s.version; name = s.name; inputs = s.inputs.items; simulators = s.simulators; rounds = s.rounds; turns = s.turns; task = s.task; fuses = s.fuses.items; protocol = arc_value s.protocol } };
+    ghost view = { λ s. record {
+      version = s.version;
+      name = s.name;
+      inputs = s.inputs.items;
+      simulators = s.simulators;
+      rounds = s.rounds;
+      turns = s.turns;
+      task = s.task;
+      fuses = s.fuses.items;
+      protocol = arc_value s.protocol;
+    } };
 
-    ghost invariant = { λ s. IsWithinLimits (record { version = s.version; name = s.name; inputs = s.inputs.items; simulators = s.simulators; rounds = s.rounds; turns = s.turns; task = s.task; fuses = s.fuses.items; protocol = arc_value s.protocol }) × (s.words ≡ memory_words (record { n = length s.inputs.items; m = s.simulators; bits = bits_of s.rounds; rounds = s.rounds })) };
+    ghost invariant = { λ s. IsWithinLimits
+        (record {
+          version = s.version;
+          name = s.name;
+          inputs = s.inputs.items;
+          simulators = s.simulators;
+          rounds = s.rounds;
+          turns = s.turns;
+          task = s.task;
+          fuses = s.fuses.items;
+          protocol = arc_value s.protocol;
+        }) ×
+        (s.words ≡ memory_words (record { n = length s.inputs.items; m = s.simulators; bits = bits_of s.rounds; rounds = s.rounds })) };
 }
 
 impl Spec {
@@ -120,7 +145,7 @@ impl Spec {
     /// The number of processes, 1 to 16.
     pub fn n(&self) -> usize
         ensures value { result ≡ processes self.now }
-        ensures range { (1 ≤ result) × (result ≤ 16) }
+        ensures range { (1 ≤ result) × (result ≤ MAX_PROCESSES) }
     {
         self.inputs.len()
     }
@@ -128,7 +153,7 @@ impl Spec {
     /// The number of simulators, 1 to 8.
     pub fn m(&self) -> usize
         ensures value { result ≡ self.now.simulators }
-        ensures range { (1 ≤ result) × (result ≤ 8) }
+        ensures range { (1 ≤ result) × (result ≤ MAX_SIMULATORS) }
     {
         usize::from(self.simulators)
     }
@@ -136,7 +161,7 @@ impl Spec {
     /// How often a process may write, 1 to 15.
     pub fn rounds(&self) -> usize
         ensures value { result ≡ self.now.rounds }
-        ensures range { (1 ≤ result) × (result ≤ 15) }
+        ensures range { (1 ≤ result) × (result ≤ MAX_ROUNDS) }
     {
         usize::from(self.rounds)
     }
@@ -144,7 +169,7 @@ impl Spec {
     /// How many turns each simulator has, 1 to 65535.
     pub fn turns(&self) -> u64
         ensures value { result ≡ self.now.turns }
-        ensures range { (1 ≤ result) × (result ≤ 65535) }
+        ensures range { (1 ≤ result) × (result ≤ MAX_TURNS) }
     {
         u64::from(self.turns)
     }
@@ -167,7 +192,7 @@ impl Spec {
     /// How many different values the room's task lets the processes decide, 1 to 16, or `None` where it has no task.
     pub fn task(&self) -> Option<u8>
         ensures value { result ≡ self.now.task }
-        ensures range { IfSome result (λ most. (1 ≤ most) × (most ≤ 16)) }
+        ensures range { IfSome result (λ most. (1 ≤ most) × (most ≤ MAX_AGREED)) }
     {
         self.task
     }

@@ -24,13 +24,17 @@ no_place : (b : Bool) (n : ℕ) → cond b (Some n) None ≡ None → b ≡ fals
 no_place true n is = absurd cc
 no_place false n is = refl
 
+-- where none passes, the place of the first is the list's end
+pub none_within : {A : Type 0} (test : A → Bool) (list : List A) → position test list ≡ None → length list ≤ position_or_len test list
+none_within test list is = ltb-false _ _ (no_place _ _ is)
+
 -- by where the first at the level stands
 pub some_level : (level : ℕ) (levels : List ℕ) (found : Option ℕ) → position (λ one. eqb one level) levels ≡ found → has_level level levels ≡ is_some found
 some_level level levels (Some at) is =
     let place = position-Some (λ one. eqb one level) levels at 0 is in
     list_any_at (λ one. eqb one level) levels at 0 place.0 place.1
 some_level level levels None is =
-    let long : length levels ≤ position_or_len (λ one. eqb one level) levels = ltb-false _ _ (no_place _ _ is) in
+    let long : length levels ≤ position_or_len (λ one. eqb one level) levels = none_within _ levels is in
     list_any_none (λ one. eqb one level) levels (λ i d below. fails_before_first (λ one. eqb one level) levels i d (omega arith))
 
 -- ---- the least simulator at level 2
@@ -48,7 +52,7 @@ least_two_is levels simulator is =
 found_at : (levels : List ℕ) (place : Option ℕ) → least_two levels ≡ place → (i : ℕ) → i < length levels → get_or levels i 0 ≡ 2 → (k : ℕ) × (place ≡ Some k)
 found_at levels (Some k) is i below two = (k, refl)
 found_at levels None is i below two =
-    let long : length levels ≤ position_or_len (λ one. eqb one 2) levels = ltb-false _ _ (no_place _ _ is) in
+    let long : length levels ≤ position_or_len (λ one. eqb one 2) levels = none_within _ levels is in
     absurd (eqb-false _ _ (not-true _ (prefix_len_passes (λ one. not (eqb one 2)) levels i 0 (omega arith))) two)
 
 pub least_two_found : (levels : List ℕ) (i : ℕ) → i < length levels → get_or levels i 0 ≡ 2 → (k : ℕ) × (least_two levels ≡ Some k)

@@ -11,7 +11,9 @@ ghost use Rattle.safe_agreement.specs.Phases.{Phase, Entered, Left, Change, Look
 pub fn levels()
     ensures length { (m : ℕ) (phases : ℕ → Phase) → length (phase_levels m phases) ≡ m }
     ensures at { (m : ℕ) (phases : ℕ → Phase) (i : ℕ) → i < m → slice_index (phase_levels m phases) i ≡ phase_level (phases i) }
-    ensures of_list { (m : ℕ) (phases : ℕ → Phase) (levels : List ℕ) → length levels ≡ m → ((i : ℕ) → i < m → slice_index levels i ≡ phase_level (phases i)) → levels ≡ phase_levels m phases }
+    ensures of_list { (m : ℕ) (phases : ℕ → Phase) (levels : List ℕ) →
+        length levels ≡ m → ((i : ℕ) → i < m → slice_index levels i ≡ phase_level (phases i)) →
+        levels ≡ phase_levels m phases }
 {}
 
 /// A simulator leaves to the level that [`leave_level`](crate::leave_level) gives of the levels that
@@ -36,24 +38,38 @@ pub fn clean_is_fixed()
 /// A fixed agreement stays fixed over any change, and the same simulators are at level 2.
 pub fn stays_fixed()
     ensures fixed { (m : ℕ) (before : ℕ → Phase) (change : Change) (after : ℕ → Phase) → IsStep m before change after → IsFixed m before → IsFixed m after }
-    ensures twos { (m : ℕ) (before : ℕ → Phase) (change : Change) (after : ℕ → Phase) → IsStep m before change after → IsFixed m before → HaveSameTwos m before after }
+    ensures twos { (m : ℕ) (before : ℕ → Phase) (change : Change) (after : ℕ → Phase) →
+        IsStep m before change after → IsFixed m before →
+        HaveSameTwos m before after }
 {}
 
 /// The same over any list of changes.
 pub fn stays_fixed_on()
-    ensures fixed { (m : ℕ) (phases : ℕ → Phase) (changes : List Change) → AreLegal m phases changes → IsFixed m phases → IsFixed m (after_changes m phases changes) }
-    ensures twos { (m : ℕ) (phases : ℕ → Phase) (changes : List Change) → AreLegal m phases changes → IsFixed m phases → HaveSameTwos m phases (after_changes m phases changes) }
+    ensures fixed { (m : ℕ) (phases : ℕ → Phase) (changes : List Change) →
+        AreLegal m phases changes → IsFixed m phases →
+        IsFixed m (after_changes m phases changes) }
+    ensures twos { (m : ℕ) (phases : ℕ → Phase) (changes : List Change) →
+        AreLegal m phases changes → IsFixed m phases →
+        HaveSameTwos m phases (after_changes m phases changes) }
 {}
 
 /// Agreement: what an agreement resolves to at one moment, it resolves to at every moment at which
 /// it is clean.
 pub fn agrees()
     // At any two moments of any list of changes.
-    ensures moments { (m : ℕ) (phases : ℕ → Phase) (changes : List Change) (a b i k : ℕ) → AreLegal m phases changes → resolved_of (phase_levels m (after_changes m phases (take a changes))) ≡ Some i → resolved_of (phase_levels m (after_changes m phases (take b changes))) ≡ Some k → i ≡ k }
+    ensures moments { (m : ℕ) (phases : ℕ → Phase) (changes : List Change) (a b i k : ℕ) →
+        AreLegal m phases changes → resolved_of (phase_levels m (after_changes m phases (take a changes))) ≡ Some i →
+        resolved_of (phase_levels m (after_changes m phases (take b changes))) ≡ Some k →
+        i ≡ k }
     // Once it has resolved, each later clean moment gives the same.
-    ensures again { (m : ℕ) (phases : ℕ → Phase) (changes : List Change) (i : ℕ) → AreLegal m phases changes → resolved_of (phase_levels m phases) ≡ Some i → IsClean (phase_levels m (after_changes m phases changes)) → resolved_of (phase_levels m (after_changes m phases changes)) ≡ Some i }
+    ensures again { (m : ℕ) (phases : ℕ → Phase) (changes : List Change) (i : ℕ) →
+        AreLegal m phases changes → resolved_of (phase_levels m phases) ≡ Some i →
+        IsClean (phase_levels m (after_changes m phases changes)) →
+        resolved_of (phase_levels m (after_changes m phases changes)) ≡ Some i }
     // As soon as it is fixed it is settled: the least simulator at level 2 is the one.
-    ensures fixed { (m : ℕ) (phases : ℕ → Phase) (changes : List Change) → AreLegal m phases changes → IsFixed m phases → IsClean (phase_levels m (after_changes m phases changes)) → resolved_of (phase_levels m (after_changes m phases changes)) ≡ least_two (phase_levels m phases) }
+    ensures fixed { (m : ℕ) (phases : ℕ → Phase) (changes : List Change) →
+        AreLegal m phases changes → IsFixed m phases → IsClean (phase_levels m (after_changes m phases changes)) →
+        resolved_of (phase_levels m (after_changes m phases changes)) ≡ least_two (phase_levels m phases) }
 {}
 
 /// Where the same simulators are at level 2, the least of them is the same; and that they are the
@@ -68,15 +84,23 @@ pub fn same_twos()
 /// which nobody is at level 1, is clean: only a simulator that stopped inside can hold it.
 pub fn has_two_beside()
     ensures begins { (m : ℕ) → HasTwoBeside m before_all }
-    ensures stays { (m : ℕ) (before : ℕ → Phase) (change : Change) (after : ℕ → Phase) → IsStep m before change after → HasTwoBeside m before → HasTwoBeside m after }
-    ensures stays_on { (m : ℕ) (phases : ℕ → Phase) (changes : List Change) → AreLegal m phases changes → HasTwoBeside m phases → HasTwoBeside m (after_changes m phases changes) }
-    ensures clean { (m : ℕ) (phases : ℕ → Phase) (i level : ℕ) → HasTwoBeside m phases → i < m → phases i ≡ Left level → ((k : ℕ) → k < m → phase_level (phases k) ≢ 1) → IsClean (phase_levels m phases) }
+    ensures stays { (m : ℕ) (before : ℕ → Phase) (change : Change) (after : ℕ → Phase) →
+        IsStep m before change after → HasTwoBeside m before →
+        HasTwoBeside m after }
+    ensures stays_on { (m : ℕ) (phases : ℕ → Phase) (changes : List Change) →
+        AreLegal m phases changes → HasTwoBeside m phases →
+        HasTwoBeside m (after_changes m phases changes) }
+    ensures clean { (m : ℕ) (phases : ℕ → Phase) (i level : ℕ) →
+        HasTwoBeside m phases → i < m → phases i ≡ Left level → ((k : ℕ) → k < m → phase_level (phases k) ≢ 1) →
+        IsClean (phase_levels m phases) }
 {}
 
 /// Each change of a legal list is a step, and phases that are the same for each simulator are as
 /// good as each other.
 pub fn steps()
-    ensures of_change { (m : ℕ) (phases : ℕ → Phase) (change : Change) → mover change < m → MayMove change (phases (mover change)) → IsStep m phases change (after_change m phases change) }
+    ensures of_change { (m : ℕ) (phases : ℕ → Phase) (change : Change) →
+        mover change < m → MayMove change (phases (mover change)) →
+        IsStep m phases change (after_change m phases change) }
     ensures same_fixed { (m : ℕ) (phases others : ℕ → Phase) → ((i : ℕ) → i < m → others i ≡ phases i) → IsFixed m phases → IsFixed m others }
     ensures same_beside { (m : ℕ) (phases others : ℕ → Phase) → ((i : ℕ) → i < m → others i ≡ phases i) → HasTwoBeside m phases → HasTwoBeside m others }
 {}

@@ -3,11 +3,11 @@ ghost use Rattle.std.specs.Prelude.{◌≡◌, ◌==◌, ◌<◌, ◌≤◌, IfS
 ghost use Rattle.level_cells.specs.Fields.{levels_of};
 ghost use Rattle.safe_agreement.specs.Levels.{has_level, is_clean, resolved_of};
 
-use level_cells::field;
+use level_cells::{MAX_LEVELS, field};
 
-/// The least of the first `m` simulators that is at this level. `m` is at most 8.
+/// The least of the first `m` simulators that is at this level. `m` is at most [`MAX_LEVELS`].
 pub fn least_at(word: u64, m: usize, level: u8) -> Option<usize>
-    requires { m ≤ 8 }
+    requires { m ≤ MAX_LEVELS }
     ensures value { result ≡ position (λ one. one == level) (levels_of word m) }
     ensures below { IfSome result (λ simulator. simulator < m) }
 {
@@ -19,28 +19,28 @@ pub fn least_at(word: u64, m: usize, level: u8) -> Option<usize>
     None
 }
 
-/// Whether one of the first `m` simulators is at this level. `m` is at most 8.
+/// Whether one of the first `m` simulators is at this level. `m` is at most [`MAX_LEVELS`].
 #[tactic(auto, using(crate::proofs::Clean::some_level))]
 pub fn has_level(word: u64, m: usize, level: u8) -> bool
-    requires { m ≤ 8 }
+    requires { m ≤ MAX_LEVELS }
     ensures { result ≡ has_level level (levels_of word m) }
 {
     least_at(word, m, level).is_some()
 }
 
 /// Whether the agreement of the first `m` simulators is clean: some level is 2, and none is 1. `m`
-/// is at most 8.
+/// is at most [`MAX_LEVELS`].
 pub fn is_clean(word: u64, m: usize) -> bool
-    requires { m ≤ 8 }
+    requires { m ≤ MAX_LEVELS }
     ensures { result ≡ is_clean (levels_of word m) }
 {
     has_level(word, m, 2) && !has_level(word, m, 1)
 }
 
 /// What [`resolved`](crate::resolved) answers for the levels of the first `m` simulators. `m` is at
-/// most 8.
+/// most [`MAX_LEVELS`].
 pub fn resolved_in(word: u64, m: usize) -> Option<usize>
-    requires { m ≤ 8 }
+    requires { m ≤ MAX_LEVELS }
     ensures value { result ≡ resolved_of (levels_of word m) }
     ensures below { IfSome result (λ simulator. simulator < m) }
 {

@@ -5,6 +5,7 @@ use Rattle.std.specs.List.{range_with_len, position_or_len}
 use Rattle.room_spec.specs.Sizes.{Sizes, fields_in_word, memory_words}
 use Rattle.level_cells.specs.Fields.{field_of}
 use Rattle.level_cells.specs.Packing.{packed}
+use Rattle.room_spec.specs.declared.spec.TheConstants.{MAX_MEMORY_WORDS}
 
 -- ---- maps of step numbers
 
@@ -86,7 +87,7 @@ memory_word sizes steps w =
 
 -- as many words as any room has; those behind the room's own are 0
 abbrev pub memory_of : Sizes → (ℕ → ℕ → ℕ) → List ℕ
-memory_of sizes steps = map (memory_word sizes steps) (range_with_len 0 4)
+memory_of sizes steps = map (memory_word sizes steps) (range_with_len 0 MAX_MEMORY_WORDS)
 
 -- the words have these step numbers
 abbrev pub AreMemory : Sizes → List ℕ → (ℕ → ℕ → ℕ) → Type 0

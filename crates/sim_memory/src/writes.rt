@@ -7,7 +7,7 @@ ghost use Rattle.sim_memory.specs.Lasts.{AreLast, AreSteps};
 
 use crate::{place, step_of};
 use level_cells::field;
-use room_spec::Shape;
+use room_spec::{MAX_PROCESSES, Shape};
 use std::simd::prelude::*;
 
 /// The last write of each process that memory words show. Behind the last process all numbers
@@ -15,9 +15,9 @@ use std::simd::prelude::*;
 #[derive(Clone, Copy)]
 pub struct LastWrites {
     /// The least simulator that has the greatest step number for the process.
-    pub holders: [u8; 16],
+    pub holders: [u8; MAX_PROCESSES],
     /// That number: 0 where the words show no write.
-    pub rounds: [u8; 16],
+    pub rounds: [u8; MAX_PROCESSES],
 }
 
 /// The last write of each process that the memory words show, as [`last_write`](crate::last_write) has
@@ -28,7 +28,7 @@ pub fn last_writes(shape: &Shape, words: &[u64]) -> LastWrites
     ensures holders { (p : ℕ) → p < shape.now.n → slice_index result.holders p ≡ holder_of shape.now.m (step_in (sizes_of shape.now) words.now) p }
     ensures rounds { (p : ℕ) → p < shape.now.n → slice_index result.rounds p ≡ merged_of shape.now.m (step_in (sizes_of shape.now) words.now) p }
     ensures range { (p : ℕ) → p < shape.now.n → (slice_index result.holders p < shape.now.m) × (slice_index result.rounds p ≤ shape.now.rounds) }
-    ensures behind { (p : ℕ) → shape.now.n ≤ p → p < 16 → (slice_index result.holders p ≡ 0) × (slice_index result.rounds p ≡ 0) }
+    ensures behind { (p : ℕ) → shape.now.n ≤ p → p < MAX_PROCESSES → (slice_index result.holders p ≡ 0) × (slice_index result.rounds p ≡ 0) }
 {
     of_all(shape, words)
 }
@@ -74,12 +74,12 @@ fn in_words(shape: &Shape, words: &[u64]) -> LastWrites
 impl LastWrites {
     /// Of no simulator.
     fn none() -> LastWrites
-        ensures holders { result.holders ≡ replicate 16 0 }
-        ensures rounds { result.rounds ≡ replicate 16 0 }
+        ensures holders { result.holders ≡ replicate MAX_PROCESSES 0 }
+        ensures rounds { result.rounds ≡ replicate MAX_PROCESSES 0 }
     {
         LastWrites {
-            holders: [0; 16],
-            rounds: [0; 16],
+            holders: [0; MAX_PROCESSES],
+            rounds: [0; MAX_PROCESSES],
         }
     }
 
@@ -119,9 +119,11 @@ impl LastWrites {
     }
 
     /// With the step numbers of the next simulator.
-    fn later(self, i: u8, steps: [u8; 16]) -> LastWrites
-        ensures holders { (p : ℕ) → p < 16 → slice_index result.holders p ≡ (if nat_lt (slice_index self.rounds p) (slice_index steps p) then i else slice_index self.holders p) }
-        ensures rounds { (p : ℕ) → p < 16 → slice_index result.rounds p ≡ max (slice_index self.rounds p) (slice_index steps p) }
+    fn later(self, i: u8, steps: [u8; MAX_PROCESSES]) -> LastWrites
+        ensures holders { (p : ℕ) →
+            p < MAX_PROCESSES →
+            slice_index result.holders p ≡ (if nat_lt (slice_index self.rounds p) (slice_index steps p) then i else slice_index self.holders p) }
+        ensures rounds { (p : ℕ) → p < MAX_PROCESSES → slice_index result.rounds p ≡ max (slice_index self.rounds p) (slice_index steps p) }
     {
         let (holders, rounds) = (
             u8x16::from_array(self.holders),
@@ -139,12 +141,12 @@ impl LastWrites {
 }
 
 /// The step numbers of a simulator, one for each process, and then 0.
-fn each_step(shape: &Shape, words: &[u64], i: usize) -> [u8; 16]
+fn each_step(shape: &Shape, words: &[u64], i: usize) -> [u8; MAX_PROCESSES]
     requires words { memory_words (sizes_of shape.now) ≤ length words.now }
     requires simulator { i < shape.now.m }
     ensures { AreSteps (sizes_of shape.now) words.now i result }
 {
-    let mut steps = [0; 16];
+    let mut steps = [0; MAX_PROCESSES];
     for p in 0..shape.n {
         steps[p] = step_of(shape, words, i, p) as u8;
     }
@@ -152,9 +154,9 @@ fn each_step(shape: &Shape, words: &[u64], i: usize) -> [u8; 16]
 }
 
 /// The step numbers in the lowest fields of a word, one for each process, and then 0.
-fn lowest_steps(shape: &Shape, word: u64) -> [u8; 16]
+fn lowest_steps(shape: &Shape, word: u64) -> [u8; MAX_PROCESSES]
     ensures own { (p : ℕ) → p < shape.now.n → slice_index result p ≡ min (word / 2 ^ (p * shape.now.bits) % 2 ^ shape.now.bits) shape.now.rounds }
-    ensures behind { (p : ℕ) → shape.now.n ≤ p → p < 16 → slice_index result p ≡ 0 }
+    ensures behind { (p : ℕ) → shape.now.n ≤ p → p < MAX_PROCESSES → slice_index result p ≡ 0 }
 {
     u8x16::from_array(lowest_fields(shape, word))
         .simd_min(u8x16::splat(shape.rounds as u8))
@@ -162,11 +164,11 @@ fn lowest_steps(shape: &Shape, word: u64) -> [u8; 16]
 }
 
 /// The lowest fields of a word, one for each process, and then 0.
-fn lowest_fields(shape: &Shape, word: u64) -> [u8; 16]
+fn lowest_fields(shape: &Shape, word: u64) -> [u8; MAX_PROCESSES]
     ensures own { (p : ℕ) → p < shape.now.n → slice_index result p ≡ word / 2 ^ (p * shape.now.bits) % 2 ^ shape.now.bits }
-    ensures behind { (p : ℕ) → shape.now.n ≤ p → p < 16 → slice_index result p ≡ 0 }
+    ensures behind { (p : ℕ) → shape.now.n ≤ p → p < MAX_PROCESSES → slice_index result p ≡ 0 }
 {
-    let mut fields = [0; 16];
+    let mut fields = [0; MAX_PROCESSES];
     let mut rest = word;
     for p in 0..shape.n {
         fields[p] = field(rest, 0, shape.bits) as u8;

@@ -10,5 +10,5 @@ pub use Rattle.simulator.proofs.Onward.{answered_along, moves_on, ready_along, s
 pub use Rattle.simulator.proofs.Processes.{next_is_left}
 pub use Rattle.simulator.proofs.Ranging.{within}
 pub use Rattle.simulator.proofs.Spending.{steps_bounded}
-pub use Rattle.simulator.proofs.Stepping.{begins, bounded, finishes, keeps_number, moves, open_moves, runs_out, stays_in_turn, steps_by_one, turn_ends}
+pub use Rattle.simulator.proofs.Stepping.{begins, bounded, finishes, keeps_number, moves, open_moves, rest_line, runs_out, stays_in_turn, steps_by_one, turn_ends}
 pub use Rattle.simulator.proofs.Visiting.{all_visited}

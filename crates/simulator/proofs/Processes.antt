@@ -8,15 +8,12 @@ use Rattle.std.proofs.lemmas.List.Elements.{filter-append}
 use Rattle.std.proofs.lemmas.List.FromFn.{map-range_with_len_more}
 use Rattle.std.proofs.lemmas.List.Quantifiers.{position-Some}
 use Rattle.room_spec.specs.Rooms.{RoomSpec}
+use Rattle.safe_agreement.proofs.CallerLemmas.{none_within}
 use Rattle.simulator.specs.declared.goal.Goal.{Goal}
 use Rattle.simulator.specs.declared.goal.Goal.TheVariants.{Write, Ask, Done, Spent}
 use Rattle.simulator.specs.Minds.{MindState, is_unfinished, goal_at, unfinished_in, or_else, next_process, first_goal}
 
 -- ---- the first unfinished process of a list
-
-pub none_first : (found : ℕ) (b : Bool) → cond b (Some found) None ≡ None → b ≡ false
-none_first found true is = absurd cc
-none_first found false is = refl
 
 none_left : (goals : List Goal) → length goals ≤ position_or_len is_unfinished goals → unfinished_in goals ≡ 0
 none_left [] long = refl
@@ -26,7 +23,7 @@ none_left (Done ∷ goals) long = none_left goals (omega arith)
 none_left (Spent ∷ goals) long = none_left goals (omega arith)
 
 pub none_of_position : (goals : List Goal) → position is_unfinished goals ≡ None → unfinished_in goals ≡ 0
-none_of_position goals none = none_left goals (ltb-false _ _ (none_first (position_or_len is_unfinished goals) _ none))
+none_of_position goals none = none_left goals (none_within is_unfinished goals none)
 
 some_left : (goals : List Goal) (process : ℕ) → process < length goals → is_unfinished (goal_at goals process) ≡ true → 0 < unfinished_in goals
 some_left [] process below is = absurd (omega arith)

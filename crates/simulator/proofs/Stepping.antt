@@ -180,7 +180,7 @@ open_moves spec mind is = open_operation mind.line spec mind is
 
 -- ---- between two turns
 
-rest_line : (line : Line) → is_resting line ≡ true → line ≡ Rest
+pub rest_line : (line : Line) → is_resting line ≡ true → line ≡ Rest
 rest_line Rest is = refl
 rest_line Raise is = absurd cc
 rest_line Snap is = absurd cc

@@ -9,6 +9,7 @@ use Rattle.simulator.specs.declared.goal.Goal.{Goal}
 use Rattle.simulator.specs.declared.goal.Goal.TheVariants.{Write, Ask, Done, Spent}
 use Rattle.simulator.specs.declared.line.Line.{Line}
 use Rattle.simulator.specs.declared.line.Line.TheVariants.{Rest}
+use Rattle.room_spec.specs.declared.spec.TheConstants.{MAX_MEMORY_WORDS}
 
 -- number: which simulator it is. goals: what is left to do for each process. sweep: the process at which its sweep stands,
 -- on which its open turn works. turns: how many turns it has begun. steps, turn_steps: how many atomic steps it has taken
@@ -99,7 +100,7 @@ abbrev pub MindState : Type 0
 MindState = MindOf (List ℕ)
 
 abbrev pub no_words : List ℕ
-no_words = replicate 4 0
+no_words = replicate MAX_MEMORY_WORDS 0
 
 abbrev pub opening_mind : RoomSpec → ℕ → MindState
 opening_mind spec i = opening_mind_of no_words spec i

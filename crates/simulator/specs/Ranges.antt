@@ -10,6 +10,7 @@ use Rattle.simulator.specs.Moves.{entry_in}
 use Rattle.simulator.specs.Turns.{most_collects, words_in}
 use Rattle.simulator.specs.Firsts.{AreVisitedLast}
 use Rattle.simulator.specs.Quiet.{unfinished_from}
+use Rattle.room_spec.specs.declared.spec.TheConstants.{MAX_MEMORY_WORDS}
 
 -- a goal's round is a round of the room
 abbrev pub IsGoal : ℕ → Goal → Type 0
@@ -87,8 +88,8 @@ pub record IsMind (spec : RoomSpec) (mind : MindState) : Type 0 where
   pub sweep : mind.sweep < processes spec
   pub turns : mind.turns ≤ spec.turns
   pub entries : length mind.entries ≤ processes spec
-  pub snapshot : length mind.snapshot ≡ 4
-  pub before : length mind.before ≡ 4
+  pub snapshot : length mind.snapshot ≡ MAX_MEMORY_WORDS
+  pub before : length mind.before ≡ MAX_MEMORY_WORDS
   pub word : mind.word < words_at spec mind.line
   pub collects : IsCollectCount spec mind.line mind.collects
   pub few : mind.turn_steps ≤ most_steps spec mind.line mind.word mind.collects (length mind.entries)

@@ -7,7 +7,7 @@ ghost use Rattle.simulator.specs.Minds.{first_goal, first_goals, is_unfinished, 
 
 use arrayvec::ArrayVec;
 use protocol_lang::first;
-use room_spec::Spec;
+use room_spec::{MAX_PROCESSES, Spec};
 
 /// How far a simulator knows a process to be, and what it does for it next. Rounds are counted
 /// from 1.
@@ -48,7 +48,7 @@ impl Goal {
 
 /// Every process has its first write to make.
 #[tactic(auto, using(crate::proofs::Processes::first_more))]
-pub(crate) fn first_goals(spec: &Spec) -> ArrayVec<Goal, 16>
+pub(crate) fn first_goals(spec: &Spec) -> ArrayVec<Goal, MAX_PROCESSES>
     ensures { result.items ≡ first_goals spec.now }
 {
     let mut goals = ArrayVec::new();

@@ -26,14 +26,18 @@ pub fn minds_open()
 
 /// A mind stays one over an operation, whatever the operation answers.
 pub fn minds_stay()
-    ensures { (spec : RoomSpec) (mind : MindState) (answer : ℕ) → IsMind spec mind → IsOperation (move_of spec mind) → IsMind spec (taken spec mind answer).mind }
+    ensures { (spec : RoomSpec) (mind : MindState) (answer : ℕ) →
+        IsMind spec mind → IsOperation (move_of spec mind) →
+        IsMind spec (taken spec mind answer).mind }
 {}
 
 /// Each answer makes one atomic step more of the same simulator, and of its turn, if that goes on.
 pub fn steps_are_counted()
     ensures steps { (spec : RoomSpec) (mind : MindState) (answer : ℕ) → (taken spec mind answer).mind.steps ≡ mind.steps + 1 }
     ensures number { (spec : RoomSpec) (mind : MindState) (answer : ℕ) → (taken spec mind answer).mind.number ≡ mind.number }
-    ensures in_turn { (spec : RoomSpec) (mind : MindState) (answer : ℕ) → is_resting (taken spec mind answer).mind.line ≡ false → (taken spec mind answer).mind.turn_steps ≡ mind.turn_steps + 1 }
+    ensures in_turn { (spec : RoomSpec) (mind : MindState) (answer : ℕ) →
+        is_resting (taken spec mind answer).mind.line ≡ false →
+        (taken spec mind answer).mind.turn_steps ≡ mind.turn_steps + 1 }
 {}
 
 /// An open turn has taken fewer atomic steps than its limit, and after its last none are counted.
@@ -50,41 +54,60 @@ pub fn moves_are_within()
 /// Whoever is ready for a step wants an operation, and so does everyone in an open turn. Whoever is
 /// told that its turns are used up wants `OutOfTurns`.
 pub fn step_means_operation()
-    ensures ready { (spec : RoomSpec) (mind : MindState) (quiet : ℕ) → IsMind spec mind → ready_of spec mind quiet ≡ answers.Step → IsOperation (move_of spec mind) }
+    ensures ready { (spec : RoomSpec) (mind : MindState) (quiet : ℕ) →
+        IsMind spec mind → ready_of spec mind quiet ≡ answers.Step →
+        IsOperation (move_of spec mind) }
     ensures in_turn { (spec : RoomSpec) (mind : MindState) → is_resting mind.line ≡ false → IsOperation (move_of spec mind) }
-    ensures out_of_turns { (spec : RoomSpec) (mind : MindState) (quiet : ℕ) → IsMind spec mind → ready_of spec mind quiet ≡ answers.OutOfTurns → move_of spec mind ≡ moves.OutOfTurns }
+    ensures out_of_turns { (spec : RoomSpec) (mind : MindState) (quiet : ℕ) →
+        IsMind spec mind → ready_of spec mind quiet ≡ answers.OutOfTurns →
+        move_of spec mind ≡ moves.OutOfTurns }
 {}
 
 /// Between two turns a mind is finished exactly where no process is unfinished; else it wants an
 /// operation where a turn is left, and `OutOfTurns` where none is.
 pub fn rest_by_cases()
-    ensures finished { (spec : RoomSpec) (mind : MindState) → IsMind spec mind → (move_of spec mind ≡ moves.Finished) ↔ ((is_resting mind.line ≡ true) × (unfinished_in mind.goals ≡ 0)) }
-    ensures begins { (spec : RoomSpec) (mind : MindState) → IsMind spec mind → is_resting mind.line ≡ true → 0 < unfinished_in mind.goals → mind.turns < spec.turns → IsOperation (move_of spec mind) }
-    ensures runs_out { (spec : RoomSpec) (mind : MindState) → IsMind spec mind → is_resting mind.line ≡ true → 0 < unfinished_in mind.goals → spec.turns ≤ mind.turns → move_of spec mind ≡ moves.OutOfTurns }
+    ensures finished { (spec : RoomSpec) (mind : MindState) →
+        IsMind spec mind →
+        (move_of spec mind ≡ moves.Finished) ↔ ((is_resting mind.line ≡ true) × (unfinished_in mind.goals ≡ 0)) }
+    ensures begins { (spec : RoomSpec) (mind : MindState) →
+        IsMind spec mind → is_resting mind.line ≡ true → 0 < unfinished_in mind.goals → mind.turns < spec.turns →
+        IsOperation (move_of spec mind) }
+    ensures runs_out { (spec : RoomSpec) (mind : MindState) →
+        IsMind spec mind → is_resting mind.line ≡ true → 0 < unfinished_in mind.goals → spec.turns ≤ mind.turns →
+        move_of spec mind ≡ moves.OutOfTurns }
 {}
 
 /// A sweep's quiet count stays one of its mind, over every answer and where it is counted anew.
 pub fn quiet_counts_stay()
     ensures opens { (spec : RoomSpec) (i : ℕ) → IsQuietCount (opening_sweep spec i).mind (opening_sweep spec i).quiet }
-    ensures steps { (spec : RoomSpec) (mind : MindState) (quiet answer : ℕ) → IsMind spec mind → IsQuietCount mind quiet → IsQuietCount (taken spec mind answer).mind (quiet_after (taken spec mind answer).turn quiet) }
+    ensures steps { (spec : RoomSpec) (mind : MindState) (quiet answer : ℕ) →
+        IsMind spec mind → IsQuietCount mind quiet →
+        IsQuietCount (taken spec mind answer).mind (quiet_after (taken spec mind answer).turn quiet) }
     ensures wakes { (mind : MindState) → IsQuietCount mind 0 }
 {}
 
 /// Whoever is idle has no write left to make: each process stands at an ask, or is done or spent.
 pub fn idle_waits()
-    ensures { (spec : RoomSpec) (mind : MindState) (quiet : ℕ) → IsQuietCount mind quiet → ready_of spec mind quiet ≡ answers.Idle → (process : ℕ) → HasNoWrite (goal_at mind.goals process) }
+    ensures { (spec : RoomSpec) (mind : MindState) (quiet : ℕ) →
+        IsQuietCount mind quiet → ready_of spec mind quiet ≡ answers.Idle → (process : ℕ) →
+        HasNoWrite (goal_at mind.goals process) }
 {}
 
 /// A simulator that is ready for step after step begins at most `(n * rounds + 1) * n` turns,
 /// whatever it is answered: each useful turn takes one of the n processes through one of its rounds,
 /// and between two useful ones there are fewer turns than unfinished processes.
 pub fn turns_are_bounded()
-    ensures { (spec : RoomSpec) (sweep : SweepState) (answers : List ℕ) → IsMind spec sweep.mind → IsReadyThroughout spec sweep answers → (answered_all spec sweep answers).mind.turns ≤ sweep.mind.turns + (processes spec * spec.rounds + 1) * processes spec }
+    ensures { (spec : RoomSpec) (sweep : SweepState) (answers : List ℕ) →
+        IsMind spec sweep.mind → IsReadyThroughout spec sweep answers →
+        (answered_all spec sweep answers).mind.turns ≤ sweep.mind.turns + (processes spec * spec.rounds + 1) * processes spec }
 {}
 
 /// Nor does it take more than `(n * rounds + 1) * n` times the limit of a turn, a turn that is open at first included.
 pub fn steps_are_bounded()
-    ensures { (spec : RoomSpec) (sweep : SweepState) (answers : List ℕ) → IsMind spec sweep.mind → IsReadyThroughout spec sweep answers → (answered_all spec sweep answers).mind.steps ≤ sweep.mind.steps + (processes spec * spec.rounds + 1) * processes spec * turn_limit spec }
+    ensures { (spec : RoomSpec) (sweep : SweepState) (answers : List ℕ) →
+        IsMind spec sweep.mind → IsReadyThroughout spec sweep answers →
+        (answered_all spec sweep answers).mind.steps ≤ sweep.mind.steps +
+        (processes spec * spec.rounds + 1) * processes spec * turn_limit spec }
 {}
 
 /// No scan makes more collects than the room has writes, and two; and none is counted where the memory is one word, or
@@ -94,11 +117,15 @@ pub fn scans_are_bounded()
     ensures rests { (spec : RoomSpec) (mind : MindState) → IsMind spec mind → is_resting mind.line ≡ true → mind.collects ≡ 0 }
     // The limit of a turn where the memory is one word, and where it is more.
     ensures one { (spec : RoomSpec) → words_in spec ≡ 1 → turn_limit spec ≡ processes spec + 10 }
-    ensures several { (spec : RoomSpec) → words_in spec ≢ 1 → turn_limit spec ≡ processes spec + 7 + 2 * words_in spec + words_in spec * (spec.simulators * processes spec * spec.rounds + 2) }
+    ensures several { (spec : RoomSpec) →
+        words_in spec ≢ 1 →
+        turn_limit spec ≡ processes spec + 7 + 2 * words_in spec + words_in spec * (spec.simulators * processes spec * spec.rounds + 2) }
 {}
 
 /// A sweep goes round: whoever works on a process of which a turn has ended before has ended a turn
 /// on each.
 pub fn sweeps_go_round()
-    ensures { (spec : RoomSpec) (mind : MindState) (process : ℕ) → IsMind spec mind → is_unfinished (current_goal mind) ≡ true → IsVisited (current_goal mind) → IsVisited (goal_at mind.goals process) }
+    ensures { (spec : RoomSpec) (mind : MindState) (process : ℕ) →
+        IsMind spec mind → is_unfinished (current_goal mind) ≡ true → IsVisited (current_goal mind) →
+        IsVisited (goal_at mind.goals process) }
 {}

@@ -22,11 +22,14 @@ pub trait Memory<C> {
 
     /// Does the operation, and answers it.
     fn operate(&mut self, context: &C, next: Move) -> u64
-        requires { (spec : RoomSpec) × (mind : MindState) × serves self.old context.now spec mind × IsMind spec mind × IsOperation (move_of spec mind) × (next ≡ move_of spec mind) }
+        requires { (spec : RoomSpec) × (mind : MindState) × serves self.old context.now spec mind × IsMind spec mind ×
+            IsOperation (move_of spec mind) × (next ≡ move_of spec mind) }
         ensures { does self.old next result self.new };
 
     // After that it serves the mind that takes the answer in.
-    ghost goes_on: { (memory : Self) (context : C) (spec : RoomSpec) (mind : MindState) (answer : ℕ) (next : Self) → serves memory context spec mind → IsMind spec mind → IsOperation (move_of spec mind) → does memory (move_of spec mind) answer next → serves next context spec (taken spec mind answer).mind };
+    ghost goes_on: { (memory : Self) (context : C) (spec : RoomSpec) (mind : MindState) (answer : ℕ) (next : Self) →
+        serves memory context spec mind → IsMind spec mind → IsOperation (move_of spec mind) → does memory (move_of spec mind) answer next →
+        serves next context spec (taken spec mind answer).mind };
 }
 
 /// A memory that nobody looks into: this is its answer to each operation.

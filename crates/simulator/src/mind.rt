@@ -13,7 +13,7 @@ use crate::operation::Move;
 use crate::snapshot::Snapshot;
 use arrayvec::ArrayVec;
 use protocol_lang::View;
-use room_spec::Spec;
+use room_spec::{MAX_MEMORY_WORDS, MAX_PROCESSES, Spec};
 use std::marker::Model;
 
 /// What a simulator knows of its processes, where its sweep stands, how many turns and atomic steps
@@ -22,7 +22,7 @@ use std::marker::Model;
 #[derive(Drop)]
 pub struct Mind {
     pub(crate) number: u8,
-    pub(crate) goals: ArrayVec<Goal, 16>,
+    pub(crate) goals: ArrayVec<Goal, MAX_PROCESSES>,
     pub(crate) sweep: u8,
     pub(crate) turns: u16,
     pub(crate) steps: u32,
@@ -30,7 +30,7 @@ pub struct Mind {
     pub(crate) line: Line,
     pub(crate) word: u8,
     pub(crate) collects: u16,
-    pub(crate) before: [u64; 4],
+    pub(crate) before: [u64; MAX_MEMORY_WORDS],
     pub(crate) snapshot: Snapshot,
     pub(crate) entries: View,
 }
@@ -40,7 +40,20 @@ impl Model for Mind {
 
     ghost Value = { MindState };
 
-    ghost view = { λ m. record { number = m.number; goals = m.goals.items; sweep = m.sweep; turns = m.turns; steps = m.steps; turn_steps = m.turn_steps; line = m.line; word = m.word; collects = m.collects; before = m.before; snapshot = m.snapshot; entries = m.entries.items } };
+    ghost view = { λ m. record {
+      number = m.number;
+      goals = m.goals.items;
+      sweep = m.sweep;
+      turns = m.turns;
+      steps = m.steps;
+      turn_steps = m.turn_steps;
+      line = m.line;
+      word = m.word;
+      collects = m.collects;
+      before = m.before;
+      snapshot = m.snapshot;
+      entries = m.entries.items;
+    } };
 }
 
 impl Mind {
@@ -62,7 +75,7 @@ impl Mind {
             line: Line::Rest,
             word: 0,
             collects: 0,
-            before: [0; 4],
+            before: [0; MAX_MEMORY_WORDS],
             snapshot: Snapshot::nothing(),
             entries: View::new(),
         }

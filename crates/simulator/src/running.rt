@@ -25,7 +25,7 @@ struct Taken {
 }
 
 impl Mind {
-    /// Takes up to so many atomic steps, each done by the memory, until a turn ends. Answers how many it
+    /// Takes up to `most` atomic steps, each done by the memory, until a turn ends. Answers how many it
     /// took, and what has become of the turn.
     #[inline(always)]
     #[tactic(auto, using(crate::proofs::Onward::runs_nothing))]
@@ -44,7 +44,7 @@ impl Mind {
         ensures runs { Runs M.does spec.now memory.old self.old result.0 memory.new self.new result.1 }
         ensures most { result.0 ≤ most }
         ensures some { 0 < most → 0 < result.0 }
-        // It stops before so many steps only at the end of a turn.
+        // It stops before `most` steps only at the end of a turn.
         ensures ended { (result.0 ≡ most) ⊎ (result.1 ≢ Still) }
         ensures is_mind { IsMind spec.now self.new }
         ensures serves { M.serves memory.new context.now spec.now self.new }

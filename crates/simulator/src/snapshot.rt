@@ -5,7 +5,7 @@ ghost use Rattle.room_spec.specs.Sizes.{sizes_in};
 ghost use Rattle.simulator.specs.Minds.{no_words};
 ghost use Rattle.simulator.specs.Moves.{entry_in, holder_in};
 
-use room_spec::Spec;
+use room_spec::{MAX_MEMORY_WORDS, MAX_PROCESSES, Spec};
 use sim_memory::{LastWrites, last_write, last_writes, shows_none};
 use std::marker::Model;
 
@@ -14,7 +14,7 @@ use std::marker::Model;
 /// room by which they were. Whoever asks by another room is answered from the words themselves.
 #[derive(Drop)]
 pub(crate) struct Snapshot {
-    words: [u64; 4],
+    words: [u64; MAX_MEMORY_WORDS],
     n: u8,
     m: u8,
     rounds: u8,
@@ -39,25 +39,25 @@ impl Snapshot {
         ensures { result ≡ no_words }
     {
         Snapshot {
-            words: [0; 4],
+            words: [0; MAX_MEMORY_WORDS],
             n: 0,
             m: 0,
             rounds: 0,
             last: LastWrites {
-                holders: [0; 16],
-                rounds: [0; 16],
+                holders: [0; MAX_PROCESSES],
+                rounds: [0; MAX_PROCESSES],
             },
         }
     }
 
     pub(crate) fn word(&self, at: usize) -> u64
-        requires { at < 4 }
+        requires { at < MAX_MEMORY_WORDS }
         ensures { result ≡ slice_index self.now at }
     {
         self.words[at]
     }
 
-    pub(crate) fn words(&self) -> [u64; 4]
+    pub(crate) fn words(&self) -> [u64; MAX_MEMORY_WORDS]
         ensures { result ≡ self.now }
     {
         self.words
@@ -65,7 +65,7 @@ impl Snapshot {
 
     /// Puts in a word that was loaded. What was noted of the words is dropped.
     pub(crate) fn put(&mut self, at: usize, word: u64)
-        requires { at < 4 }
+        requires { at < MAX_MEMORY_WORDS }
         ensures { self.new ≡ slice_set self.old at word }
     {
         self.n = 0;
@@ -136,7 +136,7 @@ impl Snapshot {
 
 /// Whether these are the numbers of this room.
 fn are_of(n: u8, m: u8, rounds: u8, spec: &Spec) -> bool
-    ensures { result ≡ true → (n ≡ processes spec.now) × (m ≡ spec.now.simulators) × (rounds ≡ spec.now.rounds) × (processes spec.now ≤ 16) }
+    ensures { result ≡ true → (n ≡ processes spec.now) × (m ≡ spec.now.simulators) × (rounds ≡ spec.now.rounds) × (processes spec.now ≤ MAX_PROCESSES) }
 {
     usize::from(n) == spec.n() && usize::from(m) == spec.m() && usize::from(rounds) == spec.rounds()
 }

@@ -1,7 +1,9 @@
 //! The lines of a turn: what the answer of each makes of the mind.
 ghost use Rattle.std.specs.Prelude.{◌≡◌, ◌+◌, ◌-◌, ◌<◌, ◌≤◌, [], ◌∷◌, ◌++◌, Some, length, min, nat_lt};
 ghost use Rattle.protocol_lang.specs.Numbers.{greatest};
+ghost use Rattle.protocol_lang.specs.declared.meaning.TheConstants.{MAX_PROCESSES};
 ghost use Rattle.room_spec.specs.Rooms.{processes};
+ghost use Rattle.room_spec.specs.declared.spec.TheConstants.{MAX_MEMORY_WORDS};
 ghost use Rattle.simulator.specs.Minds.{goal_at, next_process};
 ghost use Rattle.simulator.specs.Moves.{chosen_in, entry_in, is_again, loaded};
 ghost use Rattle.simulator.specs.Turns.{acted, after_write, asked, collected, counted, ended, gathered, gathered_all, goes_on, got_value, got_view, most_collects, opened, padded, scanned, showed, snapped, words_in};
@@ -17,8 +19,8 @@ use room_spec::Spec;
 
 impl Mind {
     pub(crate) fn count_step(&mut self)
-        requires steps { self.old.steps < 4294967295 }
-        requires turn_steps { self.old.turn_steps < 65535 }
+        requires steps { self.old.steps < u32.MAX }
+        requires turn_steps { self.old.turn_steps < u16.MAX }
         ensures { self.new ≡ counted self.old }
     {
         self.steps += 1;
@@ -28,7 +30,7 @@ impl Mind {
     /// Begins the next turn, with its first step.
     pub(crate) fn open(&mut self, spec: &Spec, answer: u64) -> Turn
         requires sweep { self.old.sweep < length self.old.goals }
-        requires turns { self.old.turns < 65535 }
+        requires turns { self.old.turns < u16.MAX }
         ensures mind { self.new ≡ (opened (next_process self.old.goals self.old.sweep) (chosen_in spec.now answer) self.old).mind }
         ensures turn { result ≡ (opened (next_process self.old.goals self.old.sweep) (chosen_in spec.now answer) self.old).turn }
     {
@@ -73,8 +75,8 @@ impl Mind {
 
     /// Takes in a word of a collect.
     pub(crate) fn snap(&mut self, spec: &Spec, word: u64) -> Turn
-        requires word { self.old.word < 4 }
-        requires collects { self.old.collects < 65535 }
+        requires word { self.old.word < MAX_MEMORY_WORDS }
+        requires collects { self.old.collects < u16.MAX }
         ensures mind { self.new ≡ (snapped spec.now (is_again (loaded word self.old)) (loaded word self.old)).mind }
         ensures turn { result ≡ (snapped spec.now (is_again (loaded word self.old)) (loaded word self.old)).turn }
     {
@@ -90,7 +92,7 @@ impl Mind {
 
     /// Ends the scan with the collect that is whole, or makes another.
     fn scan(&mut self, spec: &Spec) -> Turn
-        requires { self.old.collects < 65535 }
+        requires { self.old.collects < u16.MAX }
         ensures mind { self.new ≡ (scanned spec.now (is_again self.old) self.old).mind }
         ensures turn { result ≡ (scanned spec.now (is_again self.old) self.old).turn }
     {
@@ -127,7 +129,7 @@ impl Mind {
 
     /// Goes on behind the store of a word of its proposal.
     pub(crate) fn show(&mut self, spec: &Spec) -> Turn
-        requires { self.old.word < 4 }
+        requires { self.old.word < MAX_MEMORY_WORDS }
         ensures mind { self.new ≡ (showed spec.now self.old).mind }
         ensures turn { result ≡ (showed spec.now self.old).turn }
     {
@@ -141,7 +143,7 @@ impl Mind {
 
     /// Whether the memory has a word behind that of its line.
     fn has_next_word(&self, spec: &Spec) -> bool
-        requires { self.now.word < 4 }
+        requires { self.now.word < MAX_MEMORY_WORDS }
         ensures { result ≡ nat_lt (self.now.word + 1) (words_in spec.now) }
     {
         self.word() + 1 < spec.shape().memory_words()
@@ -149,7 +151,7 @@ impl Mind {
 
     #[inline(never)]
     fn next_word(&mut self)
-        requires { self.old.word < 4 }
+        requires { self.old.word < MAX_MEMORY_WORDS }
         ensures { self.new ≡ record self.old { word = self.old.word + 1 } }
     {
         self.word += 1;
@@ -171,7 +173,7 @@ impl Mind {
 
     /// Takes in a word of the chosen proposal.
     pub(crate) fn get_view(&mut self, spec: &Spec, chosen: u16, word: u64) -> Turn
-        requires word { self.old.word < 4 }
+        requires word { self.old.word < MAX_MEMORY_WORDS }
         requires sweep { self.old.sweep < length self.old.goals }
         requires goals { length self.old.goals ≡ processes spec.now }
         ensures mind { self.new ≡ (got_view (entry_in spec.now (loaded word self.old).snapshot) spec.now chosen (loaded word self.old)).mind }
@@ -193,7 +195,7 @@ impl Mind {
         requires sweep { self.old.sweep < length self.old.goals }
         requires goals { length self.old.goals ≡ processes spec.now }
         requires entries { length self.old.entries < processes spec.now }
-        requires few { processes spec.now ≤ 16 }
+        requires few { processes spec.now ≤ MAX_PROCESSES }
         ensures mind { self.new ≡ (got_value (entry_in spec.now self.old.snapshot) spec.now value self.old).mind }
         ensures turn { result ≡ (got_value (entry_in spec.now self.old.snapshot) spec.now value self.old).turn }
     {
@@ -239,7 +241,7 @@ impl Mind {
         requires sweep { self.old.sweep < length self.old.goals }
         requires goals { length self.old.goals ≡ processes spec.now }
         requires whole { processes spec.now ≤ length self.old.entries }
-        requires few { processes spec.now ≤ 16 }
+        requires few { processes spec.now ≤ MAX_PROCESSES }
         ensures mind { self.new ≡ (gathered_all spec.now self.old).mind }
         ensures turn { result ≡ (gathered_all spec.now self.old).turn }
     {

@@ -4,5 +4,4 @@ pub use Rattle.transcript.proofs.Agreeing.{In, contains_in, decides_few, decides
 pub use Rattle.transcript.proofs.Events.{row_spelled}
 pub use Rattle.transcript.proofs.Fields.{no_space_in}
 pub use Rattle.transcript.proofs.Histories.{latest-push, none_seen, quiet, same}
-pub use Rattle.transcript.proofs.Numbers.{digits_of-decimal, number_of-decimal, number_spelled}
 pub use Rattle.transcript.proofs.Runs.{IsRun-nil, IsRun-push, slice_get-append, slice_get-push, slice_get-take, take-push}

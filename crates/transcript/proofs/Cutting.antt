@@ -11,7 +11,7 @@ use Rattle.transcript.specs.Lines.{event_in, line_in, line_said, LineParts, IsCu
 use Rattle.std.proofs.lemmas.List.Splits.{slice_split_none}
 use Rattle.protocol_lang.specs.Numbers.{greatest, is_digit}
 use Rattle.transcript.proofs.Fields.{no_space_in}
-use Rattle.transcript.proofs.Numbers.{digits_of-decimal}
+use Rattle.protocol_lang.proofs.CallerLemmas.{digits_of-decimal}
 use Rattle.transcript.proofs.Events.{number_again, number_found}
 use Rattle.transcript.proofs.Rows.{has_pieces}
 

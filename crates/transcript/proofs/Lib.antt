@@ -2,7 +2,6 @@ pub mod CallerLemmas
 mod Events
 mod Cutting
 mod Fields
-mod Numbers
 mod Rows
 mod Histories
 mod Runs

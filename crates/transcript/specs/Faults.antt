@@ -7,6 +7,7 @@ use Rattle.room_spec.specs.Names.{is_name}
 use Rattle.room_spec.specs.Texts.{fields_of}
 use Rattle.transcript.specs.declared.fault.LineFault.{LineFault}
 use Rattle.transcript.specs.declared.fault.LineFault.TheVariants.{BadName, BadWord, BadNumber, BadLength, TooLong}
+use Rattle.transcript.specs.declared.event_line.TheConstants.{MAX_LINE, MAX_PROCESS}
 
 abbrev pub code_of : LineFault → ℕ
 code_of BadName = 30
@@ -48,10 +49,10 @@ field fields place = get_or fields place []
 -- what is wrong with a line of these fields, in the order in which it is judged
 abbrev pub wrongs : List ℕ → List (List ℕ) → List (Bool × LineFault)
 wrongs line fields =
-    (nat_lt 256 (length line), TooLong)
+    (nat_lt MAX_LINE (length line), TooLong)
     ∷ (not (is_name (field fields 0)), BadName)
     ∷ (nat_lt (length fields) 4, BadLength)
-    ∷ (not (is_number 15 (field fields 1)), BadNumber)
+    ∷ (not (is_number MAX_PROCESS (field fields 1)), BadNumber)
     ∷ (not (is_word (field fields 2)), BadWord)
     ∷ (nat_lt (most_fields (field fields 2)) (length fields), BadLength)
     ∷ (not (list_all (is_entry (field fields 2)) (drop 3 fields)), BadNumber)

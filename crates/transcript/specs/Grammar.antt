@@ -8,6 +8,8 @@ use Rattle.room_spec.specs.Names.{is_name}
 use Rattle.transcript.specs.declared.event.Event.{Event}
 use Rattle.transcript.specs.declared.event.Event.TheVariants.{Write, Snap, Decide}
 use Rattle.transcript.specs.Runs.{process_of}
+use Rattle.protocol_lang.specs.declared.meaning.TheConstants.{MAX_PROCESSES}
+use Rattle.transcript.specs.declared.event_line.TheConstants.{MAX_PROCESS}
 
 -- a value, or `.` for nothing
 abbrev pub entry_text : Option ℕ → List ℕ
@@ -27,7 +29,7 @@ event_line name event = join_with_byte 32 (name ∷ event_fields event)
 -- an entry for each of 1 to 16 processes
 pub record IsRow (entries : List (Option ℕ)) : Type 0 where
   pub some : 1 ≤ length entries
-  pub few : length entries ≤ 16
+  pub few : length entries ≤ MAX_PROCESSES
   pub values : AllByRecursion IsEntry entries
 
 abbrev pub HasValues : Event → Type 0
@@ -39,5 +41,5 @@ HasValues (Decide p v) = v ≤ greatest
 pub record IsEventLine (line name : List ℕ) (event : Event) : Type 0 where
   pub text : line ≡ event_line name event
   pub room : is_name name ≡ true
-  pub process : process_of event ≤ 15
+  pub process : process_of event ≤ MAX_PROCESS
   pub values : HasValues event

@@ -8,6 +8,8 @@ use Rattle.transcript.specs.declared.event.Event.{Event}
 use Rattle.transcript.specs.declared.event.Event.TheVariants.{Write, Snap, Decide}
 use Rattle.transcript.specs.declared.fault.LineFault.{LineFault}
 use Rattle.transcript.specs.declared.fault.LineFault.TheVariants.{BadName, BadWord, BadNumber, BadLength, TooLong}
+use Rattle.protocol_lang.specs.declared.meaning.TheConstants.{MAX_PROCESSES}
+use Rattle.transcript.specs.declared.event_line.TheConstants.{MAX_LINE, MAX_PROCESS}
 
 -- one step, and then the next where it had no fault
 infixl 10 ◌>>=◌
@@ -41,7 +43,7 @@ value_in (field ∷ []) = number_in greatest field
 value_in (first ∷ second ∷ fields) = Err BadLength
 
 abbrev pub row_in : List (List ℕ) → Result (List (Option ℕ)) LineFault
-row_in fields = if nat_lt 16 (length fields) then Err BadLength else entries_in fields
+row_in fields = if nat_lt MAX_PROCESSES (length fields) then Err BadLength else entries_in fields
 
 abbrev pub write_by : ℕ → ℕ → Result Event LineFault
 write_by p v = Ok (Write p v)
@@ -64,7 +66,7 @@ event_of word fields p =
 abbrev pub event_in : List (List ℕ) → Result Event LineFault
 event_in [] = Err BadLength
 event_in (process ∷ []) = Err BadLength
-event_in (process ∷ word ∷ fields) = if nat_lt 0 (length fields) then number_in 15 process >>= event_of word fields else Err BadLength
+event_in (process ∷ word ∷ fields) = if nat_lt 0 (length fields) then number_in MAX_PROCESS process >>= event_of word fields else Err BadLength
 
 abbrev pub of_room : List ℕ → Event → Result (List ℕ × Event) LineFault
 of_room name event = Ok (name, event)
@@ -75,7 +77,7 @@ named_event (name ∷ fields) = if is_name name then event_in fields >>= of_room
 
 -- the room's name and the event that a line says, or its first fault
 abbrev pub line_in : List ℕ → Result (List ℕ × Event) LineFault
-line_in line = if nat_lt 256 (length line) then Err TooLong else named_event (fields_of line)
+line_in line = if nat_lt MAX_LINE (length line) then Err TooLong else named_event (fields_of line)
 
 -- ---- the same in two steps: a line is cut into its parts, and these are read
 
@@ -88,9 +90,9 @@ pub record LineParts : Type 0 where
 
 -- the line's fields are those of its parts
 pub record IsCutInto (line : List ℕ) (parts : LineParts) : Type 0 where
-  pub short : length line ≤ 256
+  pub short : length line ≤ MAX_LINE
   pub fields : fields_of line ≡ parts.name ∷ decimal parts.process ∷ parts.word ∷ fields_of parts.values
-  pub process : parts.process ≤ 15
+  pub process : parts.process ≤ MAX_PROCESS
 
 -- the event that they say, whatever the name is
 abbrev pub event_said : LineParts → Result Event LineFault

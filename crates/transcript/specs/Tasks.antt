@@ -20,7 +20,7 @@ abbrev pub different : List ℕ → List ℕ
 different [] = []
 different (x ∷ xs) = x ∷ filter (λ y. not (y == x)) (different xs)
 
--- ---- the task: at most so many different values are decided, and each is some process's input
+-- ---- the task: at most that number of different values are decided, and each is some process's input
 
 -- the value may be decided after these events
 pub record MayBeDecided (spec : RoomSpec) (most : ℕ) (before : List Event) (v : ℕ) : Type 0 where

@@ -19,7 +19,7 @@ use std::marker::Model;
 pub(crate) const MAX_LINE: usize = 256;
 
 /// The greatest number of a process.
-const MAX_PROCESS: u32 = 15;
+pub(crate) const MAX_PROCESS: u32 = 15;
 
 /// An event line, cut into its parts. Its name may be none, its word and its values aren't read yet.
 #[derive(Drop)]
@@ -112,7 +112,8 @@ impl<'a> EventLine<'a> {
 
 /// The process, the word and what stands behind it, of the fields behind the name.
 fn split_fields(fields: Option<&[u8]>) -> Result<(u8, &[u8], &[u8]), LineFault>
-    ensures parts { IfOk result (λ parts. (pieces_of is_space (option_copied fields.entry) ≡ decimal parts.0 ∷ parts.1.now ∷ fields_of parts.2.now) × (parts.0 ≤ 15)) }
+    ensures parts { IfOk result (λ parts. pieces_of is_space (option_copied fields.entry) ≡ decimal parts.0 ∷ parts.1.now ∷ fields_of parts.2.now) }
+    ensures range { IfOk result (λ parts. parts.0 ≤ MAX_PROCESS) }
     ensures fault { IfErr result (λ fault. event_in (pieces_of is_space (option_copied fields.entry)) ≡ Err fault) }
 {
     let Some(fields) = fields else {
@@ -262,7 +263,7 @@ fn read_row(fields: &[u8]) -> Result<View, LineFault>
 
 /// Reads the entries of a snapshot.
 fn read_entries(fields: &[u8]) -> Result<View, LineFault>
-    requires { length (fields_of fields.now) ≤ 16 }
+    requires { length (fields_of fields.now) ≤ MAX_PROCESSES }
     ensures { Gives (λ row. row.items) result (entries_in (fields_of fields.now)) }
 {
     let mut row = View::new();

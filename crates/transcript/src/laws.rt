@@ -9,13 +9,17 @@ ghost use Rattle.transcript.specs.declared.event.Event.{Event};
 /// A run with one more event that may follow it is a run, and no event at all is one.
 pub fn runs_grow()
     ensures begin { (spec : RoomSpec) → IsRun spec [] }
-    ensures grow { (spec : RoomSpec) (events : List Event) (event : Event) → IsRun spec events → IsEnabled spec events event → IsRun spec (events ++ event ∷ []) }
+    ensures grow { (spec : RoomSpec) (events : List Event) (event : Event) →
+        IsRun spec events → IsEnabled spec events event →
+        IsRun spec (events ++ event ∷ []) }
 {}
 
 /// Chaudhuri's bound (1993): where each process waits until it sees all but f processes, and then decides the least value that it
 /// sees, no run decides more than f + 1 different values, and each is an input. So a run keeps each task that allows as many.
 pub fn few_are_decided()
-    ensures inputs { (spec : RoomSpec) (f : ℕ) (events : List Event) → IsCertified spec f → IsRun spec events → (v : ℕ) → Contains (decided_in events) v → Contains spec.inputs v }
+    ensures inputs { (spec : RoomSpec) (f : ℕ) (events : List Event) →
+        IsCertified spec f → IsRun spec events → (v : ℕ) → Contains (decided_in events) v →
+        Contains spec.inputs v }
     ensures few { (spec : RoomSpec) (f : ℕ) (events : List Event) → IsCertified spec f → IsRun spec events → length (different (decided_in events)) ≤ f + 1 }
     ensures task { (spec : RoomSpec) (f most : ℕ) (events : List Event) → IsCertified spec f → IsRun spec events → f + 1 ≤ most → KeepsTask spec most events }
 {}

@@ -6,6 +6,7 @@ ghost use Rattle.transcript.specs.Faults.{fault_in, first_fault};
 ghost use Rattle.transcript.specs.Grammar.{entry_text, event_line, HasValues, IsEventLine};
 ghost use Rattle.transcript.specs.Lines.{line_in};
 ghost use Rattle.transcript.specs.Runs.{process_of};
+ghost use Rattle.transcript.specs.declared.event_line.TheConstants.{MAX_PROCESS};
 
 use crate::event::Event;
 use crate::event_line::{EventLine, MAX_LINE};
@@ -20,7 +21,7 @@ pub fn read_line(line: &[u8]) -> Result<(Name, Event), LineFault>
     ensures sound { IfOk result (λ read. IsEventLine line.now read.0 read.1) }
     // What a line says is read.
     ensures complete { (name : List ℕ) (event : Event) → IsEventLine line.now name event → result ≡ Ok (name, event) }
-    ensures short { IfOk result (λ read. length line.now ≤ 256) }
+    ensures short { IfOk result (λ read. length line.now ≤ MAX_LINE) }
     // It is the first of the line's faults, in the order of the format.
     ensures first { fault_in result ≡ first_fault line.now }
     ensures exact { result ≡ line_in line.now }
@@ -40,7 +41,7 @@ fn read_named_event(line: &[u8]) -> Result<(Name, Event), LineFault>
 pub fn write_event(alloc: Global, name: &Name, event: &Event) -> Result<Vec<u8>, AllocError>
     ensures line { IfOk result (λ line. line.items ≡ event_line name.now event.now) }
     // An event of a process 0 to 15, with a row of 1 to 16 entries in a snapshot, is read again from it.
-    ensures again { process_of event.now ≤ 15 → HasValues event.now → IfOk result (λ line. line_in line.items ≡ Ok (name.now, event.now)) }
+    ensures again { process_of event.now ≤ MAX_PROCESS → HasValues event.now → IfOk result (λ line. line_in line.items ≡ Ok (name.now, event.now)) }
 {
     let mut line = String::with_capacity(alloc, MAX_LINE)?;
     append_named_event(&mut line, name.as_str(), event)?;

@@ -14,7 +14,7 @@ IsProcess sizes j = j < sizes.n
 abbrev pub IsRound : Sizes → ℕ → Type 0
 IsRound sizes k = (1 ≤ k) × (k ≤ sizes.rounds)
 
--- the step numbers of all simulators stand in so many words
+-- the step numbers of all simulators stand in these words, numbered from 0
 abbrev pub IsMemoryWord : Sizes → ℕ → Type 0
 IsMemoryWord sizes w = w < memory_words sizes
 

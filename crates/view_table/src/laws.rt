@@ -23,14 +23,21 @@ pub fn words_have_places()
 
 /// A store at a place changes the word of that place alone.
 pub fn a_store_changes_one_place()
-    ensures here { (sizes : Sizes) (words : List ℕ) (place : Place) (word : ℕ) → length words ≡ words_of sizes → IsPlace sizes place → word_at sizes (with_word sizes words place word) place ≡ word }
-    ensures elsewhere { (sizes : Sizes) (words : List ℕ) (place other : Place) (word : ℕ) → IsPlace sizes place → IsPlace sizes other → other ≢ place → word_at sizes (with_word sizes words place word) other ≡ word_at sizes words other }
+    ensures here { (sizes : Sizes) (words : List ℕ) (place : Place) (word : ℕ) →
+        length words ≡ words_of sizes → IsPlace sizes place →
+        word_at sizes (with_word sizes words place word) place ≡ word }
+    ensures elsewhere { (sizes : Sizes) (words : List ℕ) (place other : Place) (word : ℕ) →
+        IsPlace sizes place → IsPlace sizes other → other ≢ place →
+        word_at sizes (with_word sizes words place word) other ≡ word_at sizes words other }
     ensures count { (sizes : Sizes) (words : List ℕ) (place : Place) (word : ℕ) → length (with_word sizes words place word) ≡ length words }
 {}
 
 /// Words that agree at each place are the same.
 pub fn places_make_the_words()
-    ensures { (sizes : Sizes) (words others : List ℕ) → length words ≡ words_of sizes → length others ≡ words_of sizes → ((place : Place) → IsPlace sizes place → word_at sizes words place ≡ word_at sizes others place) → words ≡ others }
+    ensures { (sizes : Sizes) (words others : List ℕ) →
+        length words ≡ words_of sizes → length others ≡ words_of sizes →
+        ((place : Place) → IsPlace sizes place → word_at sizes words place ≡ word_at sizes others place) →
+        words ≡ others }
 {}
 
 /// The words of a memory that is all 0.

@@ -4,4 +4,4 @@
 pub mod laws;
 mod place;
 
-pub use place::{Place, index, words};
+pub use place::{MAX_WORDS, Place, index, words};

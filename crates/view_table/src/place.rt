@@ -6,6 +6,9 @@ ghost use Rattle.view_table.specs.Places.{IsSimulator, IsProcess, IsRound, IsMem
 
 use room_spec::Shape;
 
+/// The most words of a room.
+pub const MAX_WORDS: usize = 5108;
+
 /// A word of a room's shared memory. Simulators, processes and memory words are counted from 0, rounds from 1.
 #[derive(Clone, Copy, Debug, PartialEq, Eq)]
 pub enum Place {
@@ -67,11 +70,11 @@ pub fn index(shape: &Shape, place: Place) -> usize
     }
 }
 
-/// How many words a room has, at most 5108.
+/// How many words a room has, at most [`MAX_WORDS`].
 #[tactic(auto, unfolding(crate::specs::Places::words_of), using(crate::proofs::Counts::few_words))]
 pub fn words(shape: &Shape) -> usize
     ensures value { result ≡ words_of (sizes_of shape.now) }
-    ensures few { result ≤ 5108 }
+    ensures few { result ≤ MAX_WORDS }
 {
     outs_from(shape) + pairs(shape)
 }

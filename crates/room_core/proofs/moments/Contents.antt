@@ -10,6 +10,7 @@ use Rattle.protocol_lang.specs.Numbers.{greatest}
 use Rattle.protocol_lang.specs.declared.meaning.Action.{Action}
 use Rattle.protocol_lang.specs.declared.meaning.Action.TheVariants as actions
 use Rattle.room_spec.specs.Rooms.{RoomSpec, processes}
+use Rattle.safe_agreement.proofs.CallerLemmas.{none_within}
 use Rattle.sim_memory.specs.Steps.{row_of}
 use Rattle.sim_memory.proofs.CallerLemmas.{row_at, holder_of_is, holder_merged}
 use Rattle.simulator.proofs.CallerLemmas.{added, added_more, added_none}
@@ -19,14 +20,10 @@ use Rattle.room_core.specs.Contents.{or_zero, entry_of, shown_by_map, IsDue, fir
 
 -- ---- the first of a list that passes a test
 
-no_place : (b : Bool) (n : ℕ) → cond b (Some n) None ≡ None → b ≡ false
-no_place true n is = absurd cc
-no_place false n is = refl
-
 found_at : (test : ℕ → Bool) (list : List ℕ) (place : Option ℕ) → position test list ≡ place → (i : ℕ) → i < length list → test (get_or list i 0) ≡ true → (k : ℕ) × (place ≡ Some k)
 found_at test list (Some k) is i below passes = (k, refl)
 found_at test list None is i below passes =
-    let long : length list ≤ position_or_len test list = ltb-false _ _ (no_place _ _ is) in
+    let long : length list ≤ position_or_len test list = none_within test list is in
     let fails : test (get_or list i 0) ≡ false = not-true _ (prefix_len_passes (λ one. not (test one)) list i 0 (omega arith)) in
     absurd (true_false (sym passes ∙ fails))
   where

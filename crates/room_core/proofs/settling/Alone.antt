@@ -1,6 +1,6 @@
 -- A simulator that runs alone: each step that it takes counts, and there are so many at the most.
 use Rattle.std.proofs.Common.{◌≡◌, ◌≢◌, ℕ, zero, suc, ◌+◌, ◌*◌, ◌-◌, ◌<◌, ◌≤◌, Bool, true, false, not, cond, length, refl, sym, ap, ◌∙◌, subst, arith}
-use Rattle.std.proofs.lemmas.Bool.{not-true}
+use Rattle.std.proofs.lemmas.Bool.{cond_both, not-true}
 use Rattle.std.proofs.lemmas.List.{get_or-set_same}
 use Rattle.room_spec.specs.Rooms.{RoomSpec, IsWithinLimits, processes}
 use Rattle.simulator.specs.declared.line.Line.{Line}
@@ -159,15 +159,11 @@ not_true : (b : Bool) → (b ≡ true → ⊥) → b ≡ false
 not_true true is = absurd (is refl)
 not_true false is = refl
 
-either_by : (P : RoomState → Type 0) (b : Bool) (on stop : RoomState) → (b ≡ true → P on) → (b ≡ false → P stop) → P (cond b on stop)
-either_by P true on stop goes ends = goes refl
-either_by P false on stop goes ends = ends refl
-
 module _ (test : RoomState → ℕ → Bool) (i : ℕ) (means : Means test i) where
   pub finished : (most : ℕ) (room : RoomState) → IsUp room i → calls.step_bound room.spec ≤ most + steps_of room i → test (Ran test i means most room) i ≡ false
   finished zero room up within = not_true (test room i) (λ is. let next = step_up room i up (means room is) in omega (arith, next.more, next.within, within))
   finished (suc most) room up within =
-      either_by (λ r. test r i ≡ false) (test room i) (Ran test i means most (room_after_step room i)) room
+      cond_both (test room i) (Ran test i means most (room_after_step room i)) room (λ r. test r i ≡ false)
       (λ is.
       let next = step_up room i up (means room is) in
       subst (λ (r : RoomState). test (Ran test i means most r) i ≡ false) (sym next.is) (finished most (moved room i) next.up (omega (arith, next.more, within))))
@@ -179,7 +175,7 @@ module _ (test : RoomState → ℕ → Bool) (i : ℕ) (means : Means test i) wh
   pub total_ran : (most : ℕ) (room : RoomState) → IsUp room i → total_in room.spec (Ran test i means most room) ≤ total_in room.spec room
   total_ran zero room up = omega arith
   total_ran (suc most) room up =
-      either_by (λ r. total_in room.spec r ≤ total_in room.spec room) (test room i) (Ran test i means most (room_after_step room i)) room
+      cond_both (test room i) (Ran test i means most (room_after_step room i)) room (λ r. total_in room.spec r ≤ total_in room.spec room)
       (λ is.
       let next = step_up room i up (means room is) in
       let falls = total_falls room.spec (sweep_at room i).mind (sweep_at room i).quiet (answer_of (operation_at room i) room.words) (mind_ok room i up.shape up.below) (means room is) in

@@ -17,6 +17,7 @@ use Rattle.simulator.specs.Minds.{goal_at, current_goal, unfinished_in}
 use Rattle.simulator.specs.Quiet.{HasNoWrite}
 use Rattle.simulator.specs.Ranges.{IsGoal, IsMind}
 use Rattle.simulator.specs.Sweeps.{is_resting}
+use Rattle.simulator.proofs.CallerLemmas.{rest_line}
 use Rattle.room_core.specs.Calls.{RoomState, configuration_of}
 use Rattle.room_core.specs.Fields.{StepMap, Fields, levels_at, chosen_at, ready_in}
 use Rattle.room_core.specs.Reading.{AreFieldsOf, worded}
@@ -39,19 +40,6 @@ use Rattle.room_core.proofs.settling.Quieted.{IsStuck, stored, passed, inside}
 -- between two turns, unless it has crashed
 abbrev pub Rests : Fields → ℕ → Type 0
 Rests fields a = fields.crashed a ≡ false → is_resting (fields.mind a).line ≡ true
-
-rest_line : (line : Line) → is_resting line ≡ true → line ≡ Rest
-rest_line Rest is = refl
-rest_line Raise is = absurd cc
-rest_line Snap is = absurd cc
-rest_line Show is = absurd cc
-rest_line Enter is = absurd cc
-rest_line Look is = absurd cc
-rest_line (Leave saw_two) is = absurd cc
-rest_line Ask is = absurd cc
-rest_line (GetView chosen) is = absurd cc
-rest_line Values is = absurd cc
-rest_line (Out decision) is = absurd cc
 
 -- somebody is at level 1, or nobody is
 pub one_or_none : (m : ℕ) (level : ℕ → ℕ) → ((a : ℕ) × (a < m) × (level a ≡ 1)) ⊎ ((a : ℕ) → a < m → level a ≢ 1)

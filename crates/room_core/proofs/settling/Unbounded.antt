@@ -1,5 +1,6 @@
 -- Settling is never cut off by its bound.
 use Rattle.std.proofs.Common.{◌≡◌, ℕ, zero, suc, ◌+◌, ◌<◌, ◌≤◌, Bool, true, false, cond, refl, sym, ap, ◌∙◌, subst, arith}
+use Rattle.std.proofs.lemmas.Bool.{cond_both}
 use Rattle.room_spec.specs.Rooms.{RoomSpec, IsWithinLimits}
 use Rattle.room_core.specs.Calls.{RoomState, configuration_of, has_crashed, step_bound, room_after_settle, room_after_step, room_kind, moved}
 use Rattle.room_core.specs.Fields.{Fields, changed, fields_after_step}
@@ -11,10 +12,6 @@ use Rattle.room_core.proofs.settling.Alone.{IsUp, Means, Ran, has_step, has_step
 use Rattle.room_core.proofs.fields.FieldCalls.{has_fields, same_spec_step, step_in_fields, woken_fields}
 
 -- ---- one simulator
-
-either_by : (P : RoomState → Type 0) (b : Bool) (on stop : RoomState) → (b ≡ true → P on) → (b ≡ false → P stop) → P (cond b on stop)
-either_by P true on stop goes ends = goes refl
-either_by P false on stop goes ends = ends refl
 
 module _ (test : RoomState → ℕ → Bool) (i : ℕ) (means : Means test i) where
   abbrev While : RoomState → RoomState → Type 0
@@ -28,7 +25,7 @@ module _ (test : RoomState → ℕ → Bool) (i : ℕ) (means : Means test i) wh
       not_on true is = absurd (let next = step_up room i up (means room is) in omega (arith, next.more, next.within, within))
       not_on false is = is
   runs_out (suc most) room up within =
-      either_by (While room) (test room i) (Ran test i means most (room_after_step room i)) room
+      cond_both (test room i) (Ran test i means most (room_after_step room i)) room (While room)
       (λ is.
       let next = step_up room i up (means room is) in
       Steps room (Ran test i means most (room_after_step room i)) is
@@ -52,7 +49,7 @@ step_reached room i is = record {
 while_reached : (test : RoomState → ℕ → Bool) (i most : ℕ) (room : RoomState) → IsReached room → IsReached (steps_while room_after_step test most room i)
 while_reached test i zero room is = is
 while_reached test i (suc most) room is =
-    either_by IsReached (test room i) (steps_while room_after_step test most (room_after_step room i) i) room
+    cond_both (test room i) (steps_while room_after_step test most (room_after_step room i) i) room IsReached
     (λ on. while_reached test i most (room_after_step room i) (step_reached room i is)) (λ on. is)
 
 woken_reached : (room : RoomState) (i : ℕ) → i < room.spec.simulators → IsReached room → IsReached (room_kind.wake room i)
@@ -82,7 +79,7 @@ turn_done room i below is =
         alive = λ alive. subst (StepsWhile room_after_step in_turn i room) (sym (ap (λ (b : Bool). cond b room ran) alive))
             (runs_out in_turn i (in_turn_means i) (step_bound room.spec) room (up_of room i is below alive) (omega arith));
       };
-      reached = either_by IsReached (has_crashed room i) room ran (λ gone. is) (λ alive. while_reached in_turn i (step_bound room.spec) room is);
+      reached = cond_both (has_crashed room i) room ran IsReached (λ gone. is) (λ alive. while_reached in_turn i (step_bound room.spec) room is);
       same = same_spec_ended room i;
     }
 
@@ -99,7 +96,7 @@ alone_done room i below is =
           ap (λ (b : Bool). cond b room (room_after_step ran i)) alive,
         );
       };
-      reached = either_by IsReached (has_crashed room i) room (room_after_step ran i) (λ gone. is)
+      reached = cond_both (has_crashed room i) room (room_after_step ran i) IsReached (λ gone. is)
           (λ alive. step_reached ran i (while_reached has_step i (step_bound awake.spec) awake (woken_reached room i below is)));
       same = same_spec_alone room i;
     }

@@ -18,4 +18,7 @@ returns-clause-parts c =
     let first = rw c.in-Some-deed.is at c.cut_near.ensures.pieces in
     let second = rw c.in-Some-values.is at c.cut_word.ensures in
     let number = number_found 15 c.cut_near.result.0.now c.in_ok-process.process (omega arith) (sym c.in_ok-process.ensures.value) in
-    (rw (c.in-Some.is, first, second) (ap (λ (field : List ℕ). field ∷ c.cut_word.result.0.now ∷ fields_of c.in-Some-values.values.now) number.0), number.1)
+    rw (c.in-Some.is, first, second) (ap (λ (field : List ℕ). field ∷ c.cut_word.result.0.now ∷ fields_of c.in-Some-values.values.now) number.0)
+
+pub returns-clause-range : goal.returns-clause-range
+returns-clause-range c = (number_found 15 c.cut_near.result.0.now c.in_ok-process.process (omega arith) (sym c.in_ok-process.ensures.value)).1
