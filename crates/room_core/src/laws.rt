@@ -30,12 +30,16 @@ pub fn opens()
 /// One interleaving stays one where a simulator takes its line, and its list ends with that step.
 /// That reads and changes the simulator's mind and the words alone.
 pub fn stays_under_line()
-    ensures { (room : Configuration) (i : ℕ) → (one : IsOneInterleaving room) → HasLine room i → (after : IsOneInterleaving (stepped room i)) × (after.schedule ≡ one.schedule ++ steps i ∷ []) }
+    ensures { (room : Configuration) (i : ℕ) → (one : IsOneInterleaving room) →
+        HasLine room i →
+        (after : IsOneInterleaving (stepped room i)) × (after.schedule ≡ one.schedule ++ steps i ∷ []) }
 {}
 
 /// And where a simulator is marked as crashed: its list ends with that crash.
 pub fn stays_under_crash()
-    ensures { (room : Configuration) (i : ℕ) → (one : IsOneInterleaving room) → IsAlive room i → (after : IsOneInterleaving (crashed_by room i)) × (after.schedule ≡ one.schedule ++ crashes i ∷ []) }
+    ensures { (room : Configuration) (i : ℕ) → (one : IsOneInterleaving room) →
+        IsAlive room i →
+        (after : IsOneInterleaving (crashed_by room i)) × (after.schedule ≡ one.schedule ++ crashes i ∷ []) }
 {}
 
 /// One interleaving has a word for each place, a mind for each simulator, and each mind's numbers
@@ -46,12 +50,16 @@ pub fn shapes()
 
 /// Each simulator stands in the list as often as its mind counts steps.
 pub fn counts_steps()
-    ensures { (room : Configuration) → IsWithinLimits room.spec → (one : IsOneInterleaving room) (i : ℕ) → i < room.spec.simulators → (mind_at room i).steps ≡ times i one.schedule }
+    ensures { (room : Configuration) →
+        IsWithinLimits room.spec → (one : IsOneInterleaving room) (i : ℕ) → i < room.spec.simulators →
+        (mind_at room i).steps ≡ times i one.schedule }
 {}
 
 /// The words and minds of one interleaving stand for the fields to which its list leads.
 pub fn reads_as_fields()
-    ensures { (room : Configuration) → IsWithinLimits room.spec → (one : IsOneInterleaving room) → Reads room (replay_fields room.spec (opening_fields room.spec) one.schedule) }
+    ensures { (room : Configuration) →
+        IsWithinLimits room.spec → (one : IsOneInterleaving room) →
+        Reads room (replay_fields room.spec (opening_fields room.spec) one.schedule) }
 {}
 
 /// The fields say by themselves what may happen: a simulator has a line to take in a room just where
@@ -59,7 +67,9 @@ pub fn reads_as_fields()
 pub fn lines_in_fields()
     ensures line { (room : Configuration) (fields : Fields) (i : ℕ) → IsShaped room → Reads room fields → HasLine room i ↔ HasLineIn room.spec fields i }
     // So the lists of steps and crashes that lead to rooms are those that the fields allow.
-    ensures schedule { (spec : RoomSpec) (schedule : List ScheduleEvent) → IsWithinLimits spec → IsLegal (opening spec) schedule ↔ IsLegalIn spec (opening_fields spec) schedule }
+    ensures schedule { (spec : RoomSpec) (schedule : List ScheduleEvent) →
+        IsWithinLimits spec →
+        IsLegal (opening spec) schedule ↔ IsLegalIn spec (opening_fields spec) schedule }
 {}
 
 /// The words of a room and its fields take the same steps: the opening room stands for the opening
@@ -67,8 +77,12 @@ pub fn lines_in_fields()
 /// is its line of the fields, and after a crash.
 pub fn steps_as_fields()
     ensures opens { (spec : RoomSpec) → StandsFor (opening spec) (opening_fields spec) }
-    ensures line { (room : Configuration) (fields : Fields) (i : ℕ) → IsShaped room → StandsFor room fields → HasLine room i → IsShaped (stepped room i) × StandsFor (stepped room i) (line room.spec fields i) }
-    ensures crash { (room : Configuration) (fields : Fields) (i : ℕ) → IsShaped room → StandsFor room fields → IsAlive room i → IsShaped (crashed_by room i) × StandsFor (crashed_by room i) (with_crash fields i) }
+    ensures line { (room : Configuration) (fields : Fields) (i : ℕ) →
+        IsShaped room → StandsFor room fields → HasLine room i →
+        IsShaped (stepped room i) × StandsFor (stepped room i) (line room.spec fields i) }
+    ensures crash { (room : Configuration) (fields : Fields) (i : ℕ) →
+        IsShaped room → StandsFor room fields → IsAlive room i →
+        IsShaped (crashed_by room i) × StandsFor (crashed_by room i) (with_crash fields i) }
     // So every room stands for its fields.
     ensures always { (room : RoomState) (fields : Fields) → IsWithinLimits room.spec → AreFieldsOf room fields → StandsFor (configuration_of room) fields }
 {}
@@ -85,7 +99,10 @@ pub fn quiet_counts_aside()
 /// A list of calls has the same replies in the room and in its fields, and leads to the fields of
 /// the room to which it leads.
 pub fn calls_as_fields()
-    ensures { (room : RoomState) (fields : Fields) (calls : List Call) → IsWithinLimits room.spec → AreFieldsOf room fields → (replies_in room.spec fields calls ≡ replies_to room calls) × AreFieldsOf (room_after_calls room calls) (fields_after_calls room.spec fields calls) }
+    ensures { (room : RoomState) (fields : Fields) (calls : List Call) →
+        IsWithinLimits room.spec → AreFieldsOf room fields →
+        (replies_in room.spec fields calls ≡ replies_to room calls) ×
+        AreFieldsOf (room_after_calls room calls) (fields_after_calls room.spec fields calls) }
 {}
 
 /// What the words, minds and marks of a room say is what any fields say that it stands for.
@@ -95,76 +112,131 @@ pub fn reads_in()
 
 /// A simulator is at level 1 only in the agreement on which its open turn works.
 pub fn inside_one_turn()
-    ensures { (room : RoomState) (fields : Fields) → IsWithinLimits room.spec → AreFieldsOf room fields → (i j k : ℕ) → fields.level i j k ≡ 1 → IsInsideTurn fields i j k }
+    ensures { (room : RoomState) (fields : Fields) →
+        IsWithinLimits room.spec → AreFieldsOf room fields → (i j k : ℕ) → fields.level i j k ≡ 1 →
+        IsInsideTurn fields i j k }
 {}
 
 /// Every agreement that has been passed is fixed: one that is clean, one of a round before another
 /// that some simulator has counted, and one after which a decision was stored.
 pub fn passed_is_fixed()
-    ensures fixed { (room : RoomState) (fields : Fields) → IsWithinLimits room.spec → AreFieldsOf room fields → (j k : ℕ) → j < processes room.spec → 1 ≤ k → is_passed room.spec fields j k ≡ true → IsFixedAt room.spec fields j k }
+    ensures fixed { (room : RoomState) (fields : Fields) →
+        IsWithinLimits room.spec → AreFieldsOf room fields → (j k : ℕ) → j < processes room.spec → 1 ≤ k →
+        is_passed room.spec fields j k ≡ true →
+        IsFixedAt room.spec fields j k }
     // A fixed one has a least simulator at level 2.
-    ensures least { (spec : RoomSpec) (fields : Fields) (j k : ℕ) → IsFixedAt spec fields j k → (h : ℕ) × (h < spec.simulators) × (least_two (levels_at spec fields j k) ≡ Some h) × (fields.level h j k ≡ 2) }
+    ensures least { (spec : RoomSpec) (fields : Fields) (j k : ℕ) →
+        IsFixedAt spec fields j k →
+        (h : ℕ) × (h < spec.simulators) × (least_two (levels_at spec fields j k) ≡ Some h) × (fields.level h j k ≡ 2) }
 {}
 
 /// A process goes on only after its agreements: all rounds before a write that is counted, and all
 /// before a round that is passed, have been passed.
 pub fn all_before_are_passed()
-    ensures { (room : RoomState) (fields : Fields) → IsWithinLimits room.spec → AreFieldsOf room fields → (j k r : ℕ) → j < processes room.spec → 1 ≤ k → k < r → is_passed room.spec fields j r ≡ true → is_passed room.spec fields j k ≡ true }
+    ensures { (room : RoomState) (fields : Fields) →
+        IsWithinLimits room.spec → AreFieldsOf room fields → (j k r : ℕ) → j < processes room.spec → 1 ≤ k → k < r →
+        is_passed room.spec fields j r ≡ true →
+        is_passed room.spec fields j k ≡ true }
 {}
 
 /// Over every call what has been agreed on, and what has been decided, stays.
 pub fn agreements_stay()
-    ensures { (room : RoomState) (fields : Fields) (call : Call) → IsWithinLimits room.spec → AreFieldsOf room fields → AgreementsStay room.spec fields (fields_after_call room.spec fields call) }
+    ensures { (room : RoomState) (fields : Fields) (call : Call) →
+        IsWithinLimits room.spec → AreFieldsOf room fields →
+        AgreementsStay room.spec fields (fields_after_call room.spec fields call) }
 {}
 
 /// Over any list of calls what has been agreed on, and what has been decided, stays: two readings of
 /// an agreement that was passed show the same view, at whatever moments they are made.
 pub fn agreements_last()
-    ensures stay { (room : RoomState) (fields : Fields) (calls : List Call) → IsWithinLimits room.spec → AreFieldsOf room fields → AgreementsStay room.spec fields (fields_after_calls room.spec fields calls) }
-    ensures passed { (room : RoomState) (fields : Fields) (calls : List Call) → IsWithinLimits room.spec → AreFieldsOf room fields → (j k : ℕ) → j < processes room.spec → 1 ≤ k → is_passed room.spec fields j k ≡ true → view_at room.spec (fields_after_calls room.spec fields calls) j k ≡ view_at room.spec fields j k }
+    ensures stay { (room : RoomState) (fields : Fields) (calls : List Call) →
+        IsWithinLimits room.spec → AreFieldsOf room fields →
+        AgreementsStay room.spec fields (fields_after_calls room.spec fields calls) }
+    ensures passed { (room : RoomState) (fields : Fields) (calls : List Call) →
+        IsWithinLimits room.spec → AreFieldsOf room fields → (j k : ℕ) → j < processes room.spec → 1 ≤ k →
+        is_passed room.spec fields j k ≡ true →
+        view_at room.spec (fields_after_calls room.spec fields calls) j k ≡ view_at room.spec fields j k }
 {}
 
 /// While nobody else steps, a simulator that hasn't crashed comes to the end of its open turn, and
 /// where it goes on to an end, idle or out of turns, within `(n * rounds + 1) * n` turns. So the
 /// number of steps at which settling gives up is never reached.
 pub fn runs_end()
-    ensures turn { (room : RoomState) (i : ℕ) → IsWithinLimits room.spec → IsOneInterleaving (configuration_of room) → i < room.spec.simulators → has_crashed room i ≡ false → room_kind.in_turn (steps_while room_after_step room_kind.in_turn (step_bound room.spec) room i) i ≡ false }
-    ensures alone { (room : RoomState) (i : ℕ) → IsWithinLimits room.spec → IsOneInterleaving (configuration_of room) → i < room.spec.simulators → has_crashed room i ≡ false → room_kind.has_step (steps_while room_after_step room_kind.has_step (step_bound room.spec) room i) i ≡ false }
-    ensures turns { (room : RoomState) (i most : ℕ) → IsWithinLimits room.spec → IsOneInterleaving (configuration_of room) → i < room.spec.simulators → has_crashed room i ≡ false → (sweep_at (steps_while room_after_step room_kind.has_step most room i) i).mind.turns ≤ (sweep_at room i).mind.turns + (processes room.spec * room.spec.rounds + 1) * processes room.spec }
+    ensures turn { (room : RoomState) (i : ℕ) →
+        IsWithinLimits room.spec → IsOneInterleaving (configuration_of room) → i < room.spec.simulators → has_crashed room i ≡ false →
+        room_kind.in_turn (steps_while room_after_step room_kind.in_turn (step_bound room.spec) room i) i ≡ false }
+    ensures alone { (room : RoomState) (i : ℕ) →
+        IsWithinLimits room.spec → IsOneInterleaving (configuration_of room) → i < room.spec.simulators → has_crashed room i ≡ false →
+        room_kind.has_step (steps_while room_after_step room_kind.has_step (step_bound room.spec) room i) i ≡ false }
+    ensures turns { (room : RoomState) (i most : ℕ) →
+        IsWithinLimits room.spec → IsOneInterleaving (configuration_of room) → i < room.spec.simulators → has_crashed room i ≡ false →
+        (sweep_at (steps_while room_after_step room_kind.has_step most room i) i).mind.turns ≤ (sweep_at room i).mind.turns +
+        (processes room.spec * room.spec.rounds + 1) * processes room.spec }
 {}
 
 /// An agreement that was left, and in which nobody is at level 1, is clean: only a simulator that
 /// stopped inside can hold it.
 pub fn left_is_clean()
-    ensures { (room : RoomState) (fields : Fields) → IsWithinLimits room.spec → AreFieldsOf room fields → (i j k : ℕ) → i < room.spec.simulators → 1 ≤ k → k < fields.step i j → ((a : ℕ) → a < room.spec.simulators → fields.level a j k ≢ 1) → IsClean (levels_at room.spec fields j k) }
+    ensures { (room : RoomState) (fields : Fields) →
+        IsWithinLimits room.spec → AreFieldsOf room fields → (i j k : ℕ) → i < room.spec.simulators → 1 ≤ k → k < fields.step i j →
+        ((a : ℕ) → a < room.spec.simulators → fields.level a j k ≢ 1) →
+        IsClean (levels_at room.spec fields j k) }
 {}
 
 /// The proposals that stand, of whatever agreements, are snapshots of one simulated memory.
 pub fn snapshots()
     // Each is the step numbers as they stood at some moment of the run.
-    ensures moments { (room : RoomState) (fields : Fields) → IsWithinLimits room.spec → (are : AreFieldsOf room fields) (i j k : ℕ) → i < room.spec.simulators → 1 ≤ k → fields.level i j k ≡ 2 → IsMoment room.spec are.run.schedule i j k (fields.view i j k) }
+    ensures moments { (room : RoomState) (fields : Fields) →
+        IsWithinLimits room.spec → (are : AreFieldsOf room fields) (i j k : ℕ) → i < room.spec.simulators → 1 ≤ k → fields.level i j k ≡ 2 →
+        IsMoment room.spec are.run.schedule i j k (fields.view i j k) }
     // Of any two rows that they show, one is at most the other.
-    ensures compare { (room : RoomState) (fields : Fields) → IsWithinLimits room.spec → AreFieldsOf room fields → (i j k h p r : ℕ) → i < room.spec.simulators → h < room.spec.simulators → 1 ≤ k → 1 ≤ r → fields.level i j k ≡ 2 → fields.level h p r ≡ 2 → IsRowAtMost (row_of room.spec.simulators (processes room.spec) (fields.view i j k)) (row_of room.spec.simulators (processes room.spec) (fields.view h p r)) ⊎ IsRowAtMost (row_of room.spec.simulators (processes room.spec) (fields.view h p r)) (row_of room.spec.simulators (processes room.spec) (fields.view i j k)) }
+    ensures compare { (room : RoomState) (fields : Fields) →
+        IsWithinLimits room.spec → AreFieldsOf room fields → (i j k h p r : ℕ) → i < room.spec.simulators → h < room.spec.simulators →
+        1 ≤ k → 1 ≤ r → fields.level i j k ≡ 2 → fields.level h p r ≡ 2 →
+        IsRowAtMost (row_of room.spec.simulators (processes room.spec) (fields.view i j k))
+        (row_of room.spec.simulators (processes room.spec) (fields.view h p r)) ⊎
+        IsRowAtMost (row_of room.spec.simulators (processes room.spec) (fields.view h p r))
+        (row_of room.spec.simulators (processes room.spec) (fields.view i j k)) }
     // Each shows of its own process exactly the writes up to the round of its agreement.
-    ensures own { (room : RoomState) (fields : Fields) → IsWithinLimits room.spec → AreFieldsOf room fields → (i j k : ℕ) → i < room.spec.simulators → 1 ≤ k → fields.level i j k ≡ 2 → entry_of_steps room.spec (fields.view i j k) j ≡ k }
+    ensures own { (room : RoomState) (fields : Fields) →
+        IsWithinLimits room.spec → AreFieldsOf room fields → (i j k : ℕ) → i < room.spec.simulators → 1 ≤ k → fields.level i j k ≡ 2 →
+        entry_of_steps room.spec (fields.view i j k) j ≡ k }
 {}
 
 /// Each write that was counted has the value
 /// that is due, the first by its input and each later one by what was agreed on before it, and so
 /// all simulators that have counted it have the same.
 pub fn writes_are_due()
-    ensures due { (room : RoomState) (fields : Fields) → IsWithinLimits room.spec → AreFieldsOf room fields → (i p r : ℕ) → i < room.spec.simulators → p < processes room.spec → 1 ≤ r → r ≤ fields.step i p → IsDue room.spec fields p r (fields.value i p r) }
-    ensures same { (room : RoomState) (fields : Fields) → IsWithinLimits room.spec → AreFieldsOf room fields → (i h p r : ℕ) → i < room.spec.simulators → h < room.spec.simulators → p < processes room.spec → 1 ≤ r → r ≤ fields.step i p → r ≤ fields.step h p → fields.value i p r ≡ fields.value h p r }
+    ensures due { (room : RoomState) (fields : Fields) →
+        IsWithinLimits room.spec → AreFieldsOf room fields → (i p r : ℕ) → i < room.spec.simulators → p < processes room.spec → 1 ≤ r →
+        r ≤ fields.step i p →
+        IsDue room.spec fields p r (fields.value i p r) }
+    ensures same { (room : RoomState) (fields : Fields) →
+        IsWithinLimits room.spec → AreFieldsOf room fields → (i h p r : ℕ) → i < room.spec.simulators → h < room.spec.simulators →
+        p < processes room.spec → 1 ≤ r → r ≤ fields.step i p → r ≤ fields.step h p →
+        fields.value i p r ≡ fields.value h p r }
 {}
 
 /// A decision that is stored is what the process does after the snapshot
 /// of the last round that is counted, and all that are stored of a process are the same. A process
 /// that is spent has one more write to make.
 pub fn decisions_agree()
-    ensures due { (room : RoomState) (fields : Fields) → IsWithinLimits room.spec → AreFieldsOf room fields → (i p decision : ℕ) → i < room.spec.simulators → p < processes room.spec → fields.out i p ≡ decision + 1 → IsFixedAt room.spec fields p (fields.step i p) × (asks room.spec fields p (fields.step i p) ≡ Decide decision) }
-    ensures last { (room : RoomState) (fields : Fields) → IsWithinLimits room.spec → AreFieldsOf room fields → (i h p decision : ℕ) → i < room.spec.simulators → h < room.spec.simulators → p < processes room.spec → fields.out i p ≡ decision + 1 → fields.step h p ≤ fields.step i p }
-    ensures same { (room : RoomState) (fields : Fields) → IsWithinLimits room.spec → AreFieldsOf room fields → (i h p one two : ℕ) → i < room.spec.simulators → h < room.spec.simulators → p < processes room.spec → fields.out i p ≡ one + 1 → fields.out h p ≡ two + 1 → one ≡ two }
-    ensures spent { (room : RoomState) (fields : Fields) → IsWithinLimits room.spec → AreFieldsOf room fields → (i p : ℕ) → i < room.spec.simulators → p < processes room.spec → goal_at (fields.mind i).goals p ≡ Spent → (value : ℕ) × IsDue room.spec fields p (fields.step i p + 1) value }
+    ensures due { (room : RoomState) (fields : Fields) →
+        IsWithinLimits room.spec → AreFieldsOf room fields → (i p decision : ℕ) → i < room.spec.simulators → p < processes room.spec →
+        fields.out i p ≡ decision + 1 →
+        IsFixedAt room.spec fields p (fields.step i p) × (asks room.spec fields p (fields.step i p) ≡ Decide decision) }
+    ensures last { (room : RoomState) (fields : Fields) →
+        IsWithinLimits room.spec → AreFieldsOf room fields → (i h p decision : ℕ) → i < room.spec.simulators → h < room.spec.simulators →
+        p < processes room.spec → fields.out i p ≡ decision + 1 →
+        fields.step h p ≤ fields.step i p }
+    ensures same { (room : RoomState) (fields : Fields) →
+        IsWithinLimits room.spec → AreFieldsOf room fields → (i h p one two : ℕ) → i < room.spec.simulators → h < room.spec.simulators →
+        p < processes room.spec → fields.out i p ≡ one + 1 → fields.out h p ≡ two + 1 →
+        one ≡ two }
+    ensures spent { (room : RoomState) (fields : Fields) →
+        IsWithinLimits room.spec → AreFieldsOf room fields → (i p : ℕ) → i < room.spec.simulators → p < processes room.spec →
+        goal_at (fields.mind i).goals p ≡ Spent →
+        (value : ℕ) × IsDue room.spec fields p (fields.step i p + 1) value }
 {}
 
 /// What makes the history of a room's fields a run: its rows are snapshots of one memory, and each
@@ -176,33 +248,57 @@ pub fn rooms_agree()
 /// No value that is stored is above the greatest, and no decision.
 pub fn values_in_range()
     ensures value { (room : RoomState) (fields : Fields) → IsWithinLimits room.spec → AreFieldsOf room fields → (i p r : ℕ) → fields.value i p r ≤ greatest }
-    ensures out { (room : RoomState) (fields : Fields) → IsWithinLimits room.spec → AreFieldsOf room fields → (i p : ℕ) → i < room.spec.simulators → p < processes room.spec → fields.out i p ≤ greatest + 1 }
+    ensures out { (room : RoomState) (fields : Fields) →
+        IsWithinLimits room.spec → AreFieldsOf room fields → (i p : ℕ) → i < room.spec.simulators → p < processes room.spec →
+        fields.out i p ≤ greatest + 1 }
 {}
 
 /// After settling, where a simulator that hasn't crashed has a turn left, each process has decided,
 /// or has made all its writes and is asked for one more, or is held by a simulator that has crashed
 /// inside an agreement on one of its snapshots. And everyone else stands between two turns.
 pub fn settles()
-    ensures settled { (room : RoomState) (fields : Fields) → IsWithinLimits room.spec → AreFieldsOf room fields → HasTurnLeft room.spec (fields_after_settle room.spec fields) → (j : ℕ) → j < processes room.spec → IsSettledFor room.spec (fields_after_settle room.spec fields) j }
-    ensures rests { (room : RoomState) (fields : Fields) → IsWithinLimits room.spec → AreFieldsOf room fields → (i : ℕ) → i < room.spec.simulators → (fields_after_settle room.spec fields).crashed i ≡ false → is_resting ((fields_after_settle room.spec fields).mind i).line ≡ true }
+    ensures settled { (room : RoomState) (fields : Fields) →
+        IsWithinLimits room.spec → AreFieldsOf room fields → HasTurnLeft room.spec (fields_after_settle room.spec fields) → (j : ℕ) →
+        j < processes room.spec →
+        IsSettledFor room.spec (fields_after_settle room.spec fields) j }
+    ensures rests { (room : RoomState) (fields : Fields) →
+        IsWithinLimits room.spec → AreFieldsOf room fields → (i : ℕ) → i < room.spec.simulators →
+        (fields_after_settle room.spec fields).crashed i ≡ false →
+        is_resting ((fields_after_settle room.spec fields).mind i).line ≡ true }
 {}
 
 /// The content of each scan is the step numbers after a prefix of the list, which holds the simulator's own last write. Where the
 /// memory has more than one word, it is the prefix with which the collect before the last ended.
 pub fn scans()
-    ensures { (room : RoomState) (fields : Fields) → IsWithinLimits room.spec → (are : AreFieldsOf room fields) → (i : ℕ) → i < room.spec.simulators → (fields.mind i).line ≡ Show → IsScan room.spec are.run.schedule (length are.run.schedule) i (fields.mind i).sweep (current_round (fields.mind i)) (fields.mind i).snapshot (fields.mind i).collects }
+    ensures { (room : RoomState) (fields : Fields) →
+        IsWithinLimits room.spec → (are : AreFieldsOf room fields) → (i : ℕ) → i < room.spec.simulators → (fields.mind i).line ≡ Show →
+        IsScan room.spec are.run.schedule (length are.run.schedule) i (fields.mind i).sweep (current_round (fields.mind i))
+        (fields.mind i).snapshot (fields.mind i).collects }
 {}
 
 /// A simulator counts the first write of each process before the second of any, since its sweep goes round. So what was agreed on in
 /// a later round shows every process.
 pub fn later_rounds_show_all()
-    ensures proposals { (room : RoomState) (fields : Fields) → IsWithinLimits room.spec → AreFieldsOf room fields → (i j k p : ℕ) → i < room.spec.simulators → j < processes room.spec → p < processes room.spec → 2 ≤ k → fields.level i j k ≡ 2 → 1 ≤ fields.view i j k i p }
-    ensures agreed { (room : RoomState) (fields : Fields) → IsWithinLimits room.spec → AreFieldsOf room fields → (j k p : ℕ) → j < processes room.spec → p < processes room.spec → 2 ≤ k → IsFixedAt room.spec fields j k → 1 ≤ slice_index (row_at room.spec fields j k) p }
+    ensures proposals { (room : RoomState) (fields : Fields) →
+        IsWithinLimits room.spec → AreFieldsOf room fields → (i j k p : ℕ) → i < room.spec.simulators → j < processes room.spec →
+        p < processes room.spec → 2 ≤ k → fields.level i j k ≡ 2 →
+        1 ≤ fields.view i j k i p }
+    ensures agreed { (room : RoomState) (fields : Fields) →
+        IsWithinLimits room.spec → AreFieldsOf room fields → (j k p : ℕ) → j < processes room.spec → p < processes room.spec → 2 ≤ k →
+        IsFixedAt room.spec fields j k →
+        1 ≤ slice_index (row_at room.spec fields j k) p }
 {}
 
 /// In a room of a protocol by which each process waits for all but f, with two rounds or more, no process is spent: what was agreed on
 /// in its last round shows all, and so asks for a decision.
 pub fn certified_rooms_decide()
-    ensures unspent { (room : RoomState) (fields : Fields) → IsWithinLimits room.spec → AreFieldsOf room fields → (f : ℕ) → IsCertified room.spec f → (j value : ℕ) → 2 ≤ room.spec.rounds → j < processes room.spec → is_clean room.spec fields j room.spec.rounds ≡ true → asks room.spec fields j room.spec.rounds ≡ Write value → ⊥ }
-    ensures settled { (room : RoomState) (fields : Fields) → IsWithinLimits room.spec → AreFieldsOf room fields → (f : ℕ) → IsCertified room.spec f → (j : ℕ) → 2 ≤ room.spec.rounds → j < processes room.spec → IsSettledFor room.spec fields j → IsDecidedOrHeld room.spec fields j }
+    ensures unspent { (room : RoomState) (fields : Fields) →
+        IsWithinLimits room.spec → AreFieldsOf room fields → (f : ℕ) → IsCertified room.spec f → (j value : ℕ) → 2 ≤ room.spec.rounds →
+        j < processes room.spec → is_clean room.spec fields j room.spec.rounds ≡ true →
+        asks room.spec fields j room.spec.rounds ≡ Write value →
+        ⊥ }
+    ensures settled { (room : RoomState) (fields : Fields) →
+        IsWithinLimits room.spec → AreFieldsOf room fields → (f : ℕ) → IsCertified room.spec f → (j : ℕ) → 2 ≤ room.spec.rounds →
+        j < processes room.spec → IsSettledFor room.spec fields j →
+        IsDecidedOrHeld room.spec fields j }
 {}

@@ -10,6 +10,7 @@ pub mod laws;
 mod reply;
 mod room;
 mod room_words;
+mod settle;
 
 pub use reply::{CrashReply, StepReply};
-pub use room::RoomCore;
+pub use room::{RoomCore, nobody};

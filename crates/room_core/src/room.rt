@@ -2,7 +2,6 @@
 ghost use Rattle.std.specs.Prelude.{ℕ, ◌≡◌, ◌≢◌, ◌<◌, ◌≤◌, false, length, map, replicate, slice_index, IfErr, IfOk};
 ghost use Rattle.std.specs.List.{range_with_len};
 ghost use Rattle.std.specs.Allocator.{alloc_error};
-ghost use Rattle.room_spec.specs.Rooms.{IsCertified, IsWithinLimits, processes};
 ghost use Rattle.room_spec.specs.Sizes.{sizes_in};
 ghost use Rattle.view_table.specs.Places.{words_of};
 ghost use Rattle.simulator.specs.Minds.{current_round, goal_at};
@@ -16,19 +15,16 @@ ghost use Rattle.simulator.specs.declared.sweep.Ready.TheVariants as answers;
 ghost use Rattle.simulator.specs.declared.turn.Turn.{Turn};
 ghost use Rattle.room_core.specs.declared.reply.StepReply.TheVariants as replies;
 ghost use Rattle.room_core.specs.Rooms.{IsAlive, IsOneInterleaving, IsRoom, IsShaped, mind_at, times};
-ghost use Rattle.room_core.specs.Fields.{Fields, IsLegalIn, crash_reply_in, fields_after_crash, fields_after_settle, fields_after_step, fields_after_steps, opening_fields, step_reply_in};
+ghost use Rattle.room_core.specs.Fields.{Fields, IsLegalIn, crash_reply_in, fields_after_crash, fields_after_step, fields_after_steps, opening_fields, step_reply_in};
 ghost use Rattle.room_core.specs.Agreements.{AgreementsStay};
 ghost use Rattle.room_core.specs.Moments.{IsScan};
 ghost use Rattle.room_core.specs.Reading.{AreFieldsOf, Reads};
-ghost use Rattle.room_core.specs.Calls.{CountsQuietTurns, crash_reply, configuration_of, has_crashed, marked, opening_state, ready_at, room_after_crash, room_after_settle, room_after_step, room_after_steps, room_kind, step_reply, sweep_at, with_sweep, woken};
-ghost use Rattle.room_core.specs.Settled.{HasTurnLeft, IsDecidedOrHeld, IsSettledFor};
-ghost use Rattle.room_core.specs.Settles.{Settles};
-ghost use Rattle.room_core.specs.Settling.{each_in_order, ran_alone, turn_ended};
+ghost use Rattle.room_core.specs.Calls.{CountsQuietTurns, crash_reply, configuration_of, has_crashed, marked, opening_state, ready_at, room_after_crash, room_after_step, room_after_steps, step_reply, sweep_at, with_sweep, woken};
 
 use crate::reply::{CrashReply, StepReply};
 use crate::room_words::RoomWords;
 use arrayvec::ArrayVec;
-use room_spec::Spec;
+use room_spec::{MAX_SIMULATORS, Spec};
 use simulator::{Memory, Mind, Ready, Sweep};
 use std::alloc::{AllocError, Global};
 use std::boxed::BoxedSlice;
@@ -39,10 +35,10 @@ use view_table::words;
 /// in memory of their own, so that a room goes from hand to hand without them.
 #[derive(Drop)]
 pub struct RoomCore {
-    spec: Spec,
+    pub(crate) spec: Spec,
     words: RoomWords,
     sweeps: BoxedSlice<Sweep>,
-    crashed: ArrayVec<bool, 8>,
+    pub(crate) crashed: ArrayVec<bool, MAX_SIMULATORS>,
 }
 
 impl Model for RoomCore {
@@ -73,7 +69,7 @@ impl RoomCore {
         ensures fields { IfOk result (λ room. AreFieldsOf room (opening_fields spec)) }
         ensures refused { IfErr result (λ error. error ≡ alloc_error) }
     {
-        let words = zeros(alloc, words(&spec.shape()))?;
+        let words = vec![in alloc; 0; words(&spec.shape())]?;
         let sweeps = opening_sweeps(alloc, &spec)?;
         Ok(RoomCore::opening(spec, words, sweeps))
     }
@@ -85,7 +81,7 @@ impl RoomCore {
         ensures room { result ≡ opening_state spec }
         ensures fields { AreFieldsOf result (opening_fields spec) }
     {
-        let _shape = spec.shape(); // A spec is within its limits.
+        let _shape = spec.shape(); // for the proof: a spec is within its limits
         let crashed = nobody(spec.m());
         RoomCore {
             spec,
@@ -101,7 +97,7 @@ impl RoomCore {
         spec: Spec,
         words: Vec<u64>,
         sweeps: Vec<Sweep>,
-        crashed: ArrayVec<bool, 8>,
+        crashed: ArrayVec<bool, MAX_SIMULATORS>,
     ) -> RoomCore
         requires room { IsRoom (configuration_of (record { spec = spec; words = words.items; sweeps = sweeps.items; crashed = crashed.items })) }
         requires quiet { CountsQuietTurns (record { spec = spec; words = words.items; sweeps = sweeps.items; crashed = crashed.items }) }
@@ -121,7 +117,9 @@ impl RoomCore {
         // One interleaving of its simulators' atomic steps, and of crashes, leads to this room.
         ensures run { IsOneInterleaving (configuration_of self.now) }
         // In every such list each simulator stands as often as its mind counts steps.
-        ensures counts { (one : IsOneInterleaving (configuration_of self.now)) (i : ℕ) → i < self.now.spec.simulators → (mind_at (configuration_of self.now) i).steps ≡ times i one.schedule }
+        ensures counts { (one : IsOneInterleaving (configuration_of self.now)) (i : ℕ) →
+            i < self.now.spec.simulators →
+            (mind_at (configuration_of self.now) i).steps ≡ times i one.schedule }
         // The fields allow each of its events at its place.
         ensures legal { (one : IsOneInterleaving (configuration_of self.now)) → IsLegalIn self.now.spec (opening_fields self.now.spec) one.schedule }
         // Its words, minds and marks of crashes stand for the fields to which that list leads.
@@ -154,7 +152,10 @@ impl RoomCore {
         ensures is_mind { IsMind self.now.spec (mind_at (configuration_of self.now) i) }
         // The content of its scan, which it stores next, is the step numbers after a prefix of the list that leads to the room; the
         // prefix holds its own last write.
-        ensures scan { (fields : Fields) (are : AreFieldsOf self.now fields) → (fields.mind i).line ≡ Show → IsScan self.now.spec are.run.schedule (length are.run.schedule) i (fields.mind i).sweep (current_round (fields.mind i)) (fields.mind i).snapshot (fields.mind i).collects }
+        ensures scan { (fields : Fields) (are : AreFieldsOf self.now fields) →
+            (fields.mind i).line ≡ Show →
+            IsScan self.now.spec are.run.schedule (length are.run.schedule) i (fields.mind i).sweep (current_round (fields.mind i))
+            (fields.mind i).snapshot (fields.mind i).collects }
     {
         self.sweeps[i].mind()
     }
@@ -175,7 +176,9 @@ impl RoomCore {
         // Whoever is idle has no write left to make: each process stands at an ask, or is done or spent.
         ensures waits { result ≡ replies.Idle → (process : ℕ) → HasNoWrite (goal_at (sweep_at self.new i).mind.goals process) }
         // In its fields it is one call of the replay, with its reply.
-        ensures fields { (fields : Fields) → AreFieldsOf self.old fields → (result ≡ step_reply_in self.old.spec fields i) × AreFieldsOf self.new (fields_after_step self.old.spec fields i) }
+        ensures fields { (fields : Fields) →
+            AreFieldsOf self.old fields →
+            (result ≡ step_reply_in self.old.spec fields i) × AreFieldsOf self.new (fields_after_step self.old.spec fields i) }
         // What was agreed on stays.
         ensures agreement { (fields : Fields) → AreFieldsOf self.old fields → AgreementsStay self.old.spec fields (fields_after_step self.old.spec fields i) }
     {
@@ -209,9 +212,13 @@ impl RoomCore {
         ensures stopped { result < most → step_reply self.new i ≢ replies.Stepped }
         // In its fields it is as many calls of the replay, each answered `Stepped`.
         ensures fields { (fields : Fields) → AreFieldsOf self.old fields → AreFieldsOf self.new (fields_after_steps self.old.spec fields i result) }
-        ensures replies { (fields : Fields) (count : ℕ) → AreFieldsOf self.old fields → count < result → step_reply_in self.old.spec (fields_after_steps self.old.spec fields i count) i ≡ replies.Stepped }
+        ensures replies { (fields : Fields) (count : ℕ) →
+            AreFieldsOf self.old fields → count < result →
+            step_reply_in self.old.spec (fields_after_steps self.old.spec fields i count) i ≡ replies.Stepped }
         // What was agreed on stays.
-        ensures agreement { (fields : Fields) → AreFieldsOf self.old fields → AgreementsStay self.old.spec fields (fields_after_steps self.old.spec fields i result) }
+        ensures agreement { (fields : Fields) →
+            AreFieldsOf self.old fields →
+            AgreementsStay self.old.spec fields (fields_after_steps self.old.spec fields i result) }
     {
         if i >= self.spec.m() || self.is_crashed(i) {
             return 0;
@@ -224,7 +231,9 @@ impl RoomCore {
         ensures reply { result ≡ crash_reply self.old i }
         ensures room { self.new ≡ room_after_crash self.old i }
         // In its fields it is one call of the replay, with its reply.
-        ensures fields { (fields : Fields) → AreFieldsOf self.old fields → (result ≡ crash_reply_in self.old.spec fields i) × AreFieldsOf self.new (fields_after_crash self.old.spec fields i) }
+        ensures fields { (fields : Fields) →
+            AreFieldsOf self.old fields →
+            (result ≡ crash_reply_in self.old.spec fields i) × AreFieldsOf self.new (fields_after_crash self.old.spec fields i) }
         // What was agreed on stays.
         ensures agreement { (fields : Fields) → AreFieldsOf self.old fields → AgreementsStay self.old.spec fields (fields_after_crash self.old.spec fields i) }
     {
@@ -236,68 +245,6 @@ impl RoomCore {
         }
         self.mark(i);
         CrashReply::Crashed
-    }
-
-    /// Ends the open turn of each simulator that hasn't crashed, in order of number; then lets each of
-    /// them, in order of number, run alone until it is idle or out of turns, with its quiet turns
-    /// counted anew. It takes no memory.
-    pub fn settle(&mut self)
-        ensures room { self.new ≡ room_after_settle self.old }
-        // The same with no bound: each turn goes to its end, and each runs until it has no step to take.
-        ensures unbounded { Settles room_kind self.old self.new }
-        // In its fields it is one call of the replay.
-        ensures fields { (fields : Fields) → AreFieldsOf self.old fields → AreFieldsOf self.new (fields_after_settle self.old.spec fields) }
-        // What was agreed on stays.
-        ensures agreement { (fields : Fields) → AreFieldsOf self.old fields → AgreementsStay self.old.spec fields (fields_after_settle self.old.spec fields) }
-        // Where a simulator that hasn't crashed has a turn left, each process has decided, is spent, or is held by one that has.
-        ensures settled { (fields : Fields) → AreFieldsOf self.old fields → HasTurnLeft self.old.spec (fields_after_settle self.old.spec fields) → (j : ℕ) → j < processes self.old.spec → IsSettledFor self.old.spec (fields_after_settle self.old.spec fields) j }
-        // By a protocol that waits for all but f, in two rounds or more, none is spent.
-        ensures certified { (fields : Fields) → AreFieldsOf self.old fields → (f : ℕ) → IsCertified self.old.spec f → 2 ≤ self.old.spec.rounds → HasTurnLeft self.old.spec (fields_after_settle self.old.spec fields) → (j : ℕ) → j < processes self.old.spec → IsDecidedOrHeld self.old.spec (fields_after_settle self.old.spec fields) j }
-    {
-        self.finish_turns();
-        self.run_each();
-    }
-
-    fn finish_turns(&mut self)
-        ensures ended { self.new ≡ each_in_order room_kind (turn_ended room_kind) self.old }
-        ensures is_room { IsRoom (configuration_of self.old) }
-    {
-        for i in 0..self.spec.m() {
-            self.finish_turn(i);
-        }
-    }
-
-    fn run_each(&mut self)
-        ensures { self.new ≡ each_in_order room_kind (ran_alone room_kind) self.old }
-    {
-        for i in 0..self.spec.m() {
-            self.run_alone(i);
-        }
-    }
-
-    /// Lets simulator `i` end its open turn, if it has one and hasn't crashed.
-    fn finish_turn(&mut self, i: usize)
-        requires { i < self.old.spec.simulators }
-        ensures { self.new ≡ turn_ended room_kind self.old i }
-    {
-        if self.crashed[i] {
-            return;
-        }
-        while !self.mind(i).resting() {
-            self.step(i);
-        }
-    }
-
-    /// Lets simulator `i` run until it is idle or out of turns, if it hasn't crashed.
-    fn run_alone(&mut self, i: usize)
-        requires { i < self.old.spec.simulators }
-        ensures { self.new ≡ ran_alone room_kind self.old i }
-    {
-        if self.crashed[i] {
-            return;
-        }
-        self.wake(i); // Others may have come further since it asked.
-        while self.step(i) == StepReply::Stepped {}
     }
 
     fn ready(&self, i: usize) -> Ready
@@ -326,7 +273,7 @@ impl RoomCore {
         taken
     }
 
-    /// Lets simulator `i`, which is ready and hasn't crashed, take up to so many steps, until its turn ends.
+    /// Lets simulator `i`, which is ready and hasn't crashed, take up to `most` steps, until its turn ends.
     fn run_turn(&mut self, i: usize, most: u64) -> u64
         requires shape { IsShaped (configuration_of self.old) }
         requires alive { IsAlive (configuration_of self.old) i }
@@ -349,7 +296,7 @@ impl RoomCore {
         self.crashed[i] = true;
     }
 
-    fn wake(&mut self, i: usize)
+    pub(crate) fn wake(&mut self, i: usize)
         requires { i < self.old.spec.simulators }
         ensures { self.new ≡ with_sweep self.old i (woken (sweep_at self.old i)) }
     {
@@ -357,26 +304,20 @@ impl RoomCore {
     }
 }
 
-/// Takes up to so many atomic steps on the words, until the turn ends, and notes what has become of it.
+/// Takes up to `most` atomic steps on the words, until the turn ends, and notes what has become of it.
 #[inline(always)]
 fn run_turn(sweep: &mut Sweep, spec: &Spec, words: &mut RoomWords, most: u64) -> u64
     requires is_mind { IsMind spec.now sweep.old.mind }
     requires operation { IsOperation (move_of spec.now sweep.old.mind) }
     requires words { length words.old ≡ words_of (sizes_in spec.now) }
-    ensures runs { (turn : Turn) × (sweep.new.quiet ≡ quiet_after turn sweep.old.quiet) × Runs ⟦<RoomWords as Memory<()>>⟧.does spec.now words.old sweep.old.mind result words.new sweep.new.mind turn }
+    ensures runs { (turn : Turn) × (sweep.new.quiet ≡ quiet_after turn sweep.old.quiet) ×
+        Runs ⟦<RoomWords as Memory<()>>⟧.does spec.now words.old sweep.old.mind result words.new sweep.new.mind turn }
     ensures most { result ≤ most }
     ensures some { 0 < most → 0 < result }
 {
     let (taken, ended) = sweep.mind_mut().run_with(spec, most, &(), words);
     sweep.note(ended);
     taken
-}
-
-/// `count` words that are 0.
-fn zeros(alloc: Global, count: usize) -> Result<Vec<u64>, AllocError>
-    ensures { IfOk result (λ words. words.items ≡ replicate count 0) }
-{
-    Ok(vec![in alloc; 0; count]?)
 }
 
 fn opening_sweeps(alloc: Global, spec: &Spec) -> Result<Vec<Sweep>, AllocError>
@@ -389,9 +330,9 @@ fn opening_sweeps(alloc: Global, spec: &Spec) -> Result<Vec<Sweep>, AllocError>
     Ok(sweeps)
 }
 
-/// `m` marks: none has crashed.
-fn nobody(m: usize) -> ArrayVec<bool, 8>
-    requires { m ≤ 8 }
+/// The marks of `m` simulators of which none has crashed.
+pub fn nobody(m: usize) -> ArrayVec<bool, MAX_SIMULATORS>
+    requires { m ≤ MAX_SIMULATORS }
     ensures { result.items ≡ replicate m false }
 {
     let mut crashed = ArrayVec::new();

@@ -1,5 +1,5 @@
 -- What a contract sees of a room on shared words, its keeper and its simulators.
-use Rattle.std.specs.Prelude.{◌≡◌, ◌⊎◌, ℕ, suc, ◌-◌, ◌<◌, ◌≤◌, Bool, true, false, not, ◌&&◌, List, [], ◌∷◌, length, map, take, IsSome, is_some, Option, Some, None, slice_index_or, slice_set}
+use Rattle.std.specs.Prelude.{◌≡◌, ◌⊎◌, ℕ, suc, ◌-◌, ◌<◌, ◌≤◌, Bool, true, false, not, ◌&&◌, List, [], ◌∷◌, length, map, replicate, take, IsSome, is_some, Option, Some, None, slice_index_or, slice_set}
 use Rattle.std.specs.List.{range_with_len}
 use Rattle.std.specs.Option.{option_map}
 use Rattle.atomic_table.specs.Seated.{TableId}
@@ -71,7 +71,7 @@ after_steps start (answer ∷ answers) = after_steps (stepped_with start answer)
 abbrev pub StaysInTurn : SimulatorData → List ℕ → ℕ → Type 0
 StaysInTurn start answers count = (k : ℕ) → k < count → is_resting (after_steps start (take (suc k) answers)).sweep.mind.line ≡ false
 
--- Steps of one turn, at most so many, and one at least where any may be taken. It was ready for each. The last alone may have ended
+-- Steps of one turn, at most `most`, and one at least where any may be taken. It was ready for each. The last alone may have ended
 -- the turn, and has where they are fewer.
 pub record StepsInTurn (most : ℕ) (old new : SimulatorData) : Type 0 where
   pub answers : List ℕ
@@ -82,7 +82,7 @@ pub record StepsInTurn (most : ℕ) (old new : SimulatorData) : Type 0 where
   pub some : 0 < most → 0 < length answers
   pub ended : (length answers ≡ most) ⊎ (is_resting new.sweep.mind.line ≡ true)
 
--- as TakesStep, with up to so many steps of one turn
+-- as TakesStep, with up to `most` steps of one turn
 abbrev pub TakesSteps : ℕ → SimulatorData → StepReply → SimulatorData → Type 0
 TakesSteps most old Stepped new = StepsInTurn most old new
 TakesSteps most old Idle new = new ≡ with_woken old
@@ -110,9 +110,17 @@ operations_home keeper i = slice_index_or keeper.operations i []
 abbrev pub holds_in : KeeperData → ℕ → Bool
 holds_in keeper i = is_some (sweep_home keeper i) && not (slice_index_or keeper.crashed i false)
 
--- the keeper of a room in which nobody has taken a step
+-- the keeper of a room in which nobody has taken a step: all are at home, and none has crashed
 abbrev pub first_sweeps : RoomSpec → List (Option SweepState)
 first_sweeps spec = map (λ i. Some (opening_sweep spec i)) (range_with_len 0 spec.simulators)
+
+abbrev pub opening_keeper : RoomName → KeeperData
+opening_keeper room = record {
+  room = room;
+  sweeps = first_sweeps room.spec;
+  operations = replicate room.spec.simulators [];
+  crashed = replicate room.spec.simulators false;
+}
 
 -- the minds of those at home
 abbrev pub minds_of : List (Option SweepState) → List (Option MindState)
@@ -127,6 +135,15 @@ abbrev pub marked : Stop → ℕ → List Bool → List Bool
 marked stops.Idle i crashed = crashed
 marked stops.OutOfTurns i crashed = crashed
 marked stops.Crashed i crashed = slice_set crashed i true
+
+-- the keeper with this simulator at home again, who stopped so
+abbrev pub with_home : KeeperData → SimulatorData → Stop → KeeperData
+with_home keeper simulator stop = record {
+  room = keeper.room;
+  sweeps = slice_set keeper.sweeps simulator.number (Some simulator.sweep);
+  operations = slice_set keeper.operations simulator.number simulator.operations;
+  crashed = marked stop simulator.number keeper.crashed;
+}
 
 -- ---- the end of a room
 

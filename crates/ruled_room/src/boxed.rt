@@ -47,7 +47,7 @@ impl BoxedSweep {
         self.sweep.ready(spec)
     }
 
-    /// Takes up to so many atomic steps, each operation by the memory, until a turn ends, and counts the turn.
+    /// Takes up to `most` atomic steps, each operation by the memory, until a turn ends, and counts the turn.
     #[inline(always)]
     pub(crate) fn run_with<C, M: Memory<C>>(
         &mut self,

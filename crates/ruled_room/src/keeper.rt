@@ -1,6 +1,6 @@
 //! The keeper of a room's simulators.
 ghost use Rattle.std.specs.Prelude.{◌≡◌, true, [], MatchOption, Some, None, slice_set};
-ghost use Rattle.ruled_room.specs.Parts.{IsComplete, IsFirstOut, holds_in, marked, operations_home, sweep_home};
+ghost use Rattle.ruled_room.specs.Parts.{IsComplete, IsFirstOut, holds_in, operations_home, sweep_home, with_home};
 ghost use Rattle.ruled_room.specs.Views.{IsAlone, given, progress_in, with_back, without};
 
 use crate::boxed::BoxedSweep;
@@ -10,14 +10,15 @@ use crate::step::Simulator;
 use crate::stop::Stop;
 use arrayvec::ArrayVec;
 use atomic_table::Seat;
+use room_spec::MAX_SIMULATORS;
 use std::marker::{Brand, Model};
 
 /// The simulators of a room that are at home, and which of all its simulators have crashed.
 #[derive(Drop)]
 pub struct Keeper {
     pub(crate) seat: Seat<(), View>,
-    pub(crate) sweeps: ArrayVec<Option<BoxedSweep>, 8>,
-    pub(crate) crashed: ArrayVec<bool, 8>,
+    pub(crate) sweeps: ArrayVec<Option<BoxedSweep>, MAX_SIMULATORS>,
+    pub(crate) crashed: ArrayVec<bool, MAX_SIMULATORS>,
 }
 
 impl Model for Keeper {
@@ -31,10 +32,17 @@ impl Model for Keeper {
 
     ghost coded = { Prim.hlevel (codes, expression_code) };
 
-    ghost view = { λ k. record { room = record { table = k.seat.table_id; spec = k.seat.me.0.spec }; sweeps = k.sweeps.items; operations = map done_by k.seat.me.0.held; crashed = k.crashed.items } };
+    ghost view = { λ k. record {
+      room = record { table = k.seat.table_id; spec = k.seat.me.0.spec };
+      sweeps = k.sweeps.items;
+      operations = map done_by k.seat.me.0.held;
+      crashed = k.crashed.items;
+    } };
 
     // Its seat has the minds of those at home.
-    ghost invariant = { λ k. (minds_in k.seat.me.0 ≡ minds_of k.sweeps.items) × (k.seat.me.1 ≡ []) × (length k.sweeps.items ≡ k.seat.me.0.spec.simulators) × (length k.crashed.items ≡ k.seat.me.0.spec.simulators) × AreSweeps k.seat.me.0.spec k.sweeps.items };
+    ghost invariant = { λ k. (minds_in k.seat.me.0 ≡ minds_of k.sweeps.items) × (k.seat.me.1 ≡ []) ×
+        (length k.sweeps.items ≡ k.seat.me.0.spec.simulators) × (length k.crashed.items ≡ k.seat.me.0.spec.simulators) ×
+        AreSweeps k.seat.me.0.spec k.sweeps.items };
 }
 
 impl Keeper {
@@ -64,7 +72,8 @@ impl Keeper {
         requires room { self.old.room ≡ room.now }
         requires holds { holds_in self.old i ≡ true }
         ensures keeper { self.new ≡ record self.old { sweeps = slice_set self.old.sweeps i None; operations = slice_set self.old.operations i [] } }
-        ensures simulator { (result.room ≡ room.now) × (result.number ≡ i) × (Some result.sweep ≡ sweep_home self.old i) × (result.operations ≡ operations_home self.old i) }
+        ensures simulator { (result.room ≡ room.now) × (result.number ≡ i) × (Some result.sweep ≡ sweep_home self.old i) ×
+            (result.operations ≡ operations_home self.old i) }
     {
         let place = &mut self.sweeps[i];
         let Some(sweep) = place.take() else {
@@ -83,7 +92,7 @@ impl Keeper {
     pub fn take_back(&mut self, room: &RuledRoom, simulator: Simulator, stop: Stop)
         requires keeper { self.old.room ≡ room.now }
         requires simulator { simulator.room ≡ room.now }
-        ensures { self.new ≡ record { room = self.old.room; sweeps = slice_set self.old.sweeps simulator.number (Some simulator.sweep); operations = slice_set self.old.operations simulator.number simulator.operations; crashed = marked stop simulator.number self.old.crashed } }
+        ensures { self.new ≡ with_home self.old simulator stop }
     {
         let Simulator {
             seat,
@@ -99,7 +108,11 @@ impl Keeper {
 }
 
 /// Cuts the mind of C off a seat.
-fn cut<C: Chosen>(room: &RuledRoom, seat: &mut Seat<(), View>, number: usize) -> Seat<(), View>
+fn cut<C: Chosen>(
+    room: &RuledRoom,
+    seat: &mut Seat<(), View>,
+    number: usize, // for the proof: whose mind it is
+) -> Seat<(), View>
     requires table { seat.old.table_id ≡ room.now.table }
     requires number { number ≡ C.number }
     ensures seat { (seat.new.table_id ≡ seat.old.table_id) × (seat.new.id ≡ seat.old.id) × (seat.new.me ≡ (without number seat.old.me.0, seat.old.me.1)) }
@@ -113,12 +126,13 @@ fn mend<C: Chosen>(
     room: &RuledRoom,
     seat: &mut Seat<(), View>,
     other: Seat<(), View>,
-    number: usize,
+    number: usize, // for the proof: whose mind it is
 )
     requires table { (seat.old.table_id ≡ room.now.table) × (other.table_id ≡ room.now.table) }
     requires number { number ≡ C.number }
     requires other { IsAlone number other.me }
-    ensures { (seat.new.table_id ≡ seat.old.table_id) × (seat.new.id ≡ seat.old.id) × (seat.new.me ≡ (with_back number seat.old.me.0 other.me.0, seat.old.me.1)) }
+    ensures { (seat.new.table_id ≡ seat.old.table_id) × (seat.new.id ≡ seat.old.id) ×
+        (seat.new.me ≡ (with_back number seat.old.me.0 other.me.0, seat.old.me.1)) }
 {
     room.table.shared.join_seat::<HandsOver<C>>(seat, other);
 }

@@ -1,11 +1,11 @@
 //! A room on words that threads share: its beginning and its end.
-ghost use Rattle.std.specs.Prelude.{◌≡◌, suc, ◌<◌, ◌≤◌, [], length, take, map, replicate, false, IfOk, IfErr, OnOk, Some};
+ghost use Rattle.std.specs.Prelude.{◌≡◌, suc, ◌<◌, ◌≤◌, [], length, take, map, IfOk, IfErr, OnOk, Some};
 ghost use Rattle.std.specs.Mem.Slots.{IsFull, slots_items, slots_len};
 ghost use Rattle.std.specs.Vec.{vec_capacity};
 ghost use Rattle.simulator.specs.Sweeps.{opening_sweep};
 ghost use Rattle.room_spec.specs.Rooms.{IsWithinLimits};
 ghost use Rattle.room_core.specs.Calls.{configuration_of};
-ghost use Rattle.ruled_room.specs.Parts.{GoneFor, IsComplete, first_sweeps};
+ghost use Rattle.ruled_room.specs.Parts.{GoneFor, IsComplete, first_sweeps, opening_keeper};
 ghost use Rattle.ruled_room.specs.Rule.{word_count};
 ghost use Rattle.ruled_room.specs.Runs.{IsInterleavingOf};
 
@@ -14,8 +14,8 @@ use crate::keeper::Keeper;
 use crate::rule::{Begins, Interleaves, View};
 use arrayvec::ArrayVec;
 use atomic_table::{Closed, Table};
-use room_core::RoomCore;
-use room_spec::Spec;
+use room_core::{RoomCore, nobody};
+use room_spec::{MAX_SIMULATORS, Spec};
 use simulator::Sweep;
 use std::alloc::{AllocError, Global};
 use std::marker::Model;
@@ -67,10 +67,10 @@ impl RuledRoom {
     /// refused memory; no run comes there, since nobody else has the new table.
     pub fn fresh(alloc: Global, spec: Spec) -> Result<(RuledRoom, Keeper), AllocError>
         ensures room { IfOk result (λ r. r.0.spec ≡ spec) }
-        ensures keeper { IfOk result (λ r. r.1 ≡ record { room = r.0; sweeps = first_sweeps spec; operations = replicate spec.simulators []; crashed = replicate spec.simulators false }) }
+        ensures keeper { IfOk result (λ r. r.1 ≡ opening_keeper r.0) }
     {
         let count = words(&spec.shape());
-        let zero = zeros(alloc, count + 1)?;
+        let zero = vec![in alloc; 0; count + 1]?;
         let sweeps = first_sweeps(alloc, &spec)?;
         let (table, mut seat) = Table::of_words(alloc, zero.as_slice(), &spec)?;
         let found = table.shared.swap::<Begins>(&mut seat, count, 1);
@@ -116,7 +116,8 @@ impl RuledRoom {
         requires limits { IsWithinLimits self.spec }
         requires words { length words.items ≡ word_count self.spec }
         requires whole { (whole.items ≡ []) × (self.spec.simulators ≤ vec_capacity whole) }
-        ensures { (result.spec ≡ self.spec) × (map Some result.sweeps ≡ keeper.sweeps) × (result.crashed ≡ keeper.crashed) × IsInterleavingOf (configuration_of result) keeper.operations }
+        ensures { (result.spec ≡ self.spec) × (map Some result.sweeps ≡ keeper.sweeps) × (result.crashed ≡ keeper.crashed) ×
+            IsInterleavingOf (configuration_of result) keeper.operations }
     {
         let RuledRoom { table, spec } = self;
         let Keeper {
@@ -142,7 +143,7 @@ fn read(closed: &Closed<(), Global>, words: &mut Vec<u64>)
 }
 
 /// The sweeps, which are all there, in `whole`, which has room for them.
-fn all(sweeps: ArrayVec<Option<BoxedSweep>, 8>, mut whole: Vec<Sweep>) -> Vec<Sweep>
+fn all(sweeps: ArrayVec<Option<BoxedSweep>, MAX_SIMULATORS>, mut whole: Vec<Sweep>) -> Vec<Sweep>
     requires complete { IsComplete sweeps.items }
     requires whole { (whole.items ≡ []) × (length sweeps.items ≤ vec_capacity whole) }
     ensures { map Some result.items ≡ sweeps.items }
@@ -163,19 +164,16 @@ fn space(alloc: Global, spec: &Spec) -> Result<(Vec<u64>, Vec<Sweep>), AllocErro
     ensures words { IfOk result (λ r. length r.0.items ≡ word_count spec.now) }
     ensures sweeps { IfOk result (λ r. (r.1.items ≡ []) × (spec.now.simulators ≤ vec_capacity r.1)) }
 {
-    let words = zeros(alloc, words(&spec.shape()))?;
+    let words = vec![in alloc; 0; words(&spec.shape())]?;
     let sweeps = Vec::with_capacity(alloc, spec.m())?;
     Ok((words, sweeps))
 }
 
-fn zeros(alloc: Global, count: usize) -> Result<Vec<u64>, AllocError>
-    ensures { IfOk result (λ words. words.items ≡ replicate count 0) }
-{
-    Ok(vec![in alloc; 0; count]?)
-}
-
 /// A sweep for each simulator, before its first step.
-fn first_sweeps(alloc: Global, spec: &Spec) -> Result<ArrayVec<Option<BoxedSweep>, 8>, AllocError>
+fn first_sweeps(
+    alloc: Global,
+    spec: &Spec,
+) -> Result<ArrayVec<Option<BoxedSweep>, MAX_SIMULATORS>, AllocError>
     ensures { IfOk result (λ sweeps. sweeps.items ≡ first_sweeps spec.now) }
 {
     let mut sweeps = ArrayVec::new();
@@ -190,16 +188,4 @@ fn first_sweep(alloc: Global, spec: &Spec, i: usize) -> Result<BoxedSweep, Alloc
     ensures { IfOk result (λ sweep. sweep ≡ opening_sweep spec.now i) }
 {
     BoxedSweep::new(alloc, Sweep::new(spec, i))
-}
-
-/// `m` marks: none has crashed.
-fn nobody(m: usize) -> ArrayVec<bool, 8>
-    requires { m ≤ 8 }
-    ensures { result.items ≡ replicate m false }
-{
-    let mut crashed = ArrayVec::new();
-    for _ in 0..m {
-        crashed.push(false);
-    }
-    crashed
 }

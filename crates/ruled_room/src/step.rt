@@ -1,5 +1,6 @@
 //! A simulator that was given away, and its steps.
 ghost use Rattle.std.specs.Prelude.{◌≡◌, ℕ, ◌<◌};
+ghost use Rattle.room_spec.specs.declared.spec.TheConstants.{MAX_SIMULATORS};
 ghost use Rattle.simulator.specs.Minds.{goal_at};
 ghost use Rattle.simulator.specs.Quiet.{HasNoWrite};
 ghost use Rattle.simulator.specs.Sweeps.{is_resting, ready_of};
@@ -35,10 +36,17 @@ impl Model for Simulator {
 
     ghost coded = { Prim.hlevel (codes, expression_code) };
 
-    ghost view = { λ s. record { room = record { table = s.seat.table_id; spec = s.seat.me.0.spec }; number = s.number; sweep = s.sweep; operations = done_by (progress_in s.seat.me.0 s.number) } };
+    ghost view = { λ s. record {
+      room = record { table = s.seat.table_id; spec = s.seat.me.0.spec };
+      number = s.number;
+      sweep = s.sweep;
+      operations = done_by (progress_in s.seat.me.0 s.number);
+    } };
 
     // Its seat has its mind, and no other.
-    ghost invariant = { λ s. (s.seat.me.0.held ≡ only s.number (record { mind = s.sweep.mind; operations = done_by (progress_in s.seat.me.0 s.number) })) × (s.seat.me.1 ≡ []) × IsSweepOf s.seat.me.0.spec s.number s.sweep };
+    ghost invariant = { λ s.
+        (s.seat.me.0.held ≡ only s.number (record { mind = s.sweep.mind; operations = done_by (progress_in s.seat.me.0 s.number) })) ×
+        (s.seat.me.1 ≡ []) × IsSweepOf s.seat.me.0.spec s.number s.sweep };
 }
 
 impl Simulator {
@@ -60,7 +68,7 @@ impl Simulator {
     /// Which simulator of the room it is, counted from 0.
     pub fn number(&self) -> usize
         ensures value { result ≡ self.now.number }
-        ensures small { result < 8 }
+        ensures small { result < MAX_SIMULATORS }
         // It is a simulator of the room: its mind is one of that number, and its quiet count is one of that mind.
         ensures sweep { IsSweepOf self.now.room.spec self.now.number self.now.sweep }
     {
@@ -81,7 +89,7 @@ impl Simulator {
         self.run(room, 1)
     }
 
-    /// Takes atomic steps as `step` does, up to so many, if it has one to take: those of one turn, the
+    /// Takes atomic steps as `step` does, up to `most`, if it has one to take: those of one turn, the
     /// open one or else the next, and none behind its end.
     pub fn run(&mut self, room: &RuledRoom, most: u64) -> StepReply
         requires { self.old.room ≡ room.now }
@@ -130,5 +138,6 @@ impl Memory<RuledRoom> for Seat<(), View> {
         }
     }
 
-    ghost goes_on = { λ seat room spec mind answer next served is_mind operation done. (done.0 ∙ served.0, served.1, seat_goes_on spec mind answer seat.me next.me served.2 done.2) };
+    ghost goes_on = { λ seat room spec mind answer next served is_mind operation done.
+        (done.0 ∙ served.0, served.1, seat_goes_on spec mind answer seat.me next.me served.2 done.2) };
 }

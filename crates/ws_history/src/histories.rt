@@ -1,6 +1,7 @@
 //! The history of a room.
 ghost use Rattle.std.specs.Prelude.{◌≡◌, ℕ, ◌+◌, ◌<◌, ◌≤◌, [], ◌∷◌, ◌++◌, IfOk, OnOk, length, max, replicate, slice_index};
 ghost use Rattle.std.specs.List.{sum};
+ghost use Rattle.protocol_lang.specs.declared.meaning.TheConstants.{MAX_PROCESSES};
 ghost use Rattle.room_spec.specs.Rooms.{processes};
 ghost use Rattle.ws_history.specs.Histories.{by_process, decided, new_writes};
 ghost use Rattle.room_core.specs.Fields.{Fields};
@@ -14,13 +15,14 @@ ghost use Rattle.ws_history.specs.Readings.{read_of};
 ghost use Rattle.ws_history.specs.Sources.{decision_after, history_of, source_of};
 ghost use Rattle.ws_history.specs.Running.{IsSnapshotOf, block_on};
 
+use crate::agreements::{shown_at, shown_by, written};
 use crate::reading::{
-    Row, decided_in, greatest_steps, number_of, process_count, round_count, shape_of, shown_at,
-    shown_by, written,
+    Row, decided_in, greatest_steps, number_of, process_count, round_count, shape_of,
 };
 use crate::snapshots::{Agreed, in_order, sum};
 use protocol_lang::View;
 use room_core::RoomCore;
+use room_spec::MAX_ROUNDS;
 use std::alloc::{AllocError, Global};
 use transcript::Event;
 
@@ -39,7 +41,7 @@ pub fn history(alloc: Global, room: &RoomCore) -> Result<Vec<Event>, AllocError>
     // It is a run of the processes on write-snapshot memory.
     ensures run { IfOk result (λ events. IsRun room.now.spec events.items) }
 {
-    let _shape = shape_of(room);
+    let _shape = shape_of(room); // for the proof: the room stands for some fields
     let events = read_history(alloc, room)?;
     Ok(events)
 }
@@ -84,13 +86,13 @@ fn most_events(room: &RoomCore, order: &[Agreed], greatest: &[u8]) -> usize
 {
     let processes = process_count(room);
     let rounds = round_count(room);
-    prove!(rounds <= 15);
+    prove!(rounds <= MAX_ROUNDS as usize);
     sum(greatest) + order.len() + processes
 }
 
 /// No write of any of `n` processes.
 fn nothing(n: usize) -> Row
-    requires { n ≤ 16 }
+    requires { n ≤ MAX_PROCESSES }
     ensures { result.items ≡ replicate n 0 }
 {
     let mut row = Row::new();
@@ -116,7 +118,8 @@ fn push_block(
     requires greatest { greatest.now ≡ row_of room.now.spec.simulators (processes room.now.spec) (read_of room.now).step }
     requires is { IsSnapshotOf room.now snapshot.now }
     ensures events { OnOk result (events.new.items ≡ events.old.items ++ block_on room.now shown.old.items snapshot.now) }
-    ensures shown { OnOk result (shown.new.items ≡ shown_with shown.old.items (row_at room.now.spec (read_of room.now) snapshot.now.process snapshot.now.round)) }
+    ensures shown { OnOk result
+        (shown.new.items ≡ shown_with shown.old.items (row_at room.now.spec (read_of room.now) snapshot.now.process snapshot.now.round)) }
     ensures view { OnOk result (view.new.items ≡ shown_by room.now.spec (read_of room.now) shown.new.items) }
 {
     let row = row_in(room, snapshot);
@@ -194,7 +197,10 @@ fn push_decision(
 ) -> Result<(), AllocError>
     requires process { snapshot.now.process < processes room.now.spec }
     requires greatest { greatest ≡ greatest_step room.now.spec (read_of room.now) snapshot.now.process }
-    ensures { OnOk result (events.new.items ≡ events.old.items ++ decided snapshot.now.process (decision_after room.now.spec (read_of room.now) snapshot.now.process snapshot.now.round)) }
+    ensures { OnOk result
+        (events.new.items ≡
+        events.old.items ++ decided snapshot.now.process (decision_after room.now.spec
+        (read_of room.now) snapshot.now.process snapshot.now.round)) }
 {
     if usize::from(greatest) == snapshot.round {
         if let Some(v) = decided_in(room, snapshot.process) {
@@ -220,7 +226,10 @@ fn push_writes(
     requires upto { length upto.now ≡ processes room.now.spec }
     requires range { (p : ℕ) → slice_index upto.now p ≤ room.now.spec.rounds }
     requires view { view.now ≡ shown_by room.now.spec (read_of room.now) from.now }
-    ensures events { OnOk result (events.new.items ≡ events.old.items ++ by_process (λ p. new_writes (source_of room.now.spec (read_of room.now)) p (slice_index from.now p) (slice_index upto.now p)) (processes room.now.spec)) }
+    ensures events { OnOk result
+        (events.new.items ≡
+        events.old.items ++ by_process (λ p. new_writes (source_of room.now.spec (read_of room.now)) p (slice_index from.now p)
+        (slice_index upto.now p)) (processes room.now.spec)) }
     ensures view { IfOk result (λ view. view.items ≡ shown_by room.now.spec (read_of room.now) (shown_with from.now upto.now)) }
 {
     let mut all = View::new();
@@ -260,7 +269,7 @@ fn push_writes_of(
 /// What is shown once this row is shown too.
 fn with_row(shown: &[u8], row: &[u8]) -> Row
     requires same { length shown.now ≡ length row.now }
-    requires few { length row.now ≤ 16 }
+    requires few { length row.now ≤ MAX_PROCESSES }
     ensures { result.items ≡ shown_with shown.now row.now }
 {
     let mut all = Row::new();

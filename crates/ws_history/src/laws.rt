@@ -18,7 +18,9 @@ ghost use Rattle.ws_history.specs.Passed.{IsOfPassed, IsDecided};
 /// The history of a source is a run, and has all of its writes.
 pub fn history_is_run()
     ensures run { (spec : RoomSpec) (src : Source) → IsSource spec src → IsRun spec (history_from spec src) }
-    ensures writes { (spec : RoomSpec) (src : Source) → IsSource spec src → (p : ℕ) → p < processes spec → count_by (is_write_by p) (history_from spec src) ≡ src.greatest p }
+    ensures writes { (spec : RoomSpec) (src : Source) →
+        IsSource spec src → (p : ℕ) → p < processes spec →
+        count_by (is_write_by p) (history_from spec src) ≡ src.greatest p }
 {}
 
 /// A history has one snapshot for each of the order.
@@ -50,25 +52,39 @@ pub fn rooms_run()
 /// At most as many processes are held as simulators have crashed.
 pub fn few_are_held()
     // Nor do more have an agreement inside which a simulator has crashed, and no decision.
-    ensures inside { (room : RoomState) (fields : Fields) → IsWithinLimits room.spec → AreFieldsOf room fields → length (held_in room.spec fields) ≤ length (crashed_in room.spec fields) }
-    ensures states { (room : RoomState) (fields : Fields) → IsWithinLimits room.spec → AreFieldsOf room fields → count_by is_held (states_of room.spec fields) ≤ length (crashed_in room.spec fields) }
+    ensures inside { (room : RoomState) (fields : Fields) →
+        IsWithinLimits room.spec → AreFieldsOf room fields →
+        length (held_in room.spec fields) ≤ length (crashed_in room.spec fields) }
+    ensures states { (room : RoomState) (fields : Fields) →
+        IsWithinLimits room.spec → AreFieldsOf room fields →
+        count_by is_held (states_of room.spec fields) ≤ length (crashed_in room.spec fields) }
 {}
 
 /// A process has decided exactly what its history says.
 pub fn decided_in_history()
-    ensures { (room : RoomState) (fields : Fields) → IsWithinLimits room.spec → AreFieldsOf room fields → (j v : ℕ) → j < processes room.spec → (state_of room.spec fields j ≡ Decided v) ↔ Contains (history_of room.spec fields) (Decide j v) }
+    ensures { (room : RoomState) (fields : Fields) →
+        IsWithinLimits room.spec → AreFieldsOf room fields → (j v : ℕ) → j < processes room.spec →
+        (state_of room.spec fields j ≡ Decided v) ↔ Contains (history_of room.spec fields) (Decide j v) }
 {}
 
 /// Where each process of a room has settled, all have decided or are spent but for at most as many
 /// as simulators have crashed.
 pub fn settled_rooms()
-    ensures { (room : RoomState) (fields : Fields) → IsWithinLimits room.spec → AreFieldsOf room fields → ((j : ℕ) → j < processes room.spec → IsSettledFor room.spec fields j) → processes room.spec ≤ count_by is_over (states_of room.spec fields) + length (crashed_in room.spec fields) }
+    ensures { (room : RoomState) (fields : Fields) →
+        IsWithinLimits room.spec → AreFieldsOf room fields → ((j : ℕ) → j < processes room.spec → IsSettledFor room.spec fields j) →
+        processes room.spec ≤ count_by is_over (states_of room.spec fields) + length (crashed_in room.spec fields) }
 {}
 
 /// In a room of a protocol that waits for all but f processes, and has two rounds or more, no process is ever
 /// spent. So once it has settled all have decided but for at most as many as simulators have
 /// crashed.
 pub fn certified_rooms()
-    ensures unspent { (room : RoomState) (fields : Fields) → IsWithinLimits room.spec → AreFieldsOf room fields → (f : ℕ) → IsCertified room.spec f → 2 ≤ room.spec.rounds → (j : ℕ) → j < processes room.spec → state_of room.spec fields j ≢ Spent }
-    ensures settled { (room : RoomState) (fields : Fields) → IsWithinLimits room.spec → AreFieldsOf room fields → (f : ℕ) → IsCertified room.spec f → 2 ≤ room.spec.rounds → ((j : ℕ) → j < processes room.spec → IsSettledFor room.spec fields j) → processes room.spec ≤ count_by is_decided (states_of room.spec fields) + length (crashed_in room.spec fields) }
+    ensures unspent { (room : RoomState) (fields : Fields) →
+        IsWithinLimits room.spec → AreFieldsOf room fields → (f : ℕ) → IsCertified room.spec f → 2 ≤ room.spec.rounds → (j : ℕ) →
+        j < processes room.spec →
+        state_of room.spec fields j ≢ Spent }
+    ensures settled { (room : RoomState) (fields : Fields) →
+        IsWithinLimits room.spec → AreFieldsOf room fields → (f : ℕ) → IsCertified room.spec f → 2 ≤ room.spec.rounds →
+        ((j : ℕ) → j < processes room.spec → IsSettledFor room.spec fields j) →
+        processes room.spec ≤ count_by is_decided (states_of room.spec fields) + length (crashed_in room.spec fields) }
 {}

@@ -2,6 +2,7 @@
 //! report of where each of them stands.
 #![tactic(auto)]
 
+mod agreements;
 mod histories;
 pub mod laws;
 mod reading;

@@ -1,50 +1,49 @@
 //! What the words of a room say.
-ghost use Rattle.std.specs.Prelude.{◌≡◌, ℕ, ◌+◌, ◌<◌, ◌≤◌, ◌==◌, drop, length, min, position, slice_index};
+ghost use Rattle.std.specs.Prelude.{◌≡◌, ℕ, ◌<◌, ◌≤◌, ◌==◌, length, min, position, slice_index};
 ghost use Rattle.protocol_lang.specs.Numbers.{greatest};
 ghost use Rattle.room_spec.specs.Rooms.{IsWithinLimits, processes};
 ghost use Rattle.room_spec.specs.Sizes.{memory_words, sizes_in};
-ghost use Rattle.view_table.specs.Places.{IsPlace, IsRound, words_of};
+ghost use Rattle.view_table.specs.Places.{IsPlace, IsRound};
 ghost use Rattle.view_table.specs.Words.{word_at};
 ghost use Rattle.view_table.specs.declared.place.Place.TheVariants.{Levels};
-ghost use Rattle.sim_memory.specs.Steps.{merged_of, row_of, step_in};
-ghost use Rattle.room_core.specs.Agreements.{asks, decided_in, first_with, greatest_step, has_out, is_clean, is_passed, row_at, shown, shown_by, shown_of, written};
+ghost use Rattle.sim_memory.specs.Steps.{row_of, step_in};
+ghost use Rattle.room_core.specs.Agreements.{decided_in, greatest_step, has_out};
 ghost use Rattle.room_core.specs.Calls.{configuration_of};
 ghost use Rattle.room_core.specs.Fields.{Fields, levels_at};
 ghost use Rattle.room_core.specs.Reading.{AreFieldsOf, Reads};
-ghost use Rattle.ws_history.specs.Readings.{read_of, view_start};
+ghost use Rattle.ws_history.specs.Readings.{read_of};
 
 use arrayvec::ArrayVec;
 use level_cells::field;
-use protocol_lang::{Action, View, next};
 use room_core::RoomCore;
-use room_spec::{Shape, Spec};
+use room_spec::{MAX_PROCESSES, MAX_ROUNDS, MAX_SIMULATORS, Shape, Spec};
 use safe_agreement::least_at;
 use sim_memory::{last_writes, merged, step_of};
 use view_table::{Place, index};
 
 /// How many writes of each process something shows.
-pub(crate) type Row = ArrayVec<u8, 16>;
+pub(crate) type Row = ArrayVec<u8, MAX_PROCESSES>;
 
 /// The greatest decision plus one.
 const MOST: u64 = 4294967296;
 
 pub(crate) fn process_count(room: &RoomCore) -> usize
     ensures value { result ≡ processes room.now.spec }
-    ensures range { (1 ≤ result) × (result ≤ 16) }
+    ensures range { (1 ≤ result) × (result ≤ MAX_PROCESSES) }
 {
     room.spec().n()
 }
 
 pub(crate) fn simulator_count(room: &RoomCore) -> usize
     ensures value { result ≡ room.now.spec.simulators }
-    ensures range { (1 ≤ result) × (result ≤ 8) }
+    ensures range { (1 ≤ result) × (result ≤ MAX_SIMULATORS) }
 {
     room.spec().m()
 }
 
 pub(crate) fn round_count(room: &RoomCore) -> usize
     ensures value { result ≡ room.now.spec.rounds }
-    ensures range { (1 ≤ result) × (result ≤ 15) }
+    ensures range { (1 ≤ result) × (result ≤ MAX_ROUNDS) }
 {
     room.spec().rounds()
 }
@@ -69,7 +68,7 @@ fn word_at(room: &RoomCore, place: Place) -> u64
 fn small(word: u64) -> u32
     ensures { result ≡ min word greatest }
 {
-    word.min(4294967295) as u32
+    word.min(u64::from(u32::MAX)) as u32
 }
 
 /// The number of a process, as events have it.
@@ -84,7 +83,7 @@ pub(crate) fn number_of(room: &RoomCore, p: usize) -> u8
 
 /// How many writes of process `p` simulator `i` has counted.
 #[tactic(auto, unfolding(crate::specs::Readings::read_of))]
-fn step(room: &RoomCore, i: usize, p: usize) -> usize
+pub(crate) fn step(room: &RoomCore, i: usize, p: usize) -> usize
     requires simulator { i < room.now.spec.simulators }
     requires process { p < processes room.now.spec }
     ensures value { result ≡ (read_of room.now).step i p }
@@ -99,7 +98,7 @@ fn memory(room: &RoomCore) -> &[u64]
     ensures count { memory_words (sizes_in room.now.spec) ≤ length result.now }
     ensures limits { IsWithinLimits room.now.spec }
 {
-    let _shape = shape_of(room);
+    let _shape = shape_of(room); // for the proof: the room is within its limits
     room.words()
 }
 
@@ -152,7 +151,7 @@ pub(crate) fn level(room: &RoomCore, i: usize, j: usize, k: usize) -> u8
 }
 
 /// The word of levels of the agreement on process `j` and round `k`.
-fn levels_word(room: &RoomCore, j: usize, k: usize) -> u64
+pub(crate) fn levels_word(room: &RoomCore, j: usize, k: usize) -> u64
     requires process { j < processes room.now.spec }
     requires round { IsRound (sizes_in room.now.spec) k }
     ensures { result ≡ word_at (sizes_in room.now.spec) room.now.words (Levels j k) }
@@ -166,7 +165,7 @@ fn levels_word(room: &RoomCore, j: usize, k: usize) -> u64
 
 /// The least simulator at this level there, if one is.
 #[tactic(auto, unfolding(crate::specs::Readings::read_of))]
-fn least_with(room: &RoomCore, j: usize, k: usize, level: u8) -> Option<usize>
+pub(crate) fn least_with(room: &RoomCore, j: usize, k: usize, level: u8) -> Option<usize>
     requires process { j < processes room.now.spec }
     requires round { IsRound (sizes_in room.now.spec) k }
     ensures { result ≡ position (λ one. one == level) (levels_at room.now.spec (read_of room.now) j k) }
@@ -180,7 +179,7 @@ fn out(room: &RoomCore, i: usize, j: usize) -> u64
     requires simulator { i < room.now.spec.simulators }
     requires process { j < processes room.now.spec }
     ensures value { result ≡ (read_of room.now).out i j }
-    ensures range { result ≤ 4294967296 }
+    ensures range { result ≤ MOST }
 {
     let word = word_at(
         room,
@@ -194,7 +193,7 @@ fn out(room: &RoomCore, i: usize, j: usize) -> u64
 
 /// The value of process `p`'s write in round `r`, as simulator `i` has it.
 #[tactic(auto, unfolding(crate::specs::Readings::read_of))]
-fn value(room: &RoomCore, i: usize, p: usize, r: usize) -> u32
+pub(crate) fn value(room: &RoomCore, i: usize, p: usize, r: usize) -> u32
     requires simulator { i < room.now.spec.simulators }
     requires process { p < processes room.now.spec }
     requires round { IsRound (sizes_in room.now.spec) r }
@@ -217,15 +216,6 @@ pub(crate) fn has_crashed(room: &RoomCore, i: usize) -> bool
     ensures { result ≡ (read_of room.now).crashed i }
 {
     room.is_crashed(i)
-}
-
-#[tactic(auto, unfolding(crate::specs::Readings::read_of))]
-pub(crate) fn is_clean(room: &RoomCore, j: usize, k: usize) -> bool
-    requires process { j < processes room.now.spec }
-    requires round { IsRound (sizes_in room.now.spec) k }
-    ensures { result ≡ is_clean room.now.spec (read_of room.now) j k }
-{
-    safe_agreement::is_clean(levels_word(room, j, k), simulator_count(room))
 }
 
 /// What process `j` has decided, if a simulator has stored it.
@@ -252,126 +242,4 @@ pub(crate) fn has_out(room: &RoomCore, j: usize) -> bool
         }
     }
     false
-}
-
-/// Whether a simulator has gone on from this agreement, or may go on now, by how many writes of the
-/// process have been made, and whether a decision of it is stored.
-pub(crate) fn is_passed(room: &RoomCore, j: usize, k: usize, greatest: usize, out: bool) -> bool
-    requires process { j < processes room.now.spec }
-    requires round { IsRound (sizes_in room.now.spec) k }
-    requires greatest { greatest ≡ greatest_step room.now.spec (read_of room.now) j }
-    requires out { out ≡ has_out room.now.spec (read_of room.now) j }
-    ensures { result ≡ is_passed room.now.spec (read_of room.now) j k }
-{
-    k < greatest || (out && greatest == k) || is_clean(room, j, k)
-}
-
-/// The least simulator at level 2 in this agreement, or 0.
-fn shown_of(room: &RoomCore, j: usize, k: usize) -> usize
-    requires process { j < processes room.now.spec }
-    requires round { IsRound (sizes_in room.now.spec) k }
-    ensures value { result ≡ shown_of room.now.spec (read_of room.now) j k }
-    ensures below { result < room.now.spec.simulators }
-{
-    let m = simulator_count(room);
-    prove!(m > 0);
-    match least_with(room, j, k, 2) {
-        Some(simulator) => simulator,
-        None => 0,
-    }
-}
-
-/// Where among the room's words the view begins that this agreement shows.
-fn view_start(room: &RoomCore, j: usize, k: usize) -> usize
-    requires process { j < processes room.now.spec }
-    requires round { IsRound (sizes_in room.now.spec) k }
-    ensures value { result ≡ view_start room.now j k }
-    ensures fits { result + memory_words (sizes_in room.now.spec) ≤ words_of (sizes_in room.now.spec) }
-    ensures few { result ≤ 5108 }
-    ensures limits { IsWithinLimits room.now.spec }
-{
-    let _shape = shape_of(room);
-    let view = Place::View {
-        simulator: shown_of(room, j, k),
-        process: j,
-        round: k,
-        word: 0,
-    };
-    index(&room.spec().shape(), view)
-}
-
-/// The room's words from the first of the view on that this agreement shows.
-#[tactic(auto, unfolding(crate::specs::Readings::read_of))]
-pub(crate) fn view_at(room: &RoomCore, j: usize, k: usize) -> &[u64]
-    requires process { j < processes room.now.spec }
-    requires round { IsRound (sizes_in room.now.spec) k }
-    ensures words { result.now ≡ drop (view_start room.now j k) room.now.words }
-    ensures count { memory_words (sizes_in room.now.spec) ≤ length result.now }
-    ensures row { row_of room.now.spec.simulators (processes room.now.spec) (step_in (sizes_in room.now.spec) result.now) ≡ row_at room.now.spec (read_of room.now) j k }
-{
-    &room.words()[view_start(room, j, k)..]
-}
-
-/// The least simulator that has counted write `r` of process `p`, or 0.
-fn first_with(room: &RoomCore, p: usize, r: usize) -> usize
-    requires { p < processes room.now.spec }
-    ensures value { result ≡ first_with room.now.spec (read_of room.now) p r }
-    ensures below { result < room.now.spec.simulators }
-{
-    for i in 0..simulator_count(room) {
-        if r <= step(room, i, p) {
-            return i;
-        }
-    }
-    0
-}
-
-/// The value of write `r` of process `p`.
-pub(crate) fn written(room: &RoomCore, p: usize, r: usize) -> u32
-    requires process { p < processes room.now.spec }
-    requires round { IsRound (sizes_in room.now.spec) r }
-    ensures { result ≡ written room.now.spec (read_of room.now) p r }
-{
-    value(room, first_with(room, p, r), p, r)
-}
-
-/// The last value of process `p` after `r` writes of it.
-pub(crate) fn shown_at(room: &RoomCore, p: usize, r: u8) -> Option<u32>
-    requires process { p < processes room.now.spec }
-    requires round { r ≤ room.now.spec.rounds }
-    ensures { result ≡ shown room.now.spec (read_of room.now) p r }
-{
-    if r == 0 {
-        None
-    } else {
-        Some(written(room, p, usize::from(r)))
-    }
-}
-
-/// What a row shows of each process.
-pub(crate) fn shown_by(room: &RoomCore, row: &[u8]) -> View
-    requires length { length row.now ≡ processes room.now.spec }
-    requires range { (p : ℕ) → slice_index row.now p ≤ room.now.spec.rounds }
-    ensures value { result.items ≡ shown_by room.now.spec (read_of room.now) row.now }
-    ensures length { length result.items ≡ processes room.now.spec }
-{
-    let mut view = View::new();
-    for p in 0..process_count(room) {
-        view.push(shown_at(room, p, row[p]));
-    }
-    view
-}
-
-/// What the protocol asks for after the snapshot of process `j` in round `k`.
-pub(crate) fn asks(room: &RoomCore, j: usize, k: usize) -> Action
-    requires process { j < processes room.now.spec }
-    requires round { IsRound (sizes_in room.now.spec) k }
-    ensures { result ≡ asks room.now.spec (read_of room.now) j k }
-{
-    let spec = room.spec();
-    let row = row_of(spec, view_at(room, j, k));
-    let view = shown_by(room, row.as_slice());
-    let rounds = round_count(room);
-    prove!(k <= rounds);
-    next(spec.protocol(), spec.input(j), j as u32, k as u32, &view)
 }

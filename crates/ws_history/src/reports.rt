@@ -9,15 +9,16 @@ ghost use Rattle.ws_history.specs.declared.states.ProcessState.TheVariants.{Goin
 ghost use Rattle.ws_history.specs.Readings.{read_of};
 ghost use Rattle.ws_history.specs.Reports.{IsTrueReport, crashed_in, held_by, held_in, is_decided, is_inside, is_over, is_spent, report_of, state_of, states_of};
 
+use crate::agreements::{asks, is_clean};
 use crate::histories::history;
 use crate::reading::{
-    asks, decided_in, has_crashed, is_clean, level, process_count, round_count, shape_of,
-    simulator_count,
+    decided_in, has_crashed, level, process_count, round_count, shape_of, simulator_count,
 };
 use crate::states::{History, ProcessState, Report};
 use arrayvec::ArrayVec;
 use protocol_lang::Action;
 use room_core::RoomCore;
+use room_spec::{MAX_PROCESSES, MAX_SIMULATORS};
 use std::alloc::{AllocError, Global};
 
 /// The report of a room: where each process stands, which simulators have crashed, and the history.
@@ -34,15 +35,26 @@ pub fn report(alloc: Global, room: &RoomCore) -> Result<Report, AllocError>
     // many processes are held as simulators have crashed.
     ensures truth { (fields : Fields) → AreFieldsOf room.now fields → IfOk result (IsTrueReport room.now.spec fields) }
     // Those that are held are among all that have no decision and an agreement inside which a simulator has crashed.
-    ensures among { (fields : Fields) → AreFieldsOf room.now fields → IfOk result (λ report. (j i : ℕ) → j < processes room.now.spec → slice_index_or report.states.items j Going ≡ Held i → Contains (held_in room.now.spec fields) j) }
+    ensures among { (fields : Fields) →
+        AreFieldsOf room.now fields →
+        IfOk result
+        (λ report. (j i : ℕ) → j < processes room.now.spec → slice_index_or report.states.items j Going ≡ Held i →
+        Contains (held_in room.now.spec fields) j) }
     // Where each process has settled, all have decided or are spent but for at most as many as simulators have crashed.
-    ensures settled { (fields : Fields) → AreFieldsOf room.now fields → ((j : ℕ) → j < processes room.now.spec → IsSettledFor room.now.spec fields j) → IfOk result (λ report. processes room.now.spec ≤ count_by is_over report.states.items + length report.crashed.items) }
+    ensures settled { (fields : Fields) →
+        AreFieldsOf room.now fields → ((j : ℕ) → j < processes room.now.spec → IsSettledFor room.now.spec fields j) →
+        IfOk result (λ report. processes room.now.spec ≤ count_by is_over report.states.items + length report.crashed.items) }
     // In a room of a protocol that waits for all but f processes, with two rounds or more, no process is spent; so where each has
     // settled, all have decided but for at most as many as simulators have crashed.
-    ensures unspent { (f : ℕ) → IsCertified room.now.spec f → 2 ≤ room.now.spec.rounds → IfOk result (λ report. (j : ℕ) → j < processes room.now.spec → slice_index_or report.states.items j Going ≢ Spent) }
-    ensures certified { (fields : Fields) → AreFieldsOf room.now fields → (f : ℕ) → IsCertified room.now.spec f → 2 ≤ room.now.spec.rounds → ((j : ℕ) → j < processes room.now.spec → IsSettledFor room.now.spec fields j) → IfOk result (λ report. processes room.now.spec ≤ count_by is_decided report.states.items + length report.crashed.items) }
+    ensures unspent { (f : ℕ) →
+        IsCertified room.now.spec f → 2 ≤ room.now.spec.rounds →
+        IfOk result (λ report. (j : ℕ) → j < processes room.now.spec → slice_index_or report.states.items j Going ≢ Spent) }
+    ensures certified { (fields : Fields) →
+        AreFieldsOf room.now fields → (f : ℕ) → IsCertified room.now.spec f → 2 ≤ room.now.spec.rounds →
+        ((j : ℕ) → j < processes room.now.spec → IsSettledFor room.now.spec fields j) →
+        IfOk result (λ report. processes room.now.spec ≤ count_by is_decided report.states.items + length report.crashed.items) }
 {
-    let _shape = shape_of(room);
+    let _shape = shape_of(room); // for the proof: the room stands for some fields
     let history = history(alloc, room)?;
     Ok(Report {
         states: states_of(room),
@@ -51,7 +63,7 @@ pub fn report(alloc: Global, room: &RoomCore) -> Result<Report, AllocError>
     })
 }
 
-fn states_of(room: &RoomCore) -> ArrayVec<ProcessState, 16>
+fn states_of(room: &RoomCore) -> ArrayVec<ProcessState, MAX_PROCESSES>
     ensures { result.items ≡ states_of room.now.spec (read_of room.now) }
 {
     let mut states = ArrayVec::new();
@@ -62,7 +74,7 @@ fn states_of(room: &RoomCore) -> ArrayVec<ProcessState, 16>
 }
 
 /// The simulators that have crashed, in order of their numbers.
-fn crashed_in(room: &RoomCore) -> ArrayVec<u8, 8>
+fn crashed_in(room: &RoomCore) -> ArrayVec<u8, MAX_SIMULATORS>
     ensures { result.items ≡ crashed_in room.now.spec (read_of room.now) }
 {
     let mut crashed = ArrayVec::new();

@@ -1,6 +1,7 @@
 //! The snapshots of a room that were agreed on, in the order of its history.
-ghost use Rattle.std.specs.Prelude.{◌≡◌, ℕ, ◌<◌, ◌≤◌, [], ◌∷◌, ◌++◌, IfOk, OnOk, length, map, slice_index, if◌then◌else◌};
+ghost use Rattle.std.specs.Prelude.{◌≡◌, ℕ, ◌*◌, ◌<◌, ◌≤◌, [], ◌∷◌, ◌++◌, IfOk, OnOk, length, map, slice_index, if◌then◌else◌};
 ghost use Rattle.std.specs.List.{sum};
+ghost use Rattle.protocol_lang.specs.declared.meaning.TheConstants.{MAX_PROCESSES};
 ghost use Rattle.room_spec.specs.Rooms.{processes};
 ghost use Rattle.room_spec.specs.Sizes.{sizes_in};
 ghost use Rattle.view_table.specs.Places.{IsRound};
@@ -10,13 +11,14 @@ ghost use Rattle.ws_history.specs.Placing.{agreed_at};
 ghost use Rattle.ws_history.specs.Readings.{read_of};
 ghost use Rattle.ws_history.specs.Sources.{source_of};
 
-use crate::reading::{
-    Row, greatest_step, has_out, is_passed, process_count, round_count, row_of, shape_of, view_at,
-};
+use crate::agreements::{is_passed, view_at};
+use crate::reading::{Row, greatest_step, has_out, process_count, round_count, row_of, shape_of};
 use room_core::RoomCore;
+use room_spec::MAX_ROUNDS;
 use std::alloc::{AllocError, Global};
 
-/// A snapshot of a process: how many writes of all processes it shows, and of each. Snapshots go by that sum, and then by process; no two that a room has passed share both.
+/// A snapshot of a process: how many writes of all processes it shows, and of each. Snapshots go by
+/// that sum, and then by process; no two that a room has passed share both.
 #[derive(Default, Drop, PartialEq, Eq, PartialOrd, Ord)]
 pub(crate) struct Agreed {
     pub(crate) sum: usize,
@@ -29,7 +31,7 @@ pub(crate) struct Agreed {
 pub(crate) fn in_order(alloc: Global, room: &RoomCore) -> Result<Vec<Agreed>, AllocError>
     ensures { IfOk result (λ agreed. agreed.items ≡ map (agreed_at room.now) (source_of room.now.spec (read_of room.now)).order) }
 {
-    let _shape = shape_of(room); // The room stands for some fields, so its rows compare.
+    let _shape = shape_of(room); // for the proof: the room stands for some fields, so its rows compare
     let mut agreed = all_agreed(alloc, room)?;
     agreed.sort_unstable();
     Ok(agreed)
@@ -37,7 +39,10 @@ pub(crate) fn in_order(alloc: Global, room: &RoomCore) -> Result<Vec<Agreed>, Al
 
 /// The passed snapshots of a room, by process, and then by round.
 fn all_agreed(alloc: Global, room: &RoomCore) -> Result<Vec<Agreed>, AllocError>
-    ensures { IfOk result (λ agreed. agreed.items ≡ map (agreed_at room.now) (all_passed (is_passed room.now.spec (read_of room.now)) (processes room.now.spec) room.now.spec.rounds)) }
+    ensures { IfOk result
+        (λ agreed.
+        agreed.items ≡ map (agreed_at room.now) (all_passed (is_passed room.now.spec (read_of room.now))
+        (processes room.now.spec) room.now.spec.rounds)) }
 {
     let mut agreed = Vec::with_capacity(alloc, process_count(room) * round_count(room))?;
     for process in 0..process_count(room) {
@@ -49,7 +54,9 @@ fn all_agreed(alloc: Global, room: &RoomCore) -> Result<Vec<Agreed>, AllocError>
 /// Adds the passed snapshots of this process.
 fn push_rounds(agreed: &mut Vec<Agreed>, room: &RoomCore, process: usize) -> Result<(), AllocError>
     requires { process < processes room.now.spec }
-    ensures { OnOk result (agreed.new.items ≡ agreed.old.items ++ map (agreed_at room.now) (passed_of (is_passed room.now.spec (read_of room.now)) process room.now.spec.rounds)) }
+    ensures { OnOk result
+        (agreed.new.items ≡
+        agreed.old.items ++ map (agreed_at room.now) (passed_of (is_passed room.now.spec (read_of room.now)) process room.now.spec.rounds)) }
 {
     let greatest = greatest_step(room, process);
     let out = has_out(room, process);
@@ -73,7 +80,10 @@ fn push_passed(
     requires round { IsRound (sizes_in room.now.spec) round }
     requires greatest { greatest ≡ greatest_step room.now.spec (read_of room.now) process }
     requires out { out ≡ has_out room.now.spec (read_of room.now) process }
-    ensures { OnOk result (agreed.new.items ≡ agreed.old.items ++ map (agreed_at room.now) (if is_passed room.now.spec (read_of room.now) process round then record { process = process; round = round } ∷ [] else [])) }
+    ensures { OnOk result
+        (agreed.new.items ≡
+        agreed.old.items ++ map (agreed_at room.now) (if is_passed room.now.spec
+        (read_of room.now) process round then record { process = process; round = round } ∷ [] else [])) }
 {
     if is_passed(room, process, round, greatest, out) {
         agreed.push(snapshot_at(room, process, round))?;
@@ -88,7 +98,7 @@ fn snapshot_at(room: &RoomCore, process: usize, round: usize) -> Agreed
 {
     let row = row_of(room.spec(), view_at(room, process, round));
     let rounds = round_count(room);
-    prove!(rounds <= 15);
+    prove!(rounds <= MAX_ROUNDS as usize);
     Agreed {
         sum: sum(row.as_slice()),
         process,
@@ -99,10 +109,10 @@ fn snapshot_at(room: &RoomCore, process: usize, round: usize) -> Agreed
 
 /// The sum of a row, at most 240.
 pub(crate) fn sum(row: &[u8]) -> usize
-    requires count { length row.now ≤ 16 }
-    requires range { (p : ℕ) → slice_index row.now p ≤ 15 }
+    requires count { length row.now ≤ MAX_PROCESSES }
+    requires range { (p : ℕ) → slice_index row.now p ≤ MAX_ROUNDS }
     ensures value { result ≡ sum row.now }
-    ensures range { result ≤ 240 }
+    ensures range { result ≤ MAX_PROCESSES * MAX_ROUNDS }
 {
     let mut sum = 0;
     for entry in row {

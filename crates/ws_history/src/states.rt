@@ -2,6 +2,7 @@
 ghost use Rattle.std.specs.Prelude.{◌≡◌};
 
 use arrayvec::ArrayVec;
+use room_spec::{MAX_PROCESSES, MAX_SIMULATORS};
 use std::marker::Model;
 use transcript::Event;
 
@@ -63,7 +64,7 @@ impl History {
 /// rising; and what the processes have done.
 #[derive(Drop)]
 pub struct Report {
-    pub states: ArrayVec<ProcessState, 16>,
-    pub crashed: ArrayVec<u8, 8>,
+    pub states: ArrayVec<ProcessState, MAX_PROCESSES>,
+    pub crashed: ArrayVec<u8, MAX_SIMULATORS>,
     pub history: History,
 }

@@ -21,13 +21,13 @@ pub of_words-requires : goal.of_words-requires
 of_words-requires c =
     let count : c.words-count.result ≡ word_count c.args.spec = c.words-count.ensures.value ∙ ap words_of c.shape.ensures.sizes in
     let plus : c.words-count.result + 1 ≡ suc (word_count c.args.spec) = omega arith in
-    inl (starts c.args.spec c.as_slice.result.now (c.as_slice.ensures.value ∙ c.in_ok-zero.ensures ∙ ap (λ (n : ℕ). replicate n 0) plus))
+    inl (starts c.args.spec c.as_slice.result.now (c.as_slice.ensures.value ∙ c.in_ok-zero.ensures.items_if_clones_equal (λ y same. same) ∙ ap (λ (n : ℕ). replicate n 0) plus))
 
 pub swap-found-requires : goal.swap-found-requires
 swap-found-requires c =
     let t = c.in_ok-table.ensures in
     let count : c.words-count.result ≡ word_count c.args.spec = c.words-count.ensures.value ∙ ap words_of c.shape.ensures.sizes in
-    let long : length c.as_slice.result.now ≡ c.words-count.result + 1 = ap length c.as_slice.ensures.value ∙ ap length c.in_ok-zero.ensures ∙ length-replicate {A = ℕ} (c.words-count.result + 1) 0 in
+    let long : length c.as_slice.result.now ≡ c.words-count.result + 1 = ap length c.as_slice.ensures.value ∙ ap length (c.in_ok-zero.ensures.items_if_clones_equal (λ y same. same)) ∙ length-replicate {A = ℕ} (c.words-count.result + 1) 0 in
     (t.2, omega arith, rw t.5 (begins c.args.spec c.in_ok-table.table.shared.table_id.slots c.in_ok-table.seat.id c.words-count.result c.in_ok-table.seat.me count t.4))
 
 pub invariant_of-keeper : goal.invariant_of-keeper

@@ -7,7 +7,7 @@ use Rattle.sim_memory.proofs.CallerLemmas.{row_same}
 use Rattle.room_core.specs.Agreements.{shown_of}
 use Rattle.ws_history.specs.Readings.{read_of, view_start}
 use Rattle.ws_history.proofs.WordsRead.{view_read}
-use Rattle.ws_history.proofs.reading.view_at.Goals as goal
+use Rattle.ws_history.proofs.agreements.view_at.Goals as goal
 
 pub returns-clause-words : goal.returns-clause-words
 returns-clause-words c =

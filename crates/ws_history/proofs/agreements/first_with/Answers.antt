@@ -3,7 +3,7 @@ use Rattle.std.proofs.lemmas.Bool.{le-leb}
 use Rattle.std.specs.Prelude.{nat_le, unwrap_or}
 use Rattle.ws_history.specs.Readings.{read_of}
 use Rattle.ws_history.proofs.Searching.{places, no_place}
-use Rattle.ws_history.proofs.reading.first_with.Goals as goal
+use Rattle.ws_history.proofs.agreements.first_with.Goals as goal
 
 pub returns-then-r-step-clause-value : goal.returns-then-r-step-clause-value
 returns-then-r-step-clause-value c =

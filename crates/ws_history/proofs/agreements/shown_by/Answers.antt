@@ -2,7 +2,7 @@ use Rattle.std.proofs.Common.{ℕ, get_or, arith}
 use Rattle.std.proofs.lemmas.List.FromFn.{map-range_with_len_more}
 use Rattle.room_core.specs.Agreements.{shown}
 use Rattle.ws_history.specs.Readings.{read_of}
-use Rattle.ws_history.proofs.reading.shown_by.Goals as goal
+use Rattle.ws_history.proofs.agreements.shown_by.Goals as goal
 
 pub loop-p-preserved : goal.loop-p-preserved
 loop-p-preserved c =

@@ -6,7 +6,7 @@ use Rattle.room_spec.specs.Sizes.{sizes_in}
 use Rattle.sim_memory.specs.Steps.{row_of, step_in}
 use Rattle.room_core.specs.Agreements.{shown_by}
 use Rattle.ws_history.specs.Readings.{read_of}
-use Rattle.ws_history.proofs.reading.asks.Goals as goal
+use Rattle.ws_history.proofs.agreements.asks.Goals as goal
 
 pub returns : goal.returns
 returns c =

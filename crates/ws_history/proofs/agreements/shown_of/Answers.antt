@@ -3,7 +3,7 @@ use Rattle.std.proofs.lemmas.List.FromFn.{length-map-range_with_len}
 use Rattle.std.proofs.lemmas.List.Quantifiers.{position-Some}
 use Rattle.room_core.specs.Fields.{levels_at}
 use Rattle.ws_history.specs.Readings.{read_of}
-use Rattle.ws_history.proofs.reading.shown_of.Goals as goal
+use Rattle.ws_history.proofs.agreements.shown_of.Goals as goal
 
 pub returns-in-Some-clause-below : goal.returns-in-Some-clause-below
 returns-in-Some-clause-below c =

@@ -7,7 +7,7 @@ use Rattle.view_table.proofs.CallerLemmas.{few_words}
 use Rattle.room_core.specs.Agreements.{shown_of}
 use Rattle.ws_history.specs.Readings.{read_of}
 use Rattle.ws_history.proofs.WordsRead.{view_fits}
-use Rattle.ws_history.proofs.reading.view_start.Goals as goal
+use Rattle.ws_history.proofs.agreements.view_start.Goals as goal
 
 pub index-requires : goal.index-requires
 index-requires c =

@@ -3,7 +3,7 @@ use Rattle.std.specs.List.{range_with_len}
 use Rattle.arrayvec.specs.ArrayVec.{array_vec_len}
 use Rattle.room_core.specs.Agreements.{shown}
 use Rattle.ws_history.specs.Readings.{read_of}
-use Rattle.ws_history.proofs.reading.shown_by.Given as goal
+use Rattle.ws_history.proofs.agreements.shown_by.Given as goal
 
 abbrev pub invariant-loop-p : goal.invariant-loop-p
 invariant-loop-p l = record { so_far : l.view.items ≡ map (λ p. shown l.room.spec (read_of l.room) p (get_or l.row p 0)) (range_with_len 0 l.p); count : array_vec_len l.view ≡ l.p }

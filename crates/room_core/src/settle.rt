@@ -1,0 +1,84 @@
+//! Settling: what simulators that are left come to, each by itself.
+ghost use Rattle.std.specs.Prelude.{ℕ, ◌≡◌, ◌<◌, ◌≤◌};
+ghost use Rattle.room_spec.specs.Rooms.{IsCertified, processes};
+ghost use Rattle.room_core.specs.Rooms.{IsRoom};
+ghost use Rattle.room_core.specs.Fields.{Fields, fields_after_settle};
+ghost use Rattle.room_core.specs.Agreements.{AgreementsStay};
+ghost use Rattle.room_core.specs.Reading.{AreFieldsOf};
+ghost use Rattle.room_core.specs.Calls.{configuration_of, room_after_settle, room_kind};
+ghost use Rattle.room_core.specs.Settled.{HasTurnLeft, IsDecidedOrHeld, IsSettledFor};
+ghost use Rattle.room_core.specs.Settles.{Settles};
+ghost use Rattle.room_core.specs.Settling.{each_in_order, ran_alone, turn_ended};
+
+use crate::reply::StepReply;
+use crate::room::RoomCore;
+
+impl RoomCore {
+    /// Ends the open turn of each simulator that hasn't crashed, in order of number; then lets each of
+    /// them, in order of number, run alone until it is idle or out of turns, with its quiet turns
+    /// counted anew. It takes no memory.
+    pub fn settle(&mut self)
+        ensures room { self.new ≡ room_after_settle self.old }
+        // The same with no bound: each turn goes to its end, and each runs until it has no step to take.
+        ensures unbounded { Settles room_kind self.old self.new }
+        // In its fields it is one call of the replay.
+        ensures fields { (fields : Fields) → AreFieldsOf self.old fields → AreFieldsOf self.new (fields_after_settle self.old.spec fields) }
+        // What was agreed on stays.
+        ensures agreement { (fields : Fields) → AreFieldsOf self.old fields → AgreementsStay self.old.spec fields (fields_after_settle self.old.spec fields) }
+        // Where a simulator that hasn't crashed has a turn left, each process has decided, is spent, or is held by one that has.
+        ensures settled { (fields : Fields) →
+            AreFieldsOf self.old fields → HasTurnLeft self.old.spec (fields_after_settle self.old.spec fields) → (j : ℕ) →
+            j < processes self.old.spec →
+            IsSettledFor self.old.spec (fields_after_settle self.old.spec fields) j }
+        // By a protocol that waits for all but f, in two rounds or more, none is spent.
+        ensures certified { (fields : Fields) →
+            AreFieldsOf self.old fields → (f : ℕ) → IsCertified self.old.spec f → 2 ≤ self.old.spec.rounds →
+            HasTurnLeft self.old.spec (fields_after_settle self.old.spec fields) → (j : ℕ) → j < processes self.old.spec →
+            IsDecidedOrHeld self.old.spec (fields_after_settle self.old.spec fields) j }
+    {
+        self.finish_turns();
+        self.run_each();
+    }
+
+    fn finish_turns(&mut self)
+        ensures ended { self.new ≡ each_in_order room_kind (turn_ended room_kind) self.old }
+        ensures is_room { IsRoom (configuration_of self.old) }
+    {
+        for i in 0..self.spec.m() {
+            self.finish_turn(i);
+        }
+    }
+
+    fn run_each(&mut self)
+        ensures { self.new ≡ each_in_order room_kind (ran_alone room_kind) self.old }
+    {
+        for i in 0..self.spec.m() {
+            self.run_alone(i);
+        }
+    }
+
+    /// Lets simulator `i` end its open turn, if it has one and hasn't crashed.
+    fn finish_turn(&mut self, i: usize)
+        requires { i < self.old.spec.simulators }
+        ensures { self.new ≡ turn_ended room_kind self.old i }
+    {
+        if self.crashed[i] {
+            return;
+        }
+        while !self.mind(i).resting() {
+            self.step(i);
+        }
+    }
+
+    /// Lets simulator `i` run until it is idle or out of turns, if it hasn't crashed.
+    fn run_alone(&mut self, i: usize)
+        requires { i < self.old.spec.simulators }
+        ensures { self.new ≡ ran_alone room_kind self.old i }
+    {
+        if self.crashed[i] {
+            return;
+        }
+        self.wake(i); // Others may have come further since it asked.
+        while self.step(i) == StepReply::Stepped {}
+    }
+}

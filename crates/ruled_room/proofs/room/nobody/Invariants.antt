@@ -1,7 +1,0 @@
-use Rattle.std.proofs.Common.{◌≡◌, false}
-use Rattle.std.specs.Prelude.{replicate}
-use Rattle.arrayvec.specs.ArrayVec.{array_vec_len}
-use Rattle.ruled_room.proofs.room.nobody.Given as goal
-
-abbrev pub invariant-loop : goal.invariant-loop
-invariant-loop l = record { so_far : l.crashed.items ≡ replicate l.counter false; count : array_vec_len l.crashed ≡ l.counter }
