@@ -12,7 +12,8 @@ use Rattle.transcript.specs.declared.fault.LineFault.{LineFault}
 use Rattle.transcript.specs.declared.fault.LineFault.TheVariants.{BadName}
 use Rattle.transcript.specs.Faults.{is_snap}
 use Rattle.transcript.specs.Grammar.{entry_text}
-use Rattle.transcript.specs.Lines.{◌>>=◌, of_room, event_said, line_said, LineParts}
+use Rattle.protocol_lang.specs.Results.{◌>>=◌}
+use Rattle.transcript.specs.Lines.{of_room, event_said, line_said, LineParts}
 use Rattle.transcript.proofs.CallerLemmas.{row_spelled}
 use Rattle.history_checker.specs.Shown.{SaysRow, spaced}
 

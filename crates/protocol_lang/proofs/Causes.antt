@@ -24,7 +24,8 @@ use Rattle.protocol_lang.specs.declared.state.Refusal.{Refusal}
 use Rattle.protocol_lang.specs.declared.state.Refusal.TheVariants as refusals
 use Rattle.protocol_lang.proofs.Carrying.{writings, state_of, ends_of, step_of}
 use Rattle.protocol_lang.proofs.Going.{Goes, took, spelled_some, is_no_end}
-use Rattle.protocol_lang.proofs.Holds.{Holds, HoldsAt, holds_first}
+use Rattle.protocol_lang.proofs.Headers.{Holds, HoldsAt}
+use Rattle.protocol_lang.proofs.Holds.{holds_first}
 use Rattle.protocol_lang.proofs.Sound.{goes_written}
 use Rattle.protocol_lang.proofs.Steps.{placed, next_token_is, token_reads, stands, behind_blanks}
 use Rattle.protocol_lang.proofs.Front.{at_letter, at_digit, at_other}

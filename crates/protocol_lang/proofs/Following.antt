@@ -30,7 +30,8 @@ use Rattle.protocol_lang.proofs.Locality.{bind_err, run_is, run_none}
 use Rattle.protocol_lang.proofs.Going.{Goes, Took, took, ends_again}
 use Rattle.protocol_lang.proofs.Only.{tree_reads}
 use Rattle.protocol_lang.proofs.Holding.{Wanting}
-use Rattle.protocol_lang.proofs.Holds.{Holds, HoldsAt, holds_on}
+use Rattle.protocol_lang.proofs.Headers.{Holds, HoldsAt}
+use Rattle.protocol_lang.proofs.Holds.{holds_on}
 
 -- ---- from wherever reading stands some tokens lead to an end
 

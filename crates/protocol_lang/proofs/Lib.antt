@@ -13,6 +13,8 @@ mod Steps
 mod Alike
 mod Going
 mod Holding
+mod Headers
+mod Groups
 mod Holds
 mod Sound
 mod Locality

@@ -8,7 +8,8 @@ use Rattle.protocol_lang.specs.Numbers.{greatest, is_digit, number_of}
 use Rattle.protocol_lang.specs.Tokens.{is_blank, is_letter, is_end, word_of, symbol_of}
 use Rattle.protocol_lang.specs.Trees.{Expression}
 use Rattle.protocol_lang.specs.Formulas.{Operands, trees}
-use Rattle.protocol_lang.specs.Reading.{◌>>=◌, word_token, number_token, symbol_token, token_at, extent_of, past_blanks, next_token, State, step, fault_at, refused_at, one_token, onward, run, opening, most_tokens, tree_read, reading, Takes}
+use Rattle.protocol_lang.specs.Results.{◌>>=◌}
+use Rattle.protocol_lang.specs.Reading.{word_token, number_token, symbol_token, token_at, extent_of, past_blanks, next_token, State, step, fault_at, refused_at, one_token, onward, run, opening, most_tokens, tree_read, reading, Takes}
 use Rattle.protocol_lang.specs.FirstFaults.{place_of, SameThrough}
 use Rattle.protocol_lang.specs.declared.fault.ParseFault.{ParseFault}
 use Rattle.protocol_lang.specs.declared.fault.ParseFault.TheVariants.{TooLong, BadToken, Unexpected, TooDeep, TooManyRules, ViewInFirst, NumberTooLarge, OutOfMemory}

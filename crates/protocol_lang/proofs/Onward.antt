@@ -3,7 +3,8 @@ use Rattle.std.proofs.Common.{arith, ◌≡◌, ℕ, zero, suc, ◌+◌, ◌<◌
 use Rattle.protocol_lang.specs.Trees.{Expression}
 use Rattle.protocol_lang.specs.Formulas.{Operands, trees}
 use Rattle.std.proofs.lemmas.Bool.{lt-ltb, le-ltb}
-use Rattle.protocol_lang.specs.Reading.{◌>>=◌, State, opening, one_token, fault_at, onward, run, most_tokens, tree_read, reading, Takes, Reaches, at_start as reaches_start, one_further, IsReading}
+use Rattle.protocol_lang.specs.Results.{◌>>=◌}
+use Rattle.protocol_lang.specs.Reading.{State, opening, one_token, fault_at, onward, run, most_tokens, tree_read, reading, Takes, Reaches, at_start as reaches_start, one_further, IsReading}
 use Rattle.protocol_lang.specs.declared.state.Refusal.{Refusal}
 use Rattle.protocol_lang.specs.declared.state.Refusal.TheVariants as refusals
 use Rattle.protocol_lang.specs.declared.fault.ParseFault.{ParseFault}

@@ -29,7 +29,7 @@ use Rattle.protocol_lang.specs.declared.tree.Comparator.{Comparator}
 use Rattle.protocol_lang.specs.declared.tree.Kind.{Kind}
 use Rattle.protocol_lang.proofs.Carrying.{writings}
 use Rattle.protocol_lang.proofs.Going.{Goes}
-use Rattle.protocol_lang.proofs.Holds.{name_word, call_is}
+use Rattle.protocol_lang.proofs.Groups.{name_word, call_is}
 use Rattle.protocol_lang.proofs.Whens.{begun_rules, Counts, step_counts}
 
 -- ---- open parentheses, and the first expression

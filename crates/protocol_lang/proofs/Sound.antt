@@ -17,7 +17,8 @@ use Rattle.protocol_lang.proofs.Steps.{bind_ok}
 use Rattle.protocol_lang.proofs.Onward.{reading_by}
 use Rattle.protocol_lang.proofs.Carrying.{writings, state_of, ends_of, step_of, tree_read_of}
 use Rattle.protocol_lang.proofs.Going.{Goes, run_found}
-use Rattle.protocol_lang.proofs.Holds.{Holds, HoldsAt, holds_on, holds_first}
+use Rattle.protocol_lang.proofs.Headers.{Holds, HoldsAt}
+use Rattle.protocol_lang.proofs.Holds.{holds_on, holds_first}
 
 written_step : (s : State Written) (token : Token) (t : State Expression) (r : Result (State Written) Refusal) → step writings s token ≡ r → ends_of r ≡ Ok t → (w : State Written) × (step writings s token ≡ Ok w) × (state_of w ≡ t)
 written_step s token t (Ok w) e is = (w, e, (let same : state_of w ≡ t = cc in same))

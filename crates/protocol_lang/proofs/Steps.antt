@@ -3,7 +3,8 @@ use Rattle.std.proofs.Common.{◌≡◌, ℕ, ◌+◌, List, [], ◌∷◌, ◌+
 use Rattle.std.specs.List.{prefix_len}
 use Rattle.std.proofs.lemmas.List.{append-nil, take-append-drop, drop-drop, drop_at}
 use Rattle.protocol_lang.specs.Tokens.{is_blank}
-use Rattle.protocol_lang.specs.Reading.{◌>>=◌, token_at, extent_of, past_blanks, placed_at, next_token}
+use Rattle.protocol_lang.specs.Results.{◌>>=◌}
+use Rattle.protocol_lang.specs.Reading.{token_at, extent_of, past_blanks, placed_at, next_token}
 use Rattle.protocol_lang.specs.Grammar.{Spells}
 use Rattle.protocol_lang.specs.declared.fault.ParseFault.{ParseFault}
 use Rattle.protocol_lang.specs.declared.token.Token.{Token}

@@ -7,7 +7,8 @@ use Rattle.std.proofs.lemmas.Bool.{cases_Bool, cases_lt, lt-ltb, le-ltb, ltb-fal
 use Rattle.protocol_lang.specs.Tokens.{name_of, call_of, operator_of, comparator_of, kind_of, is_end}
 use Rattle.protocol_lang.specs.Trees.{is_sum, RuleOf, Tree}
 use Rattle.protocol_lang.specs.Formulas.{Operands, trees}
-use Rattle.protocol_lang.specs.Reading.{◌>>=◌, extent_of, past_blanks, next_token, State, opening, is_hidden, is_first, opened, word_operand, operand, call_opened, with_infix, closed, first_ended, left_ended, right_ended, action_rule_ended, last_ended, ended, in_outermost, behind, begun, rule, last, step_at, step, fault_at, refused_at, one_token, onward, run, most_tokens, tree_read, reading, IsReading}
+use Rattle.protocol_lang.specs.Results.{◌>>=◌}
+use Rattle.protocol_lang.specs.Reading.{extent_of, past_blanks, next_token, State, opening, is_hidden, is_first, opened, word_operand, operand, call_opened, with_infix, closed, first_ended, left_ended, right_ended, action_rule_ended, last_ended, ended, in_outermost, behind, begun, rule, last, step_at, step, fault_at, refused_at, one_token, onward, run, most_tokens, tree_read, reading, IsReading}
 use Rattle.protocol_lang.specs.FirstFaults.{place_of, AreTokens, is_when, IsLocal}
 use Rattle.protocol_lang.specs.declared.fault.ParseFault.{ParseFault}
 use Rattle.protocol_lang.specs.declared.fault.ParseFault.TheVariants.{TooLong, BadToken, Unexpected, TooDeep, TooManyRules, ViewInFirst, NumberTooLarge, OutOfMemory}

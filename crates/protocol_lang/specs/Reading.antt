@@ -1,6 +1,7 @@
 -- How a text is read: token by token from the left, up to the first fault.
 use Rattle.std.specs.Prelude.{◌≡◌, ℕ, zero, suc, ◌+◌, ◌-◌, ◌≤◌, Bool, true, false, ⊤, List, [], ◌∷◌, ◌++◌, length, drop, Option, Some, None, Result, Ok, Err, IsOk, nat_le, nat_lt, if◌then◌else◌}
 use Rattle.std.specs.List.{prefix_len, take_while}
+use Rattle.protocol_lang.specs.Results.{◌>>=◌}
 use Rattle.protocol_lang.specs.Numbers.{greatest, is_digit, number_of}
 use Rattle.protocol_lang.specs.Tokens.{is_blank, is_letter, word_of, symbol_spelling, symbol_of, name_of, call_of, operator_of, comparator_of, kind_of, is_end, reads_view}
 use Rattle.protocol_lang.specs.Stacks.{pushed}
@@ -33,12 +34,6 @@ use Rattle.protocol_lang.specs.declared.tree.Operator.{Operator}
 use Rattle.protocol_lang.specs.declared.tree.Comparator.{Comparator}
 use Rattle.protocol_lang.specs.declared.tree.Kind.{Kind}
 use Rattle.protocol_lang.specs.declared.tree.Kind.TheVariants as kinds
-
--- one step, and then the next where it had no fault
-infixl 10 ◌>>=◌
-abbrev pub ◌>>=◌ : {A B : Type 0} → Result A ParseFault → (A → Result B ParseFault) → Result B ParseFault
-(Ok x) >>= next = next x
-(Err fault) >>= next = Err fault
 
 -- ---- tokens
 

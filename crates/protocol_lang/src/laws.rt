@@ -31,7 +31,7 @@ pub fn next_is_value()
 
 /// A process that waits for all but f first writes its input. Where its view shows fewer, it writes its own entry again; else it
 /// decides the least value.
-pub fn waits_for_all_but_so_many()
+pub fn waits_for_all_but_some()
     ensures first { (f input id n : ℕ) → first_value (waits_for_all_but f) input id n ≡ input }
     ensures writes { (f input id round value : ℕ) (view : List (Option ℕ)) →
         next_action (waits_for_all_but f) input id round view ≡ Write value →

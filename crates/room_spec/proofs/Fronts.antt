@@ -5,7 +5,8 @@ use Rattle.std.specs.List.{position}
 use Rattle.std.specs.Option.{option_map}
 use Rattle.std.proofs.lemmas.List.{append_assoc, length-append, length-take-le, take_all, take_at, take-take}
 use Rattle.room_spec.specs.Texts.{is_line_end, lines_of, pieces_of}
-use Rattle.room_spec.specs.Blocks.{◌>>=◌, body_len, block_len, block_in, is_end, room_in, room_before, GivesOrMemory, IsEnded, OrMemory}
+use Rattle.protocol_lang.specs.Results.{◌>>=◌}
+use Rattle.room_spec.specs.Blocks.{body_len, block_len, block_in, is_end, room_in, room_before, GivesOrMemory, IsEnded, OrMemory}
 use Rattle.room_spec.specs.Grammar.{EndsAt, are_before_end, line_end, text_of}
 use Rattle.room_spec.specs.Rooms.{RoomSpec}
 use Rattle.room_spec.specs.declared.fault.SpecFault.{SpecFault}

@@ -18,7 +18,8 @@ use Rattle.std.proofs.lemmas.Slice.Eq.{bytes_eq-Decides}
 use Rattle.protocol_lang.specs.Numbers.{number_of}
 use Rattle.room_spec.specs.Rooms.{AreFuses, is_value}
 use Rattle.room_spec.specs.Texts.{is_space, first_line, later_lines, fields_of, pieces_of}
-use Rattle.room_spec.specs.Blocks.{◌>>=◌, value_after, is_protocol, both, fuse_in, of_simulator, has_fuse, unrepeated, line_behind, said, said_next, onward, fuses_from}
+use Rattle.protocol_lang.specs.Results.{◌>>=◌}
+use Rattle.room_spec.specs.Blocks.{value_after, is_protocol, both, fuse_in, of_simulator, has_fuse, unrepeated, line_behind, said, said_next, onward, fuses_from}
 use Rattle.room_spec.specs.Grammar.{crash_line}
 use Rattle.room_spec.specs.declared.fault.SpecFault.{SpecFault}
 use Rattle.room_spec.specs.declared.fault.SpecFault.TheVariants.{BadLine, CrashLine, Repeated}
@@ -185,8 +186,8 @@ pub record GoesOn (from m : ℕ) (fuses : List (ℕ × ℕ)) (later : List ℕ) 
   pub are : AreFuses fuses m
   pub so_far : fuses_from (suc (m - length fuses)) from m fuses later ≡ whole
 
-pub goes_on : (from m : ℕ) (fuses : List (ℕ × ℕ)) (now line later : List ℕ) (fuse : ℕ × ℕ) (whole : Result (List (ℕ × ℕ) × List ℕ) SpecFault) → AreFuses fuses m → line ≡ first_line now → later ≡ later_lines now → Ok (Some fuse) ≡ said_next from m fuses line → fuses_from (suc (m - length fuses)) from m fuses now ≡ whole → GoesOn from m (fuses ++ fuse ∷ []) later whole
-goes_on from m fuses now line later fuse whole are first rest is so_far =
+pub fuses_go_on : (from m : ℕ) (fuses : List (ℕ × ℕ)) (now line later : List ℕ) (fuse : ℕ × ℕ) (whole : Result (List (ℕ × ℕ) × List ℕ) SpecFault) → AreFuses fuses m → line ≡ first_line now → later ≡ later_lines now → Ok (Some fuse) ≡ said_next from m fuses line → fuses_from (suc (m - length fuses)) from m fuses now ≡ whole → GoesOn from m (fuses ++ fuse ∷ []) later whole
+fuses_go_on from m fuses now line later fuse whole are first rest is so_far =
     let tells = tells_fuse from m fuses line fuse (sym is) in
     let more : AreFuses (fuses ++ fuse ∷ []) m = fuses_pushed fuses fuse m are tells.below tells.new in
     let few : length (fuses ++ fuse ∷ []) ≤ m = fuses_few (fuses ++ fuse ∷ []) m more in

@@ -15,7 +15,8 @@ use Rattle.protocol_lang.specs.Numbers.{greatest, number_of}
 use Rattle.room_spec.specs.Names.{is_name}
 use Rattle.room_spec.specs.Texts.{is_space, first_line, later_lines, fields_of}
 use Rattle.room_spec.specs.Rooms.{is_value}
-use Rattle.room_spec.specs.Blocks.{◌>>=◌, value_after, version_of, version_line, named, name_line, with_number, numbers_of, inputs_of, are_inputs, in_range, inputs_line, up_to, number_line, agreed, task_of, task_words}
+use Rattle.protocol_lang.specs.Results.{◌>>=◌}
+use Rattle.room_spec.specs.Blocks.{value_after, version_of, version_line, named, name_line, with_number, numbers_of, inputs_of, are_inputs, in_range, inputs_line, up_to, number_line, agreed, task_of, task_words}
 use Rattle.room_spec.specs.Grammar.{version_text, agree_line, IsTaskLine}
 use Rattle.room_spec.specs.declared.version.Version.{Version}
 use Rattle.room_spec.specs.declared.version.Version.TheVariants.{One, Two}
@@ -155,9 +156,9 @@ values_found (field ∷ fields) values e all =
     let fields_is : fields ≡ map decimal parts.1 = values_found fields parts.1 parts.3 each.1 in
     ap (λ (f : List ℕ). f ∷ fields) field_is ∙ ap (λ (f : List (List ℕ)). decimal parts.0 ∷ f) fields_is ∙ ap (map decimal) (sym parts.4)
 
-pub pieces_found : (pieces : List (List ℕ)) (values : List ℕ) → inputs_of pieces ≡ Some values → list_all is_value values ≡ true → pieces ≡ codes "inputs" ∷ map decimal values
-pieces_found [] values e all = absurd cc
-pieces_found (word ∷ fields) values e all =
+pub inputs_spelled : (pieces : List (List ℕ)) (values : List ℕ) → inputs_of pieces ≡ Some values → list_all is_value values ≡ true → pieces ≡ codes "inputs" ∷ map decimal values
+inputs_spelled [] values e all = absurd cc
+inputs_spelled (word ∷ fields) values e all =
     let parts = test_found (bytes_eq word (codes "inputs")) (numbers_of fields) values e in
     ap (λ (w : List ℕ). w ∷ fields) ((bytes_eq-Decides word (codes "inputs")).0 parts.0) ∙ ap (λ (f : List (List ℕ)). codes "inputs" ∷ f) (values_found fields values parts.1 all)
 
@@ -174,7 +175,7 @@ pub inputs_found : (text : List ℕ) (read : List ℕ × List ℕ) → inputs_li
 inputs_found text read e =
     let parts = with_rest (in_range (inputs_of (fields_of (first_line text)))) (later_lines text) read e in
     let values = inputs_in_range (inputs_of (fields_of (first_line text))) read.0 parts.0 in
-    let pieces = pieces_found (fields_of (first_line text)) read.0 values.0 (inputs_are_values read.0 values.1) in
+    let pieces = inputs_spelled (fields_of (first_line text)) read.0 values.0 (inputs_are_values read.0 values.1) in
     (sym (join_with_byte-slice_split 32 (first_line text)) ∙ ap (join_with_byte 32) pieces, parts.1, values.1)
 
 -- pieces that have no such byte come back from where they are joined by it

@@ -11,6 +11,8 @@ mod Heads
 mod Fuses
 mod Readings
 mod Locality
+mod Standing
+mod LineFaults
 mod FirstFaults
 mod Memory
 mod Values

@@ -17,7 +17,8 @@ use Rattle.room_spec.specs.declared.version.Version.{Version}
 use Rattle.room_spec.specs.declared.version.Version.TheVariants.{One, Two}
 use Rattle.room_spec.specs.Names.{is_name}
 use Rattle.room_spec.specs.Texts.{is_line_end, first_line, later_lines, lines_of, fields_of, pieces_of}
-use Rattle.room_spec.specs.Blocks.{◌>>=◌, is_end, body_len, value_after, version_of, named, inputs_of, are_inputs, in_range, up_to, fitting, agreed, task_of, task_words, task_in, line_behind_task, is_protocol, fuse_in, of_simulator, has_fuse, unrepeated, line_behind, said, said_next, onward, fuses_from, protocol_of, room_in, room_before, block_in}
+use Rattle.protocol_lang.specs.Results.{◌>>=◌}
+use Rattle.room_spec.specs.Blocks.{is_end, body_len, value_after, version_of, named, inputs_of, are_inputs, in_range, up_to, fitting, agreed, task_of, task_words, task_in, line_behind_task, is_protocol, fuse_in, of_simulator, has_fuse, unrepeated, line_behind, said, said_next, onward, fuses_from, protocol_of, room_in, room_before, block_in}
 use Rattle.room_spec.specs.Grammar.{is_line, text_of, behind_protocol, are_before_end, EndsAt, line_of, IsLocal, IsOfText}
 use Rattle.room_spec.specs.declared.fault.SpecFault.{SpecFault}
 use Rattle.room_spec.specs.declared.fault.SpecFault.TheVariants.{Truncated, BadLine, BadName, BadProtocol, Inputs, Simulators, Rounds, Turns, TooWide, CrashLine, Repeated, TaskLine}

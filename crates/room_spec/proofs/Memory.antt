@@ -9,7 +9,8 @@ use Rattle.protocol_lang.specs.declared.fault.ParseFault.{ParseFault}
 use Rattle.protocol_lang.specs.declared.fault.ParseFault.TheVariants.{OutOfMemory, TooLong}
 use Rattle.protocol_lang.proofs.CallerLemmas.{first_fault, small_if_read}
 use Rattle.room_spec.specs.Rooms.{RoomSpec}
-use Rattle.room_spec.specs.Blocks.{◌>>=◌, body_len, protocol_of, room_in, room_before, block_in, GivesOrMemory, IsHeadRight, OrMemory, UnlessMemory, out_of_memory}
+use Rattle.protocol_lang.specs.Results.{◌>>=◌}
+use Rattle.room_spec.specs.Blocks.{body_len, protocol_of, room_in, room_before, block_in, GivesOrMemory, IsHeadRight, OrMemory, UnlessMemory, out_of_memory}
 use Rattle.room_spec.specs.Grammar.{IsBlock, IsLocal, IsOfText, IsFirstFault}
 use Rattle.room_spec.specs.declared.fault.SpecFault.{SpecFault}
 use Rattle.room_spec.specs.declared.fault.SpecFault.TheVariants.{BadProtocol}

@@ -18,7 +18,8 @@ use Rattle.room_spec.specs.Rooms.{RoomSpec, AreFuses, IsShape, IsTaskIn, IsWithi
 use Rattle.room_spec.specs.declared.version.Version.{Version}
 use Rattle.room_spec.specs.declared.version.Version.TheVariants.{One, Two}
 use Rattle.room_spec.specs.Texts.{is_line_end, first_line, later_lines}
-use Rattle.room_spec.specs.Blocks.{◌>>=◌, is_end, body_len, value_after, version_line, name_line, are_inputs, inputs_line, number_line, fitting, task_of, task_words, task_in, task_line, line_behind_task, onward, said_next, fuses_from, fuse_lines, protocol_of, room_in, block_in}
+use Rattle.protocol_lang.specs.Results.{◌>>=◌}
+use Rattle.room_spec.specs.Blocks.{is_end, body_len, value_after, version_line, name_line, are_inputs, inputs_line, number_line, fitting, task_of, task_words, task_in, task_line, line_behind_task, onward, said_next, fuses_from, fuse_lines, protocol_of, room_in, block_in}
 use Rattle.room_spec.specs.Grammar.{line_end, is_line, text_of, are_before_end, version_text, agree_line, task_lines, crash_line, head_lines, block_text, IsInFront, IsBlock, IsHead, width_of}
 use Rattle.room_spec.specs.declared.fault.SpecFault.{SpecFault}
 use Rattle.room_spec.specs.declared.fault.SpecFault.TheVariants.{Simulators, Rounds, Turns, TooWide}
@@ -150,15 +151,15 @@ fuse_says m fuses fuse lines line rest read taken is says = record {
 told_some : (from m : ℕ) (fuses : List (ℕ × ℕ)) (line : List ℕ) (found : Option (ℕ × ℕ)) → said_next from m fuses line ≡ Ok found → line ≢ []
 told_some from m fuses line found said empty = absurd (let h : said_next from m fuses [] ≡ Ok found = sym (ap (said_next from m fuses) empty) ∙ said in cc)
 
-pub values_pushed : (fuses : List (ℕ × ℕ)) (fuse : ℕ × ℕ) → list_all (λ f. is_value f.1) fuses ≡ true → is_value fuse.1 ≡ true → list_all (λ f. is_value f.1) (fuses ++ fuse ∷ []) ≡ true
-values_pushed fuses fuse all is = list_all-append (λ (f : ℕ × ℕ). is_value f.1) fuses (fuse ∷ []) ∙ and_from (list_all (λ f. is_value f.1) fuses) (list_all (λ f. is_value f.1) (fuse ∷ [])) all (and_from (is_value fuse.1) true is refl)
+pub fuses_are_values : (fuses : List (ℕ × ℕ)) (fuse : ℕ × ℕ) → list_all (λ f. is_value f.1) fuses ≡ true → is_value fuse.1 ≡ true → list_all (λ f. is_value f.1) (fuses ++ fuse ∷ []) ≡ true
+fuses_are_values fuses fuse all is = list_all-append (λ (f : ℕ × ℕ). is_value f.1) fuses (fuse ∷ []) ∙ and_from (list_all (λ f. is_value f.1) fuses) (list_all (λ f. is_value f.1) (fuse ∷ [])) all (and_from (is_value fuse.1) true is refl)
 
 onward_found : (most from m : ℕ) (fuses : List (ℕ × ℕ)) (line rest : List ℕ) (lines : List (List ℕ)) (found : Option (ℕ × ℕ)) (read : List (ℕ × ℕ) × List ℕ) → m ≤ 8 → Takes lines line rest → AreFuses fuses m → list_all (λ fuse. is_value fuse.1) fuses ≡ true → ((fuse : ℕ × ℕ) (more : List (List ℕ)) → rest ≡ text_of more → are_lines more ≡ true → AreFuses (fuses ++ fuse ∷ []) m → list_all (λ f. is_value f.1) (fuses ++ fuse ∷ []) ≡ true → fuses_from most from m (fuses ++ fuse ∷ []) rest ≡ Ok read → SaysFuses m (fuses ++ fuse ∷ []) more read) → said_next from m fuses line ≡ Ok found → onward (fuses_from most from m) fuses rest found ≡ Ok read → SaysFuses m fuses lines read
 onward_found most from m fuses line rest lines None read few taken are values later said e = protocol_says m fuses lines line rest read are values taken (tells_protocol from m fuses line said) (ok_is _ read e)
 onward_found most from m fuses line rest lines (Some fuse) read few taken are values later said e =
     let tells = tells_fuse from m fuses line fuse said in
     fuse_says m fuses fuse lines line rest read taken (crash_line_found m fuses line fuse few tells)
-    (later fuse taken.more taken.rest_is taken.whole (fuses_pushed fuses fuse m are tells.below tells.new) (values_pushed fuses fuse values tells.value) e)
+    (later fuse taken.more taken.rest_is taken.whole (fuses_pushed fuses fuse m are tells.below tells.new) (fuses_are_values fuses fuse values tells.value) e)
 
 fuses_found : (most from m : ℕ) (fuses : List (ℕ × ℕ)) (text : List ℕ) (lines : List (List ℕ)) (read : List (ℕ × ℕ) × List ℕ) → m ≤ 8 → text ≡ text_of lines → are_lines lines ≡ true → AreFuses fuses m → list_all (λ fuse. is_value fuse.1) fuses ≡ true → fuses_from most from m fuses text ≡ Ok read → SaysFuses m fuses lines read
 unfolding fuses_from

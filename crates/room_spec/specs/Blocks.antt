@@ -3,6 +3,7 @@ use Rattle.std.specs.Prelude.{◌≡◌, ◌⊎◌, ⊤, ℕ, zero, suc, ◌+◌
 use Rattle.std.specs.List.{list_all, list_any, position, starts_with, sum_by}
 use Rattle.std.specs.Option.{option_map, option_and_then}
 use Rattle.std.specs.Str.{bytes_eq}
+use Rattle.protocol_lang.specs.Results.{◌>>=◌}
 use Rattle.protocol_lang.specs.Numbers.{number_of}
 use Rattle.protocol_lang.specs.Reading.{reading}
 use Rattle.protocol_lang.specs.declared.protocol.Protocol.{Protocol}
@@ -17,12 +18,6 @@ use Rattle.room_spec.specs.declared.version.Version.{Version}
 use Rattle.room_spec.specs.declared.version.Version.TheVariants.{One, Two}
 use Rattle.protocol_lang.specs.declared.meaning.TheConstants.{MAX_PROCESSES}
 use Rattle.room_spec.specs.declared.spec.TheConstants.{MAX_AGREED, MAX_ROUNDS, MAX_SIMULATORS, MAX_TURNS}
-
--- one step, and then the next where it had no fault
-infixl 10 ◌>>=◌
-abbrev pub ◌>>=◌ : {A B : Type 0} → Result A SpecFault → (A → Result B SpecFault) → Result B SpecFault
-(Ok x) >>= next = next x
-(Err fault) >>= next = Err fault
 
 -- ---- where a block ends
 
@@ -207,11 +202,6 @@ room_before text (Some body) = room_in (take body text) >>= λ room. Ok (room, m
 -- what a block at the front of a text says and how many bytes it takes, or its first fault
 abbrev pub block_in : List ℕ → Result (RoomSpec × ℕ) SpecFault
 block_in text = room_before text (body_len text)
-
--- what a function returned, seen by `view`, is what reading gives
-abbrev pub Gives : {X Y : Type 0} → (X → Y) → Result X SpecFault → Result Y SpecFault → Type 0
-Gives view (Ok x) read = read ≡ Ok (view x)
-Gives view (Err fault) read = read ≡ Err fault
 
 -- memory was refused to the protocol
 abbrev pub out_of_memory : SpecFault

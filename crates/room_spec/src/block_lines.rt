@@ -3,7 +3,8 @@ ghost use Rattle.std.specs.Prelude.{◌≡◌, ◌*◌, ◌≤◌, length, IfOk,
 ghost use Rattle.std.specs.Option.{option_copied};
 ghost use Rattle.room_spec.specs.Rooms.{IsTaskIn};
 ghost use Rattle.room_spec.specs.Texts.{fields_of};
-ghost use Rattle.room_spec.specs.Blocks.{version_of, version_line, name_line, inputs_of, in_range, inputs_line, number_line, task_of, task_words, task_line, line_behind_task, room_in, Gives, OrMemory};
+ghost use Rattle.protocol_lang.specs.Results.{Gives};
+ghost use Rattle.room_spec.specs.Blocks.{version_of, version_line, name_line, inputs_of, in_range, inputs_line, number_line, task_of, task_words, task_line, line_behind_task, room_in, OrMemory};
 
 use crate::crash_lines::read_fuses;
 use crate::fault::SpecFault;

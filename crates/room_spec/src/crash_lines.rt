@@ -4,7 +4,8 @@ ghost use Rattle.std.specs.Option.{option_map};
 ghost use Rattle.room_spec.specs.Rooms.{AreFuses};
 ghost use Rattle.room_spec.specs.Texts.{fields_of};
 ghost use Rattle.room_spec.specs.declared.fault.SpecFault.TheVariants.{BadLine};
-ghost use Rattle.room_spec.specs.Blocks.{fuse_in, of_simulator, said_next, is_protocol, has_fuse, fuse_lines, Gives};
+ghost use Rattle.protocol_lang.specs.Results.{Gives};
+ghost use Rattle.room_spec.specs.Blocks.{fuse_in, of_simulator, said_next, is_protocol, has_fuse, fuse_lines};
 
 use crate::fault::SpecFault;
 use crate::spec::MAX_SIMULATORS;

@@ -19,7 +19,8 @@ use Rattle.transcript.specs.declared.fault.LineFault.TheVariants.{BadName, BadWo
 use Rattle.protocol_lang.specs.Limits.{IsEntry}
 use Rattle.transcript.specs.Runs.{process_of}
 use Rattle.transcript.specs.Grammar.{entry_text, event_fields, IsRow, HasValues, IsEventLine}
-use Rattle.transcript.specs.Lines.{◌>>=◌, up_to, number_in, entry_of, entry_in, entries_in, value_in, row_in, write_by, snap_by, decide_by, event_of, event_in, of_room, named_event, line_in}
+use Rattle.protocol_lang.specs.Results.{◌>>=◌}
+use Rattle.transcript.specs.Lines.{up_to, number_in, entry_of, entry_in, entries_in, value_in, row_in, write_by, snap_by, decide_by, event_of, event_in, of_room, named_event, line_in}
 use Rattle.transcript.proofs.Fields.{IsField, no_space_in, fields_of-join, length-join}
 use Rattle.protocol_lang.proofs.CallerLemmas.{number_spelled, digits_of-decimal, number_of-decimal}
 

@@ -10,7 +10,8 @@ use Rattle.room_spec.specs.Names.{is_name}
 use Rattle.room_spec.specs.Texts.{fields_of}
 use Rattle.transcript.specs.declared.fault.LineFault.{LineFault}
 use Rattle.transcript.specs.declared.fault.LineFault.TheVariants.{BadWord, BadNumber, BadLength}
-use Rattle.transcript.specs.Lines.{◌>>=◌, up_to, number_in, entry_of, entry_in, entries_in, value_in, row_in, write_by, snap_by, decide_by, event_of, event_in, of_room, named_event, line_in}
+use Rattle.protocol_lang.specs.Results.{◌>>=◌}
+use Rattle.transcript.specs.Lines.{up_to, number_in, entry_of, entry_in, entries_in, value_in, row_in, write_by, snap_by, decide_by, event_of, event_in, of_room, named_event, line_in}
 use Rattle.transcript.specs.Faults.{is_up_to, is_number, is_word, most_fields, is_entry, first_fault, fault_in}
 
 -- a step that never fails changes no fault

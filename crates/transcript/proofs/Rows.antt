@@ -7,7 +7,8 @@ use Rattle.std.proofs.lemmas.Bool.{lt-ltb, le-ltb}
 use Rattle.std.proofs.lemmas.List.Splits.{length-slice_split}
 use Rattle.transcript.specs.declared.fault.LineFault.{LineFault}
 use Rattle.transcript.specs.declared.fault.LineFault.TheVariants.{BadLength}
-use Rattle.transcript.specs.Lines.{◌>>=◌, entry_in, entries_in, value_in, row_in, number_in, event_of, event_in}
+use Rattle.protocol_lang.specs.Results.{◌>>=◌}
+use Rattle.transcript.specs.Lines.{entry_in, entries_in, value_in, row_in, number_in, event_of, event_in}
 
 -- what was read before, and what is still read
 abbrev pub with_front : List (Option ℕ) → Result (List (Option ℕ)) LineFault → Result (List (Option ℕ)) LineFault

@@ -1,6 +1,7 @@
 -- How an event line is read: by its fields, up to the first fault.
 use Rattle.std.specs.Prelude.{◌≡◌, ◌≤◌, ℕ, List, [], ◌∷◌, length, Option, Some, None, Result, Ok, Err, nat_le, nat_lt, if◌then◌else◌, codes, decimal}
 use Rattle.std.specs.Str.{bytes_eq}
+use Rattle.protocol_lang.specs.Results.{◌>>=◌}
 use Rattle.protocol_lang.specs.Numbers.{greatest, number_of}
 use Rattle.room_spec.specs.Names.{is_name}
 use Rattle.room_spec.specs.Texts.{fields_of}
@@ -10,12 +11,6 @@ use Rattle.transcript.specs.declared.fault.LineFault.{LineFault}
 use Rattle.transcript.specs.declared.fault.LineFault.TheVariants.{BadName, BadWord, BadNumber, BadLength, TooLong}
 use Rattle.protocol_lang.specs.declared.meaning.TheConstants.{MAX_PROCESSES}
 use Rattle.transcript.specs.declared.event_line.TheConstants.{MAX_LINE, MAX_PROCESS}
-
--- one step, and then the next where it had no fault
-infixl 10 ◌>>=◌
-abbrev pub ◌>>=◌ : {A B : Type 0} → Result A LineFault → (A → Result B LineFault) → Result B LineFault
-(Ok x) >>= next = next x
-(Err fault) >>= next = Err fault
 
 abbrev pub up_to : ℕ → Option ℕ → Result ℕ LineFault
 up_to most None = Err BadNumber
@@ -101,8 +96,3 @@ event_said parts = event_of parts.word (fields_of parts.values) parts.process
 -- the same with the name, which has to be one
 abbrev pub line_said : LineParts → Result (List ℕ × Event) LineFault
 line_said parts = if is_name parts.name then event_said parts >>= of_room parts.name else Err BadName
-
--- what a function returned, seen by `view`, is what reading gives
-abbrev pub Gives : {X Y : Type 0} → (X → Y) → Result X LineFault → Result Y LineFault → Type 0
-Gives view (Ok x) read = read ≡ Ok (view x)
-Gives view (Err fault) read = read ≡ Err fault

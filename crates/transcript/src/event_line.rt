@@ -6,7 +6,8 @@ ghost use Rattle.std.specs.Str.{bytes_eq};
 ghost use Rattle.room_spec.specs.Names.{is_name};
 ghost use Rattle.room_spec.specs.Texts.{is_space, fields_of, pieces_of};
 ghost use Rattle.transcript.specs.Faults.{is_snap};
-ghost use Rattle.transcript.specs.Lines.{number_in, entry_in, entries_in, value_in, row_in, event_of, event_in, line_in, event_said, line_said, IsCutInto, Gives};
+ghost use Rattle.protocol_lang.specs.Results.{Gives};
+ghost use Rattle.transcript.specs.Lines.{number_in, entry_in, entries_in, value_in, row_in, event_of, event_in, line_in, event_said, line_said, IsCutInto};
 ghost use Rattle.transcript.specs.declared.fault.LineFault.TheVariants.{BadName};
 
 use crate::event::Event;

@@ -3,7 +3,8 @@ use Rattle.std.specs.List.{prefix_len}
 use Rattle.std.proofs.lemmas.List.{take_rest}
 use Rattle.std.proofs.lemmas.Result.{err_from_is_err_and}
 use Rattle.protocol_lang.specs.Tokens.{is_blank}
-use Rattle.protocol_lang.specs.Reading.{◌>>=◌, token_and_extent, placed_at, next_token}
+use Rattle.protocol_lang.specs.Results.{◌>>=◌}
+use Rattle.protocol_lang.specs.Reading.{token_and_extent, placed_at, next_token}
 use Rattle.protocol_lang.specs.declared.fault.ParseFault.{ParseFault}
 use Rattle.protocol_lang.specs.declared.token.Token.{Token}
 use Rattle.protocol_lang.proofs.lexer.next_token.Goals as goal

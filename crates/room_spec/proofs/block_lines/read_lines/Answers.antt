@@ -5,7 +5,8 @@ use Rattle.std.proofs.lemmas.Result.{err_from_is_err_and}
 use Rattle.protocol_lang.specs.declared.protocol.Protocol.{Protocol}
 use Rattle.protocol_lang.specs.Reading.{reading}
 use Rattle.room_spec.specs.Rooms.{RoomSpec, IsShape, bits_of, most_bits}
-use Rattle.room_spec.specs.Blocks.{◌>>=◌, OrMemory, are_inputs, version_line, name_line, inputs_line, number_line, fitting, task_line, line_behind_task, fuse_lines, protocol_of, room_in}
+use Rattle.protocol_lang.specs.Results.{◌>>=◌}
+use Rattle.room_spec.specs.Blocks.{OrMemory, are_inputs, version_line, name_line, inputs_line, number_line, fitting, task_line, line_behind_task, fuse_lines, protocol_of, room_in}
 use Rattle.room_spec.specs.declared.version.Version.{Version}
 use Rattle.room_spec.specs.declared.fault.SpecFault.{SpecFault}
 use Rattle.room_spec.specs.declared.fault.SpecFault.TheVariants.{Simulators, Rounds, Turns}

@@ -1,6 +1,6 @@
 use Rattle.std.proofs.Common.{refl}
 use Rattle.protocol_lang.proofs.Thresholds.{decides_least_of, decides_with, writes_again}
-use Rattle.protocol_lang.proofs.laws.waits_for_all_but_so_many.Goals as goal
+use Rattle.protocol_lang.proofs.laws.waits_for_all_but_some.Goals as goal
 
 pub returns : goal.returns
 returns c = record {
