@@ -1,15 +1,17 @@
 -- A room that is fed one more event.
 use Rattle.std.proofs.Common.{◌≡◌, ℕ, true, false, List, [], ◌∷◌, ◌++◌, length, Option, Some, None, refl, ap, ◌∙◌, subst}
-use Rattle.std.specs.Prelude.{is_some}
+use Rattle.std.specs.Prelude.{is_some, is_err, Result, Ok, Err}
 use Rattle.std.proofs.lemmas.List.{map_push, length-map}
 use Rattle.std.proofs.lemmas.Option.{slice_get_within}
 use Rattle.room_spec.specs.Rooms.{RoomSpec}
 use Rattle.transcript.specs.declared.event.Event.{Event}
-use Rattle.transcript.specs.Runs.{IsRun, IsFirstBreak}
+use Rattle.transcript.specs.Runs.{IsEnabled, IsRun, IsFirstBreak}
 use Rattle.history_checker.specs.declared.process.Process.{Process}
+use Rattle.history_checker.specs.declared.process.Rule.{Rule}
 use Rattle.history_checker.specs.Processes.{Tracks, Follows}
 use Rattle.history_checker.specs.Verdicts.{FedEvent, RoomState, StandsAfter, BreaksOn, events_of}
 use Rattle.transcript.proofs.CallerLemmas.{slice_get-append, slice_get-push, IsRun-push}
+use Rattle.history_checker.proofs.Breaking.{not_enabled}
 use Rattle.history_checker.proofs.Runs.{break-push, break-append}
 
 pub events-push : (fed : List FedEvent) (one : FedEvent) (event : Event) → one.event ≡ event → events_of (fed ++ one ∷ []) ≡ events_of fed ++ event ∷ []
@@ -32,24 +34,34 @@ stays room fed one (Some line) some stands = breaks_still room.spec fed one line
 pub stays_broken : (room : RoomState) (fed : List FedEvent) (one : FedEvent) → is_some room.broken ≡ true → StandsAfter room fed room.broken → StandsAfter room (fed ++ one ∷ []) room.broken
 stays_broken room fed one some stands = stays room fed one room.broken some stands
 
+refused_event : (spec : RoomSpec) (old new : List Process) (before : List Event) (event : Event) (answer : Result (Unit {0}) Rule) → is_err answer ≡ true
+    → Follows spec event old answer new → Tracks spec old before → IsEnabled spec before event → ⊥
+refused_event spec old new before event (Ok done) refused follows tracks = absurd cc
+refused_event spec old new before event (Err rule) refused follows tracks = not_enabled spec before event rule (follows before tracks).0
+
+accepted_event : (spec : RoomSpec) (old new : List Process) (before : List Event) (event : Event) (answer : Result (Unit {0}) Rule) → is_err answer ≡ false
+    → Follows spec event old answer new → Tracks spec old before → IsEnabled spec before event × Tracks spec new (before ++ event ∷ [])
+accepted_event spec old new before event (Ok done) accepted follows tracks = follows before tracks
+accepted_event spec old new before event (Err rule) accepted follows tracks = absurd cc
+
 -- an event that may not follow breaks it
-pub breaks_now : (spec : RoomSpec) (old new : List Process) (fed : List FedEvent) (one : FedEvent) (event : Event) (line : ℕ) → one.event ≡ event → one.line ≡ line
-    → Follows spec event old false new → IsRun spec (events_of fed) × Tracks spec old (events_of fed) → BreaksOn spec (fed ++ one ∷ []) line
-breaks_now spec old new fed one event line event_is line_is refuses stands = record {
+pub breaks_now : (spec : RoomSpec) (old new : List Process) (fed : List FedEvent) (one : FedEvent) (event : Event) (line : ℕ) (answer : Result (Unit {0}) Rule) → one.event ≡ event → one.line ≡ line
+    → is_err answer ≡ true → Follows spec event old answer new → IsRun spec (events_of fed) × Tracks spec old (events_of fed) → BreaksOn spec (fed ++ one ∷ []) line
+breaks_now spec old new fed one event line answer event_is line_is refused follows stands = record {
   place = length fed;
   first =
       rw (events-push fed one event event_is)
-      (subst (IsFirstBreak spec (events_of fed ++ event ∷ [])) (length-map fed (λ o. o.event)) (break-push spec (events_of fed) event stands.0 (refuses (events_of fed) stands.1)));
+      (subst (IsFirstBreak spec (events_of fed ++ event ∷ [])) (length-map fed (λ o. o.event)) (break-push spec (events_of fed) event stands.0 (refused_event spec old new (events_of fed) event answer refused follows stands.1)));
   one = one;
   there = slice_get-push fed one;
   line_is = line_is;
 }
 
 -- an event that may follow leaves a run
-pub runs_on : (spec : RoomSpec) (old new : List Process) (fed : List FedEvent) (one : FedEvent) (event : Event) → one.event ≡ event
-    → Follows spec event old true new → IsRun spec (events_of fed) × Tracks spec old (events_of fed) → IsRun spec (events_of (fed ++ one ∷ [])) × Tracks spec new (events_of (fed ++ one ∷ []))
-runs_on spec old new fed one event event_is accepts stands =
-    let both = accepts (events_of fed) stands.1 in
+pub runs_on : (spec : RoomSpec) (old new : List Process) (fed : List FedEvent) (one : FedEvent) (event : Event) (answer : Result (Unit {0}) Rule) → one.event ≡ event
+    → is_err answer ≡ false → Follows spec event old answer new → IsRun spec (events_of fed) × Tracks spec old (events_of fed) → IsRun spec (events_of (fed ++ one ∷ [])) × Tracks spec new (events_of (fed ++ one ∷ []))
+runs_on spec old new fed one event answer event_is accepted follows stands =
+    let both = accepted_event spec old new (events_of fed) event answer accepted follows stands.1 in
     rw (events-push fed one event event_is) (IsRun-push spec (events_of fed) event stands.0 both.0, both.1)
 
 whole : (room : RoomState) (fed : List FedEvent) (broken : Option ℕ) → is_some broken ≡ false → StandsAfter room fed broken → IsRun room.spec (events_of fed) × Tracks room.spec room.processes (events_of fed)

@@ -1,4 +1,7 @@
 mod Tracking
+mod Breaking
+mod Explaining
+mod WorkedReasons
 mod Runs
 mod Feeding
 mod RoomLists

@@ -1,8 +1,8 @@
 -- What a checker keeps of the processes stays true with one more event.
-use Rattle.std.proofs.Common.{◌≡◌, ◌≢◌, ℕ, ◌+◌, ◌<◌, Bool, true, false, cond, eqb, List, [], ◌∷◌, ◌++◌, length, get_or, set, map, Option, Some, None, refl, sym, ap, ◌∙◌, subst, arith, inl, inr}
+use Rattle.std.proofs.Common.{◌≡◌, ◌≢◌, ℕ, ◌+◌, ◌<◌, Bool, true, false, cond, eqb, List, [], ◌∷◌, ◌++◌, length, get_or, set, Option, Some, None, refl, sym, ap, ◌∙◌, subst, arith, inl, inr}
 use Rattle.std.specs.List.{count_by}
 use Rattle.std.proofs.lemmas.Bool.{cases_eq}
-use Rattle.std.proofs.lemmas.List.{length-set, get_or-set_same, get_or-set_other, get_or-map, length-map, ext_get_or}
+use Rattle.std.proofs.lemmas.List.{length-set, get_or-set_same, get_or-set_other, get_or-map, length-map}
 use Rattle.std.proofs.lemmas.List.Sums.{sum_by_push}
 use Rattle.arrayvec.specs.ArrayVec.{ArrayVec}
 use Rattle.protocol_lang.specs.Meaning.{next_action}
@@ -14,7 +14,7 @@ use Rattle.transcript.specs.declared.event.Event.TheVariants as events
 use Rattle.transcript.specs.Runs.{process_of, event_by, written_by, seen_by, is_write_by, is_snap_by, latest, action_due, IsNothingOrSnap, IsSnap, IsWrite, MayWrite, MaySnap, MayDecide}
 use Rattle.history_checker.specs.declared.process.Turn.TheVariants.{Write, Snap, Decide, Over}
 use Rattle.history_checker.specs.declared.process.Process.{Process}
-use Rattle.history_checker.specs.Processes.{turn_for, turn_after, owed, IsAt, Tracks}
+use Rattle.history_checker.specs.Processes.{turn_for, turn_after, owed, lasts, IsAt, Tracks}
 use Rattle.transcript.proofs.CallerLemmas.{latest-push, same, quiet, none_seen}
 
 -- ---- counts
@@ -110,7 +110,7 @@ not_write : (action : Action) (v : ℕ) → turn_for action ≡ Write v → acti
 not_write (actions.Write w) v h = cc
 not_write (actions.Decide w) v h = absurd cc
 
-due_write : (due : Action) (last : Option Event) (v : ℕ) → turn_after due last ≡ Write v → IsNothingOrSnap last × (due ≡ actions.Write v)
+pub due_write : (due : Action) (last : Option Event) (v : ℕ) → turn_after due last ≡ Write v → IsNothingOrSnap last × (due ≡ actions.Write v)
 due_write due None v h = (tt, not_write due v h)
 due_write due (Some (events.Write p w)) v h = absurd cc
 due_write due (Some (events.Snap p row)) v h = (tt, not_write due v h)
@@ -121,7 +121,7 @@ not_decide (actions.Write w) v h = absurd cc
 not_decide (actions.Decide w) v h = cc
 
 -- the first thing that a process does is no decision
-due_decide : (spec : RoomSpec) (history : List Event) (p v : ℕ) (last : Option Event) → latest (event_by p) history ≡ last → turn_after (action_due spec history p) last ≡ Decide v
+pub due_decide : (spec : RoomSpec) (history : List Event) (p v : ℕ) (last : Option Event) → latest (event_by p) history ≡ last → turn_after (action_due spec history p) last ≡ Decide v
     → IsSnap last × (action_due spec history p ≡ actions.Decide v)
 due_decide spec history p v None is h =
     let due = not_decide (action_due spec history p) v h in
@@ -135,7 +135,7 @@ not_snap : (action : Action) → turn_for action ≡ Snap → ⊥
 not_snap (actions.Write w) h = absurd cc
 not_snap (actions.Decide w) h = absurd cc
 
-due_snap : (due : Action) (last : Option Event) → turn_after due last ≡ Snap → IsWrite last
+pub due_snap : (due : Action) (last : Option Event) → turn_after due last ≡ Snap → IsWrite last
 due_snap due None h = absurd (not_snap due h)
 due_snap due (Some (events.Write p w)) h = tt
 due_snap due (Some (events.Snap p row)) h = absurd (not_snap due h)
@@ -163,9 +163,6 @@ decide_follows spec all history p v d tracks within turn =
       tracks_after spec all history (events.Decide p v) _ within (at_decide spec history p v (get_or all p d) turn at) tracks,
     )
 
-abbrev pub lasts : List Process → List (Option ℕ)
-lasts all = map (λ process. process.last) all
-
 pub snap_follows : (spec : RoomSpec) (all : List Process) (history : List Event) (p : ℕ) (row : ArrayVec (Option ℕ)) (d : Process) → Tracks spec all history → p < length all
     → (get_or all p d).turn ≡ Snap → row.items ≡ lasts all
     → MaySnap spec history p row.items
@@ -180,10 +177,3 @@ snap_follows spec all history p row d tracks within turn is =
       },
       tracks_after spec all history (events.Snap p row) _ within (at_snap spec history p row (get_or all p d) turn at) tracks,
     )
-
--- a row that shows anything else may not follow
-pub other_row : (spec : RoomSpec) (all : List Process) (history : List Event) (p : ℕ) (row : List (Option ℕ)) → Tracks spec all history → (row ≡ lasts all → ⊥) → MaySnap spec history p row → ⊥
-other_row spec all history p row tracks differs may =
-    let d : Process = record { input = 0; turn = Over; last = None; writes = 0 } in
-    differs (ext_get_or None row (lasts all) (may.width ∙ sym tracks.count ∙ sym (length-map all (λ process. process.last)))
-    (λ q below. may.entries q (omega (arith, may.width)) ∙ sym ((get_or-map (λ (process : Process). process.last) all q d None (omega (arith, may.width, tracks.count)) ∙ (tracks.each q d (omega (arith, may.width, tracks.count))).last))))

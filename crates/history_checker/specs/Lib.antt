@@ -1,4 +1,6 @@
 pub mod Processes
+pub mod Reasons
+pub mod Misfits
 pub mod Shown
 pub mod Verdicts
 pub mod Tasks

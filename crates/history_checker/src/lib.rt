@@ -4,6 +4,7 @@
 mod bound;
 mod history;
 mod process;
+mod reason;
 mod rooms;
 mod row;
 mod spelled;
@@ -11,6 +12,8 @@ mod tally;
 mod task;
 
 pub use bound::certified;
-pub use history::check;
+pub use history::{check, why};
+pub use process::Turn;
+pub use reason::{Break, LastWrite, Reason};
 pub use rooms::{AddFault, FeedFault, NoRoom, Rooms, TaskVerdict, Verdict};
 pub use task::check_task;

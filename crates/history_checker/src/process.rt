@@ -1,15 +1,15 @@
 //! What a checker keeps of a process.
-ghost use Rattle.std.specs.Prelude.{◌≡◌, ◌↔◌, ◌<◌, IsTrue, length, map, []};
+ghost use Rattle.std.specs.Prelude.{◌≡◌, ◌↔◌, ◌<◌, IsTrue, MatchOption, length, [], if◌then◌else◌, nat_lt, ◌&&◌};
 ghost use Rattle.room_spec.specs.Rooms.{processes};
 ghost use Rattle.transcript.specs.declared.event.Event.TheVariants.{Write, Snap, Decide};
-ghost use Rattle.history_checker.specs.Processes.{turn_for, IsAt, Follows};
+ghost use Rattle.history_checker.specs.Processes.{turn_for, is_action, could_do, lasts, IsAt, Follows, FirstDiffers};
 
 use protocol_lang::{Action, View, first, next};
 use room_spec::Spec;
 use transcript::Event;
 
 /// What a process may do next.
-#[derive(Clone, Copy)]
+#[derive(Clone, Copy, Debug, PartialEq, Eq)]
 pub enum Turn {
     /// Write this value.
     Write(u32),
@@ -17,8 +17,25 @@ pub enum Turn {
     Snap,
     /// Decide this value.
     Decide(u32),
-    /// Nothing: it has decided.
+    /// Nothing: it has decided, or has no write left.
     Over,
+}
+
+/// A rule by which an event may follow others. An event that breaks several is said to break the first in this order.
+#[derive(Clone, Copy)]
+pub enum Rule {
+    /// The room has such a process.
+    Process,
+    /// A snapshot has an entry for each process.
+    Length,
+    /// An event of this kind may come of the process.
+    Turn,
+    /// A write or a decision is what the protocol asks for.
+    Action,
+    /// A snapshot's entry for this process is its last write.
+    Entry(usize),
+    /// The process has made fewer writes than the room has rounds.
+    Rounds,
 }
 
 /// A process after some events of its room.
@@ -66,6 +83,13 @@ impl Turn {
             Turn::Write(_) | Turn::Snap | Turn::Over => false,
         }
     }
+
+    /// Whether it is a write or a decision.
+    fn is_action(self) -> bool
+        ensures { result ≡ is_action self }
+    {
+        matches!(self, Turn::Write(_) | Turn::Decide(_))
+    }
 }
 
 impl Process {
@@ -92,11 +116,59 @@ impl Process {
             writes: 0,
         }
     }
+
+    /// What it may do next, the rounds counted.
+    pub fn could_do(self, spec: &Spec) -> Turn
+        ensures { result ≡ could_do spec.now.rounds self }
+    {
+        if usize::from(self.writes) < spec.rounds() {
+            return self.turn;
+        }
+        match self.turn {
+            Turn::Write(_) => Turn::Over,
+            Turn::Snap => Turn::Snap,
+            Turn::Decide(v) => Turn::Decide(v),
+            Turn::Over => Turn::Over,
+        }
+    }
+
+    /// The rule that a write breaks which is not due.
+    fn rule_of_write(self) -> Rule
+        ensures { result ≡ (if is_action self.turn then Rule.Action else Rule.Turn) }
+    {
+        if self.turn.is_action() {
+            Rule::Action
+        } else {
+            Rule::Turn
+        }
+    }
+
+    /// The rule that a decision breaks which is not due. None may come before the first write.
+    fn rule_of_decision(self) -> Rule
+        ensures { result ≡ (if nat_lt 0 self.writes && is_action self.turn then Rule.Action else Rule.Turn) }
+    {
+        if self.writes > 0 && self.turn.is_action() {
+            Rule::Action
+        } else {
+            Rule::Turn
+        }
+    }
+
+    /// What the protocol asks of it.
+    pub fn asked(self) -> Action
+        requires { IsTrue (is_action self.turn) }
+        ensures { turn_for result ≡ self.turn }
+    {
+        match self.turn {
+            Turn::Write(v) => Action::Write(v),
+            Turn::Decide(v) => Action::Decide(v),
+            Turn::Snap | Turn::Over => unreachable!(), // by what is required
+        }
+    }
 }
 
-/// Whether the event may follow those that the processes have followed. If so, they have then
-/// followed it too.
-pub fn follow(processes: &mut [Process], spec: &Spec, event: &Event) -> bool
+/// Has the processes follow an event, or else gives the rule by which it may not follow those before it.
+pub fn follow(processes: &mut [Process], spec: &Spec, event: &Event) -> Result<(), Rule>
     ensures { Follows spec.now event.now processes.old result processes.new }
 {
     match event {
@@ -106,15 +178,18 @@ pub fn follow(processes: &mut [Process], spec: &Spec, event: &Event) -> bool
     }
 }
 
-fn follow_write(processes: &mut [Process], spec: &Spec, p: usize, v: u32) -> bool
+fn follow_write(processes: &mut [Process], spec: &Spec, p: usize, v: u32) -> Result<(), Rule>
     ensures { Follows spec.now (Write p v) processes.old result processes.new }
 {
     if p >= processes.len() {
-        return false;
+        return Err(Rule::Process);
     }
     let process = processes[p];
-    if !process.turn.is_write_of(v) || usize::from(process.writes) >= spec.rounds() {
-        return false;
+    if !process.turn.is_write_of(v) {
+        return Err(process.rule_of_write());
+    }
+    if usize::from(process.writes) >= spec.rounds() {
+        return Err(Rule::Rounds);
     }
     processes[p] = Process {
         turn: Turn::Snap,
@@ -122,21 +197,24 @@ fn follow_write(processes: &mut [Process], spec: &Spec, p: usize, v: u32) -> boo
         writes: process.writes + 1,
         ..process
     };
-    true
+    Ok(())
 }
 
-fn follow_snap(processes: &mut [Process], spec: &Spec, p: usize, row: &View) -> bool
+fn follow_snap(processes: &mut [Process], spec: &Spec, p: usize, row: &View) -> Result<(), Rule>
     ensures { Follows spec.now (Snap p row.now) processes.old result processes.new }
 {
     if p >= processes.len() {
-        return false;
+        return Err(Rule::Process);
+    }
+    if row.len() != processes.len() {
+        return Err(Rule::Length);
     }
     let process = processes[p];
     if !process.turn.is_snap() {
-        return false;
+        return Err(Rule::Turn);
     }
-    if !shows(row.as_slice(), processes) {
-        return false;
+    if let Some(q) = first_other(row.as_slice(), processes) {
+        return Err(Rule::Entry(q));
     }
     let round = u32::from(process.writes);
     let action = next(spec.protocol(), process.input, p as u32, round, row);
@@ -144,37 +222,36 @@ fn follow_snap(processes: &mut [Process], spec: &Spec, p: usize, row: &View) -> 
         turn: Turn::of(action),
         ..process
     };
-    true
+    Ok(())
 }
 
-fn follow_decide(processes: &mut [Process], spec: &Spec, p: usize, v: u32) -> bool
+// For the proof: `spec`, which the contract names.
+fn follow_decide(processes: &mut [Process], spec: &Spec, p: usize, v: u32) -> Result<(), Rule>
     ensures { Follows spec.now (Decide p v) processes.old result processes.new }
 {
     if p >= processes.len() {
-        return false;
+        return Err(Rule::Process);
     }
     let process = processes[p];
     if !process.turn.is_decide_of(v) {
-        return false;
+        return Err(process.rule_of_decision());
     }
     processes[p] = Process {
         turn: Turn::Over,
         ..process
     };
-    true
+    Ok(())
 }
 
-/// Whether the row has the last write of each process.
-fn shows(row: &[Option<u32>], processes: &[Process]) -> bool
-    ensures { IsTrue result ↔ (row.now ≡ map (λ process. process.last) processes.now) }
+/// The first process whose entry of the row isn't its last write.
+fn first_other(row: &[Option<u32>], processes: &[Process]) -> Option<usize>
+    requires { length row.now ≡ length processes.now }
+    ensures { MatchOption result (row.now ≡ lasts processes.now) (FirstDiffers row.now (lasts processes.now)) }
 {
-    if row.len() != processes.len() {
-        return false;
-    }
     for (p, process) in processes.iter().enumerate() {
         if row[p] != process.last {
-            return false;
+            return Some(p);
         }
     }
-    true
+    None
 }

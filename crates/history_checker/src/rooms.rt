@@ -178,8 +178,8 @@ impl Room {
         if self.broken.is_some() {
             return;
         }
-        let follows = follow(&mut self.processes, &self.spec, event);
-        if !follows {
+        let followed = follow(&mut self.processes, &self.spec, event);
+        if followed.is_err() {
             self.broken = Some(line);
             return;
         }

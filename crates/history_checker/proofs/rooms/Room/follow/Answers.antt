@@ -9,11 +9,11 @@ pub returns-then-is_some-clause-processed : goal.returns-then-is_some-clause-pro
 returns-then-is_some-clause-processed c =
     λ fed one event line stands. stays_broken c.args.self.now fed one (ap (λ room. is_some room.broken) (sym c.self.view_is) ∙ sym c.if-is_some.ensures) stands
 
-pub returns-then-not-follows-clause-processed : goal.returns-then-not-follows-clause-processed
-returns-then-not-follows-clause-processed c =
+pub returns-then-is_err-clause-processed : goal.returns-then-is_err-clause-processed
+returns-then-is_err-clause-processed c =
     λ fed one event line stands.
     let P : RoomState → Type 0 = λ room. StandsAfter room fed room.broken in
-    breaks_now c.self.inside.spec c.self.inside.processes.items c.follow-follows.new.processes fed one c.args.event.now c.args.line event line (rw c.deref_mut.ensures.value at c.if-not-follows.ensures)
+    breaks_now c.self.inside.spec c.self.inside.processes.items c.follow-followed.new.processes fed one c.args.event.now c.args.line _ event line (sym c.if-is_err.ensures.value) (rw c.deref_mut.ensures.value at c.follow-followed.ensures)
     (unbroken (record { spec = _; processes = _; broken = _; tally = None }) fed (sym c.if-is_some.ensures) (subst P (sym c.self.view_is) stands))
 
 pub returns-clause-processed : goal.returns-clause-processed
@@ -21,8 +21,8 @@ returns-clause-processed c =
     λ fed one event line stands.
     let P : RoomState → Type 0 = λ room. StandsAfter room fed room.broken in
     let before = unbroken (record { spec = _; processes = _; broken = _; tally = None }) fed (sym c.if-is_some.ensures) (subst P (sym c.self.view_is) stands) in
-    let len : length c.follow-follows.new.processes ≡ c.self.inside.processes.len = c.follow-follows.auto.processes ∙ c.deref_mut.ensures.len in
+    let len : length c.follow-followed.new.processes ≡ c.self.inside.processes.len = c.follow-followed.auto.processes ∙ c.deref_mut.ensures.len in
     let Q : RoomState → Type 0 = λ room. StandsAfter room (fed ++ one ∷ []) room.broken in
     subst Q (sym c.show.ensures) (still_unbroken (record { spec = _; processes = _; broken = _; tally = None }) (fed ++ one ∷ []) (sym c.if-is_some.ensures)
-    (rw (with_items_is c.self.inside.processes c.follow-follows.new.processes len)
-    (runs_on c.self.inside.spec c.self.inside.processes.items c.follow-follows.new.processes fed one c.args.event.now event (rw c.deref_mut.ensures.value at c.if-not-follows.ensures) before)))
+    (rw (with_items_is c.self.inside.processes c.follow-followed.new.processes len)
+    (runs_on c.self.inside.spec c.self.inside.processes.items c.follow-followed.new.processes fed one c.args.event.now _ event (sym c.if-is_err.ensures.value) (rw c.deref_mut.ensures.value at c.follow-followed.ensures) before)))
