@@ -100,7 +100,7 @@ step_reply room i = if nat_le room.spec.simulators i then NoSimulator else if ha
 abbrev pub room_after_step : RoomState → ℕ → RoomState
 room_after_step room i = if nat_le room.spec.simulators i then room else if has_crashed room i then room else room_when (ready_at room i) room i
 
--- after so many steps of one simulator
+-- after `count` steps of one simulator
 abbrev pub room_after_steps : RoomState → ℕ → ℕ → RoomState
 room_after_steps room i zero = room
 room_after_steps room i (suc count) = room_after_steps (room_after_step room i) i count
@@ -126,7 +126,7 @@ is_step ready.Step = true
 is_step ready.Idle = false
 is_step ready.OutOfTurns = false
 
--- a turn has at most so many atomic steps, in whatever room
+-- no fewer atomic steps than all turns of a simulator have: no turn of any room has more than `greatest_limit`
 abbrev pub step_bound : RoomSpec → ℕ
 step_bound spec = greatest_limit * spec.turns
 

@@ -28,7 +28,7 @@ abbrev pub HasCounted : RoomSpec → List ScheduleEvent → ℕ → ℕ → ℕ 
 HasCounted spec schedule i j k time = steps_at spec schedule time i j ≡ k
 
 -- At this moment a whole collect of simulator i has just ended, in its open turn on (j, k), and its scan goes on: the last
--- event was its load of the last memory word, and it has made so many collects.
+-- event was its load of the last memory word, and this is how many collects it has made.
 pub record EndsCollect (spec : RoomSpec) (schedule : List ScheduleEvent) (i j k collects time : ℕ) : Type 0 where
   pub counted : HasCounted spec schedule i j k time
   pub last : ℕ

@@ -173,7 +173,7 @@ impl RoomCore {
     pub fn step(&mut self, i: usize) -> StepReply
         ensures reply { result ≡ step_reply self.old i }
         ensures room { self.new ≡ room_after_step self.old i }
-        // Whoever is idle has no write left to make: each process stands at an ask, or is done or spent.
+        // An idle simulator has no write left to make: each process stands at an ask, or is done or spent.
         ensures waits { result ≡ replies.Idle → (process : ℕ) → HasNoWrite (goal_at (sweep_at self.new i).mind.goals process) }
         // In its fields it is one call of the replay, with its reply.
         ensures fields { (fields : Fields) →

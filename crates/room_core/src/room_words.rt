@@ -8,7 +8,7 @@ ghost use Rattle.room_core.specs.contracts.room_words.RoomWords.{the_row};
 use simulator::{Memory, Move};
 use std::marker::Model;
 
-/// The words of a room. It lends them as a slice alone, so whoever has it can change its words and
+/// The words of a room. It lends them as a slice alone, so its holder can change its words and
 /// can neither add one nor ask for memory.
 #[derive(Drop)]
 pub(crate) struct RoomWords {

@@ -83,7 +83,7 @@ impl Simulator {
         requires { self.old.room ≡ room.now }
         ensures reply { result ≡ reply_when (ready_of self.old.room.spec self.old.sweep.mind self.old.sweep.quiet) }
         ensures step { TakesStep self.old result self.new }
-        // Whoever is idle has no write left to make: each process stands at an ask, or is done or spent.
+        // An idle simulator has no write left to make: each process stands at an ask, or is done or spent.
         ensures waits { result ≡ Idle → (process : ℕ) → HasNoWrite (goal_at self.new.sweep.mind.goals process) }
     {
         self.run(room, 1)

@@ -206,8 +206,8 @@ first_operation goals.Done spec simulator process is = absurd cc
 first_operation goals.Spent spec simulator process is = absurd cc
 
 -- where a process is unfinished, the first move is that of its goal, or out of turns
-pub first_of : (spec : RoomSpec) (mind : MindState) → IsMind spec mind → 0 < unfinished_in mind.goals → (process : ℕ) × IsLeft mind.goals process × (first_move (next_process mind.goals mind.sweep) spec mind ≡ cond (ltb mind.turns spec.turns) (first_move_at (goal_at mind.goals process) spec mind.number process) OutOfTurns)
-first_of spec mind is some =
+pub first_move_is : (spec : RoomSpec) (mind : MindState) → IsMind spec mind → 0 < unfinished_in mind.goals → (process : ℕ) × IsLeft mind.goals process × (first_move (next_process mind.goals mind.sweep) spec mind ≡ cond (ltb mind.turns spec.turns) (first_move_at (goal_at mind.goals process) spec mind.number process) OutOfTurns)
+first_move_is spec mind is some =
     let next = next_some mind.goals mind.sweep some in
     (next.0, next_is_left mind.goals mind.sweep next.0 (sweep_within spec mind is) next.1, ap (λ (n : Option ℕ). first_move n spec mind) next.1)
 
@@ -218,13 +218,13 @@ finishes spec mind is rest none = resting_move spec mind rest ∙ ap (λ (n : Op
 -- one is, and no turn is left
 pub runs_out : (spec : RoomSpec) (mind : MindState) → IsMind spec mind → is_resting mind.line ≡ true → 0 < unfinished_in mind.goals → spec.turns ≤ mind.turns → move_of spec mind ≡ OutOfTurns
 runs_out spec mind is rest some none =
-    let first = first_of spec mind is some in
+    let first = first_move_is spec mind is some in
     resting_move spec mind rest ∙ first.2 ∙ rw (le-ltb mind.turns spec.turns none) refl
 
 -- one is, and a turn is left
 pub begins : (spec : RoomSpec) (mind : MindState) → IsMind spec mind → is_resting mind.line ≡ true → 0 < unfinished_in mind.goals → mind.turns < spec.turns → IsOperation (move_of spec mind)
 begins spec mind is rest some left =
-    let first = first_of spec mind is some in
+    let first = first_move_is spec mind is some in
     let move = resting_move spec mind rest ∙ first.2 ∙ rw (lt-ltb mind.turns spec.turns left) refl in
     subst IsOperation (sym move) (first_operation (goal_at mind.goals first.0) spec mind.number first.0 first.1.unfinished)
 
@@ -235,7 +235,7 @@ no_finish false spec goal simulator process is finished = absurd cc
 finished_by : (b : Bool) (unfinished : ℕ) (spec : RoomSpec) (mind : MindState) → is_resting mind.line ≡ b → unfinished_in mind.goals ≡ unfinished → IsMind spec mind → move_of spec mind ≡ Finished → (is_resting mind.line ≡ true) × (unfinished_in mind.goals ≡ 0)
 finished_by true zero spec mind rest none is finished = (rest, none)
 finished_by true (suc left) spec mind rest some is finished =
-    let first = first_of spec mind is (omega arith) in
+    let first = first_move_is spec mind is (omega arith) in
     absurd (no_finish (ltb mind.turns spec.turns) spec (goal_at mind.goals first.0) mind.number first.0 first.1.unfinished (sym (resting_move spec mind rest ∙ first.2) ∙ finished))
 finished_by false unfinished spec mind rest some is finished = absurd (subst IsOperation finished (open_moves spec mind rest))
 

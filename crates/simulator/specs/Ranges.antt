@@ -19,7 +19,7 @@ IsGoal rounds (goals.Ask round) = (1 ≤ round) × (round ≤ rounds)
 IsGoal rounds goals.Done = ⊤
 IsGoal rounds goals.Spent = ⊤
 
--- the most atomic steps of a scan: one load, or so many collects
+-- the most atomic steps of a scan: one load, or the most collects of all words
 abbrev pub scan_steps : RoomSpec → ℕ
 scan_steps spec = if words_in spec == 1 then 1 else words_in spec * most_collects spec
 
@@ -36,7 +36,7 @@ greatest_limit = 4096
 abbrev pub scanning : RoomSpec → ℕ → ℕ → ℕ
 scanning spec word collects = 2 + (words_in spec * collects + word)
 
--- the most atomic steps that an open turn may have taken at a line, with so many words done at it, collects made and entries gathered
+-- the most atomic steps that an open turn may have taken at a line, by the words done at it, the collects made and the entries gathered
 abbrev pub most_steps : RoomSpec → Line → ℕ → ℕ → ℕ → ℕ
 most_steps spec Rest word collects entries = 0
 most_steps spec Raise word collects entries = 1

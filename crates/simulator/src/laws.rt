@@ -51,8 +51,8 @@ pub fn moves_are_within()
     ensures { (spec : RoomSpec) (mind : MindState) → IsMind spec mind → IsWithin (move_of spec mind) (words_of (sizes_in spec)) }
 {}
 
-/// Whoever is ready for a step wants an operation, and so does everyone in an open turn. Whoever is
-/// told that its turns are used up wants `OutOfTurns`.
+/// A mind that is ready for a step wants an operation, and so does one in an open turn. One that is
+/// answered that its turns are used up wants `OutOfTurns`.
 pub fn step_means_operation()
     ensures ready { (spec : RoomSpec) (mind : MindState) (quiet : ℕ) →
         IsMind spec mind → ready_of spec mind quiet ≡ answers.Step →
@@ -86,7 +86,7 @@ pub fn quiet_counts_stay()
     ensures wakes { (mind : MindState) → IsQuietCount mind 0 }
 {}
 
-/// Whoever is idle has no write left to make: each process stands at an ask, or is done or spent.
+/// An idle simulator has no write left to make: each process stands at an ask, or is done or spent.
 pub fn idle_waits()
     ensures { (spec : RoomSpec) (mind : MindState) (quiet : ℕ) →
         IsQuietCount mind quiet → ready_of spec mind quiet ≡ answers.Idle → (process : ℕ) →
@@ -122,8 +122,8 @@ pub fn scans_are_bounded()
         turn_limit spec ≡ processes spec + 7 + 2 * words_in spec + words_in spec * (spec.simulators * processes spec * spec.rounds + 2) }
 {}
 
-/// A sweep goes round: whoever works on a process of which a turn has ended before has ended a turn
-/// on each.
+/// A sweep goes round: a simulator that works on a process of which it has ended a turn before has
+/// ended one on each.
 pub fn sweeps_go_round()
     ensures { (spec : RoomSpec) (mind : MindState) (process : ℕ) →
         IsMind spec mind → is_unfinished (current_goal mind) ≡ true → IsVisited (current_goal mind) →

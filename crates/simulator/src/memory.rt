@@ -1,4 +1,4 @@
-//! The words of a room, as whoever steps a simulator has them.
+//! The words of a room, as the caller who steps a simulator has them.
 ghost use Rattle.std.specs.Prelude.{◌≡◌};
 ghost use Rattle.simulator.specs.Moves.{IsOperation, move_of};
 ghost use Rattle.simulator.specs.Ranges.{IsMind};

@@ -11,7 +11,8 @@ use std::marker::Model;
 
 /// As many memory words as any room has; those behind the room's own are 0. Beside them the last
 /// writes that they show, where these were worked out once for all processes, and the numbers of the
-/// room by which they were. Whoever asks by another room is answered from the words themselves.
+/// room by which they were. Asked by another room's numbers it answers from the words themselves; no
+/// run asks so, but no call has to promise that.
 #[derive(Drop)]
 pub(crate) struct Snapshot {
     words: [u64; MAX_MEMORY_WORDS],

@@ -54,7 +54,7 @@ impl Sweep {
 
     /// Whether it takes a step: in an open turn it does. Between two turns it is idle where its quiet
     /// turns in a row have reached the number of its unfinished processes, and else out of turns where
-    /// all are used up. Whoever is told `Idle` calls [`wake`](Sweep::wake).
+    /// all are used up. At `Idle` the caller calls [`wake`](Sweep::wake).
     pub fn ready(&self, spec: &Spec) -> Ready
         ensures { result ≡ ready_of spec.now self.now.mind self.now.quiet }
     {

@@ -18,9 +18,20 @@ pub record IsSnapshotOf (room : RoomState) (agreed : Agreed) : Type 0 where
   pub round : IsRound (sizes_in room.spec) agreed.round
   pub row : agreed.row.items ≡ row_at room.spec (read_of room) agreed.process agreed.round
 
--- the writes that the snapshot is the first to show, the snapshot, and the decision after it if there is one
+-- what the snapshot shows
+abbrev pub row_on : RoomState → Agreed → List ℕ
+row_on room agreed = row_at room.spec (read_of room) agreed.process agreed.round
+
+-- the writes of each process that the second row shows, and the first doesn't
+abbrev pub writes_between : RoomState → List ℕ → List ℕ → List Event
+writes_between room from upto = by_process (λ p. new_writes (source_of room.spec (read_of room)) p (slice_index from p) (slice_index upto p)) (processes room.spec)
+
+-- the decision after the snapshot, if there is one
+abbrev pub decision_on : RoomState → Agreed → List Event
+decision_on room agreed = decided agreed.process (decision_after room.spec (read_of room) agreed.process agreed.round)
+
+-- the writes that the snapshot is the first to show, the snapshot, and the decision after it
 abbrev pub block_on : RoomState → List ℕ → Agreed → List Event
 block_on room shown agreed =
-    (by_process (λ p. new_writes (source_of room.spec (read_of room)) p (slice_index shown p) (slice_index (row_at room.spec (read_of room) agreed.process agreed.round) p)) (processes room.spec)
-    ++ Snap agreed.process (record { items = shown_by room.spec (read_of room) (row_at room.spec (read_of room) agreed.process agreed.round) }) ∷ [])
-    ++ decided agreed.process (decision_after room.spec (read_of room) agreed.process agreed.round)
+    (writes_between room shown (row_on room agreed) ++ Snap agreed.process (record { items = shown_by room.spec (read_of room) (row_on room agreed) }) ∷ [])
+    ++ decision_on room agreed

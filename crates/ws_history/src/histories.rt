@@ -3,17 +3,17 @@ ghost use Rattle.std.specs.Prelude.{◌≡◌, ℕ, ◌+◌, ◌<◌, ◌≤◌,
 ghost use Rattle.std.specs.List.{sum};
 ghost use Rattle.protocol_lang.specs.declared.meaning.TheConstants.{MAX_PROCESSES};
 ghost use Rattle.room_spec.specs.Rooms.{processes};
-ghost use Rattle.ws_history.specs.Histories.{by_process, decided, new_writes};
+ghost use Rattle.ws_history.specs.Histories.{new_writes};
 ghost use Rattle.room_core.specs.Fields.{Fields};
 ghost use Rattle.room_core.specs.Reading.{AreFieldsOf};
 ghost use Rattle.sim_memory.specs.Steps.{row_of};
-ghost use Rattle.room_core.specs.Agreements.{greatest_step, row_at, shown, shown_by};
+ghost use Rattle.room_core.specs.Agreements.{greatest_step, shown, shown_by};
 ghost use Rattle.transcript.specs.Runs.{IsRun};
 ghost use Rattle.transcript.specs.declared.event.Event.TheVariants.{Snap};
 ghost use Rattle.ws_history.specs.Placing.{shown_with};
 ghost use Rattle.ws_history.specs.Readings.{read_of};
-ghost use Rattle.ws_history.specs.Sources.{decision_after, history_of, source_of};
-ghost use Rattle.ws_history.specs.Running.{IsSnapshotOf, block_on};
+ghost use Rattle.ws_history.specs.Sources.{history_of, source_of};
+ghost use Rattle.ws_history.specs.Running.{IsSnapshotOf, block_on, decision_on, row_on, writes_between};
 
 use crate::agreements::{shown_at, shown_by, written};
 use crate::reading::{
@@ -118,8 +118,7 @@ fn push_block(
     requires greatest { greatest.now ≡ row_of room.now.spec.simulators (processes room.now.spec) (read_of room.now).step }
     requires is { IsSnapshotOf room.now snapshot.now }
     ensures events { OnOk result (events.new.items ≡ events.old.items ++ block_on room.now shown.old.items snapshot.now) }
-    ensures shown { OnOk result
-        (shown.new.items ≡ shown_with shown.old.items (row_at room.now.spec (read_of room.now) snapshot.now.process snapshot.now.round)) }
+    ensures shown { OnOk result (shown.new.items ≡ shown_with shown.old.items (row_on room.now snapshot.now)) }
     ensures view { OnOk result (view.new.items ≡ shown_by room.now.spec (read_of room.now) shown.new.items) }
 {
     let row = row_in(room, snapshot);
@@ -134,7 +133,7 @@ fn push_block(
 /// How many writes of each process the snapshot shows.
 fn row_in<'a>(room: &RoomCore, snapshot: &'a Agreed) -> &'a [u8]
     requires { IsSnapshotOf room.now snapshot.now }
-    ensures value { result.now ≡ row_at room.now.spec (read_of room.now) snapshot.now.process snapshot.now.round }
+    ensures value { result.now ≡ row_on room.now snapshot.now }
     ensures count { length result.now ≡ processes room.now.spec }
     ensures range { (p : ℕ) → slice_index result.now p ≤ room.now.spec.rounds }
 {
@@ -197,10 +196,7 @@ fn push_decision(
 ) -> Result<(), AllocError>
     requires process { snapshot.now.process < processes room.now.spec }
     requires greatest { greatest ≡ greatest_step room.now.spec (read_of room.now) snapshot.now.process }
-    ensures { OnOk result
-        (events.new.items ≡
-        events.old.items ++ decided snapshot.now.process (decision_after room.now.spec
-        (read_of room.now) snapshot.now.process snapshot.now.round)) }
+    ensures { OnOk result (events.new.items ≡ events.old.items ++ decision_on room.now snapshot.now) }
 {
     if usize::from(greatest) == snapshot.round {
         if let Some(v) = decided_in(room, snapshot.process) {
@@ -226,10 +222,7 @@ fn push_writes(
     requires upto { length upto.now ≡ processes room.now.spec }
     requires range { (p : ℕ) → slice_index upto.now p ≤ room.now.spec.rounds }
     requires view { view.now ≡ shown_by room.now.spec (read_of room.now) from.now }
-    ensures events { OnOk result
-        (events.new.items ≡
-        events.old.items ++ by_process (λ p. new_writes (source_of room.now.spec (read_of room.now)) p (slice_index from.now p)
-        (slice_index upto.now p)) (processes room.now.spec)) }
+    ensures events { OnOk result (events.new.items ≡ events.old.items ++ writes_between room.now from.now upto.now) }
     ensures view { IfOk result (λ view. view.items ≡ shown_by room.now.spec (read_of room.now) (shown_with from.now upto.now)) }
 {
     let mut all = View::new();

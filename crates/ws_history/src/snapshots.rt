@@ -1,13 +1,12 @@
 //! The snapshots of a room that were agreed on, in the order of its history.
-ghost use Rattle.std.specs.Prelude.{◌≡◌, ℕ, ◌*◌, ◌<◌, ◌≤◌, [], ◌∷◌, ◌++◌, IfOk, OnOk, length, map, slice_index, if◌then◌else◌};
+ghost use Rattle.std.specs.Prelude.{◌≡◌, ℕ, ◌*◌, ◌<◌, ◌≤◌, ◌++◌, IfOk, OnOk, length, map, slice_index};
 ghost use Rattle.std.specs.List.{sum};
 ghost use Rattle.protocol_lang.specs.declared.meaning.TheConstants.{MAX_PROCESSES};
 ghost use Rattle.room_spec.specs.Rooms.{processes};
 ghost use Rattle.room_spec.specs.Sizes.{sizes_in};
 ghost use Rattle.view_table.specs.Places.{IsRound};
-ghost use Rattle.room_core.specs.Agreements.{greatest_step, has_out, is_passed};
-ghost use Rattle.ws_history.specs.Orders.{all_passed, passed_of};
-ghost use Rattle.ws_history.specs.Placing.{agreed_at};
+ghost use Rattle.room_core.specs.Agreements.{greatest_step, has_out};
+ghost use Rattle.ws_history.specs.Placing.{agreed_at, agreed_if_passed, agreed_of, all_agreed};
 ghost use Rattle.ws_history.specs.Readings.{read_of};
 ghost use Rattle.ws_history.specs.Sources.{source_of};
 
@@ -39,10 +38,7 @@ pub(crate) fn in_order(alloc: Global, room: &RoomCore) -> Result<Vec<Agreed>, Al
 
 /// The passed snapshots of a room, by process, and then by round.
 fn all_agreed(alloc: Global, room: &RoomCore) -> Result<Vec<Agreed>, AllocError>
-    ensures { IfOk result
-        (λ agreed.
-        agreed.items ≡ map (agreed_at room.now) (all_passed (is_passed room.now.spec (read_of room.now))
-        (processes room.now.spec) room.now.spec.rounds)) }
+    ensures { IfOk result (λ agreed. agreed.items ≡ all_agreed room.now) }
 {
     let mut agreed = Vec::with_capacity(alloc, process_count(room) * round_count(room))?;
     for process in 0..process_count(room) {
@@ -54,9 +50,7 @@ fn all_agreed(alloc: Global, room: &RoomCore) -> Result<Vec<Agreed>, AllocError>
 /// Adds the passed snapshots of this process.
 fn push_rounds(agreed: &mut Vec<Agreed>, room: &RoomCore, process: usize) -> Result<(), AllocError>
     requires { process < processes room.now.spec }
-    ensures { OnOk result
-        (agreed.new.items ≡
-        agreed.old.items ++ map (agreed_at room.now) (passed_of (is_passed room.now.spec (read_of room.now)) process room.now.spec.rounds)) }
+    ensures { OnOk result (agreed.new.items ≡ agreed.old.items ++ agreed_of room.now process) }
 {
     let greatest = greatest_step(room, process);
     let out = has_out(room, process);
@@ -80,10 +74,7 @@ fn push_passed(
     requires round { IsRound (sizes_in room.now.spec) round }
     requires greatest { greatest ≡ greatest_step room.now.spec (read_of room.now) process }
     requires out { out ≡ has_out room.now.spec (read_of room.now) process }
-    ensures { OnOk result
-        (agreed.new.items ≡
-        agreed.old.items ++ map (agreed_at room.now) (if is_passed room.now.spec
-        (read_of room.now) process round then record { process = process; round = round } ∷ [] else [])) }
+    ensures { OnOk result (agreed.new.items ≡ agreed.old.items ++ agreed_if_passed room.now process round) }
 {
     if is_passed(room, process, round, greatest, out) {
         agreed.push(snapshot_at(room, process, round))?;
