@@ -4,8 +4,8 @@ use Rattle.room_spec.specs.Rooms.{RoomSpec}
 use Rattle.transcript.specs.Lines.{line_in, line_said, LineParts}
 use Rattle.history_checker.specs.Verdicts.{FedEvent, RoomState, feed_code, specs_of}
 use Rattle.history_checker.specs.Shown.{HasFed, IsUnfed}
-use Rattle.history_checker.specs.declared.rooms.FeedFault.{FeedFault}
-use Rattle.history_checker.specs.declared.rooms.FeedFault.TheVariants.{BadLine, NoRoom}
+use Rattle.history_checker.specs.declared.fault.FeedFault.{FeedFault}
+use Rattle.history_checker.specs.declared.fault.FeedFault.TheVariants.{BadLine, NoRoom}
 use Rattle.bgsim_console.specs.declared.fault.IoFault.{IoFault}
 use Rattle.bgsim_console.specs.declared.fault.IoFault.TheVariants.{Read, Write, TooLong, BadInput, Run as RunFailed, Memory}
 use Rattle.bgsim_console.specs.Blocks.{IsFaultOf}

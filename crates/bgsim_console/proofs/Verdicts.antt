@@ -11,8 +11,8 @@ use Rattle.std.proofs.Math.Seq.{take-suc}
 use Rattle.std.specs.Option.{option_map}
 use Rattle.room_spec.specs.Rooms.{RoomSpec}
 use Rattle.history_checker.specs.Verdicts.{FedEvent, IsTaskAnswer, IsVerdict, fed_to, names_of}
-use Rattle.history_checker.specs.declared.rooms.Verdict.{Verdict}
-use Rattle.history_checker.specs.declared.rooms.TaskVerdict.{TaskVerdict}
+use Rattle.history_checker.specs.declared.verdict.Verdict.{Verdict}
+use Rattle.history_checker.specs.declared.verdict.TaskVerdict.{TaskVerdict}
 use Rattle.bgsim_console.specs.declared.fault.Outcome.{Outcome}
 use Rattle.bgsim_console.specs.Blocks.{outcome_if}
 use Rattle.bgsim_console.specs.Check.{Judged, IsJustified, IsOutput, judged_line, is_well}

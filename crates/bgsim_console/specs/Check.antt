@@ -10,10 +10,10 @@ use Rattle.transcript.specs.Lines.{line_in}
 use Rattle.transcript.specs.declared.event.Event.{Event}
 use Rattle.transcript.specs.declared.fault.LineFault.{LineFault}
 use Rattle.history_checker.specs.Verdicts.{FedEvent, IsTaskAnswer, IsVerdict, has_room, fed_to}
-use Rattle.history_checker.specs.declared.rooms.Verdict.{Verdict}
-use Rattle.history_checker.specs.declared.rooms.Verdict.TheVariants.{Run, Broken}
-use Rattle.history_checker.specs.declared.rooms.TaskVerdict.{TaskVerdict}
-use Rattle.history_checker.specs.declared.rooms.TaskVerdict.TheVariants as tasks
+use Rattle.history_checker.specs.declared.verdict.Verdict.{Verdict}
+use Rattle.history_checker.specs.declared.verdict.Verdict.TheVariants.{Run, Broken}
+use Rattle.history_checker.specs.declared.verdict.TaskVerdict.{TaskVerdict}
+use Rattle.history_checker.specs.declared.verdict.TaskVerdict.TheVariants as tasks
 use Rattle.bgsim_console.specs.Blocks.{Setup, after_block, no_blocks, outcome_if, pass_lines}
 use Rattle.bgsim_console.specs.Lines.{text_lines}
 use Rattle.bgsim_console.specs.Reading.{most_bytes}

@@ -7,8 +7,8 @@ use Rattle.transcript.specs.Grammar.{entry_text}
 use Rattle.transcript.specs.Lines.{LineParts, line_said}
 use Rattle.transcript.specs.declared.event.Event.{Event}
 use Rattle.history_checker.specs.Verdicts.{FedEvent, HasProcessed, RoomState, has_room, specs_of}
-use Rattle.history_checker.specs.declared.rooms.FeedFault.{FeedFault}
-use Rattle.history_checker.specs.declared.rooms.FeedFault.TheVariants.{BadLine, NoRoom}
+use Rattle.history_checker.specs.declared.fault.FeedFault.{FeedFault}
+use Rattle.history_checker.specs.declared.fault.FeedFault.TheVariants.{BadLine, NoRoom}
 
 -- entries, each behind a space
 abbrev pub spaced : List (Option ℕ) → List ℕ

@@ -2,11 +2,21 @@
 use Rattle.std.specs.Prelude.{◌≡◌, ℕ, ◌≤◌, Bool, List, [], ◌∷◌, ◌++◌, length, Option, IfSome, MatchBool}
 use Rattle.room_spec.specs.Rooms.{RoomSpec}
 use Rattle.transcript.specs.declared.event.Event.{Event}
+use Rattle.std.specs.List.{Contains}
+use Rattle.transcript.specs.Runs.{IsRun}
 use Rattle.transcript.specs.Tasks.{MayBeDecided, IsInTask, KeepsTask, decided_in, different}
 
 -- the events keep the room's task, if it has one
 abbrev pub KeepsOwnTask : RoomSpec → List Event → Type 0
 KeepsOwnTask spec events = IfSome spec.task (λ most. KeepsTask spec most events)
+
+-- in each run of the room at most so many different values are decided
+abbrev pub DecidesAtMost : RoomSpec → ℕ → Type 0
+DecidesAtMost spec most = (events : List Event) → IsRun spec events → length (different (decided_in events)) ≤ most
+
+-- in each run of the room each value that is decided is an input
+abbrev pub DecidesInputs : RoomSpec → Type 0
+DecidesInputs spec = (events : List Event) (v : ℕ) → IsRun spec events → Contains (decided_in events) v → Contains spec.inputs v
 
 -- what is kept: the values that were decided, and the line of the first decision that the task doesn't allow
 pub record TallyState : Type 0 where

@@ -1,5 +1,5 @@
 -- Verdicts on rooms, whose events come one by one and with those of other rooms between.
-use Rattle.std.specs.Prelude.{◌≡◌, ℕ, Bool, List, map, Option, Some, None, slice_get}
+use Rattle.std.specs.Prelude.{◌≡◌, ℕ, Bool, List, [], ◌∷◌, ◌++◌, map, Option, Some, None, slice_get}
 use Rattle.std.specs.List.{All, filter, list_any}
 use Rattle.std.specs.Str.{bytes_eq}
 use Rattle.room_spec.specs.Rooms.{RoomSpec}
@@ -8,14 +8,14 @@ use Rattle.transcript.specs.Faults.{code_of as line_code}
 use Rattle.transcript.specs.Runs.{IsRun, IsFirstBreak}
 use Rattle.transcript.specs.Tasks.{IsFirstExcess, KeepsTask}
 use Rattle.history_checker.specs.declared.process.Process.{Process}
-use Rattle.history_checker.specs.declared.rooms.Verdict.{Verdict}
-use Rattle.history_checker.specs.declared.rooms.Verdict.TheVariants.{Run, Broken}
-use Rattle.history_checker.specs.declared.rooms.AddFault.{AddFault}
-use Rattle.history_checker.specs.declared.rooms.AddFault.TheVariants.{NameTaken, OutOfMemory}
-use Rattle.history_checker.specs.declared.rooms.FeedFault.{FeedFault}
-use Rattle.history_checker.specs.declared.rooms.FeedFault.TheVariants.{BadLine, NoRoom}
-use Rattle.history_checker.specs.declared.rooms.TaskVerdict.{TaskVerdict}
-use Rattle.history_checker.specs.declared.rooms.TaskVerdict.TheVariants as tasks
+use Rattle.history_checker.specs.declared.verdict.Verdict.{Verdict}
+use Rattle.history_checker.specs.declared.verdict.Verdict.TheVariants.{Run, Broken}
+use Rattle.history_checker.specs.declared.fault.AddFault.{AddFault}
+use Rattle.history_checker.specs.declared.fault.AddFault.TheVariants.{NameTaken, OutOfMemory}
+use Rattle.history_checker.specs.declared.fault.FeedFault.{FeedFault}
+use Rattle.history_checker.specs.declared.fault.FeedFault.TheVariants.{BadLine, NoRoom}
+use Rattle.history_checker.specs.declared.verdict.TaskVerdict.{TaskVerdict}
+use Rattle.history_checker.specs.declared.verdict.TaskVerdict.TheVariants as tasks
 use Rattle.history_checker.specs.Processes.{Tracks}
 use Rattle.history_checker.specs.Tasks.{IsTally, TallyState}
 
@@ -81,6 +81,10 @@ abbrev pub TaskStands : RoomSpec → List FedEvent → Option ℕ → Option Tal
 TaskStands spec fed None tally = tally ≡ None
 TaskStands spec fed (Some most) None = ⊥
 TaskStands spec fed (Some most) (Some tally) = TallyStands spec most fed tally.decided tally.excess
+
+-- What was so of a room after any events of it is so of the room as it then is after one more, this one on this line.
+abbrev pub StaysSo : Event → ℕ → (List FedEvent → Type 0) → (List FedEvent → Type 0) → Type 0
+StaysSo event line Before After = (fed : List FedEvent) (one : FedEvent) → one.event ≡ event → one.line ≡ line → Before fed → After (fed ++ one ∷ [])
 
 -- what is kept of the room is so after these events of it
 abbrev pub IsAfter : List FedEvent → RoomState → Type 0

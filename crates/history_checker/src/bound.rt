@@ -1,10 +1,7 @@
 //! How many different values are decided at most, whatever the run.
-ghost use Rattle.std.specs.Prelude.{◌≡◌, ◌↔◌, ◌+◌, ◌≤◌, ℕ, List, Some, length, IfSome};
-ghost use Rattle.std.specs.List.{Contains};
+ghost use Rattle.std.specs.Prelude.{◌≡◌, ◌↔◌, ◌+◌, ℕ, Some, IfSome};
 ghost use Rattle.room_spec.specs.Rooms.{IsCertified};
-ghost use Rattle.transcript.specs.declared.event.Event.{Event};
-ghost use Rattle.transcript.specs.Runs.{IsRun};
-ghost use Rattle.transcript.specs.Tasks.{decided_in, different};
+ghost use Rattle.history_checker.specs.Tasks.{DecidesAtMost, DecidesInputs};
 
 use protocol_lang::threshold;
 use room_spec::Spec;
@@ -15,8 +12,8 @@ use room_spec::Spec;
 pub fn certified(spec: &Spec) -> Option<u8>
     ensures exact { (most : ℕ) → (result ≡ Some most) ↔ ((f : ℕ) × (most ≡ f + 1) × IsCertified spec.now f) }
     // No run decides more, and only inputs.
-    ensures few { IfSome result (λ most. (events : List Event) → IsRun spec.now events → length (different (decided_in events)) ≤ most) }
-    ensures inputs { IfSome result (λ most. (events : List Event) (v : ℕ) → IsRun spec.now events → Contains (decided_in events) v → Contains spec.now.inputs v) }
+    ensures few { IfSome result (DecidesAtMost spec.now) }
+    ensures inputs { IfSome result (λ most. DecidesInputs spec.now) }
 {
     let Some(missed) = threshold(spec.protocol()) else {
         return None;

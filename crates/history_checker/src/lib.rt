@@ -2,18 +2,23 @@
 #![tactic(auto)]
 
 mod bound;
+mod fault;
 mod history;
 mod process;
 mod reason;
+mod room;
 mod rooms;
 mod row;
 mod spelled;
 mod tally;
 mod task;
+mod verdict;
 
 pub use bound::certified;
+pub use fault::{AddFault, FeedFault, NoRoom};
 pub use history::{check, why};
 pub use process::Turn;
 pub use reason::{Break, LastWrite, Reason};
-pub use rooms::{AddFault, FeedFault, NoRoom, Rooms, TaskVerdict, Verdict};
+pub use rooms::Rooms;
 pub use task::check_task;
+pub use verdict::{TaskVerdict, Verdict};

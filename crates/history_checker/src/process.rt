@@ -225,7 +225,7 @@ fn follow_snap(processes: &mut [Process], spec: &Spec, p: usize, row: &View) -> 
     Ok(())
 }
 
-// For the proof: `spec`, which the contract names.
+// For the proof: `spec`.
 fn follow_decide(processes: &mut [Process], spec: &Spec, p: usize, v: u32) -> Result<(), Rule>
     ensures { Follows spec.now (Decide p v) processes.old result processes.new }
 {

@@ -1,222 +1,23 @@
 //! Verdicts on many rooms, whose events come mixed.
-ghost use Rattle.std.specs.Prelude.{◌≡◌, ◌↔◌, ◌≤◌, ℕ, List, true, false, length, [], ◌∷◌, ◌++◌, IsTrue, IsFalse, IsOk, IfOk, IfErr, IsErrOf, OnOk, OnErr, None, Some, MatchOption, IfSome, IsSomeAnd, is_some, option_map, slice_get};
+ghost use Rattle.std.specs.Prelude.{◌≡◌, ◌↔◌, ◌≤◌, List, true, false, length, [], ◌∷◌, ◌++◌, IsTrue, IsFalse, IsOk, IfErr, IsErrOf, OnOk, OnErr, None, Some, MatchOption, IfSome, IsSomeAnd, is_some, option_map, slice_get};
 ghost use Rattle.std.specs.List.{position};
 ghost use Rattle.std.specs.Str.{bytes_eq};
 ghost use Rattle.room_spec.specs.Names.{is_name};
 ghost use Rattle.room_spec.specs.Rooms.{RoomSpec};
 ghost use Rattle.transcript.specs.Lines.{event_said};
-ghost use Rattle.history_checker.specs.Verdicts.{FedEvent, HasProcessed, HasProcessedOwn, IsAfter, StandsAfter, TaskStands, IsVerdict, IsTaskAnswer, specs_of, names_of, has_room, fed_to, add_code, feed_code};
+ghost use Rattle.history_checker.specs.Verdicts.{FedEvent, HasProcessed, IsVerdict, IsTaskAnswer, specs_of, names_of, has_room, fed_to};
 ghost use Rattle.history_checker.specs.Shown.{HasFed, IsUnfed, SaysRow};
 
-use crate::history::open;
-use crate::process::{Process, follow};
-use crate::row::Row;
+use crate::fault::{AddFault, FeedFault, NoRoom};
+use crate::room::Room;
 use crate::spelled::Spelled;
-use crate::tally::Tally;
+use crate::verdict::{TaskVerdict, Verdict};
 use indexmap::IndexMap;
 use protocol_lang::View;
 use room_spec::{Name, Spec};
 use std::alloc::{AllocError, Global};
 use std::marker::Model;
-use thiserror::Error;
 use transcript::{Event, EventLine, LineFault};
-
-/// Whether a room's events are a run of its protocol on write-snapshot memory.
-#[derive(Clone, Copy, Debug, PartialEq, Eq)]
-pub enum Verdict {
-    /// They are, also where there are none.
-    Run,
-    /// They aren't. The line, as it was fed, of the first event that may not follow those of its
-    /// room before it.
-    Broken(u64),
-}
-
-/// Whether a room's decisions keep its task.
-#[derive(Clone, Copy, Debug, PartialEq, Eq)]
-pub enum TaskVerdict {
-    /// They do, also where there are none.
-    Holds,
-    /// They don't. The line, as it was fed, of the first event that decides a value that is no input, or one different value
-    /// more than the task allows.
-    Broken(u64),
-}
-
-/// Why a room was not added.
-#[derive(Clone, Copy, Debug, PartialEq, Eq, Error)]
-pub enum AddFault {
-    /// A room has this name already.
-    #[error("a room has this name already")]
-    NameTaken,
-    /// Memory was refused.
-    #[error("out of memory")]
-    OutOfMemory,
-}
-
-impl AddFault {
-    /// The number by which reports name the fault, 41 or 8.
-    pub fn code(self) -> u16
-        ensures { result ≡ add_code self }
-    {
-        match self {
-            AddFault::NameTaken => 41,
-            AddFault::OutOfMemory => 8,
-        }
-    }
-}
-
-/// No room has this name.
-#[derive(Clone, Copy, Debug, PartialEq, Eq, Error)]
-#[error("no room has this name")]
-pub struct NoRoom;
-
-impl NoRoom {
-    /// The number by which reports name the fault, 40.
-    pub fn code(self) -> u16
-        ensures { result ≡ 40 }
-    {
-        40
-    }
-}
-
-/// Why a line was not fed.
-#[derive(Clone, Copy, Debug, PartialEq, Eq, Error)]
-pub enum FeedFault {
-    /// It says no event.
-    #[error("{0}")]
-    BadLine(LineFault),
-    /// It says one of a room that isn't there.
-    #[error("{0}")]
-    NoRoom(NoRoom),
-}
-
-impl FeedFault {
-    /// The number by which reports name the fault: that of the line's own fault, or 40.
-    pub fn code(self) -> u16
-        ensures { result ≡ feed_code self }
-    {
-        match self {
-            FeedFault::BadLine(fault) => fault.code(),
-            FeedFault::NoRoom(fault) => fault.code(),
-        }
-    }
-}
-
-/// A room and its events so far.
-#[derive(Drop)]
-struct Room {
-    spec: Spec,
-    processes: Vec<Process>,
-    broken: Option<u64>,
-    /// In a room of few processes there is none: its snapshots are read quickly.
-    row: Option<Box<Row>>,
-    /// In a room without a task there is none.
-    tally: Option<Box<Tally>>,
-}
-
-impl Model for Room {
-    ghost use Rattle.std.specs.Coded.{codes};
-    ghost use Rattle.protocol_lang.specs.Codes.{expression_code};
-    ghost use Rattle.std.specs.Option.{option_map};
-    ghost use Rattle.history_checker.specs.Verdicts.{RoomState};
-
-    ghost Value = { RoomState };
-
-    ghost coded = { Prim.hlevel (codes, expression_code) };
-
-    ghost view = { λ room. record { spec = room.spec; processes = room.processes.items; broken = room.broken; tally = option_map (λ tally. tally.value) room.tally } };
-}
-
-impl Room {
-    fn open(alloc: Global, spec: Spec) -> Result<Room, AllocError>
-        ensures spec { IfOk result (λ room. room.spec ≡ spec) }
-        ensures processed { IfOk result (HasProcessedOwn []) }
-    {
-        let mut processes = vec![in alloc; Process::BLANK; spec.n()]?;
-        open(&spec, &mut processes);
-        let row = Row::of_many(alloc, spec.n())?;
-        let tally = Tally::of_task(alloc, &spec)?;
-        Ok(Room {
-            spec,
-            processes,
-            broken: None,
-            row,
-            tally,
-        })
-    }
-
-    /// Processes an event, which stands on this line.
-    fn feed(&mut self, event: &Event, line: u64)
-        ensures spec { self.new.spec ≡ self.old.spec }
-        ensures processed { (fed : List FedEvent) (one : FedEvent) → one.event ≡ event.now → one.line ≡ line → IsAfter fed self.old → IsAfter (fed ++ one ∷ []) self.new }
-    {
-        self.count(event, line);
-        self.follow(event, line);
-    }
-
-    /// Counts what the event decides, if the room has a task. A room that is no run has its task judged all the same.
-    fn count(&mut self, event: &Event, line: u64)
-        ensures others { self.new ≡ record self.old { tally = self.new.tally } }
-        ensures task { (fed : List FedEvent) (one : FedEvent) → one.event ≡ event.now → one.line ≡ line
-            → TaskStands self.old.spec fed self.old.spec.task self.old.tally → TaskStands self.old.spec (fed ++ one ∷ []) self.old.spec.task self.new.tally }
-    {
-        let Some(most) = self.spec.task() else {
-            return;
-        };
-        let Some(tally) = &mut self.tally else {
-            return;
-        };
-        tally.feed(&self.spec, usize::from(most), event, line);
-    }
-
-    /// Follows the event, unless one before it broke the run.
-    fn follow(&mut self, event: &Event, line: u64)
-        ensures spec { self.new.spec ≡ self.old.spec }
-        ensures tally { self.new.tally ≡ self.old.tally }
-        ensures processed { (fed : List FedEvent) (one : FedEvent) → one.event ≡ event.now → one.line ≡ line
-            → StandsAfter self.old fed self.old.broken → StandsAfter self.new (fed ++ one ∷ []) self.new.broken }
-    {
-        if self.broken.is_some() {
-            return;
-        }
-        let followed = follow(&mut self.processes, &self.spec, event);
-        if followed.is_err() {
-            self.broken = Some(line);
-            return;
-        }
-        self.show(event);
-    }
-
-    /// Has the row show what the event writes.
-    fn show(&mut self, event: &Event)
-        ensures { self.new ≡ self.old }
-    {
-        let Event::Write { p, v } = event else {
-            return;
-        };
-        if let Some(row) = &mut self.row {
-            row.write(usize::from(*p), *v);
-        }
-    }
-
-    fn verdict(&self) -> Verdict
-        ensures { (fed : List FedEvent) → StandsAfter self.now fed self.now.broken → IsVerdict self.now.spec fed result }
-    {
-        match self.broken {
-            None => Verdict::Run,
-            Some(line) => Verdict::Broken(line),
-        }
-    }
-
-    fn task_verdict(&self) -> Option<TaskVerdict>
-        ensures { (fed : List FedEvent) → TaskStands self.now.spec fed self.now.spec.task self.now.tally → IsTaskAnswer self.now.spec fed result }
-    {
-        let tally = self.tally.as_ref()?;
-        match tally.excess() {
-            None => Some(TaskVerdict::Holds),
-            Some(line) => Some(TaskVerdict::Broken(line)),
-        }
-    }
-}
 
 /// Rooms in order of adding, each with what its events so far leave it to expect. A room's verdict
 /// rests on the events that were fed under its name alone.

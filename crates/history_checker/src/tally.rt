@@ -1,7 +1,7 @@
 //! A room's task, whose decisions come one by one.
-ghost use Rattle.std.specs.Prelude.{◌≡◌, ◌∷◌, [], ◌++◌, ◌≤◌, List, IfOk};
+ghost use Rattle.std.specs.Prelude.{◌≡◌, [], ◌≤◌, IfOk};
 ghost use Rattle.std.specs.Option.{option_map};
-ghost use Rattle.history_checker.specs.Verdicts.{FedEvent, TallyStands, TaskStands};
+ghost use Rattle.history_checker.specs.Verdicts.{StaysSo, TallyStands, TaskStands};
 
 use crate::task::Decided;
 use room_spec::Spec;
@@ -42,8 +42,8 @@ impl Tally {
     /// Takes in an event, which stands on this line, of a room whose task allows `most` values.
     pub fn feed(&mut self, spec: &Spec, most: usize, event: &Event, line: u64)
         requires { most ≤ 16 }
-        ensures { (fed : List FedEvent) (one : FedEvent) → one.event ≡ event.now → one.line ≡ line
-            → TallyStands spec.now most fed self.old.decided self.old.excess → TallyStands spec.now most (fed ++ one ∷ []) self.new.decided self.new.excess }
+        ensures { StaysSo event.now line
+            (λ fed. TallyStands spec.now most fed self.old.decided self.old.excess) (λ fed. TallyStands spec.now most fed self.new.decided self.new.excess) }
     {
         if self.excess.is_some() {
             return;

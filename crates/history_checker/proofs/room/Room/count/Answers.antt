@@ -2,7 +2,7 @@ use Rattle.std.proofs.Common.{Some, ◌++◌, ◌∷◌, [], sym, ap, ◌∙◌,
 use Rattle.room_spec.specs.Rooms.{RoomSpec}
 use Rattle.history_checker.specs.Verdicts.{RoomState, TaskStands}
 use Rattle.history_checker.proofs.Counting.{counts_on}
-use Rattle.history_checker.proofs.rooms.Room.count.Goals as goal
+use Rattle.history_checker.proofs.room.Room.count.Goals as goal
 
 pub returns-clause-task : goal.returns-clause-task
 returns-clause-task c = λ fed one event line stands.

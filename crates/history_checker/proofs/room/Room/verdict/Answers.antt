@@ -1,5 +1,5 @@
 use Rattle.std.proofs.Common.{rules}
-use Rattle.history_checker.proofs.rooms.Room.verdict.Goals as goal
+use Rattle.history_checker.proofs.room.Room.verdict.Goals as goal
 
 pub returns-in-Some : goal.returns-in-Some
 returns-in-Some c = search rules

@@ -1,7 +1,7 @@
 use Rattle.std.proofs.Common.{◌++◌, ◌∷◌, [], sym, ap, ◌∙◌, subst}
 use Rattle.room_spec.specs.Rooms.{RoomSpec}
 use Rattle.history_checker.specs.Verdicts.{RoomState, StandsAfter, TaskStands}
-use Rattle.history_checker.proofs.rooms.Room.feed.Goals as goal
+use Rattle.history_checker.proofs.room.Room.feed.Goals as goal
 
 pub returns-clause-processed : goal.returns-clause-processed
 returns-clause-processed c = λ fed one event line after.

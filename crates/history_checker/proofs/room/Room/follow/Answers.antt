@@ -3,7 +3,7 @@ use Rattle.std.specs.Prelude.{is_some}
 use Rattle.std.proofs.lemmas.List.{with_items_is}
 use Rattle.history_checker.specs.Verdicts.{RoomState, StandsAfter}
 use Rattle.history_checker.proofs.Feeding.{stays_broken, breaks_now, runs_on, unbroken, still_unbroken}
-use Rattle.history_checker.proofs.rooms.Room.follow.Goals as goal
+use Rattle.history_checker.proofs.room.Room.follow.Goals as goal
 
 pub returns-then-is_some-clause-processed : goal.returns-then-is_some-clause-processed
 returns-then-is_some-clause-processed c =
