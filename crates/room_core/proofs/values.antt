@@ -1,3 +1,4 @@
+pub mod Entries
 pub mod OwnValues
 pub mod SmallValues
 pub mod Known

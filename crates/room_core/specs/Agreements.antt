@@ -121,12 +121,16 @@ pub record AgreementsStay (spec : RoomSpec) (before after : Fields) : Type 0 whe
 
 -- ---- what a room promises of them
 
+-- one of two rows is at most the other
+abbrev pub DoCompare : List ℕ → List ℕ → Type 0
+DoCompare row other = IsRowAtMost row other ⊎ IsRowAtMost other row
+
 -- What makes the history of these fields a run: what each row shows, and why each write and each decision was made.
 pub record HasAgreed (spec : RoomSpec) (fields : Fields) : Type 0 where
   -- a row shows of its own process the writes up to its round
   pub own_entry_is_exact : (j k : ℕ) → j < processes spec → 1 ≤ k → k ≤ spec.rounds → is_passed spec fields j k ≡ true → slice_index (row_at spec fields j k) j ≡ k
   pub snapshots_compare : (j k p r : ℕ) → j < processes spec → 1 ≤ k → k ≤ spec.rounds → is_passed spec fields j k ≡ true → p < processes spec → 1 ≤ r → r ≤ spec.rounds → is_passed spec fields p r ≡ true
-      → IsRowAtMost (row_at spec fields j k) (row_at spec fields p r) ⊎ IsRowAtMost (row_at spec fields p r) (row_at spec fields j k)
+      → DoCompare (row_at spec fields j k) (row_at spec fields p r)
   -- a row shows no write that nobody has counted
   pub row_is_within : (j k p : ℕ) → j < processes spec → 1 ≤ k → k ≤ spec.rounds → is_passed spec fields j k ≡ true → p < processes spec → slice_index (row_at spec fields j k) p ≤ greatest_step spec fields p
   pub steps_are_within : (p : ℕ) → p < processes spec → greatest_step spec fields p ≤ spec.rounds

@@ -6,10 +6,8 @@ use Rattle.room_spec.specs.Sizes.{sizes_in}
 use Rattle.view_table.specs.Places.{words_of}
 use Rattle.simulator.specs.Turns.{TakenOf}
 use Rattle.simulator.specs.Ranges.{greatest_limit}
-use Rattle.simulator.specs.Moves.{move_of}
 use Rattle.simulator.specs.Quiet.{IsQuietCount}
 use Rattle.simulator.specs.Sweeps.{SweepState, is_resting, opening_sweep, ready_of, quiet_after}
-use Rattle.simulator.specs.declared.operation.Move.{Move}
 use Rattle.simulator.specs.declared.sweep.Ready.{Ready}
 use Rattle.simulator.specs.declared.sweep.Ready.TheVariants as ready
 use Rattle.room_core.specs.Rooms.{Configuration, IsRoom, taken_from, words_by}
@@ -61,9 +59,6 @@ pub record IsCore (room : RoomState) : Type 0 where
 -- what a simulator's operation makes of it
 abbrev pub sweep_after : TakenOf (List ℕ) → ℕ → SweepState
 sweep_after taken quiet = record { mind = taken.mind; quiet = quiet_after taken.turn quiet }
-
-abbrev pub operation_at : RoomState → ℕ → Move
-operation_at room i = move_of room.spec (sweep_at room i).mind
 
 abbrev pub taken_by : RoomState → ℕ → TakenOf (List ℕ)
 taken_by room i = taken_from room.spec (sweep_at room i).mind room.words

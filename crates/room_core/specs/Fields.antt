@@ -5,7 +5,7 @@ use Rattle.std.specs.List.{range_with_len}
 use Rattle.room_spec.specs.Rooms.{RoomSpec, processes}
 use Rattle.room_spec.specs.Sizes.{sizes_in}
 use Rattle.safe_agreement.specs.Levels.{has_level, left_level, resolved_of}
-use Rattle.sim_memory.specs.Steps.{merged_of, holder_of, with_part}
+use Rattle.sim_memory.specs.Steps.{merged_of, holder_of, row_of, with_part}
 use Rattle.simulator.specs.declared.goal.Goal.{Goal}
 use Rattle.simulator.specs.declared.goal.Goal.TheVariants as goals
 use Rattle.simulator.specs.declared.line.Line.{Line}
@@ -77,6 +77,10 @@ levels_at spec fields j k = map (λ i. fields.level i j k) (range_with_len 0 spe
 -- the simulator whose proposal was chosen in it, if one was
 abbrev pub chosen_at : RoomSpec → Fields → ℕ → ℕ → Option ℕ
 chosen_at spec fields j k = resolved_of (levels_at spec fields j k)
+
+-- how many writes of each process a snapshot shows
+abbrev pub row_of_steps : RoomSpec → StepMap → List ℕ
+row_of_steps spec snapshot = row_of spec.simulators (processes spec) snapshot
 
 -- how many writes of a process a snapshot shows, and the simulator that has stored the last of them
 abbrev pub entry_of_steps : RoomSpec → StepMap → ℕ → ℕ

@@ -1,10 +1,9 @@
 //! Laws of rooms, for a crate that runs one over shared words. Each is what its function ensures.
-ghost use Rattle.std.specs.Prelude.{length, slice_index, false, ℕ, ◌≡◌, ◌≢◌, ◌↔◌, ◌⊎◌, ◌+◌, ◌*◌, ◌<◌, ◌≤◌, [], ◌∷◌, ◌++◌, true, List, Some};
+ghost use Rattle.std.specs.Prelude.{length, slice_index, false, ℕ, ◌≡◌, ◌≢◌, ◌↔◌, ◌+◌, ◌*◌, ◌<◌, ◌≤◌, [], ◌∷◌, ◌++◌, true, List, Some};
 ghost use Rattle.room_spec.specs.Rooms.{IsCertified, RoomSpec, IsWithinLimits, processes};
 ghost use Rattle.safe_agreement.specs.Levels.{IsClean, least_two};
-ghost use Rattle.sim_memory.specs.Steps.{IsRowAtMost, row_of};
 ghost use Rattle.room_core.specs.Contents.{IsDue};
-ghost use Rattle.room_core.specs.Agreements.{AgreementsStay, HasAgreed, IsFixedAt, IsInsideTurn, asks, is_clean, is_passed, row_at, view_at};
+ghost use Rattle.room_core.specs.Agreements.{AgreementsStay, DoCompare, HasAgreed, IsFixedAt, IsInsideTurn, asks, is_clean, is_passed, row_at, view_at};
 ghost use Rattle.protocol_lang.specs.Numbers.{greatest};
 ghost use Rattle.protocol_lang.specs.declared.meaning.Action.TheVariants.{Decide, Write};
 ghost use Rattle.simulator.specs.Minds.{goal_at};
@@ -16,7 +15,7 @@ ghost use Rattle.room_core.specs.Settled.{HasTurnLeft, IsDecidedOrHeld, IsSettle
 ghost use Rattle.room_core.specs.Settling.{steps_while};
 ghost use Rattle.simulator.specs.Sweeps.{is_resting};
 ghost use Rattle.room_core.specs.Calls.{Call, RoomState, configuration_of, has_crashed, marked, step_bound, moved, opening_state, replies_to, room_after_calls, room_after_step, room_kind, sweep_at, with_sweep, woken};
-ghost use Rattle.room_core.specs.Fields.{Fields, HasLineIn, IsLegalIn, levels_at, line, entry_of_steps, fields_after_call, fields_after_calls, fields_after_settle, opening_fields, replay_fields, replies_in, with_crash};
+ghost use Rattle.room_core.specs.Fields.{Fields, HasLineIn, IsLegalIn, levels_at, line, entry_of_steps, fields_after_call, fields_after_calls, fields_after_settle, opening_fields, replay_fields, replies_in, row_of_steps, with_crash};
 ghost use Rattle.room_spec.specs.Sizes.{sizes_in};
 ghost use Rattle.room_core.specs.Reading.{AgreeIn, AreFieldsOf, Reads, fields_in};
 ghost use Rattle.room_core.specs.Rooms.{HasLine, IsAlive, IsLegal, IsOneInterleaving, IsShaped, Configuration, ScheduleEvent, crashed_by, crashes, mind_at, opening, stepped, steps, times};
@@ -193,10 +192,7 @@ pub fn snapshots()
     ensures compare { (room : RoomState) (fields : Fields) →
         IsWithinLimits room.spec → AreFieldsOf room fields → (i j k h p r : ℕ) → i < room.spec.simulators → h < room.spec.simulators →
         1 ≤ k → 1 ≤ r → fields.level i j k ≡ 2 → fields.level h p r ≡ 2 →
-        IsRowAtMost (row_of room.spec.simulators (processes room.spec) (fields.view i j k))
-        (row_of room.spec.simulators (processes room.spec) (fields.view h p r)) ⊎
-        IsRowAtMost (row_of room.spec.simulators (processes room.spec) (fields.view h p r))
-        (row_of room.spec.simulators (processes room.spec) (fields.view i j k)) }
+        DoCompare (row_of_steps room.spec (fields.view i j k)) (row_of_steps room.spec (fields.view h p r)) }
     // Each shows of its own process exactly the writes up to the round of its agreement.
     ensures own { (room : RoomState) (fields : Fields) →
         IsWithinLimits room.spec → AreFieldsOf room fields → (i j k : ℕ) → i < room.spec.simulators → 1 ≤ k → fields.level i j k ≡ 2 →

@@ -5,7 +5,7 @@ use Rattle.protocol_lang.specs.Meaning.{first_value, next_action}
 use Rattle.protocol_lang.specs.declared.meaning.Action.{Action}
 use Rattle.protocol_lang.specs.declared.meaning.Action.TheVariants as actions
 use Rattle.room_spec.specs.Rooms.{RoomSpec, processes}
-use Rattle.sim_memory.specs.Steps.{IsRowAtMost}
+use Rattle.room_core.specs.Agreements.{DoCompare}
 use Rattle.transcript.specs.declared.event.Event.{Event}
 use Rattle.transcript.specs.declared.event.Event.TheVariants.{Write, Snap, Decide}
 
@@ -112,7 +112,7 @@ pub record IsAgreed (spec : RoomSpec) (src : Source) (s : Snapshot) : Type 0 whe
 pub record IsSource (spec : RoomSpec) (src : Source) : Type 0 where
   pub agreed : (s : Snapshot) → Contains src.order s → IsAgreed spec src s
   pub rising : IsRising src src.order
-  pub compare : (s t : Snapshot) → Contains src.order s → Contains src.order t → IsRowAtMost (row_of src s) (row_of src t) ⊎ IsRowAtMost (row_of src t) (row_of src s)
+  pub compare : (s t : Snapshot) → Contains src.order s → Contains src.order t → DoCompare (row_of src s) (row_of src t)
   pub rounds : (p : ℕ) → p < processes spec → src.greatest p ≤ spec.rounds
   pub passed : (p r : ℕ) → p < processes spec → 1 ≤ r → r < src.greatest p → Contains src.order (record { process = p; round = r })
   pub begins : (p : ℕ) → p < processes spec → 1 ≤ src.greatest p → src.written p 1 ≡ first_value spec.protocol (slice_index spec.inputs p) p (processes spec)

@@ -1,10 +1,10 @@
 -- Histories from the agreements that are passed, in whatever order they were found.
-use Rattle.std.specs.Prelude.{◌≡◌, ℕ, ◌+◌, ◌<◌, ◌≤◌, ◌⊎◌, true, Bool, length, Some, slice_index}
+use Rattle.std.specs.Prelude.{◌≡◌, ℕ, ◌+◌, ◌<◌, ◌≤◌, true, Bool, length, Some, slice_index}
 use Rattle.std.specs.List.{Contains}
 use Rattle.protocol_lang.specs.Meaning.{first_value}
 use Rattle.protocol_lang.specs.declared.meaning.Action.TheVariants as actions
 use Rattle.room_spec.specs.Rooms.{RoomSpec, processes}
-use Rattle.sim_memory.specs.Steps.{IsRowAtMost}
+use Rattle.room_core.specs.Agreements.{DoCompare}
 use Rattle.ws_history.specs.Histories.{Snapshot, Source, row_of, entry_of, asks_after}
 use Rattle.ws_history.specs.Orders.{in_order, all_passed, IsPassed}
 
@@ -24,7 +24,7 @@ pub record IsOfPassed (spec : RoomSpec) (src : Source) (passed : ℕ → ℕ →
   pub order : src.order ≡ in_order src.row (all_passed passed (processes spec) spec.rounds)
   pub known : (s : Snapshot) → IsPassed passed (processes spec) spec.rounds s → IsKnown spec src passed s
   pub compare : (s t : Snapshot) → IsPassed passed (processes spec) spec.rounds s → IsPassed passed (processes spec) spec.rounds t
-      → IsRowAtMost (row_of src s) (row_of src t) ⊎ IsRowAtMost (row_of src t) (row_of src s)
+      → DoCompare (row_of src s) (row_of src t)
   pub rounds : (p : ℕ) → p < processes spec → src.greatest p ≤ spec.rounds
   pub behind : (p r : ℕ) → p < processes spec → 1 ≤ r → r < src.greatest p → passed p r ≡ true
   pub begins : (p : ℕ) → p < processes spec → 1 ≤ src.greatest p → src.written p 1 ≡ first_value spec.protocol (slice_index spec.inputs p) p (processes spec)

@@ -105,9 +105,5 @@ pub(crate) fn sum(row: &[u8]) -> usize
     ensures value { result ≡ sum row.now }
     ensures range { result ≤ MAX_PROCESSES * MAX_ROUNDS }
 {
-    let mut sum = 0;
-    for entry in row {
-        sum += usize::from(*entry);
-    }
-    sum
+    row.iter().map(|&entry| usize::from(entry)).sum()
 }

@@ -11,7 +11,7 @@ use Rattle.room_core.specs.Calls.{Call, Step, Crash, Settle, RoomState, configur
 use Rattle.room_core.specs.Fields.{Fields, opening_fields, replay_fields, line, with_crash, ready_in, fields_when, fields_after_step, fields_after_crash, fields_after_settle, fields_after_call}
 use Rattle.room_core.specs.Reading.{AreFieldsOf}
 use Rattle.room_core.specs.Agreements.{IsFixedAt, asks, view_at}
-use Rattle.room_core.specs.Contents.{HasSmallValues}
+use Rattle.room_core.proofs.values.Entries.{HasSmallValues}
 use Rattle.room_core.specs.Tracks.{StandsFor}
 use Rattle.room_core.proofs.values.SmallValues.{small_values}
 use Rattle.room_core.proofs.fields.Replays.{shapes}

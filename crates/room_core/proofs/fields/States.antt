@@ -8,6 +8,7 @@ use Rattle.std.specs.Prelude.{slice_set}
 use Rattle.std.specs.List.{range_with_len, refill}
 use Rattle.room_spec.specs.Rooms.{RoomSpec, IsWithinLimits}
 use Rattle.simulator.specs.Minds.{MindState, goal_at, opening_mind}
+use Rattle.simulator.specs.declared.operation.Move.{Move}
 use Rattle.simulator.specs.Moves.{move_of, taken, words_after, answer_of, IsOperation}
 use Rattle.simulator.specs.Quiet.{HasNoWrite, IsQuietCount}
 use Rattle.simulator.specs.Ranges.{IsMind}
@@ -15,7 +16,7 @@ use Rattle.simulator.specs.Sweeps.{SweepState, opening_sweep}
 use Rattle.simulator.specs.declared.sweep.Ready.TheVariants.{Step, Idle}
 use Rattle.simulator.proofs.CallerLemmas.{counts_on, counts_anew, idle_waits, moves}
 use Rattle.room_core.specs.Rooms.{Configuration, IsRoom, IsShaped, HasLine, mind_at, opening, stepped, crashed_by}
-use Rattle.room_core.specs.Calls.{RoomState, IsCore, CountsQuietTurns, configuration_of, sweep_at, has_crashed, opening_state, operation_at, ready_at, moved, taken_by, sweep_after, with_sweep, woken}
+use Rattle.room_core.specs.Calls.{RoomState, IsCore, CountsQuietTurns, configuration_of, sweep_at, has_crashed, opening_state, ready_at, moved, taken_by, sweep_after, with_sweep, woken}
 use Rattle.room_core.proofs.fields.Replays.{is_room, opens_run, under_line, under_crash}
 
 abbrev mind_of : SweepState → MindState
@@ -115,6 +116,10 @@ has_line room i shape below alive ready = record {
   alive = record { below = below; alive = alive };
   moving = subst (λ (mind : MindState). IsOperation (move_of room.spec mind)) (sym (mind_here room i)) (moves room.spec (sweep_at room i).mind (sweep_at room i).quiet (mind_ok room i shape below) ready);
 }
+
+-- what the simulator's mind wants next
+abbrev pub operation_at : RoomState → ℕ → Move
+operation_at room i = move_of room.spec (sweep_at room i).mind
 
 pub operates : (room : RoomState) (i : ℕ) → HasLine (configuration_of room) i → IsOperation (operation_at room i)
 operates room i may = subst (λ (mind : MindState). IsOperation (move_of room.spec mind)) (mind_here room i) may.moving

@@ -16,7 +16,8 @@ use Rattle.sim_memory.proofs.CallerLemmas.{row_at, holder_of_is, holder_merged}
 use Rattle.simulator.proofs.CallerLemmas.{added, added_more, added_none}
 use Rattle.room_core.specs.Fields.{StepMap, Fields, entry_of_steps, holder_of_steps, shown_value}
 use Rattle.room_core.specs.Agreements.{first_with, written, asks}
-use Rattle.room_core.specs.Contents.{or_zero, entry_of, shown_by_map, IsDue, first_write, next_write, IsSmallEntry, AreSmall}
+use Rattle.room_core.specs.Contents.{IsDue, first_write, next_write}
+use Rattle.room_core.proofs.values.Entries.{or_zero, entry_of, shown_by_map, IsSmallEntry, AreSmall}
 
 -- ---- the first of a list that passes a test
 

@@ -13,12 +13,12 @@ use Rattle.simulator.specs.Ranges.{IsMind, charged_steps, greatest_limit, most_s
 use Rattle.simulator.proofs.CallerLemmas.{limit_most, total, total_falls, total_most, turns_before, bounded, steps_by_one}
 use Rattle.simulator.specs.Sweeps.{SweepState, is_resting, opening_sweep, ready_between}
 use Rattle.room_core.specs.Rooms.{IsOneInterleaving, IsShaped, steps}
-use Rattle.room_core.specs.Calls.{RoomState, configuration_of, has_crashed, is_step, moved, operation_at, ready_at, reply_when, room_after_step, room_kind, step_reply, sweep_after, sweep_at, taken_by, with_sweep, woken}
+use Rattle.room_core.specs.Calls.{RoomState, configuration_of, has_crashed, is_step, moved, ready_at, reply_when, room_after_step, room_kind, step_reply, sweep_after, sweep_at, taken_by, with_sweep, woken}
 use Rattle.room_core.specs.Calls as calls
 use Rattle.room_core.specs.declared.reply.StepReply.TheVariants.{Stepped}
 use Rattle.room_core.specs.Settling.{in_order, steps_while, turn_ended, ran_alone}
 use Rattle.room_core.proofs.fields.Replays.{shape_after, shapes}
-use Rattle.room_core.proofs.fields.States.{has_line, mind_ok, moved_data, sweep_count, woken_data}
+use Rattle.room_core.proofs.fields.States.{has_line, mind_ok, moved_data, operation_at, sweep_count, woken_data}
 use Rattle.room_core.proofs.fields.FieldCalls.{ready_step, same_spec_step}
 use Rattle.room_core.proofs.settling.Settling.{ended_keeps, alone_keeps}
 

@@ -28,7 +28,8 @@ use Rattle.simulator.specs.Minds.{goal_at, current_goal, current_round, round_of
 use Rattle.room_core.specs.Rooms.{Configuration, ScheduleEvent, steps, crashes, MayHappen, IsShaped, IsOneInterleaving}
 use Rattle.room_core.specs.Fields.{Fields, levels_at, opening_fields, line, fields_after, replay_fields}
 use Rattle.room_core.specs.Agreements.{IsFixedAt}
-use Rattle.room_core.specs.Contents.{IsDue, first_write, next_write, HasSmallValues}
+use Rattle.room_core.specs.Contents.{IsDue, first_write, next_write}
+use Rattle.room_core.proofs.values.Entries.{HasSmallValues}
 use Rattle.room_core.specs.Tracks.{Stage, Counts, Tells, stage_of, KeepsTrack, StandsFor}
 use Rattle.room_core.specs.Tracks as stages
 use Rattle.room_core.proofs.fields.Tracks.{at_sweep, stored_round}

@@ -21,7 +21,8 @@ use Rattle.simulator.specs.declared.line.Line.TheVariants.{Raise, GetView, Value
 use Rattle.simulator.specs.Minds.{MindOf, goal_at, current_goal, current_round}
 use Rattle.room_core.specs.Fields.{StepMap, Fields, levels_at, entry_of_steps, shown_value}
 use Rattle.room_core.specs.Agreements.{IsFixedAt, asks, first_with, view_at, written}
-use Rattle.room_core.specs.Contents.{or_zero, shown_by_map, IsDue, first_write, next_write, AreSmall}
+use Rattle.room_core.specs.Contents.{IsDue, first_write, next_write}
+use Rattle.room_core.proofs.values.Entries.{or_zero, shown_by_map, AreSmall}
 use Rattle.room_core.proofs.agreements.Staying.{LevelsStay}
 use Rattle.room_core.proofs.agreements.Fixing.{fixed_has_least}
 use Rattle.room_core.proofs.moments.Contents.{first_has, due_only, ValuesDue, ValuesLow, small_more, padded_small, shown_value_is, AreFirst, first_more, padded_first, length_of_shown, shown_at, shown_none, shown_same}

@@ -15,7 +15,7 @@ use Rattle.room_core.specs.Calls.{RoomState, configuration_of}
 use Rattle.room_core.specs.Fields.{Fields, changed_pair, line, fields_after}
 use Rattle.room_core.specs.Reading.{AreFieldsOf}
 use Rattle.room_core.specs.Agreements.{row_at, shown, shown_by, asks, written}
-use Rattle.room_core.specs.Contents.{IsSmallEntry, AreSmall, HasSmallValues}
+use Rattle.room_core.proofs.values.Entries.{IsSmallEntry, AreSmall, HasSmallValues}
 use Rattle.room_core.specs.Tracks.{StandsFor}
 use Rattle.room_core.proofs.fields.FieldCalls.{fields_stand, leads_of}
 use Rattle.room_core.proofs.fields.Effects.{Own, own_of, Effect, stores, raises, collects_word, collects_again, scans, shows_word, shows, loads_word, enters, looks, leaves, asks_in_vain, finds, gathers, goes_to, will_decide, decides, line_effect}

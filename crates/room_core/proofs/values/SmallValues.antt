@@ -4,7 +4,7 @@ use Rattle.protocol_lang.specs.Numbers.{greatest}
 use Rattle.protocol_lang.specs.Limits.{action_value}
 use Rattle.room_spec.specs.Rooms.{RoomSpec, IsWithinLimits}
 use Rattle.room_spec.proofs.CallerLemmas.{first_in_room, next_in_room}
-use Rattle.room_core.specs.Contents.{HasSmallValues}
+use Rattle.room_core.proofs.values.Entries.{HasSmallValues}
 
 pub small_values : (spec : RoomSpec) → IsWithinLimits spec → HasSmallValues spec
 small_values spec limits = record {
