@@ -2,6 +2,7 @@
 use Rattle.std.specs.Prelude.{◌≡◌, ◌≤◌, ℕ, true, false, List, [], ◌∷◌, ◌++◌, Option, Ok, Err, length, map, suc, take}
 use Rattle.std.specs.List.{AllByRecursion, flat_map, sum_by}
 use Rattle.protocol_lang.specs.Limits.{IsEntry}
+use Rattle.protocol_lang.specs.declared.meaning.TheConstants.{MAX_PROCESSES}
 use Rattle.room_spec.specs.Rooms.{RoomSpec}
 use Rattle.transcript.specs.Grammar.{entry_text}
 use Rattle.transcript.specs.Lines.{LineParts, line_said}
@@ -27,11 +28,11 @@ width entry = suc (length (entry_text entry))
 abbrev pub before : List ℕ → ℕ → ℕ
 before widths p = sum_by (λ w. w) (take p widths)
 
--- at most 16 entries, their text, and how many bytes of it each has
+-- entries, no more than a room has processes, their text, and how many bytes of it each has
 pub record IsShown (entries : List (Option ℕ)) (text widths : List ℕ) : Type 0 where
   pub says : SaysRow text entries
   pub widths_are : widths ≡ map width entries
-  pub few : length entries ≤ 16
+  pub few : length entries ≤ MAX_PROCESSES
 
 -- the line with these parts and this number says an event of one of the rooms, which they have then processed
 pub record HasFed (line : LineParts) (number : ℕ) (old new : List RoomState) : Type 0 where

@@ -2,6 +2,7 @@
 ghost use Rattle.std.specs.Prelude.{◌≡◌, ◌↔◌, ◌≤◌, List, true, false, length, [], ◌∷◌, ◌++◌, IsTrue, IsFalse, IsOk, IfErr, IsErrOf, OnOk, OnErr, None, Some, MatchOption, IfSome, IsSomeAnd, is_some, option_map, slice_get};
 ghost use Rattle.std.specs.List.{position};
 ghost use Rattle.std.specs.Str.{bytes_eq};
+ghost use Rattle.protocol_lang.specs.declared.meaning.TheConstants.{MAX_PROCESSES};
 ghost use Rattle.room_spec.specs.Names.{is_name};
 ghost use Rattle.room_spec.specs.Rooms.{RoomSpec};
 ghost use Rattle.transcript.specs.Lines.{event_said};
@@ -175,7 +176,7 @@ impl Rooms {
 
     /// The row of the room of this index, if it has one that the text says.
     fn row_said(&self, index: usize, text: &[u8]) -> Option<View>
-        ensures { IfSome result (λ row. SaysRow (32 ∷ text.now) row.items × (length row.items ≤ 16)) }
+        ensures { IfSome result (λ row. SaysRow (32 ∷ text.now) row.items × (length row.items ≤ MAX_PROCESSES)) }
     {
         let (_, room) = self.rooms.get_index(index)?;
         let row = room.row.as_ref()?;

@@ -4,7 +4,7 @@ ghost use Rattle.history_checker.specs.Shown.{IsShown, SaysRow, before};
 
 use arrayvec::ArrayVec;
 use itoa::Buffer;
-use protocol_lang::View;
+use protocol_lang::{MAX_PROCESSES, View};
 use std::alloc::{AllocError, Global};
 use std::marker::Model;
 use std::mem::swap;
@@ -19,7 +19,7 @@ pub(crate) struct Row {
     last: View,
     text: Vec<u8>,
     /// How many bytes of the text each entry has.
-    widths: ArrayVec<u8, 16>,
+    widths: ArrayVec<u8, MAX_PROCESSES>,
     /// Where the next text is put together.
     next: Vec<u8>,
 }
@@ -41,7 +41,7 @@ const MANY: usize = 4;
 impl Row {
     /// The row of a room of many processes that have not written.
     pub(crate) fn of_many(alloc: Global, n: usize) -> Result<Option<Box<Row>>, AllocError>
-        requires { n ≤ 16 }
+        requires { n ≤ MAX_PROCESSES }
     {
         if n < MANY {
             return Ok(None);
@@ -51,7 +51,7 @@ impl Row {
 
     /// The row of `n` processes that have not written.
     pub(crate) fn open(alloc: Global, n: usize) -> Result<Row, AllocError>
-        requires { n ≤ 16 }
+        requires { n ≤ MAX_PROCESSES }
     {
         let mut row = Row {
             last: View::new(),
@@ -77,13 +77,13 @@ impl Row {
 
     pub(crate) fn entries(&self) -> Result<View, AllocError>
         ensures entries { IfOk result (λ view. view.items ≡ self.now) }
-        ensures few { IfOk result (λ view. length view.items ≤ 16) }
+        ensures few { IfOk result (λ view. length view.items ≤ MAX_PROCESSES) }
     {
         self.last.clone()
     }
 
     fn add_silent(&mut self) -> Result<(), AllocError>
-        requires { length self.old < 16 }
+        requires { length self.old < MAX_PROCESSES }
         ensures { OnOk result (length self.new ≡ length self.old + 1) }
     {
         self.text.extend_from_slice(b" .")?;
@@ -136,7 +136,7 @@ fn splice(
 
 /// How many bytes stand before an entry, by the widths of all.
 fn before(widths: &[u8], p: usize) -> usize
-    requires { (p ≤ length widths.now) × (length widths.now ≤ 16) }
+    requires { (p ≤ length widths.now) × (length widths.now ≤ MAX_PROCESSES) }
     ensures value { result ≡ before widths.now p }
     ensures small { result ≤ 4080 }
 {
