@@ -1,6 +1,6 @@
 -- A command is read exactly from its line.
 use Rattle.std.proofs.Common.{◌≡◌, ◌∙◌, ℕ, ◌≤◌, ◌&&◌, Bool, true, false, cond, not, eqb, leb, List, [], ◌∷◌, length, Option, Some, None, refl, sym, ap, ap₂, subst, arith}
-use Rattle.std.specs.Prelude.{IfSome, codes}
+use Rattle.std.specs.Prelude.{IfSome, codes, is_some}
 use Rattle.std.specs.Fmt.{decimal}
 use Rattle.std.specs.List.{All, AllByRecursion, list_all, join_with_byte}
 use Rattle.std.specs.Str.{bytes_eq}
@@ -15,7 +15,7 @@ use Rattle.transcript.proofs.CallerLemmas.{no_space_in}
 use Rattle.service_core.specs.declared.command.Command.{Command}
 use Rattle.service_core.specs.declared.command.Command.TheVariants.{Begin, Step, Crash, Settle, Report, Close}
 use Rattle.service_core.specs.Replies.{name_in}
-use Rattle.bgsim_console.specs.Script.{HasNumbers, IsCommandLine, command_fields, command_in, command_of, command_to, crash_command, number_within, step_command, within}
+use Rattle.bgsim_console.specs.Script.{HasNumbers, IsCommandLine, command_fields, command_in, command_of, command_to, crash_command, number_within, step_command, steps_for, within}
 
 -- ---- what is read is what the line asks for
 
@@ -147,3 +147,29 @@ fields_cut (Close name) named numbers = fields_joined (codes "close") (name ∷ 
 pub read_again : (line : List ℕ) (read : Option Command) → read ≡ command_in line → (command : Command) → IsCommandLine line command → read ≡ Some command
 read_again line read e command asks =
     e ∙ ap command_in asks.text ∙ ap command_of (fields_cut command asks.room asks.numbers) ∙ fields_again command asks.room asks.numbers
+
+-- ---- lines of steps
+
+-- a number has no space in it
+number_alone : (field : List ℕ) (n : ℕ) → number_within 1 65535 field ≡ Some n → fields_of field ≡ field ∷ []
+number_alone field n e =
+    let found = number_found 1 65535 field n (omega arith) e in
+    slice_split_none is_space field (subst HasNoSpace (sym found.0) (no_space-decimal n found.2))
+
+pub steps_read : (line word others name numbers sim count : List ℕ) (s c : ℕ) → fields_of line ≡ word ∷ fields_of others → word ≡ codes "step" → fields_of others ≡ name ∷ fields_of numbers → fields_of numbers ≡ sim ∷ fields_of count
+    → Some s ≡ number_within 0 255 sim → Some c ≡ number_within 1 65535 count → command_in line ≡ steps_for name s c
+steps_read line word others name numbers sim count s c first step second third is_sim is_count =
+    ap command_of (first ∙ ap (λ (fields : List (List ℕ)). word ∷ fields) (second ∙ ap (λ (fields : List (List ℕ)). name ∷ fields) (third ∙ ap (λ (fields : List (List ℕ)). sim ∷ fields) (number_alone count c (sym is_count)))))
+    ∙ rw (step, ← is_sim, ← is_count) refl
+
+-- whether such a line asks for something
+pub steps_good : (name : List ℕ) (sim count : ℕ) → is_some (steps_for name sim count) ≡ is_name name
+steps_good name sim count = elim (is_name name) as (λ b. is_some (cond b (Some (Step name sim count)) None) ≡ b) [ true ↦ refl | false ↦ refl ]
+
+-- and for what
+pub steps_asked : (name : List ℕ) (sim count : ℕ) (command : Command) → steps_for name sim count ≡ Some command → (is_name name ≡ true) × (command ≡ Step name sim count)
+steps_asked name sim count command e = by (is_name name) e
+  where
+    by : (b : Bool) → cond b (Some (Step name sim count)) None ≡ Some command → (b ≡ true) × (command ≡ Step name sim count)
+    by true is = (refl, cc)
+    by false is = absurd cc

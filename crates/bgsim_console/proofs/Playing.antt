@@ -95,6 +95,10 @@ pub where_ok : {X E : Type 0} (r : Result X E) (P Q : Type 0) → (P → Q) → 
 where_ok (Ok x) P Q step holds = step holds
 where_ok (Err e) P Q step holds = tt
 
+pub both_ok : {X E : Type 0} (r : Result X E) (P Q : Type 0) → OnOk r P → OnOk r Q → OnOk r (P × Q)
+both_ok (Ok x) P Q one other = (one, other)
+both_ok (Err e) P Q one other = tt
+
 -- what ends the lines that are left ends the script
 pub fault_behind : (before : List Entry) (read whole : Result (List Entry) (ℕ × ℕ)) (fault : IoFault) → whole ≡ behind before read → IsFaultOr (IsOk read) read fault → IsFaultOr (IsOk whole) whole fault
 fault_behind before read whole fault is says = subst (λ (w : Result (List Entry) (ℕ × ℕ)). IsFaultOr (IsOk w) w fault) (sym is) (by read fault says)

@@ -53,6 +53,10 @@ command_of (word ∷ name ∷ numbers) = if is_name name then command_to word na
 abbrev pub command_in : List ℕ → Option Command
 command_in line = command_of (fields_of line)
 
+-- the command for steps of the room that these bytes name, where they are a name
+abbrev pub steps_for : List ℕ → ℕ → ℕ → Option Command
+steps_for name sim count = if is_name name then Some (Step name sim count) else None
+
 -- ---- the lines of commands
 
 -- the word of a command, the name of its room, and its numbers

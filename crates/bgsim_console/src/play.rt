@@ -1,8 +1,11 @@
 //! A script, entry by entry.
-ghost use Rattle.std.specs.Prelude.{◌≡◌, ◌≤◌, ◌<◌, ◌+◌, ◌^◌, ◌||◌, ◌++◌, ◌∷◌, [], true, false, List, Ok, IsOk, IfOk, IfErr, OnOk, ℕ, decimal, is_some, length};
+ghost use Rattle.std.specs.Prelude.{◌≡◌, ◌≤◌, ◌<◌, ◌+◌, ◌^◌, ◌||◌, ◌++◌, ◌∷◌, [], true, false, List, Ok, Some, IsOk, IfOk, IfErr, OnOk, ℕ, decimal, is_some, length};
+ghost use Rattle.service_core.specs.declared.command.Command.{Command as CommandData};
 ghost use Rattle.service_core.specs.declared.command.Command.TheVariants.{Step};
 ghost use Rattle.service_core.specs.declared.reply.Reply.{Reply as ReplyData};
+ghost use Rattle.service_core.specs.declared.reply.Reply.TheVariants.{Refused};
 ghost use Rattle.service_core.specs.Runs.{is_want};
+ghost use Rattle.room_spec.specs.Names.{is_name};
 ghost use Rattle.bgsim_console.specs.Blocks.{IsFaultOr, fault_text, refused_line};
 ghost use Rattle.bgsim_console.specs.Play.{AreDone, Done, HasPlayed, IsDone, IsPlayFor, PlaysOn, Replied, ending_if, is_refusal};
 ghost use Rattle.bgsim_console.specs.ReplyTexts.{reply_text, sim_in};
@@ -12,7 +15,7 @@ ghost use Rattle.bgsim_console.specs.Reading.{most_bytes};
 use crate::blocks::read_room;
 use crate::fault::{IoFault, Outcome, bad_input, outcome_if};
 use crate::lines::count_lines;
-use crate::reply::write_reply;
+use crate::reply::{write_reply, write_steps};
 use crate::report::{write_refused, write_refused_code};
 use crate::script::{is_open, next_entry, read_command};
 use crate::steps::read_steps;
@@ -84,9 +87,17 @@ impl Player {
             return Ok(true);
         }
         if let Some((name, sim, count)) = read_steps(line) {
-            self.step(&name, sim, count)?;
-            return Ok(true);
+            return self.step(name, sim, count);
         }
+        self.obey(alloc, line)
+    }
+
+    /// Does what a line asks for that opens no room. Gives whether it asks for something.
+    #[inline(never)]
+    fn obey(&mut self, alloc: Global, line: &[u8]) -> Result<bool, AllocError>
+        ensures good { IfOk result (λ good. good ≡ is_some (command_in line.now)) }
+        ensures plays { OnOk result ((command : CommandData) → command_in line.now ≡ Some command → (reply : ReplyData) × ((all : List Done) → HasPlayed all self.old.service self.old.output self.old.refused self.old.lacking → HasPlayed (all ++ Replied command reply ∷ []) self.new.service self.new.output self.new.refused self.new.lacking)) }
+    {
         let Some(command) = read_command(line) else {
             return Ok(false);
         };
@@ -95,6 +106,7 @@ impl Player {
     }
 
     /// Opens the room of a block whose first line has this number.
+    #[inline(never)]
     fn open(&mut self, alloc: Global, number: u64, block: &[u8]) -> Result<(), AllocError>
         ensures { OnOk result ((all : List Done) → HasPlayed all self.old.service self.old.output self.old.refused self.old.lacking → PlaysOn (Open number block.now) self.new.service self.new.output self.new.refused self.new.lacking all) }
     {
@@ -150,18 +162,42 @@ impl Player {
         let name = command.name().clone()?;
         let sim = sim_in(&command);
         let reply = self.service.apply(alloc, command);
-        self.answer(&name, sim, &reply)
+        self.answer(name.as_str().as_bytes(), sim, &reply)
     }
 
-    fn step(&mut self, name: &Name, sim: u8, count: u16) -> Result<(), AllocError>
-        ensures { OnOk result ((reply : ReplyData) × ((all : List Done) → HasPlayed all self.old.service self.old.output self.old.refused self.old.lacking → HasPlayed (all ++ Replied (Step name.now sim count) reply ∷ []) self.new.service self.new.output self.new.refused self.new.lacking)) }
+    /// Lets a simulator of the room of this name take steps. Gives whether these bytes are a name.
+    fn step(&mut self, name: &[u8], sim: u8, count: u16) -> Result<bool, AllocError>
+        ensures good { IfOk result (λ good. good ≡ is_name name.now) }
+        ensures plays { OnOk result (is_name name.now ≡ true → (reply : ReplyData) × ((all : List Done) → HasPlayed all self.old.service self.old.output self.old.refused self.old.lacking → HasPlayed (all ++ Replied (Step name.now sim count) reply ∷ []) self.new.service self.new.output self.new.refused self.new.lacking)) }
     {
-        let reply = self.service.step(name, sim, count);
-        self.answer(name, sim, &reply)
+        match self.service.step(name, sim, count) {
+            Ok((taken, last)) => {
+                write_steps(&mut self.output, name, sim, taken, last)?;
+                Ok(true)
+            }
+            Err(refusal) => self.refuse_steps(name, sim, refusal),
+        }
+    }
+
+    /// Refuses the room of this name steps. Gives whether these bytes are a name.
+    #[cold]
+    #[inline(never)]
+    fn refuse_steps(&mut self, name: &[u8], sim: u8, refusal: Refusal) -> Result<bool, AllocError>
+        ensures good { IfOk result (λ good. good ≡ is_name name.now) }
+        ensures output { OnOk result (is_name name.now ≡ true → self.new.output ≡ self.old.output ++ reply_text name.now sim (Refused refusal)) }
+        ensures refused { OnOk result (is_name name.now ≡ true → self.new.refused ≡ true) }
+        ensures lacking { OnOk result (is_name name.now ≡ true → self.new.lacking ≡ (self.old.lacking || is_want (Refused refusal))) }
+        ensures service { self.new.service ≡ self.old.service }
+    {
+        if Name::read(name).is_none() {
+            return Ok(false);
+        }
+        self.answer(name, sim, &Reply::Refused(refusal))?;
+        Ok(true)
     }
 
     /// Writes what the service replied for the room of this name and this simulator of it.
-    fn answer(&mut self, name: &Name, sim: u8, reply: &Reply) -> Result<(), AllocError>
+    fn answer(&mut self, name: &[u8], sim: u8, reply: &Reply) -> Result<(), AllocError>
         ensures output { OnOk result (self.new.output ≡ self.old.output ++ reply_text name.now sim reply.now) }
         ensures refused { self.new.refused ≡ (self.old.refused || is_refusal reply.now) }
         ensures lacking { self.new.lacking ≡ (self.old.lacking || is_want reply.now) }
@@ -169,7 +205,7 @@ impl Player {
     {
         self.refused |= is_refusal(reply);
         self.lacking |= is_want(reply);
-        write_reply(&mut self.output, name.as_str().as_bytes(), sim, reply)
+        write_reply(&mut self.output, name, sim, reply)
     }
 }
 

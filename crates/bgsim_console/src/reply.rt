@@ -1,6 +1,7 @@
 //! The lines of replies.
 ghost use Rattle.std.specs.Prelude.{◌≡◌, ◌≤◌, ◌++◌, ◌∷◌, OnOk, codes, decimal, length};
 ghost use Rattle.std.specs.List.{flat_map};
+ghost use Rattle.service_core.specs.declared.reply.Reply.TheVariants.{Steps};
 ghost use Rattle.service_core.specs.Replies.{refusal_code};
 ghost use Rattle.transcript.specs.Grammar.{entry_text, event_line};
 ghost use Rattle.bgsim_console.specs.ReplyTexts.{crash_word, event_lines, numbers_text, process_line, process_lines, reply_text, report_text, state_text, step_word};
@@ -27,19 +28,23 @@ pub fn write_reply(output: &mut Text, name: &[u8], sim: u8, reply: &Reply) -> Re
     }
 }
 
-fn write_steps(
+/// Writes the line of a reply to a command for steps of this simulator.
+pub fn write_steps(
     output: &mut Text,
     name: &[u8],
     sim: u8,
     taken: u16,
     last: StepReply,
 ) -> Result<(), AllocError>
-    ensures { OnOk result (output.new ≡ output.old ++ (name.now ++ (codes " step " ++ (decimal sim ++ (codes " " ++ (decimal taken ++ (codes " " ++ (step_word last ++ codes "\n")))))))) }
+    ensures { OnOk result (output.new ≡ output.old ++ reply_text name.now sim (Steps taken last)) }
 {
     output.put_two(name, b" step")?;
     output.put_number(u64::from(sim))?;
     output.put_number(u64::from(taken))?;
-    output.put(step_end(last))
+    match last {
+        StepReply::Stepped => output.put(b" stepped\n"), // of a length that is known
+        _ => output.put(step_end(last)),
+    }
 }
 
 /// The end of the line on steps.

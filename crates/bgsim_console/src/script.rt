@@ -102,6 +102,7 @@ pub fn is_open(line: &[u8]) -> bool
 
 /// The first line of a script, without its line end; the block behind it, where it is `open`; and what
 /// stands behind these. `None` where the script is empty.
+#[inline(always)]
 pub fn next_entry(script: &[u8]) -> Option<(&[u8], &[u8], &[u8])>
     ensures none { MatchOption result (script.now ≡ []) (λ r. 0 < length script.now) }
     ensures line { IfSome result (λ r. r.0.now ≡ first_line script.now) }

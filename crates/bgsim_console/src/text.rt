@@ -114,6 +114,14 @@ impl Text {
         if value < 10 {
             return self.put(&[b' ', b'0' + value as u8]);
         }
+        self.put_long_number(value)
+    }
+
+    /// Does the same for a number of any length.
+    #[inline(never)]
+    fn put_long_number(&mut self, value: u64) -> Result<(), AllocError>
+        ensures { OnOk result (self.new ≡ self.old ++ 32 ∷ decimal value) }
+    {
         self.put_numeral(&Numeral::of(value))
     }
 

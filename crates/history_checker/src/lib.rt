@@ -9,7 +9,6 @@ mod reason;
 mod room;
 mod rooms;
 mod row;
-mod spelled;
 mod tally;
 mod task;
 mod verdict;

@@ -11,11 +11,10 @@ ghost use Rattle.history_checker.specs.Shown.{HasFed, IsUnfed, SaysRow};
 
 use crate::fault::{AddFault, FeedFault, NoRoom};
 use crate::room::Room;
-use crate::spelled::Spelled;
 use crate::verdict::{TaskVerdict, Verdict};
 use indexmap::IndexMap;
 use protocol_lang::View;
-use room_spec::{Name, Spec};
+use room_spec::{Name, Spec, Spelled};
 use std::alloc::{AllocError, Global};
 use std::marker::Model;
 use transcript::{Event, EventLine, LineFault};

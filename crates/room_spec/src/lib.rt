@@ -9,6 +9,7 @@ pub mod laws;
 mod name;
 mod protocols;
 mod spec;
+mod spelled;
 mod text;
 mod version;
 
@@ -17,5 +18,6 @@ pub use fault::SpecFault;
 pub use name::Name;
 pub use protocols::Protocols;
 pub use spec::{MAX_MEMORY_WORDS, MAX_PROCESSES, MAX_ROUNDS, MAX_SIMULATORS, Shape, Spec};
+pub use spelled::Spelled;
 pub use text::{cut, cut_near};
 pub use version::Version;

@@ -93,12 +93,10 @@ module _ (name : List ℕ) (command : Command) (reply : Reply) (before after : E
   }
 
 name_for : (name : List ℕ) (what : Act) → name_in (command_for name what) ≡ name
-name_for name (acts.Step sim count) = refl
 name_for name (acts.Crash sim) = refl
 name_for name acts.Settle = refl
 
 open_after : (name : List ℕ) (what : Act) (room : OpenRoom) → room_after_open room (command_for name what) ≡ Some (room_in room (command_for name what))
-open_after name (acts.Step sim count) room = refl
 open_after name (acts.Crash sim) room = refl
 open_after name acts.Settle room = refl
 
@@ -108,6 +106,13 @@ pub asks_room : (name : List ℕ) (what : Act) (reply : Reply) (before after : E
     → Applies before (command_for name what) reply after
 asks_room name what reply before after core core' there changes answers granted none refused =
     stays_open name (command_for name what) reply before after core core' (name_for name what) (open_after name what) there changes (λ _ room is. answers name room is) (λ report is. absurd (none report is)) (λ is. absurd (granted is)) refused
+
+-- it takes steps
+pub steps_room : (name : List ℕ) (sim count : ℕ) (reply : Reply) (before after : Entries) (core core' : RoomState) → room_at before name ≡ Some core → Changes before after name (Some core')
+    → ((of : List ℕ) (room : OpenRoom) → IsOpenAs core room → Answers room (commands.Step of sim count) reply core') → reply ≢ Refused OutOfMemory → ((report : ReportData) → reply ≢ Report report) → (IsRefusal reply → core' ≡ core)
+    → Applies before (commands.Step name sim count) reply after
+steps_room name sim count reply before after core core' there changes answers granted none refused =
+    stays_open name (commands.Step name sim count) reply before after core core' refl (λ room. refl) there changes (λ _ room is. answers name room is) (λ report is. absurd (none report is)) (λ is. absurd (granted is)) refused
 
 -- it is reported, and nothing changes
 pub reports_room : (name : List ℕ) (reply : Reply) (entries : Entries) (core : RoomState) → room_at entries name ≡ Some core

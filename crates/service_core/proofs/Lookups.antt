@@ -63,3 +63,7 @@ pub entry_there : (entries : Entries) (name : List ℕ) (i : ℕ) (room : RoomSt
 entry_there entries name i room found there =
     let passes = (position-Some (bytes_eq name) (keys_of entries) i name found).1 in
     entry_at entries i room name there ∙ ap (λ (key : List ℕ). Some (key, room)) (sym (same_name name (get_or (keys_of entries) i name) passes))
+
+-- a room that has taken the other's place is under its name still
+pub some_spec : (name : List ℕ) (room one : RoomState) → room.spec.name ≡ name → Some room ≡ Some one → one.spec.name ≡ name
+some_spec name room one own is = sym (ap (λ (r : RoomState). r.spec.name) (some_room room one is)) ∙ own

@@ -1,6 +1,6 @@
 -- The replies to the commands of one name, written over one room's fields: which other rooms there are, and what they are
 -- asked, has no place in it.
-use Rattle.std.specs.Prelude.{ℕ, zero, suc, Bool, true, false, List, [], ◌∷◌, Option, Some, None, nat_lt, if◌then◌else◌}
+use Rattle.std.specs.Prelude.{ℕ, zero, suc, Bool, true, false, List, [], ◌∷◌, Option, Some, None, Result, Ok, Err, nat_lt, if◌then◌else◌}
 use Rattle.std.specs.List.{filter}
 use Rattle.std.specs.Str.{bytes_eq}
 use Rattle.room_spec.specs.Rooms.{RoomSpec}
@@ -68,6 +68,11 @@ name_in (commands.Close name) = name
 
 abbrev pub stepped_reply : Stepping → Reply
 stepped_reply stepping = Steps stepping.taken stepping.last
+
+-- the reply that says how many steps were taken and the last answer, or why none was asked for
+abbrev pub reply_to_steps : Result (ℕ × StepReply) Refusal → Reply
+reply_to_steps (Ok (taken, last)) = Steps taken last
+reply_to_steps (Err refusal) = Refused refusal
 
 -- what an open room answers
 abbrev pub reply_in : OpenRoom → Command → Reply

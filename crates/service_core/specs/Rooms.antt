@@ -71,9 +71,8 @@ pub record Applies (before : Entries) (command : Command) (reply : Reply) (after
 
 -- ---- inside the crate
 
--- what a command does to an open room, as a command
+-- what a command other than for steps does to an open room, as a command
 abbrev pub command_for : List ℕ → Act → Command
-command_for name (acts.Step sim count) = commands.Step name sim count
 command_for name (acts.Crash sim) = commands.Crash name sim
 command_for name acts.Settle = commands.Settle name
 

@@ -3,7 +3,7 @@ ghost use Rattle.std.specs.Prelude.{◌≡◌, ◌≢◌, ℕ, List, nat_lt};
 ghost use Rattle.service_core.specs.declared.command.Command.TheVariants.{Crash, Report, Step};
 ghost use Rattle.room_core.specs.Fields.{Fields};
 ghost use Rattle.room_core.specs.Reading.{AreFieldsOf};
-ghost use Rattle.service_core.specs.Replies.{OpenRoom, stepping};
+ghost use Rattle.service_core.specs.Replies.{OpenRoom, reply_to_steps, stepping};
 ghost use Rattle.ws_history.specs.declared.states.Report.{Report as ReportData};
 ghost use Rattle.service_core.specs.Rooms.{Answers, IsOpenAs, IsRefusal, IsSteppedTo, command_for};
 ghost use Rattle.ws_history.specs.Reports.{IsTrueReport};
@@ -15,10 +15,9 @@ use room_core::{RoomCore, StepReply};
 use std::alloc::Global;
 use ws_history::report;
 
-/// What a command does to a room that stays open.
+/// What a command does to a room that stays open, other than to let it take steps.
 #[derive(Clone, Copy)]
 pub(crate) enum Act {
-    Step { sim: u8, count: u16 },
     Crash(u8),
     Settle,
 }
@@ -45,7 +44,6 @@ pub(crate) fn answer(room: &mut RoomCore, what: Act) -> Reply
     ensures spec { room.new.spec ≡ room.old.spec }
 {
     match what {
-        Act::Step { sim, count } => step(room, sim, count),
         Act::Crash(sim) => crash(room, sim),
         Act::Settle => {
             room.settle();
@@ -60,18 +58,19 @@ fn has_simulator(room: &RoomCore, sim: u8) -> bool
     usize::from(sim) < room.spec().m()
 }
 
-fn step(room: &mut RoomCore, sim: u8, count: u16) -> Reply
-    ensures reply { (name : List ℕ) (state : OpenRoom) → IsOpenAs room.old state → Answers state (Step name sim count) result room.new }
-    ensures granted { result ≢ Refused OutOfMemory }
-    ensures no_report { (report : ReportData) → result ≢ ReportReply report }
-    ensures refused { IsRefusal result → room.new ≡ room.old }
+/// Lets a simulator take steps. It takes no memory.
+pub(crate) fn step(room: &mut RoomCore, sim: u8, count: u16) -> Result<(u16, StepReply), Refusal>
+    // What it does rests on the room alone.
+    ensures reply { (name : List ℕ) (state : OpenRoom) → IsOpenAs room.old state → Answers state (Step name sim count) (reply_to_steps result) room.new }
+    ensures granted { reply_to_steps result ≢ Refused OutOfMemory }
+    ensures no_report { (report : ReportData) → reply_to_steps result ≢ ReportReply report }
+    ensures refused { IsRefusal (reply_to_steps result) → room.new ≡ room.old }
     ensures spec { room.new.spec ≡ room.old.spec }
 {
     if !has_simulator(room, sim) {
-        return Reply::Refused(Refusal::NoSimulator);
+        return Err(Refusal::NoSimulator);
     }
-    let (taken, last) = steps(room, usize::from(sim), count);
-    Reply::Steps { taken, last }
+    Ok(steps(room, usize::from(sim), count))
 }
 
 fn crash(room: &mut RoomCore, sim: u8) -> Reply

@@ -1,5 +1,5 @@
 //! The service: rooms by their names.
-ghost use Rattle.std.specs.Prelude.{◌≡◌, ◌≢◌, ◌≤◌, ℕ, List, [], Option, None, Some, false, length, IfOk, OnOk, OnErr, if◌then◌else◌};
+ghost use Rattle.std.specs.Prelude.{◌≡◌, ◌≢◌, ◌≤◌, ℕ, List, [], Option, None, Some, Err, true, false, length, IfOk, OnOk, OnErr, if◌then◌else◌};
 ghost use Rattle.std.specs.Vec.{vec_capacity, vec_len};
 ghost use Rattle.std.specs.Str.{bytes_eq};
 ghost use Rattle.indexmap.specs.IndexMap.{get};
@@ -7,18 +7,19 @@ ghost use Rattle.room_core.specs.Calls.{opening_state};
 ghost use Rattle.ws_history.specs.declared.states.Report.{Report as ReportData};
 ghost use Rattle.service_core.specs.declared.command.Command.TheVariants.{Begin, Close, Report, Step};
 ghost use Rattle.service_core.specs.declared.reply.Reply.TheVariants.{Report as ReportReply};
-ghost use Rattle.service_core.specs.Replies.{OpenRoom, name_in, part, replies_from, reply_to, room_after};
+ghost use Rattle.service_core.specs.Replies.{OpenRoom, name_in, part, replies_from, reply_to, reply_to_steps, room_after};
 ghost use Rattle.service_core.specs.Rooms.{Applies, HasOwnNames, IsRefusal, IsReportOf, IsStateOf, IsWant, command_for, room_at};
 ghost use Rattle.service_core.specs.Runs.{AreTrueReports, AreWants, HasNoWant, granted, replies_of, without_wants};
 ghost use Rattle.service_core.specs.declared.reply.Reply.TheVariants.{Refused};
-ghost use Rattle.service_core.specs.declared.reply.Refusal.TheVariants.{OutOfMemory};
+ghost use Rattle.service_core.specs.declared.reply.Refusal.TheVariants.{NoRoom, OutOfMemory};
+ghost use Rattle.room_spec.specs.Names.{is_name};
 
 use crate::command::Command;
 use crate::reply::{Refusal, Reply};
-use crate::room::{Act, answer, answer_report};
+use crate::room::{Act, answer, answer_report, step};
 use indexmap::IndexMap;
-use room_core::RoomCore;
-use room_spec::{Name, Spec};
+use room_core::{RoomCore, StepReply};
+use room_spec::{Name, Spec, Spelled};
 use std::alloc::{AllocError, Global};
 use std::marker::Model;
 
@@ -66,7 +67,9 @@ impl Service {
     {
         match command {
             Command::Begin(spec) => self.begin(alloc, spec),
-            Command::Step { name, sim, count } => self.step(&name, sim, count),
+            Command::Step { name, sim, count } => {
+                reply_to_steps(self.step(name.as_str().as_bytes(), sim, count))
+            }
             Command::Crash { name, sim } => self.ask(&name, Act::Crash(sim)),
             Command::Settle(name) => self.ask(&name, Act::Settle),
             Command::Report(name) => self.report(alloc, &name),
@@ -74,11 +77,25 @@ impl Service {
         }
     }
 
-    /// Does what the command [`Step`](Command::Step) does, with no command made of it.
-    pub fn step(&mut self, name: &Name, sim: u8, count: u16) -> Reply
-        ensures { Applies self.old (Step name.now sim count) result self.new }
+    /// Does what the command [`Step`](Command::Step) does, with neither a command nor a reply made: gives how many
+    /// steps were taken, and the last answer.
+    ///
+    /// # Errors
+    ///
+    /// [`Refusal::NoRoom`] where no room has this name, so also where the bytes are no name; [`Refusal::NoSimulator`].
+    pub fn step(&mut self, name: &[u8], sim: u8, count: u16) -> Result<(u16, StepReply), Refusal>
+        ensures reply { Applies self.old (Step name.now sim count) (reply_to_steps result) self.new }
+        // Where there is a room the bytes are a name.
+        ensures name { result ≢ Err NoRoom → is_name name.now ≡ true }
     {
-        self.ask(name, Act::Step { sim, count })
+        let Some(index) = self.rooms.get_index_of(Spelled { bytes: name }) else {
+            return Err(Refusal::NoRoom);
+        };
+        let Some(core) = self.rooms.get_index_mut(index) else {
+            unreachable!() // the index was found just now
+        };
+        let _ = core.spec().name().as_str(); // for the proof: a room's name is a name
+        step(core, sim, count)
     }
 
     /// The replies of a fresh service to these commands, in order. Room for all replies is taken
@@ -165,6 +182,16 @@ impl Service {
             Some(_) => Reply::Closed,
             None => Reply::Refused(Refusal::NoRoom),
         }
+    }
+}
+
+/// The reply to a command for steps.
+fn reply_to_steps(stepped: Result<(u16, StepReply), Refusal>) -> Reply
+    ensures { result ≡ reply_to_steps stepped }
+{
+    match stepped {
+        Ok((taken, last)) => Reply::Steps { taken, last },
+        Err(refusal) => Reply::Refused(refusal),
     }
 }
 

@@ -7,10 +7,6 @@ use Rattle.service_core.specs.Rooms.{Answers, command_for}
 use Rattle.service_core.proofs.Answering.{settle_answers}
 use Rattle.service_core.proofs.room.answer.Goals as goal
 
-pub returns-in-Step-clause-reply : goal.returns-in-Step-clause-reply
-returns-in-Step-clause-reply c = λ name state is.
-    subst (λ (command : Command). Answers state command c.step.result c.step.new.room) (ap (command_for name) (sym c.in-Step.is)) (c.step.ensures.reply name state is)
-
 pub returns-in-Crash-clause-reply : goal.returns-in-Crash-clause-reply
 returns-in-Crash-clause-reply c = λ name state is.
     subst (λ (command : Command). Answers state command c.crash.result c.crash.new.room) (ap (command_for name) (sym c.in-Crash.is)) (c.crash.ensures.reply name state is)

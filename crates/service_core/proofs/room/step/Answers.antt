@@ -11,5 +11,5 @@ returns-then-not-has_simulator-clause-reply c = λ name state is.
 pub returns-clause-reply : goal.returns-clause-reply
 returns-clause-reply c = λ name state is.
     let room = c.args.room.now in
-    let stepped = subst (λ (i : ℕ). IsSteppedTo (stepping room.spec state.fields i c.args.count) c.steps-taken.result c.steps-taken.new.room) c.from.ensures (c.steps-taken.ensures.fields state.fields is.fields) in
-    step_answers room c.steps-taken.new.room state name c.args.sim c.args.count c.steps-taken.result is (sym c.has_simulator.ensures ∙ c.if-not-has_simulator.false) c.steps-taken.ensures.spec stepped
+    let stepped = subst (λ (i : ℕ). IsSteppedTo (stepping room.spec state.fields i c.args.count) c.steps.result c.steps.new.room) c.from.ensures (c.steps.ensures.fields state.fields is.fields) in
+    step_answers room c.steps.new.room state name c.args.sim c.args.count c.steps.result is (sym c.has_simulator.ensures ∙ c.if-not-has_simulator.false) c.steps.ensures.spec stepped

@@ -11,7 +11,7 @@ returns c =
     let new = c.answer.new.self in
     let reply = c.apply-reply.result in
     let applies : Applies old.service c.args.command reply c.apply-reply.new.self = record { answer = c.apply-reply.ensures.reply; others = c.apply-reply.ensures.others; report = c.apply-reply.ensures.report; want = c.apply-reply.ensures.want; refused = c.apply-reply.ensures.refused } in
-    let named : c.in_ok-name.name ≡ name_in c.args.command = c.in_ok-name.ensures.cases ∙ c.name.ensures in
+    let named : c.as_bytes.result.now ≡ name_in c.args.command = c.as_bytes.ensures.value ∙ c.as_str.ensures.text ∙ c.in_ok-name.ensures.cases ∙ c.name.ensures in
     where_ok c.answer.result _ _
     (λ text. (
       reply,

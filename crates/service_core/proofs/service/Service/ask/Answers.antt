@@ -1,15 +1,11 @@
-use Rattle.std.proofs.Common.{◌≡◌, ◌∙◌, List, ℕ, Some, sym, ap, subst}
+use Rattle.std.proofs.Common.{◌≡◌, ◌∙◌, Some, sym, ap, subst}
 use Rattle.indexmap.specs.IndexMap.{set_value_at}
 use Rattle.indexmap.proofs.CallerLemmas.{updates-with_value_at}
 use Rattle.room_spec.specs.Rooms.{RoomSpec}
-use Rattle.room_core.specs.Calls.{RoomState}
 use Rattle.service_core.specs.Rooms.{Applies, Entries, command_for, room_at}
-use Rattle.service_core.proofs.Lookups.{Changes, entry_there, names_equal, own_names}
+use Rattle.service_core.proofs.Lookups.{Changes, entry_there, names_equal, own_names, some_spec}
 use Rattle.service_core.proofs.Applying.{asks_room}
 use Rattle.service_core.proofs.service.Service.ask.Goals as goal
-
-some_spec : (name : List ℕ) (room one : RoomState) → room.spec.name ≡ name → Some room ≡ Some one → one.spec.name ≡ name
-some_spec name room one own is = let same : room ≡ one = cc in sym (ap (λ (r : RoomState). r.spec.name) same) ∙ own
 
 -- the rooms after the call: the one that was asked is changed
 changes : (c : goal.After-self-2-1) → Changes c.self.inside.rooms.entries (set_value_at c.self.inside.rooms.entries c.in-Some.index c.answer.new.room) c.args.name.now (Some c.answer.new.room)

@@ -8,14 +8,14 @@ ghost use Rattle.std.specs.Cmp.Rules.{hashing};
 ghost use Rattle.std.specs.Hash as fed;
 ghost use Rattle.std.specs.Str.{bytes_eq};
 
+use crate::name::Name;
 use indexmap::Equivalent;
-use room_spec::Name;
 use std::hash::{Hash, Hasher};
 
 /// Bytes that may spell a name, by which it is looked up.
 #[derive(Clone, Copy, PartialEq, Eq)]
-pub(crate) struct Spelled<'a> {
-    pub(crate) bytes: &'a [u8],
+pub struct Spelled<'a> {
+    pub bytes: &'a [u8],
 }
 
 impl Hash for Spelled<'_> {
