@@ -98,6 +98,27 @@ pub all_reported : (all left : List RoomSpec) (before after : List ℕ) → IsRe
 all_reported all [] before after so_far none = subst (λ (list : List RoomSpec). AddsReports list before after) (sym (so_far.split ∙ append-nil so_far.done)) so_far.added
 all_reported all (spec ∷ specs) before after so_far none = absurd cc
 
+-- the same, and these results of the specs just before the last ones are still to be reported
+pub record IsRunUpTo (all left : List RoomSpec) (before text : List ℕ) (done : List RoomResult) : Type 0 where
+  pub part : List RoomSpec
+  pub reported : IsReportedUpTo all (part ++ left) before text
+  pub runs : AreRoomRuns part done
+
+pub first_run : (all left part : List RoomSpec) (before : List ℕ) (done : List RoomResult) → all ≡ part ++ left → AreRoomRuns part done → IsRunUpTo all left before before done
+first_run all left part before done split runs = record { part = part; reported = subst (λ (list : List RoomSpec). IsReportedUpTo all list before before) split (none_reported all before); runs = runs }
+
+reports_of_part : (all left : List RoomSpec) (before text longer : List ℕ) (done : List RoomResult) → IsRunUpTo all left before text done → longer ≡ text ++ flat_map own_text done → IsReportedUpTo all left before longer
+reports_of_part all left before text longer done so_far longer_is =
+    part_reported all (so_far.part ++ left) so_far.part left before text longer so_far.reported refl (adds_part so_far.part done done text longer so_far.runs refl longer_is)
+
+pub next_run : (all left part rest : List RoomSpec) (before text longer : List ℕ) (done results : List RoomResult) → IsRunUpTo all left before text done → left ≡ part ++ rest → AreRoomRuns part results → longer ≡ text ++ flat_map own_text done
+    → IsRunUpTo all rest before longer results
+next_run all left part rest before text longer done results so_far split runs longer_is =
+    record { part = part; reported = subst (λ (list : List RoomSpec). IsReportedUpTo all list before longer) split (reports_of_part all left before text longer done so_far longer_is); runs = runs }
+
+pub last_run : (all left : List RoomSpec) (before text longer : List ℕ) (done : List RoomResult) → IsRunUpTo all left before text done → length left ≡ 0 → longer ≡ text ++ flat_map own_text done → AddsReports all before longer
+last_run all left before text longer done so_far none longer_is = all_reported all left before longer (reports_of_part all left before text longer done so_far longer_is) none
+
 -- ---- the whole
 
 -- the reports of what was run, behind the lines of the refused blocks

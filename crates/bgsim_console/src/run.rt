@@ -1,7 +1,9 @@
 //! Rooms that workers run, and their reports.
-ghost use Rattle.std.specs.Prelude.{◌≡◌, ◌<◌, ◌≤◌, ◌++◌, IfErr, IfOk, OnOk, length};
+ghost use Rattle.std.specs.Prelude.{◌≡◌, ◌↔◌, ◌⊎◌, ◌<◌, ◌≤◌, ◌++◌, Err, IfErr, IfOk, OnOk, length};
 ghost use Rattle.std.specs.List.{flat_map};
 ghost use Rattle.bgsim_console.specs.ReplyTexts.{report_text};
+ghost use Rattle.scheduler.specs.Results.{AreRoomRuns};
+ghost use Rattle.scheduler.specs.declared.rooms.RunFault.TheVariants.{Workers};
 ghost use Rattle.bgsim_console.specs.Run.{AddsReports, AreWorkers, IsRunFor, MayEndRun};
 ghost use Rattle.bgsim_console.specs.Reading.{most_bytes};
 
@@ -12,9 +14,10 @@ use crate::setup::read_all_blocks;
 use crate::text::Text;
 use indexmap::map::IntoValues;
 use room_spec::{Name, Spec};
-use scheduler::{Gate, RoomResult, run_rooms};
+use scheduler::{Gate, RoomResult, RunFault, run_rooms};
 use std::alloc::{AllocError, Global};
 use std::sync::Wait;
+use std::thread;
 use std::thread::Threads;
 
 /// The most rooms that run at the same time. While it runs a room takes some 4 KB, however short its
@@ -37,32 +40,34 @@ pub fn run_blocks<H: Threads + Wait + Sync, G: Gate + Sync>(
     drop(input);
     let specs = rooms.into_values();
     let outcome = outcome_if(refused.is_empty());
-    let mut output = refused;
-    run_in_parts(rt, alloc, specs, workers, gate, &mut output)?;
+    let output = run_in_parts(rt, alloc, specs, workers, gate, refused)?;
     Ok(Answer { output, outcome })
 }
 
-/// Runs the rooms of these specs, at most [`ROOMS_AT_ONCE`] at a time, and puts their reports behind the output.
-/// What a part of them took is let go before the next.
+/// Runs the rooms of these specs, at most [`ROOMS_AT_ONCE`] at a time, and puts their reports behind the text. Those of one part
+/// are written while the next runs.
 fn run_in_parts<H: Threads + Wait + Sync, G: Gate + Sync>(
     rt: &H,
     alloc: Global,
     mut left: IntoValues<Name, Spec>,
     workers: u8,
     gate: &G,
-    output: &mut Text,
-) -> Result<(), IoFault>
-    ensures reports { OnOk result (AddsReports left output.old output.new) }
+    text: Text,
+) -> Result<Text, IoFault>
+    ensures reports { IfOk result (AddsReports left text) }
     ensures workers { OnOk result (AreWorkers workers) }
     ensures err { IfErr result (MayEndRun workers) }
 {
-    loop {
+    let part = next_part(alloc, &mut left)?;
+    let mut done = run_rooms(rt, alloc, part, workers, gate)?;
+    let mut output = text;
+    while left.len() > 0 {
         let part = next_part(alloc, &mut left)?;
-        run_part(rt, alloc, part, workers, gate, output)?;
-        if left.len() == 0 {
-            return Ok(());
-        }
+        let (results, longer) = run_part(rt, alloc, part, workers, gate, done, output)?;
+        done = results;
+        output = longer;
     }
+    Ok(with_reports(output, done)?)
 }
 
 /// Takes the specs of the rooms that run next off the front: all that are left where they are few.
@@ -81,22 +86,42 @@ fn next_part(alloc: Global, left: &mut IntoValues<Name, Spec>) -> Result<Vec<Spe
     Ok(part)
 }
 
-/// Runs the rooms of these specs all at the same time, and puts their reports behind the output.
+/// Runs the rooms of these specs all at the same time, and puts the reports of those that ran before behind the text: meanwhile,
+/// on a thread of its own, but before where there is one worker alone.
 fn run_part<H: Threads + Wait + Sync, G: Gate + Sync>(
     rt: &H,
     alloc: Global,
     specs: Vec<Spec>,
     workers: u8,
     gate: &G,
-    output: &mut Text,
-) -> Result<(), IoFault>
-    ensures reports { OnOk result (AddsReports specs.items output.old output.new) }
-    ensures workers { OnOk result (AreWorkers workers) }
+    done: Vec<RoomResult>,
+    text: Text,
+) -> Result<(Vec<RoomResult>, Text), IoFault>
+    ensures results { IfOk result (λ ran. AreRoomRuns specs.items ran.0.items) }
+    ensures text { IfOk result (λ ran. ran.1 ≡ text ++ flat_map (λ one. report_text one.core.spec.name one.report) done.items) }
     ensures err { IfErr result (MayEndRun workers) }
 {
-    let results = run_rooms(rt, alloc, specs, workers, gate)?;
-    write_reports(output, &results)?;
-    Ok(())
+    if workers == 1 {
+        let longer = with_reports(text, done)?;
+        return Ok((run_rooms(rt, alloc, specs, workers, gate)?, longer));
+    }
+    let write = move || -> Result<Text, AllocError>
+        ensures { IfOk result (λ longer. longer ≡ text ++ flat_map (λ one. report_text one.core.spec.name one.report) done.items) }
+    { with_reports(text, done) };
+    let run = move || -> Result<Vec<RoomResult>, RunFault>
+        ensures { ((result ≡ Err Workers) ↔ ((workers ≡ 0) ⊎ (16 < workers))) × IfOk result (λ results. AreRoomRuns specs.items results.items) }
+    { run_rooms(rt, alloc, specs, workers, gate) };
+    let (longer, results) = thread::join(rt, write, run);
+    Ok((results?, longer?))
+}
+
+/// Puts the reports of these rooms behind the text.
+fn with_reports(text: Text, done: Vec<RoomResult>) -> Result<Text, AllocError>
+    ensures { IfOk result (λ longer. longer ≡ text ++ flat_map (λ one. report_text one.core.spec.name one.report) done.items) }
+{
+    let mut output = text;
+    write_reports(&mut output, &done)?;
+    Ok(output)
 }
 
 fn write_reports(output: &mut Text, results: &[RoomResult]) -> Result<(), AllocError>
