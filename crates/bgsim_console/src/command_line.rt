@@ -104,7 +104,8 @@ fn with_subcommand<'a>(
     command: Command<'a>,
     subcommand: Result<Command<'a>, AllocError>,
 ) -> Result<Command<'a>, AllocError>
-    ensures { IfOk result (λ whole. IsOkAnd subcommand.entry (λ part. (out-Command part).has_globals ≡ false → app_of whole ≡ with_subcommand (app_of command.entry) (app_of part).top)) }
+    ensures { IfOk result (λ whole. IsOkAnd subcommand.entry (λ part.
+        (out-Command part).has_globals ≡ false → app_of whole ≡ with_subcommand (app_of command.entry) (app_of part).top)) }
 {
     command.subcommand(subcommand?)
 }
@@ -167,7 +168,8 @@ pub fn line<'a, S: AsStr>(alloc: Global, words: &'a [S]) -> Result<Line<'a>, Err
     ensures nothing { map S.text words.entry.now ≡ [] → IsOkAnd result (λ line. (line.command ≡ ModeVariants.Check) × (line.file ≡ None)) }
     // `run` alone takes a number of workers, of those that `clap` lets through.
     ensures default { IfOk result (λ line. line.command ≢ ModeVariants.Run → line.workers ≡ 2) }
-    ensures number { IfOk result (λ line. line.command ≡ ModeVariants.Run → IsWorkers (workers_among (subcommand_of bgsim_app (map S.text words.entry.now))) line.workers) }
+    ensures number { IfOk result (λ line. line.command ≡ ModeVariants.Run →
+        IsWorkers (workers_among (subcommand_of bgsim_app (map S.text words.entry.now))) line.workers) }
     // The first word is the mode's, and those behind it name the file; or there are no words.
     ensures asked { IfOk result (λ line. IsAsked (map S.text words.entry.now) line.command (option_map (λ file. file.now) line.file)) }
     // Words that are plainly a mode and a file are refused for want of memory alone.

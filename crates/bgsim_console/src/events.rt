@@ -15,7 +15,8 @@ use transcript::EventLine;
 pub fn feed_events(rooms: &mut Rooms, first_line: u64, transcript: &[u8]) -> Result<(), IoFault>
     requires processed { HasProcessed rooms.old [] }
     requires fits { first_line + length transcript.now < 2 ^ 64 }
-    ensures fed { OnOk result ((fed : List FedEvent) × (fed_from (specs_of rooms.old) [] first_line (text_lines transcript.now) ≡ Ok fed) × HasProcessed rooms.new fed) }
+    ensures fed { OnOk result ((fed : List FedEvent) ×
+        (fed_from (specs_of rooms.old) [] first_line (text_lines transcript.now) ≡ Ok fed) × HasProcessed rooms.new fed) }
     ensures rooms { OnOk result (specs_of rooms.new ≡ specs_of rooms.old) }
     ensures err { IfErr result (IsFaultOf (fed_from (specs_of rooms.old) [] first_line (text_lines transcript.now))) }
 {
@@ -30,7 +31,9 @@ pub fn feed_events(rooms: &mut Rooms, first_line: u64, transcript: &[u8]) -> Res
 }
 
 fn feed_line(rooms: &mut Rooms, line: u64, text: &[u8]) -> Result<(), IoFault>
-    ensures fed { OnOk result ((one : FedEvent) × (of_known_room (specs_of rooms.old) line (line_in text.now) ≡ Ok one) × ((fed : List FedEvent) → HasProcessed rooms.old fed → HasProcessed rooms.new (fed ++ one ∷ []))) }
+    ensures fed { OnOk result ((one : FedEvent) ×
+        (of_known_room (specs_of rooms.old) line (line_in text.now) ≡ Ok one) ×
+        ((fed : List FedEvent) → HasProcessed rooms.old fed → HasProcessed rooms.new (fed ++ one ∷ []))) }
     ensures rooms { specs_of rooms.new ≡ specs_of rooms.old }
     ensures err { IfErr result (IsFaultOf (of_known_room (specs_of rooms.old) line (line_in text.now))) }
 {

@@ -33,7 +33,8 @@ pub fn judge(alloc: Global, input: &[u8]) -> Result<Answer, IoFault>
 /// Puts the rooms' verdicts behind the lines of the refused blocks.
 fn answer_of(rooms: &Rooms, refused: Text) -> Result<Answer, AllocError>
     requires { (fed : List FedEvent) × HasProcessed rooms.now fed }
-    ensures { IfOk result (λ answer. (fed : List FedEvent) → HasProcessed rooms.now fed → IsOutput (specs_of rooms.now) refused fed answer.outcome answer.output) }
+    ensures { IfOk result (λ answer. (fed : List FedEvent) →
+        HasProcessed rooms.now fed → IsOutput (specs_of rooms.now) refused fed answer.outcome answer.output) }
 {
     let mut all_well = refused.is_empty();
     let mut output = refused;

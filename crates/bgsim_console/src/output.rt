@@ -11,7 +11,8 @@ use std::io::Write;
 /// Writes the output, in as few writes as the writer takes.
 pub fn write_output<W: Write>(writer: &mut Device<W>, output: &[u8]) -> Result<(), IoFault>
     ensures written { OnOk result (Appends (W.contents writer.old.inner) (W.contents writer.new.inner) output.now) }
-    ensures part { IfErr result (λ fault. (fault ≡ WriteFault) × AppendsPart (W.contents writer.old.inner) (W.contents writer.new.inner) output.now writer.old.calls writer.new.calls) }
+    ensures part { IfErr result (λ fault. (fault ≡ WriteFault) ×
+        AppendsPart (W.contents writer.old.inner) (W.contents writer.new.inner) output.now writer.old.calls writer.new.calls) }
     // Each write takes a byte at least, so none is of nothing.
     ensures writes { writer.new.calls ≤ writer.old.calls + length output.now }
     ensures flushed { OnOk result (writer.new.flushed ≡ true) }

@@ -80,7 +80,9 @@ impl Player {
     ) -> Result<bool, AllocError>
         requires { number + 1 < 2 ^ 64 }
         ensures good { IfOk result (λ good. good ≡ (is_open line.now || is_some (command_in line.now))) }
-        ensures plays { OnOk result ((entry : Entry) → entry_at number line.now block.now ≡ Ok entry → (all : List Done) → HasPlayed all self.old.service self.old.output self.old.refused self.old.lacking → PlaysOn entry self.new.service self.new.output self.new.refused self.new.lacking all) }
+        ensures plays { OnOk result ((entry : Entry) → entry_at number line.now block.now ≡ Ok entry → (all : List Done) →
+            HasPlayed all self.old.service self.old.output self.old.refused self.old.lacking →
+            PlaysOn entry self.new.service self.new.output self.new.refused self.new.lacking all) }
     {
         if is_open(line) {
             self.open(alloc, number + 1, block)?;
@@ -96,7 +98,10 @@ impl Player {
     #[inline(never)]
     fn obey(&mut self, alloc: Global, line: &[u8]) -> Result<bool, AllocError>
         ensures good { IfOk result (λ good. good ≡ is_some (command_in line.now)) }
-        ensures plays { OnOk result ((command : CommandData) → command_in line.now ≡ Some command → (reply : ReplyData) × ((all : List Done) → HasPlayed all self.old.service self.old.output self.old.refused self.old.lacking → HasPlayed (all ++ Replied command reply ∷ []) self.new.service self.new.output self.new.refused self.new.lacking)) }
+        ensures plays { OnOk result ((command : CommandData) → command_in line.now ≡ Some command →
+            (reply : ReplyData) × ((all : List Done) →
+            HasPlayed all self.old.service self.old.output self.old.refused self.old.lacking →
+            HasPlayed (all ++ Replied command reply ∷ []) self.new.service self.new.output self.new.refused self.new.lacking)) }
     {
         let Some(command) = read_command(line) else {
             return Ok(false);
@@ -108,7 +113,9 @@ impl Player {
     /// Opens the room of a block whose first line has this number.
     #[inline(never)]
     fn open(&mut self, alloc: Global, number: u64, block: &[u8]) -> Result<(), AllocError>
-        ensures { OnOk result ((all : List Done) → HasPlayed all self.old.service self.old.output self.old.refused self.old.lacking → PlaysOn (Open number block.now) self.new.service self.new.output self.new.refused self.new.lacking all) }
+        ensures { OnOk result ((all : List Done) →
+            HasPlayed all self.old.service self.old.output self.old.refused self.old.lacking →
+            PlaysOn (Open number block.now) self.new.service self.new.output self.new.refused self.new.lacking all) }
     {
         match read_room(alloc, block) {
             Ok(Ok((spec, _))) => self.apply(alloc, Command::Begin(spec)),
@@ -157,7 +164,9 @@ impl Player {
     }
 
     fn apply(&mut self, alloc: Global, command: Command) -> Result<(), AllocError>
-        ensures { OnOk result ((reply : ReplyData) × ((all : List Done) → HasPlayed all self.old.service self.old.output self.old.refused self.old.lacking → HasPlayed (all ++ Replied command reply ∷ []) self.new.service self.new.output self.new.refused self.new.lacking)) }
+        ensures { OnOk result ((reply : ReplyData) × ((all : List Done) →
+            HasPlayed all self.old.service self.old.output self.old.refused self.old.lacking →
+            HasPlayed (all ++ Replied command reply ∷ []) self.new.service self.new.output self.new.refused self.new.lacking)) }
     {
         let name = command.name().clone()?;
         let sim = sim_in(&command);
@@ -168,7 +177,10 @@ impl Player {
     /// Lets a simulator of the room of this name take steps. Gives whether these bytes are a name.
     fn step(&mut self, name: &[u8], sim: u8, count: u16) -> Result<bool, AllocError>
         ensures good { IfOk result (λ good. good ≡ is_name name.now) }
-        ensures plays { OnOk result (is_name name.now ≡ true → (reply : ReplyData) × ((all : List Done) → HasPlayed all self.old.service self.old.output self.old.refused self.old.lacking → HasPlayed (all ++ Replied (Step name.now sim count) reply ∷ []) self.new.service self.new.output self.new.refused self.new.lacking)) }
+        ensures plays { OnOk result (is_name name.now ≡ true →
+            (reply : ReplyData) × ((all : List Done) →
+            HasPlayed all self.old.service self.old.output self.old.refused self.old.lacking →
+            HasPlayed (all ++ Replied (Step name.now sim count) reply ∷ []) self.new.service self.new.output self.new.refused self.new.lacking)) }
     {
         match self.service.step(name, sim, count) {
             Ok((taken, last)) => {
@@ -234,7 +246,9 @@ fn is_want(reply: &Reply) -> bool
 /// Does what a script asks for, up to its first bad line.
 fn play_script(alloc: Global, script: &[u8]) -> Result<Player, IoFault>
     requires { length script.now ≤ most_bytes }
-    ensures played { IfOk result (λ player. (entries : List Entry) × (all : List Done) × (script_says script.now ≡ Ok entries) × AreDone entries all × HasPlayed all player.service player.output player.refused player.lacking) }
+    ensures played { IfOk result (λ player. (entries : List Entry) × (all : List Done) ×
+        (script_says script.now ≡ Ok entries) × AreDone entries all ×
+        HasPlayed all player.service player.output player.refused player.lacking) }
     ensures err { IfErr result (IsFaultOr (IsOk (script_says script.now)) (script_says script.now)) }
 {
     let mut player = Player::new(alloc);

@@ -219,7 +219,8 @@ fn write_snapshot(
     entries: &[Option<u32>],
 ) -> Result<(), AllocError>
     requires { length entries.now ≤ 16 }
-    ensures { OnOk result (output.new ≡ output.old ++ (32 ∷ decimal p ++ (codes " snap" ++ (flat_map (λ entry. 32 ∷ entry_text entry) entries.now ++ codes "\n")))) }
+    ensures { OnOk result (output.new ≡ output.old ++ (32 ∷ decimal p ++
+        (codes " snap" ++ (flat_map (λ entry. 32 ∷ entry_text entry) entries.now ++ codes "\n")))) }
 {
     output.put_number(u64::from(p))?;
     output.put(b" snap")?;

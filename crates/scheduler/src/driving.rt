@@ -21,7 +21,8 @@ pub fn turn(simulator: &mut Simulator, room: &RuledRoom, fuse: &Fuse) -> Option<
     ensures fuse { IsWithinFuse fuse.now simulator.old.sweep.mind.steps → IsWithinFuse fuse.now simulator.new.sweep.mind.steps }
     ensures same { (simulator.new.room ≡ simulator.old.room) × (simulator.new.number ≡ simulator.old.number) }
     // Steps are taken before a turn's end, and never more in all than all turns have.
-    ensures more { IfNone result ((simulator.old.sweep.mind.steps < simulator.new.sweep.mind.steps) × (simulator.new.sweep.mind.steps ≤ step_bound room.now.spec)) }
+    ensures more { IfNone result ((simulator.old.sweep.mind.steps < simulator.new.sweep.mind.steps) ×
+        (simulator.new.sweep.mind.steps ≤ step_bound room.now.spec)) }
     // With those that its open turn had taken these are no more than a turn may take.
     ensures bound { simulator.new.sweep.mind.steps + simulator.old.sweep.mind.turn_steps ≤ simulator.old.sweep.mind.steps + turn_limit room.now.spec }
 {
@@ -59,8 +60,10 @@ pub fn drive(simulator: &mut Simulator, room: &RuledRoom, fuse: &Fuse, gate: &im
     ensures fuse { IsWithinFuse fuse.now simulator.old.sweep.mind.steps → IsWithinFuse fuse.now simulator.new.sweep.mind.steps }
     ensures same { (simulator.new.room ≡ simulator.old.room) × (simulator.new.number ≡ simulator.old.number) }
     // Whatever others do, it begins at most `(n * rounds + 1) * n` turns, each of no more steps than a turn may take.
-    ensures turns { simulator.new.sweep.mind.turns ≤ simulator.old.sweep.mind.turns + (processes room.now.spec * room.now.spec.rounds + 1) * processes room.now.spec }
-    ensures bound { simulator.new.sweep.mind.steps ≤ simulator.old.sweep.mind.steps + (processes room.now.spec * room.now.spec.rounds + 1) * processes room.now.spec * turn_limit room.now.spec }
+    ensures turns { simulator.new.sweep.mind.turns ≤
+        simulator.old.sweep.mind.turns + (processes room.now.spec * room.now.spec.rounds + 1) * processes room.now.spec }
+    ensures bound { simulator.new.sweep.mind.steps ≤
+        simulator.old.sweep.mind.steps + (processes room.now.spec * room.now.spec.rounds + 1) * processes room.now.spec * turn_limit room.now.spec }
 {
     let worker = simulator.number() as u8;
     let mut visit: u64 = 0;

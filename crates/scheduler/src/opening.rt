@@ -1,8 +1,8 @@
 //! The rooms of a list of specs, opened, and their simulators dealt out to workers.
-ghost use Rattle.std.specs.Prelude.{◌≡◌, ◌+◌, ◌<◌, ◌≤◌, ℕ, [], ◌∷◌, ◌++◌, false, IfOk, OnOk, Some, length, map, replicate, slice_get, List};
+ghost use Rattle.std.specs.Prelude.{◌≡◌, ◌+◌, ◌<◌, ◌≤◌, ℕ, [], ◌∷◌, ◌++◌, IfOk, OnOk, Some, length, map, replicate, slice_get, List};
 ghost use Rattle.std.specs.List.{range_with_len};
 ghost use Rattle.room_spec.specs.Rooms.{RoomSpec, fuse_of};
-ghost use Rattle.ruled_room.specs.Parts.{RoomName, first_sweeps};
+ghost use Rattle.ruled_room.specs.Parts.{RoomName, opening_keeper};
 ghost use Rattle.scheduler.specs.Tasks.{AreTasksOf, IsKept, IsOpened, IsTaskOf, away_at, is_here, waiting};
 
 use crate::fuse::Fuse;
@@ -106,13 +106,17 @@ fn deal(
     place: usize,
     fuses: &[Fuse],
 ) -> Result<(), AllocError>
-    requires keeper { keeper.old ≡ record { room = room.now; sweeps = first_sweeps room.now.spec; operations = replicate room.now.spec.simulators []; crashed = replicate room.now.spec.simulators false } }
+    requires keeper { keeper.old ≡ opening_keeper room.now }
     requires fuses { fuses.now ≡ map (fuse_of room.now.spec.fuses) (range_with_len 0 room.now.spec.simulators) }
     requires next { next.old < length queues.old.items }
     ensures keeper { OnOk result ((keeper.new.room ≡ room.now) × IsKept keeper.new) }
     ensures next { OnOk result ((next.new < length queues.new.items) × (length queues.new.items ≡ length queues.old.items)) }
-    ensures tasks { OnOk result ((rooms : List RoomName) → slice_get rooms place ≡ Some room.now → AreTasksOf rooms (map (λ queue. queue.items) queues.old.items) → AreTasksOf rooms (map (λ queue. queue.items) queues.new.items)) }
-    ensures away { OnOk result ((k i : ℕ) → waiting k i (map (λ queue. queue.items) queues.new.items) ≡ waiting k i (map (λ queue. queue.items) queues.old.items) + away_at place keeper.new.sweeps k i) }
+    ensures tasks { OnOk result ((rooms : List RoomName) → slice_get rooms place ≡ Some room.now →
+        AreTasksOf rooms (map (λ queue. queue.items) queues.old.items) →
+        AreTasksOf rooms (map (λ queue. queue.items) queues.new.items)) }
+    ensures away { OnOk result ((k i : ℕ) →
+        waiting k i (map (λ queue. queue.items) queues.new.items) ≡
+        waiting k i (map (λ queue. queue.items) queues.old.items) + away_at place keeper.new.sweeps k i) }
 {
     for i in 0..fuses.len() {
         let simulator = keeper.give(room, i);
@@ -131,8 +135,12 @@ fn deal(
 fn put(queues: &mut Vec<VecDeque<Task>>, worker: usize, task: Task) -> Result<(), AllocError>
     requires { worker < length queues.old.items }
     ensures len { OnOk result (length queues.new.items ≡ length queues.old.items) }
-    ensures tasks { OnOk result ((rooms : List RoomName) → IsTaskOf rooms task → AreTasksOf rooms (map (λ queue. queue.items) queues.old.items) → AreTasksOf rooms (map (λ queue. queue.items) queues.new.items)) }
-    ensures count { OnOk result ((k i : ℕ) → waiting k i (map (λ queue. queue.items) queues.new.items) ≡ waiting k i (map (λ queue. queue.items) queues.old.items) + is_here k i task.place task.simulator.number) }
+    ensures tasks { OnOk result ((rooms : List RoomName) → IsTaskOf rooms task →
+        AreTasksOf rooms (map (λ queue. queue.items) queues.old.items) →
+        AreTasksOf rooms (map (λ queue. queue.items) queues.new.items)) }
+    ensures count { OnOk result ((k i : ℕ) →
+        waiting k i (map (λ queue. queue.items) queues.new.items) ≡
+        waiting k i (map (λ queue. queue.items) queues.old.items) + is_here k i task.place task.simulator.number) }
 {
     queues[worker].push_back(task)?;
     Ok(())

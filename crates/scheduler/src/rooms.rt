@@ -157,7 +157,9 @@ fn cut(
     requires home { (k i : ℕ) → away keepers.old.items k i ≡ 0 }
     ensures first { OnOk result (AreKept rooms.new.items keepers.new.items × ((k i : ℕ) → away keepers.new.items k i ≡ 0)) }
     ensures others { IfOk result (λ others. AreKept others.0.items others.1.items × ((k i : ℕ) → away others.1.items k i ≡ 0)) }
-    ensures specs { IfOk result (λ others. map (λ room. room.spec) rooms.old.items ≡ map (λ room. room.spec) rooms.new.items ++ map (λ room. room.spec) others.0.items) }
+    ensures specs { IfOk result (λ others.
+        map (λ room. room.spec) rooms.old.items ≡
+        map (λ room. room.spec) rooms.new.items ++ map (λ room. room.spec) others.0.items) }
 {
     let other_rooms = rooms.split_off(count)?;
     let other_keepers = keepers.split_off(count)?;

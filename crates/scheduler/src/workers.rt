@@ -110,8 +110,12 @@ pub(crate) fn run_all<R: Threads + Wait + Sync, G: Gate + Sync>(
         thread::scope_env(),
         rt,
         move |scope| -> Result<Vec<Keeper>, RunFault>
-            requires { AreKept rooms.now keepers.items × AreTasksOf rooms.now (map (λ queue. queue.items) queues.items) × ((k i : ℕ) → waiting k i (map (λ queue. queue.items) queues.items) ≡ away keepers.items k i) × (length queues.items ≤ 16) }
-            ensures { IfOk result (λ keepers. AreKept rooms.entry.now keepers.items × ((k i : ℕ) → away keepers.items k i ≡ 0)) × IfErr result (λ fault. fault ≢ Workers) }
+            requires { AreKept rooms.now keepers.items ×
+                AreTasksOf rooms.now (map (λ queue. queue.items) queues.items) ×
+                ((k i : ℕ) → waiting k i (map (λ queue. queue.items) queues.items) ≡ away keepers.items k i) ×
+                (length queues.items ≤ 16) }
+            ensures { IfOk result (λ keepers. AreKept rooms.entry.now keepers.items × ((k i : ℕ) → away keepers.items k i ≡ 0)) ×
+                IfErr result (λ fault. fault ≢ Workers) }
         { run_within(rt, alloc, scope, rooms, keepers, queues, gate) },
     )
 }
@@ -129,7 +133,8 @@ fn run_within<'s, E, R: Threads + Sync, G: Gate + Sync>(
     requires tasks { AreTasksOf rooms.now (map (λ queue. queue.items) queues.items) }
     requires away { (k i : ℕ) → waiting k i (map (λ queue. queue.items) queues.items) ≡ away keepers.items k i }
     requires few { length queues.items ≤ 16 }
-    ensures { IfOk result (λ keepers. AreKept rooms.entry.now keepers.items × ((k i : ℕ) → away keepers.items k i ≡ 0)) × IfErr result (λ fault. fault ≢ Workers) }
+    ensures { IfOk result (λ keepers. AreKept rooms.entry.now keepers.items × ((k i : ℕ) → away keepers.items k i ≡ 0)) ×
+        IfErr result (λ fault. fault ≢ Workers) }
 {
     start_each(
         rt,

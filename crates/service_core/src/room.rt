@@ -26,7 +26,8 @@ pub(crate) enum Act {
 pub(crate) fn answer_report(alloc: Global, room: &RoomCore) -> Reply
     // What it answers rests on the room alone.
     ensures reply { result ≢ Refused OutOfMemory → (name : List ℕ) (state : OpenRoom) → IsOpenAs room.now state → Answers state (Report name) result room.now }
-    ensures report { (report : ReportData) → result ≡ ReportReply report → (fields : Fields) → AreFieldsOf room.now fields → IsTrueReport room.now.spec fields report }
+    ensures report { (report : ReportData) → result ≡ ReportReply report →
+        (fields : Fields) → AreFieldsOf room.now fields → IsTrueReport room.now.spec fields report }
 {
     match report(alloc, room) {
         Ok(report) => Reply::Report(report),

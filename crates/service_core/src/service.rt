@@ -57,11 +57,14 @@ impl Service {
     /// it was to begin one, its spec is dropped.
     pub fn apply(&mut self, alloc: Global, command: Command) -> Reply
         // The reply, and what becomes of the room, rest on the room of that name alone.
-        ensures reply { result ≢ Refused OutOfMemory → (room : Option OpenRoom) → IsStateOf (room_at self.old (name_in command)) room → (result ≡ reply_to room command) × IsStateOf (room_at self.new (name_in command)) (room_after room command) }
+        ensures reply { result ≢ Refused OutOfMemory →
+            (room : Option OpenRoom) → IsStateOf (room_at self.old (name_in command)) room →
+            (result ≡ reply_to room command) × IsStateOf (room_at self.new (name_in command)) (room_after room command) }
         // All other rooms stay as they are.
         ensures others { (name : List ℕ) → bytes_eq name (name_in command) ≡ false → room_at self.new name ≡ room_at self.old name }
         // Each history is a run, and no more processes are held than simulators have crashed.
-        ensures report { (report : ReportData) → result ≡ ReportReply report → (room : Option OpenRoom) → IsStateOf (room_at self.old (name_in command)) room → IsReportOf room report }
+        ensures report { (report : ReportData) → result ≡ ReportReply report →
+            (room : Option OpenRoom) → IsStateOf (room_at self.old (name_in command)) room → IsReportOf room report }
         ensures want { result ≡ Refused OutOfMemory → IsWant (room_at self.old (name_in command)) command }
         ensures refused { IsRefusal result → (name : List ℕ) → room_at self.new name ≡ room_at self.old name }
     {
@@ -104,13 +107,16 @@ impl Service {
         ensures count { IfOk result (λ replies. length replies.items ≡ length commands.items) }
         // Where no memory was refused, each name's replies are those of a service that is given the
         // commands of that name alone.
-        ensures alone { IfOk result (λ replies. HasNoWant replies.items → (name : List ℕ) → replies_of name commands.items replies.items ≡ replies_from None (part name commands.items)) }
+        ensures alone { IfOk result (λ replies. HasNoWant replies.items →
+            (name : List ℕ) → replies_of name commands.items replies.items ≡ replies_from None (part name commands.items)) }
         // Each history that is reported is a run of its room's protocol, with each decision and no
         // other; and no more processes are held than simulators have crashed.
         ensures reports { IfOk result (λ replies. AreTrueReports commands.items replies.items) }
         // Where memory was refused, the other replies are those to the list without the commands
         // that were refused it. These begin a room under a free name or ask for an open one's report.
-        ensures refused { IfOk result (λ replies. (name : List ℕ) → without_wants (replies_of name commands.items replies.items) ≡ replies_from None (part name (granted commands.items replies.items))) }
+        ensures refused { IfOk result (λ replies. (name : List ℕ) →
+            without_wants (replies_of name commands.items replies.items) ≡
+            replies_from None (part name (granted commands.items replies.items))) }
         ensures wants { IfOk result (λ replies. AreWants commands.items replies.items) }
     {
         let replies = run_all(alloc, commands)?;
@@ -142,7 +148,8 @@ impl Service {
     /// Opens a room whose name is free.
     fn open(&mut self, alloc: Global, spec: Spec) -> Result<(), AllocError>
         requires { room_at self.old spec.name ≡ None }
-        ensures opened { OnOk result ((name : List ℕ) → room_at self.new name ≡ if bytes_eq spec.name name then Some (opening_state spec) else room_at self.old name) }
+        ensures opened { OnOk result ((name : List ℕ) → room_at self.new name ≡
+            if bytes_eq spec.name name then Some (opening_state spec) else room_at self.old name) }
         ensures err { OnErr result (self.new ≡ self.old) }
     {
         let name = spec.name().clone()?;
@@ -199,7 +206,9 @@ fn reply_to_steps(stepped: Result<(u16, StepReply), Refusal>) -> Reply
 fn run_all(alloc: Global, commands: Vec<Command>) -> Result<Vec<Reply>, AllocError>
     ensures count { IfOk result (λ replies. length replies.items ≡ length commands.items) }
     ensures reports { IfOk result (λ replies. AreTrueReports commands.items replies.items) }
-    ensures refused { IfOk result (λ replies. (name : List ℕ) → without_wants (replies_of name commands.items replies.items) ≡ replies_from None (part name (granted commands.items replies.items))) }
+    ensures refused { IfOk result (λ replies. (name : List ℕ) →
+        without_wants (replies_of name commands.items replies.items) ≡
+        replies_from None (part name (granted commands.items replies.items))) }
     ensures wants { IfOk result (λ replies. AreWants commands.items replies.items) }
 {
     let replies = Vec::with_capacity(alloc, commands.len())?;
@@ -212,7 +221,8 @@ fn reply_to_all(alloc: Global, commands: Vec<Command>, mut replies: Vec<Reply>) 
     requires room { length commands.items ≤ vec_capacity replies }
     ensures count { length result.items ≡ length commands.items }
     ensures reports { AreTrueReports commands.items result.items }
-    ensures refused { (name : List ℕ) → without_wants (replies_of name commands.items result.items) ≡ replies_from None (part name (granted commands.items result.items)) }
+    ensures refused { (name : List ℕ) → without_wants (replies_of name commands.items result.items) ≡
+        replies_from None (part name (granted commands.items result.items)) }
     ensures wants { AreWants commands.items result.items }
 {
     let mut service = Service::new(alloc);
