@@ -2,11 +2,12 @@
 use Rattle.std.specs.Prelude.{◌≡◌, ℕ, ◌+◌, ◌<◌, ◌==◌, Bool, false, ◌&&◌, nat_lt, List, ◌++◌, length, Option, Result, Ok, Err}
 use Rattle.std.specs.Global.{Vec}
 use Rattle.std.specs.Io.KnownBytes.{Consumes, IsAtEnd}
+use Rattle.bgsim_console.specs.declared.input.TheConstants.{MAX_INPUT}
 use Rattle.bgsim_console.specs.declared.fault.IoFault.{IoFault}
 use Rattle.bgsim_console.specs.declared.fault.IoFault.TheVariants.{Read, Write, TooLong, BadInput, Run, Memory}
 
 abbrev pub most_bytes : ℕ
-most_bytes = 16777216
+most_bytes = MAX_INPUT
 
 -- a read into so much room says that nothing is left
 abbrev pub is_end : {E : Type 0} → Result ℕ E → ℕ → Bool

@@ -2,6 +2,7 @@
 ghost use Rattle.std.specs.Prelude.{◌≡◌, ◌+◌, ◌≤◌, List, ℕ, true, false, length, IfSome, OnOk};
 ghost use Rattle.std.specs.Io.KnownBytes.{Appends};
 ghost use Rattle.bgsim_console.specs.Check.{IsAnswer};
+ghost use Rattle.bgsim_console.specs.Reading.{most_bytes};
 ghost use Rattle.bgsim_console.specs.Play.{IsPlayed};
 ghost use Rattle.bgsim_console.specs.Run.{IsRan};
 ghost use Rattle.bgsim_console.specs.Ends.{is_read_failed, is_write_failed, failed_writes};
@@ -42,7 +43,7 @@ pub fn check_io<R: Read, W: Write>(
     ensures handed_on { is_write_failed result ≡ false → writer.old.flushed ≡ true → writer.new.flushed ≡ true }
     ensures read_failed { reader.new.failed ≡ is_read_failed result }
     ensures write_failed { writer.new.failed ≡ is_write_failed result }
-    ensures reads { reader.new.calls ≤ reader.old.calls + 16777217 }
+    ensures reads { reader.new.calls ≤ reader.old.calls + most_bytes + 1 }
     // Each read but the last gives a byte at least.
     ensures few { IfSome (R.remaining reader.old.inner) (λ input. reader.new.calls ≤ reader.old.calls + length input + 1) }
     // Once the reader has said that nothing is left it is not asked again.
@@ -78,7 +79,7 @@ pub fn play_io<R: Read, W: Write>(
     ensures handed_on { is_write_failed result ≡ false → writer.old.flushed ≡ true → writer.new.flushed ≡ true }
     ensures read_failed { reader.new.failed ≡ is_read_failed result }
     ensures write_failed { writer.new.failed ≡ is_write_failed result }
-    ensures reads { reader.new.calls ≤ reader.old.calls + 16777217 }
+    ensures reads { reader.new.calls ≤ reader.old.calls + most_bytes + 1 }
     // Each read but the last gives a byte at least.
     ensures few { IfSome (R.remaining reader.old.inner) (λ input. reader.new.calls ≤ reader.old.calls + length input + 1) }
     // Once the reader has said that nothing is left it is not asked again.
@@ -118,7 +119,7 @@ pub fn run_io<H: Threads + Wait + Sync, R: Read, W: Write, G: Gate + Sync>(
     ensures handed_on { is_write_failed result ≡ false → writer.old.flushed ≡ true → writer.new.flushed ≡ true }
     ensures read_failed { reader.new.failed ≡ is_read_failed result }
     ensures write_failed { writer.new.failed ≡ is_write_failed result }
-    ensures reads { reader.new.calls ≤ reader.old.calls + 16777217 }
+    ensures reads { reader.new.calls ≤ reader.old.calls + most_bytes + 1 }
     // Each read but the last gives a byte at least.
     ensures few { IfSome (R.remaining reader.old.inner) (λ input. reader.new.calls ≤ reader.old.calls + length input + 1) }
     // Once the reader has said that nothing is left it is not asked again.

@@ -9,7 +9,7 @@ use std::alloc::{AllocError, Global};
 use std::io::Read;
 
 /// The most bytes that an input has.
-const MAX_INPUT: usize = 16777216;
+pub const MAX_INPUT: usize = 16777216;
 
 /// How many bytes a read asks for.
 const PIECE: usize = 65536;
@@ -21,7 +21,7 @@ pub fn read_input<R: Read>(alloc: Global, reader: &mut Device<R>) -> Result<Vec<
     ensures short { IfOk result (λ text. length text.items ≤ most_bytes) }
     ensures err { IfErr result IsReadFault }
     ensures failed { reader.new.failed ≡ is_read_failed result }
-    ensures reads { reader.new.calls ≤ reader.old.calls + 16777217 }
+    ensures reads { reader.new.calls ≤ reader.old.calls + most_bytes + 1 }
     // Each read but the last gives a byte at least.
     ensures few { IfSome (R.remaining reader.old.inner) (λ input. reader.new.calls ≤ reader.old.calls + length input + 1) }
     // Once the reader has said that nothing is left it is not asked again.

@@ -270,7 +270,7 @@ fn play_script(alloc: Global, script: &[u8]) -> Result<Player, IoFault>
 /// How a script ends for whose last lines, of which the first has this number, there was no memory: with
 /// the first bad one among these, or else with the want of memory.
 fn judge_unplayed(text: &[u8], first: u64) -> IoFault
-    requires { first + length text.now ≤ 16777217 }
+    requires { first + length text.now ≤ most_bytes + 1 }
     ensures { (most : ℕ) → length text.now ≤ most → IsFaultOr (IsOk (script_from most first text.now)) (script_from most first text.now) result }
 {
     let mut rest = text;

@@ -3,6 +3,7 @@ ghost use Rattle.std.specs.Prelude.{◌≡◌, ◌≢◌, ◌↔◌, ◌⊎◌, 
 ghost use Rattle.scheduler.specs.Results.{AreRoomRuns, IsRoomRun, fault_code};
 ghost use Rattle.scheduler.specs.Tasks.{AreKept, IsKept, away, away_from};
 ghost use Rattle.scheduler.specs.declared.rooms.RunFault.TheVariants.{Workers};
+ghost use Rattle.scheduler.specs.declared.rooms.TheConstants.{ROOMS_A_THREAD};
 
 use crate::gate::Gate;
 use crate::opening::{Opened, open_all};
@@ -110,7 +111,7 @@ const ROOMS_A_THREAD: usize = 32;
 
 /// How many threads close the rooms: at most one a worker. 0 means the calling thread alone.
 fn ending_threads(rooms: usize, workers: u8) -> u8
-    ensures { result ≡ min workers (rooms / 32) }
+    ensures { result ≡ min workers (rooms / ROOMS_A_THREAD) }
 {
     usize::from(workers).min(rooms / ROOMS_A_THREAD) as u8
 }
