@@ -1,5 +1,5 @@
 -- What has come of a script's entries, one by one.
-use Rattle.std.proofs.Common.{◌≡◌, ◌∙◌, ℕ, ◌||◌, Bool, true, false, List, [], ◌∷◌, ◌++◌, Result, Ok, Err, refl, sym, ap, subst}
+use Rattle.std.proofs.Common.{◌≡◌, ◌∙◌, ℕ, ◌||◌, Bool, true, false, List, [], ◌∷◌, ◌++◌, Result, Ok, Err, refl, sym, ap, ap₂, subst}
 use Rattle.std.specs.Prelude.{IsOk}
 use Rattle.std.specs.Result.{OnOk}
 use Rattle.std.specs.List.{flat_map, list_any}
@@ -8,14 +8,17 @@ use Rattle.std.proofs.lemmas.List.{append-nil}
 use Rattle.service_core.specs.declared.command.Command.{Command}
 use Rattle.service_core.specs.declared.reply.Reply.{Reply}
 use Rattle.service_core.specs.Rooms.{Applies, Entries}
+use Rattle.service_core.specs.Runs.{is_want}
 use Rattle.service_core.proofs.CallerLemmas.{Ran, begins, goes_on}
 use Rattle.bgsim_console.specs.Blocks.{IsFaultOr}
 use Rattle.bgsim_console.specs.ReplyTexts.{reply_to_command}
 use Rattle.bgsim_console.specs.Script.{Entry}
+use Rattle.bgsim_console.specs.declared.fault.Outcome.{Outcome}
+use Rattle.bgsim_console.specs.declared.fault.Outcome.TheVariants.{AllWell}
 use Rattle.bgsim_console.specs.declared.fault.IoFault.{IoFault}
 use Rattle.bgsim_console.specs.declared.fault.IoFault.TheVariants.{Read, Write, TooLong, BadInput, Run, Memory}
 use Rattle.bgsim_console.proofs.Scripts.{behind}
-use Rattle.bgsim_console.specs.Play.{AreDone, Done, Replied, HasPlayed, HasRun, IsDone, commands_of, replies_in, commands_in, reply_of, done_text, is_lacking, is_refusal, is_refused}
+use Rattle.bgsim_console.specs.Play.{AreDone, Done, Replied, HasPlayed, HasRun, IsDone, commands_of, replies_in, commands_in, reply_of, done_text, ending_if, ending_of, ending_with, is_lacking, is_refusal, is_refused}
 
 -- ---- the service
 
@@ -27,13 +30,9 @@ of_ran commands replies entries ran = record { answers = record { count = ran.lo
 
 -- ---- one entry more
 
-pub or_no : (b : Bool) → b ≡ (b || false)
+or_no : (b : Bool) → b ≡ (b || false)
 or_no true = refl
 or_no false = refl
-
-pub or_yes : (b : Bool) → true ≡ (b || true)
-or_yes true = refl
-or_yes false = refl
 
 any-push : {A : Type 0} (test : A → Bool) (xs : List A) (x : A) → list_any test (xs ++ x ∷ []) ≡ (list_any test xs || test x)
 any-push test [] x = sym (or_no (test x))
@@ -46,22 +45,37 @@ any-push test (y ∷ xs) x = ap (λ b. test y || b) (any-push test xs x) ∙ or_
 texts-push : (all : List Done) (done : Done) → flat_map done_text (all ++ done ∷ []) ≡ flat_map done_text all ++ done_text done
 texts-push all done = flat_map-append done_text all (done ∷ []) ∙ ap (λ t. flat_map done_text all ++ t) (append-nil (done_text done))
 
--- an entry of which `done` came: what was written, and what it was marked as
-pub one_more : (all : List Done) (done : Done) (service after : Entries) (output now : List ℕ) (refused refused_now lacking lacking_now : Bool)
-    → HasPlayed all service output refused lacking → HasRun (commands_of (all ++ done ∷ [])) (replies_in (all ++ done ∷ [])) after → now ≡ output ++ done_text done
-    → refused_now ≡ (refused || is_refused done) → lacking_now ≡ (lacking || is_lacking done) → HasPlayed (all ++ done ∷ []) after now refused_now lacking_now
-one_more all done service after output now refused refused_now lacking lacking_now played run text refusal lack = record {
+-- the end of a script with one entry more
+ending-push : (all : List Done) (done : Done) → ending_with (is_lacking done) (is_refused done) (ending_of all) ≡ ending_of (all ++ done ∷ [])
+ending-push all done =
+    by (list_any is_lacking all) (list_any is_refused all) (is_lacking done) (is_refused done)
+    ∙ ap₂ ending_if (sym (any-push is_lacking all done)) (sym (any-push is_refused all done))
+  where
+    by : (lacking refused lacks refuses : Bool) → ending_with lacks refuses (ending_if lacking refused) ≡ ending_if (lacking || lacks) (refused || refuses)
+    by true refused true refuses = refl
+    by false refused true refuses = refl
+    by true refused false true = refl
+    by true refused false false = refl
+    by false true false true = refl
+    by false false false true = refl
+    by false true false false = refl
+    by false false false false = refl
+
+-- an entry of which `done` came: what was written, and how the script ends then
+pub one_more : (all : List Done) (done : Done) (service after : Entries) (output now : List ℕ) (ending ending_now : Result Outcome IoFault)
+    → HasPlayed all service output ending → HasRun (commands_of (all ++ done ∷ [])) (replies_in (all ++ done ∷ [])) after → now ≡ output ++ done_text done
+    → ending_now ≡ ending_with (is_lacking done) (is_refused done) ending → HasPlayed (all ++ done ∷ []) after now ending_now
+one_more all done service after output now ending ending_now played run text ends = record {
   ran = run;
   output_is = text ∙ ap (λ t. t ++ done_text done) played.output_is ∙ sym (texts-push all done);
-  refused_is = refusal ∙ ap (λ b. b || is_refused done) played.refused_is ∙ sym (any-push is_refused all done);
-  lacking_is = lack ∙ ap (λ b. b || is_lacking done) played.lacking_is ∙ sym (any-push is_lacking all done);
+  ending_is = ends ∙ ap (ending_with (is_lacking done) (is_refused done)) played.ending_is ∙ ending-push all done;
 }
 
-pub replied : (command : Command) (reply : Reply) (service after : Entries) (output now : List ℕ) (refused refused_now lacking lacking_now : Bool) → Applies service command reply after
-    → now ≡ output ++ reply_to_command command reply → refused_now ≡ (refused || is_refused (Replied command reply)) → lacking_now ≡ (lacking || is_lacking (Replied command reply))
-    → (all : List Done) → HasPlayed all service output refused lacking → HasPlayed (all ++ Replied command reply ∷ []) after now refused_now lacking_now
-replied command reply service after output now refused refused_now lacking lacking_now applies text refusal lack all played =
-    one_more all (Replied command reply) service after output now refused refused_now lacking lacking_now played run text refusal lack
+pub replied : (command : Command) (reply : Reply) (service after : Entries) (output now : List ℕ) (ending ending_now : Result Outcome IoFault) → Applies service command reply after
+    → now ≡ output ++ reply_to_command command reply → ending_now ≡ ending_with (is_want reply) (is_refusal reply) ending
+    → (all : List Done) → HasPlayed all service output ending → HasPlayed (all ++ Replied command reply ∷ []) after now ending_now
+replied command reply service after output now ending ending_now applies text ends all played =
+    one_more all (Replied command reply) service after output now ending ending_now played run text ends
   where
     run : HasRun (commands_of (all ++ Replied command reply ∷ [])) (replies_in (all ++ Replied command reply ∷ [])) after
     run = subst (λ (cs : List Command). HasRun cs (replies_in (all ++ Replied command reply ∷ [])) after) (sym (flat_map-append commands_in all (Replied command reply ∷ [])))
@@ -69,11 +83,11 @@ replied command reply service after output now refused refused_now lacking lacki
         (of_ran _ _ after (goes_on (commands_of all) (replies_in all) command reply service after (as_ran _ _ service played.ran) applies)))
 
 -- a block that was refused
-pub refused_one : (done : Done) (all : List Done) (service after : Entries) (output now : List ℕ) (refused refused_now lacking lacking_now : Bool) → commands_in done ≡ [] → reply_of done ≡ [] → is_refused done ≡ true → after ≡ service
-    → now ≡ output ++ done_text done → refused_now ≡ true → lacking_now ≡ (lacking || is_lacking done)
-    → HasPlayed all service output refused lacking → HasPlayed (all ++ done ∷ []) after now refused_now lacking_now
-refused_one done all service after output now refused refused_now lacking lacking_now no_command no_reply is_refusal same text refusal lack played =
-    one_more all done service after output now refused refused_now lacking lacking_now played run text (refusal ∙ or_yes refused ∙ ap (λ b. refused || b) (sym is_refusal)) lack
+pub refused_one : (done : Done) (all : List Done) (service after : Entries) (output now : List ℕ) (ending ending_now : Result Outcome IoFault) → commands_in done ≡ [] → reply_of done ≡ [] → after ≡ service
+    → now ≡ output ++ done_text done → ending_now ≡ ending_with (is_lacking done) (is_refused done) ending
+    → HasPlayed all service output ending → HasPlayed (all ++ done ∷ []) after now ending_now
+refused_one done all service after output now ending ending_now no_command no_reply same text ends played =
+    one_more all done service after output now ending ending_now played run text ends
   where
     none_more : {A : Type 0} (of : Done → List A) → of done ≡ [] → flat_map of (all ++ done ∷ []) ≡ flat_map of all
     none_more of none = flat_map-append of all (done ∷ []) ∙ ap (λ (l : List _). flat_map of all ++ (l ++ [])) none ∙ append-nil (flat_map of all)
@@ -82,8 +96,8 @@ refused_one done all service after output now refused refused_now lacking lackin
     run = subst (λ (cs : List Command). HasRun cs (replies_in (all ++ done ∷ [])) after) (sym (none_more commands_in no_command))
         (subst (λ (rs : List Reply). HasRun (commands_of all) rs after) (sym (none_more reply_of no_reply)) (subst (λ (e : Entries). HasRun (commands_of all) (replies_in all) e) (sym same) played.ran))
 
-pub none_played : (service : Entries) (output : List ℕ) → service ≡ [] → output ≡ [] → HasPlayed [] service output false false
-none_played service output empty nothing = record { ran = of_ran [] [] service (begins service empty); output_is = nothing; refused_is = refl; lacking_is = refl }
+pub none_played : (service : Entries) (output : List ℕ) → service ≡ [] → output ≡ [] → HasPlayed [] service output (Ok AllWell)
+none_played service output empty nothing = record { ran = of_ran [] [] service (begins service empty); output_is = nothing; ending_is = refl }
 
 pub done-push : (entries : List Entry) (all : List Done) (entry : Entry) (done : Done) → AreDone entries all → IsDone entry done → AreDone (entries ++ entry ∷ []) (all ++ done ∷ [])
 done-push [] [] entry done so_far is = (is, tt)

@@ -16,6 +16,7 @@ use Rattle.bgsim_console.specs.Reading.{most_bytes}
 use Rattle.bgsim_console.specs.Script.{Entry, Ask, Open, script_says}
 use Rattle.bgsim_console.specs.ReplyTexts.{reply_to_command}
 use Rattle.bgsim_console.specs.declared.fault.Outcome.{Outcome}
+use Rattle.bgsim_console.specs.declared.fault.Outcome.TheVariants.{SomeRefused}
 use Rattle.bgsim_console.specs.declared.fault.IoFault.{IoFault}
 use Rattle.bgsim_console.specs.declared.fault.IoFault.TheVariants.{Read, Write, TooLong, BadInput, Run, Memory}
 
@@ -135,12 +136,20 @@ pub record HasRun (commands : List Command) (replies : List Reply) (entries : En
   pub rooms : (name : List ℕ) → IsStateOf (room_at entries name) (room_after_all None (part name (granted commands replies)))
 
 -- and what has come of a script's entries so far
-pub record HasPlayed (all : List Done) (service : Entries) (output : List ℕ) (refused lacking : Bool) : Type 0 where
+pub record HasPlayed (all : List Done) (service : Entries) (output : List ℕ) (ending : Result Outcome IoFault) : Type 0 where
   pub ran : HasRun (commands_of all) (replies_in all) service
   pub output_is : output ≡ flat_map done_text all
-  pub refused_is : refused ≡ list_any is_refused all
-  pub lacking_is : lacking ≡ list_any is_lacking all
+  pub ending_is : ending ≡ ending_of all
 
 -- one entry more, of which this came
-abbrev pub PlaysOn : Entry → Entries → List ℕ → Bool → Bool → List Done → Type 0
-PlaysOn entry service output refused lacking all = (done : Done) × IsDone entry done × HasPlayed (all ++ done ∷ []) service output refused lacking
+abbrev pub PlaysOn : Entry → Entries → List ℕ → Result Outcome IoFault → List Done → Type 0
+PlaysOn entry service output ending all = (done : Done) × IsDone entry done × HasPlayed (all ++ done ∷ []) service output ending
+
+-- the end with one refusal more, which isn't for want of memory
+abbrev pub ending_at_refusal : Result Outcome IoFault → Result Outcome IoFault
+ending_at_refusal (Ok outcome) = Ok SomeRefused
+ending_at_refusal (Err fault) = Err fault
+
+-- the end with one entry more, which was refused or not, for want of memory or not
+abbrev pub ending_with : Bool → Bool → Result Outcome IoFault → Result Outcome IoFault
+ending_with lacking refused ending = if lacking then Err Memory else if refused then ending_at_refusal ending else ending

@@ -7,13 +7,13 @@ ghost use Rattle.service_core.specs.declared.reply.Reply.TheVariants.{Refused};
 ghost use Rattle.service_core.specs.Runs.{is_want};
 ghost use Rattle.room_spec.specs.Names.{is_name};
 ghost use Rattle.bgsim_console.specs.Blocks.{IsFaultOr, fault_text, refused_line};
-ghost use Rattle.bgsim_console.specs.Play.{AreDone, Done, HasPlayed, IsDone, IsPlayFor, PlaysOn, Replied, ending_if, is_refusal};
+ghost use Rattle.bgsim_console.specs.Play.{AreDone, Done, HasPlayed, IsDone, IsPlayFor, PlaysOn, Replied, ending_with, is_refusal};
 ghost use Rattle.bgsim_console.specs.ReplyTexts.{reply_text, sim_in};
 ghost use Rattle.bgsim_console.specs.Script.{Entry, Open, command_in, entry_at, is_open, script_from, script_says};
 ghost use Rattle.bgsim_console.specs.Reading.{most_bytes};
 
 use crate::blocks::read_room;
-use crate::fault::{IoFault, Outcome, bad_input, outcome_if};
+use crate::fault::{IoFault, Outcome, bad_input};
 use crate::lines::count_lines;
 use crate::reply::{write_reply, write_steps};
 use crate::report::{write_refused, write_refused_code};
@@ -51,21 +51,18 @@ struct Player {
     service: Service,
     /// The lines of the replies and of the refused blocks.
     output: Text,
-    /// Whether a block or a command was refused.
-    refused: bool,
-    /// Whether one was refused for want of memory.
-    lacking: bool,
+    /// How the script ends if nothing more is refused.
+    ending: Result<Outcome, IoFault>,
 }
 
 impl Player {
     fn new(alloc: Global) -> Player
-        ensures { HasPlayed [] result.service result.output result.refused result.lacking }
+        ensures { HasPlayed [] result.service result.output result.ending }
     {
         Player {
             service: Service::new(alloc),
             output: Text::new(alloc),
-            refused: false,
-            lacking: false,
+            ending: Ok(Outcome::AllWell),
         }
     }
 
@@ -81,8 +78,8 @@ impl Player {
         requires { number + 1 < 2 ^ 64 }
         ensures good { IfOk result (λ good. good ≡ (is_open line.now || is_some (command_in line.now))) }
         ensures plays { OnOk result ((entry : Entry) → entry_at number line.now block.now ≡ Ok entry → (all : List Done) →
-            HasPlayed all self.old.service self.old.output self.old.refused self.old.lacking →
-            PlaysOn entry self.new.service self.new.output self.new.refused self.new.lacking all) }
+            HasPlayed all self.old.service self.old.output self.old.ending →
+            PlaysOn entry self.new.service self.new.output self.new.ending all) }
     {
         if is_open(line) {
             self.open(alloc, number + 1, block)?;
@@ -100,8 +97,8 @@ impl Player {
         ensures good { IfOk result (λ good. good ≡ is_some (command_in line.now)) }
         ensures plays { OnOk result ((command : CommandData) → command_in line.now ≡ Some command →
             (reply : ReplyData) × ((all : List Done) →
-            HasPlayed all self.old.service self.old.output self.old.refused self.old.lacking →
-            HasPlayed (all ++ Replied command reply ∷ []) self.new.service self.new.output self.new.refused self.new.lacking)) }
+            HasPlayed all self.old.service self.old.output self.old.ending →
+            HasPlayed (all ++ Replied command reply ∷ []) self.new.service self.new.output self.new.ending)) }
     {
         let Some(command) = read_command(line) else {
             return Ok(false);
@@ -114,8 +111,8 @@ impl Player {
     #[inline(never)]
     fn open(&mut self, alloc: Global, number: u64, block: &[u8]) -> Result<(), AllocError>
         ensures { OnOk result ((all : List Done) →
-            HasPlayed all self.old.service self.old.output self.old.refused self.old.lacking →
-            PlaysOn (Open number block.now) self.new.service self.new.output self.new.refused self.new.lacking all) }
+            HasPlayed all self.old.service self.old.output self.old.ending →
+            PlaysOn (Open number block.now) self.new.service self.new.output self.new.ending all) }
     {
         match read_room(alloc, block) {
             Ok(Ok((spec, _))) => self.apply(alloc, Command::Begin(spec)),
@@ -127,46 +124,38 @@ impl Player {
     /// Refuses a block for a fault of its own.
     fn refuse(&mut self, number: u64, fault: SpecFault) -> Result<(), AllocError>
         ensures output { OnOk result (self.new.output ≡ self.old.output ++ refused_line number (fault_text fault)) }
-        ensures refused { self.new.refused ≡ true }
-        ensures lacking { self.new.lacking ≡ self.old.lacking }
+        ensures ending { self.new.ending ≡ ending_with false true self.old.ending }
         ensures service { self.new.service ≡ self.old.service }
     {
-        self.refused = true;
+        self.ending = self.ending.and(Ok(Outcome::SomeRefused));
         write_refused(&mut self.output, number, fault)
     }
 
     /// Refuses a block for want of memory.
     fn lack(&mut self, number: u64) -> Result<(), AllocError>
         ensures output { OnOk result (self.new.output ≡ self.old.output ++ refused_line number (decimal 8)) }
-        ensures refused { self.new.refused ≡ true }
-        ensures lacking { self.new.lacking ≡ true }
+        ensures ending { self.new.ending ≡ ending_with true true self.old.ending }
         ensures service { self.new.service ≡ self.old.service }
     {
-        self.refused = true;
-        self.lacking = true;
+        self.ending = Err(IoFault::Memory);
         write_refused_code(&mut self.output, number, Refusal::OutOfMemory.code())
     }
 
     /// The output and the ending. Drops the service.
     fn ended(self) -> Played
         ensures output { result.output ≡ self.output }
-        ensures ending { result.ending ≡ ending_if self.lacking self.refused }
+        ensures ending { result.ending ≡ self.ending }
     {
-        let ending = if self.lacking {
-            Err(IoFault::Memory)
-        } else {
-            Ok(outcome_if(!self.refused))
-        };
         Played {
             output: self.output,
-            ending,
+            ending: self.ending,
         }
     }
 
     fn apply(&mut self, alloc: Global, command: Command) -> Result<(), AllocError>
         ensures { OnOk result ((reply : ReplyData) × ((all : List Done) →
-            HasPlayed all self.old.service self.old.output self.old.refused self.old.lacking →
-            HasPlayed (all ++ Replied command reply ∷ []) self.new.service self.new.output self.new.refused self.new.lacking)) }
+            HasPlayed all self.old.service self.old.output self.old.ending →
+            HasPlayed (all ++ Replied command reply ∷ []) self.new.service self.new.output self.new.ending)) }
     {
         let name = command.name().clone()?;
         let sim = sim_in(&command);
@@ -179,8 +168,8 @@ impl Player {
         ensures good { IfOk result (λ good. good ≡ is_name name.now) }
         ensures plays { OnOk result (is_name name.now ≡ true →
             (reply : ReplyData) × ((all : List Done) →
-            HasPlayed all self.old.service self.old.output self.old.refused self.old.lacking →
-            HasPlayed (all ++ Replied (Step name.now sim count) reply ∷ []) self.new.service self.new.output self.new.refused self.new.lacking)) }
+            HasPlayed all self.old.service self.old.output self.old.ending →
+            HasPlayed (all ++ Replied (Step name.now sim count) reply ∷ []) self.new.service self.new.output self.new.ending)) }
     {
         match self.service.step(name, sim, count) {
             Ok((taken, last)) => {
@@ -197,8 +186,7 @@ impl Player {
     fn refuse_steps(&mut self, name: &[u8], sim: u8, refusal: Refusal) -> Result<bool, AllocError>
         ensures good { IfOk result (λ good. good ≡ is_name name.now) }
         ensures output { OnOk result (is_name name.now ≡ true → self.new.output ≡ self.old.output ++ reply_text name.now sim (Refused refusal)) }
-        ensures refused { OnOk result (is_name name.now ≡ true → self.new.refused ≡ true) }
-        ensures lacking { OnOk result (is_name name.now ≡ true → self.new.lacking ≡ (self.old.lacking || is_want (Refused refusal))) }
+        ensures ending { OnOk result (is_name name.now ≡ true → self.new.ending ≡ ending_with (is_want (Refused refusal)) true self.old.ending) }
         ensures service { self.new.service ≡ self.old.service }
     {
         if Name::read(name).is_none() {
@@ -211,12 +199,10 @@ impl Player {
     /// Writes what the service replied for the room of this name and this simulator of it.
     fn answer(&mut self, name: &[u8], sim: u8, reply: &Reply) -> Result<(), AllocError>
         ensures output { OnOk result (self.new.output ≡ self.old.output ++ reply_text name.now sim reply.now) }
-        ensures refused { self.new.refused ≡ (self.old.refused || is_refusal reply.now) }
-        ensures lacking { self.new.lacking ≡ (self.old.lacking || is_want reply.now) }
+        ensures ending { self.new.ending ≡ ending_with (is_want reply.now) (is_refusal reply.now) self.old.ending }
         ensures service { self.new.service ≡ self.old.service }
     {
-        self.refused |= is_refusal(reply);
-        self.lacking |= is_want(reply);
+        self.ending = ending_with(reply, self.ending);
         write_reply(&mut self.output, name, sim, reply)
     }
 }
@@ -231,16 +217,15 @@ fn sim_in(command: &Command) -> u8
     }
 }
 
-fn is_refusal(reply: &Reply) -> bool
-    ensures { result ≡ is_refusal reply.now }
+/// How a script ends with one reply more.
+fn ending_with(reply: &Reply, ending: Result<Outcome, IoFault>) -> Result<Outcome, IoFault>
+    ensures { result ≡ ending_with (is_want reply.now) (is_refusal reply.now) ending }
 {
-    matches!(reply, Reply::Refused(_))
-}
-
-fn is_want(reply: &Reply) -> bool
-    ensures { result ≡ is_want reply.now }
-{
-    matches!(reply, Reply::Refused(Refusal::OutOfMemory))
+    match reply {
+        Reply::Refused(Refusal::OutOfMemory) => Err(IoFault::Memory),
+        Reply::Refused(_) => ending.and(Ok(Outcome::SomeRefused)),
+        _ => ending,
+    }
 }
 
 /// Does what a script asks for, up to its first bad line.
@@ -248,7 +233,7 @@ fn play_script(alloc: Global, script: &[u8]) -> Result<Player, IoFault>
     requires { length script.now ≤ most_bytes }
     ensures played { IfOk result (λ player. (entries : List Entry) × (all : List Done) ×
         (script_says script.now ≡ Ok entries) × AreDone entries all ×
-        HasPlayed all player.service player.output player.refused player.lacking) }
+        HasPlayed all player.service player.output player.ending) }
     ensures err { IfErr result (IsFaultOr (IsOk (script_says script.now)) (script_says script.now)) }
 {
     let mut player = Player::new(alloc);

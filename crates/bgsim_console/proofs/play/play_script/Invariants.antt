@@ -8,7 +8,7 @@ use Rattle.bgsim_console.proofs.play.play_script.Given as goal
 abbrev pub invariant-loop-line : goal.invariant-loop-line
 invariant-loop-line l =
     (most : ℕ) × (before : List Entry) × (all : List Done) × (length l.rest ≤ most) × (script_says l.script ≡ behind before (script_from most l.number l.rest)) × (l.number + length l.rest ≤ length l.script + 1)
-    × AreDone before all × HasPlayed all l.player.service l.player.output l.player.refused l.player.lacking
+    × AreDone before all × HasPlayed all l.player.service l.player.output l.player.ending
 
 abbrev pub decreases-loop-line : goal.decreases-loop-line
 decreases-loop-line l = length l.rest

@@ -15,8 +15,8 @@ returns c =
     where_ok c.answer.result _ _
     (λ text. (
       reply,
-      replied c.args.command reply old.service new.service old.output new.output old.refused new.refused old.lacking new.lacking
+      replied c.args.command reply old.service new.service old.output new.output old.ending new.ending
           (subst (λ (after : Entries). Applies old.service c.args.command reply after) (sym c.answer.ensures.service) applies)
-          (text ∙ ap₂ (λ (name : List ℕ) (sim : ℕ). old.output ++ reply_text name sim reply) named c.sim_in-sim.ensures) c.answer.ensures.refused c.answer.ensures.lacking,
+          (text ∙ ap₂ (λ (name : List ℕ) (sim : ℕ). old.output ++ reply_text name sim reply) named c.sim_in-sim.ensures) c.answer.ensures.ending,
     ))
     c.answer.ensures.output
