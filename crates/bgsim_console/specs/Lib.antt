@@ -1,6 +1,7 @@
 pub mod Blocks
 pub mod Check
 pub mod CommandLine
+pub mod Devices
 pub mod Ends
 pub mod LineNumbers
 pub mod Lines

@@ -1,11 +1,11 @@
 //! From bytes to bytes.
-ghost use Rattle.std.specs.Prelude.{◌≡◌, ◌+◌, ◌≤◌, List, ℕ, true, false, length, IfSome, OnOk};
+ghost use Rattle.std.specs.Prelude.{◌≡◌, ◌+◌, ◌≤◌, List, ℕ, false, length, IfSome};
 ghost use Rattle.std.specs.Io.KnownBytes.{Appends};
 ghost use Rattle.bgsim_console.specs.Check.{IsAnswer};
-ghost use Rattle.bgsim_console.specs.Reading.{most_bytes};
 ghost use Rattle.bgsim_console.specs.Play.{IsPlayed};
 ghost use Rattle.bgsim_console.specs.Run.{IsRan};
-ghost use Rattle.bgsim_console.specs.Ends.{is_read_failed, is_write_failed, failed_writes};
+ghost use Rattle.bgsim_console.specs.Devices.{HasRead, HasWritten};
+ghost use Rattle.bgsim_console.specs.Ends.{failed_writes};
 
 use crate::device::Device;
 use crate::fault::{IoFault, Outcome};
@@ -37,17 +37,8 @@ pub fn check_io<R: Read, W: Write>(
     ensures text { IfSome (R.remaining reader.old.inner) (λ input. (output : List ℕ) × IsAnswer input result output
         × Appends (W.contents writer.old.inner) (W.contents writer.new.inner) output
         × (writer.new.calls ≤ writer.old.calls + length output + failed_writes result)) }
-    // What is written has left the writer's hands,
-    ensures flushed { OnOk result (writer.new.flushed ≡ true) }
-    // also where it ends with a fault, unless that is of the writer.
-    ensures handed_on { is_write_failed result ≡ false → writer.old.flushed ≡ true → writer.new.flushed ≡ true }
-    ensures read_failed { reader.new.failed ≡ is_read_failed result }
-    ensures write_failed { writer.new.failed ≡ is_write_failed result }
-    ensures reads { reader.new.calls ≤ reader.old.calls + most_bytes + 1 }
-    // Each read but the last gives a byte at least.
-    ensures few { IfSome (R.remaining reader.old.inner) (λ input. reader.new.calls ≤ reader.old.calls + length input + 1) }
-    // Once the reader has said that nothing is left it is not asked again.
-    ensures once { reader.old.ended ≡ false → reader.new.asked_past_end ≡ reader.old.asked_past_end }
+    ensures reader { HasRead reader.old reader.new (R.remaining reader.old.inner) result }
+    ensures writer { HasWritten writer.old writer.new result }
 {
     let input = read_input(alloc, reader)?;
     let answer = judge(alloc, &input)?;
@@ -73,17 +64,8 @@ pub fn play_io<R: Read, W: Write>(
     ensures text { IfSome (R.remaining reader.old.inner) (λ input. (output : List ℕ) × IsPlayed input result output
         × Appends (W.contents writer.old.inner) (W.contents writer.new.inner) output
         × (writer.new.calls ≤ writer.old.calls + length output + failed_writes result)) }
-    // What is written has left the writer's hands,
-    ensures flushed { OnOk result (writer.new.flushed ≡ true) }
-    // also where it ends with a fault, unless that is of the writer.
-    ensures handed_on { is_write_failed result ≡ false → writer.old.flushed ≡ true → writer.new.flushed ≡ true }
-    ensures read_failed { reader.new.failed ≡ is_read_failed result }
-    ensures write_failed { writer.new.failed ≡ is_write_failed result }
-    ensures reads { reader.new.calls ≤ reader.old.calls + most_bytes + 1 }
-    // Each read but the last gives a byte at least.
-    ensures few { IfSome (R.remaining reader.old.inner) (λ input. reader.new.calls ≤ reader.old.calls + length input + 1) }
-    // Once the reader has said that nothing is left it is not asked again.
-    ensures once { reader.old.ended ≡ false → reader.new.asked_past_end ≡ reader.old.asked_past_end }
+    ensures reader { HasRead reader.old reader.new (R.remaining reader.old.inner) result }
+    ensures writer { HasWritten writer.old writer.new result }
 {
     let script = read_input(alloc, reader)?;
     let played = play(alloc, &script)?;
@@ -113,17 +95,8 @@ pub fn run_io<H: Threads + Wait + Sync, R: Read, W: Write, G: Gate + Sync>(
     ensures text { IfSome (R.remaining reader.old.inner) (λ input. (output : List ℕ) × IsRan workers input result output
         × Appends (W.contents writer.old.inner) (W.contents writer.new.inner) output
         × (writer.new.calls ≤ writer.old.calls + length output + failed_writes result)) }
-    // What is written has left the writer's hands,
-    ensures flushed { OnOk result (writer.new.flushed ≡ true) }
-    // also where it ends with a fault, unless that is of the writer.
-    ensures handed_on { is_write_failed result ≡ false → writer.old.flushed ≡ true → writer.new.flushed ≡ true }
-    ensures read_failed { reader.new.failed ≡ is_read_failed result }
-    ensures write_failed { writer.new.failed ≡ is_write_failed result }
-    ensures reads { reader.new.calls ≤ reader.old.calls + most_bytes + 1 }
-    // Each read but the last gives a byte at least.
-    ensures few { IfSome (R.remaining reader.old.inner) (λ input. reader.new.calls ≤ reader.old.calls + length input + 1) }
-    // Once the reader has said that nothing is left it is not asked again.
-    ensures once { reader.old.ended ≡ false → reader.new.asked_past_end ≡ reader.old.asked_past_end }
+    ensures reader { HasRead reader.old reader.new (R.remaining reader.old.inner) result }
+    ensures writer { HasWritten writer.old writer.new result }
 {
     let input = read_input(alloc, reader)?;
     let ran = run_blocks(rt, alloc, input, workers, gate)?;
