@@ -1,4 +1,5 @@
 pub mod CallerLemmas
+mod Apart
 mod Columns
 mod Greatest
 mod Merging

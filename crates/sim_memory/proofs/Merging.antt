@@ -49,36 +49,6 @@ lesser_in fields most p long within =
     ∙ ap (λ x. cond (ltb (get_or fields p 0) x) (get_or fields p 0) x) same
     ∙ lesser_of (get_or fields p 0) most
 
--- ---- the fields of one simulator
-
--- the lowest n fields of a word, and then 0
-pub record AreFields (word bits n : ℕ) (fields : List ℕ) : Type 0 where
-  pub long : length fields ≡ 16
-  pub own : (q : ℕ) → q < n → get_or fields q 0 ≡ word / 2 ^ (q * bits) % 2 ^ bits
-  pub behind : (q : ℕ) → n ≤ q → q < 16 → get_or fields q 0 ≡ 0
-
-pub no_fields : (word bits : ℕ) → AreFields word bits 0 (replicate 16 0)
-no_fields word bits = record {
-  long = refl;
-  own = λ q below. absurd (omega arith);
-  behind = λ q _ within. get_or-replicate 16 q 0 0 within;
-}
-
-pub next_rest : (word bits p rest : ℕ) → rest ≡ word / 2 ^ (p * bits) → rest / 2 ^ bits ≡ word / 2 ^ ((p + 1) * bits)
-next_rest word bits p rest is =
-    let more : p * bits + bits ≡ (p + 1) * bits = grind arith in
-    ap (λ x. x / 2 ^ bits) is ∙ shr-shr word (p * bits) bits ∙ ap (λ at. word / 2 ^ at) more
-
-pub one_more_field : (word bits p field : ℕ) (fields : List ℕ) → p < 16 → AreFields word bits p fields → field ≡ word / 2 ^ (p * bits) % 2 ^ bits → AreFields word bits (p + 1) (set fields p field)
-one_more_field word bits p field fields within so_far is = record {
-  long = length-set fields p field ∙ so_far.long;
-  own = λ q below.
-      dite (ℕ_discrete q p)
-      (λ (e : q ≡ p). ap (λ k. get_or (set fields p field) k 0) e ∙ get_or-set_same fields p field 0 (let long = so_far.long in omega arith) ∙ is ∙ ap (λ k. word / 2 ^ (k * bits) % 2 ^ bits) (sym e))
-      (λ (n : q ≢ p). get_or-set_other fields p q field 0 n ∙ so_far.own q (omega arith));
-  behind = λ q more q_within. get_or-set_other fields p q field 0 (λ (e : q ≡ p). absurd (omega arith)) ∙ so_far.behind q (omega arith) q_within;
-}
-
 -- ---- one simulator more
 
 merged_more : (m : ℕ) (steps : ℕ → ℕ → ℕ) (p : ℕ) → merged_of (suc m) steps p ≡ max (merged_of m steps p) (steps m p)

@@ -1,5 +1,5 @@
 //! The last writes of all processes at once.
-ghost use Rattle.std.specs.Prelude.{replicate, ◌≡◌, ℕ, ◌+◌, ◌*◌, ◌/◌, ◌%◌, ◌^◌, ◌<◌, ◌≤◌, length, max, min, slice_index, nat_lt, if◌then◌else◌};
+ghost use Rattle.std.specs.Prelude.{replicate, ◌≡◌, ℕ, ◌+◌, ◌-◌, ◌*◌, ◌/◌, ◌%◌, ◌^◌, ◌<◌, ◌≤◌, bit_and, bit_or, length, max, min, slice_index, nat_lt, if◌then◌else◌};
 ghost use Rattle.room_spec.specs.Sizes.{memory_words};
 ghost use Rattle.room_spec.specs.Shapes.{sizes_of};
 ghost use Rattle.sim_memory.specs.Steps.{holder_of, merged_of, step_in};
@@ -168,11 +168,41 @@ fn lowest_fields(shape: &Shape, word: u64) -> [u8; MAX_PROCESSES]
     ensures own { (p : ℕ) → p < shape.now.n → slice_index result p ≡ word / 2 ^ (p * shape.now.bits) % 2 ^ shape.now.bits }
     ensures behind { (p : ℕ) → shape.now.n ≤ p → p < MAX_PROCESSES → slice_index result p ≡ 0 }
 {
-    let mut fields = [0; MAX_PROCESSES];
-    let mut rest = word;
-    for p in 0..shape.n {
-        fields[p] = field(rest, 0, shape.bits) as u8;
-        rest >>= shape.bits;
-    }
-    fields
+    let own = field(word, 0, shape.n * shape.bits);
+    let eight = 8 * shape.bits;
+    bytes_of(
+        in_bytes(field(own, 0, eight), shape.bits),
+        in_bytes(own >> eight, shape.bits),
+    )
+}
+
+/// The bytes of two words, the lowest first.
+fn bytes_of(low: u64, high: u64) -> [u8; MAX_PROCESSES]
+    ensures low { (p : ℕ) → p < 8 → slice_index result p ≡ low / 2 ^ (p * 8) % 2 ^ 8 }
+    ensures high { (p : ℕ) → p < 8 → slice_index result (8 + p) ≡ high / 2 ^ (p * 8) % 2 ^ 8 }
+{
+    u64x2::from_array([low, high]).to_le_bytes().to_array()
+}
+
+/// The word with each of its eight fields in a byte of its own. It has no other bits.
+#[inline(always)]
+fn in_bytes(word: u64, bits: usize) -> u64
+    requires bits { (1 ≤ bits) × (bits ≤ 4) }
+    requires fields { word < 2 ^ (8 * bits) }
+    ensures { (p : ℕ) → p < 8 → result / 2 ^ (p * 8) % 2 ^ 8 ≡ word / 2 ^ (p * bits) % 2 ^ bits }
+{
+    let fours = apart(word, 4 * bits, 32, 0x0000_0001_0000_0001);
+    let pairs = apart(fours, 2 * bits, 16, 0x0001_0001_0001_0001);
+    apart(pairs, bits, 8, 0x0101_0101_0101_0101)
+}
+
+/// The word with the upper half of each group of twice `width` bits moved up, so that each half
+/// begins `room` bits after the one below it. In `ones` the lowest bit of each room is set.
+#[inline(always)]
+fn apart(word: u64, width: usize, room: usize, ones: u64) -> u64
+    requires width { (1 ≤ width) × (width ≤ room) × (room ≤ 32) }
+    requires mask { ones * (2 ^ width - 1) < 2 ^ 64 }
+    ensures { result ≡ bit_and (bit_or word (word * 2 ^ (room - width) % 2 ^ 64)) (ones * (2 ^ width - 1)) }
+{
+    (word | word << (room - width)) & (ones * ((1 << width) - 1))
 }
