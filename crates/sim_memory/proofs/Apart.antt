@@ -5,7 +5,7 @@ use lib.Lanes.{digits_l, number_l}
 use lib.Pow.{pow_mono}
 use lib.Bits.{or_zero_l, or_zero_r}
 use native.Mathlib.Nat.{div-eq_of_lt, div-one, mod-eq_of_lt, pow-suc}
-use Rattle.std.proofs.Math.Nat.{mul-add-mod_self_right}
+use Rattle.std.proofs.Math.Nat.{mul-add-mod_self_right, zero-div, zero-mod}
 use Rattle.std.proofs.lemmas.Simd.{get_or_narrower}
 use Rattle.std.proofs.lemmas.Bool.{cases_lt}
 use Rattle.std.proofs.lemmas.Nat.{and_mask, and_mod, and_shr, field_of, mod_below, mod_low, mul-le, or_mod, or_shr, pow-add, pow_pos, row_fits, shl-shr, shr_below, shr-shr, shr_high, shr_split}
@@ -194,6 +194,9 @@ module _ (word bits fours pairs bytes : ℕ)
       let mask : repeated 8 8 (2 ^ bits - 1) ≡ 72340172838076673 * (2 ^ bits - 1) = omega arith in
       subst (λ y. AreApart word y bits 8 8) (ap (bit_and (bit_or pairs (pairs * 2 ^ (8 - bits) % 2 ^ 64))) mask ∙ sym bytes_is)
       (halves_apart word pairs bits 8 4 (omega arith) (omega arith) in_four)
+
+pub no_bits : (at width : ℕ) → 0 / 2 ^ at % 2 ^ width ≡ 0
+no_bits at width = ap (λ x. x % 2 ^ width) (zero-div (2 ^ at)) ∙ zero-mod (2 ^ width)
 
 -- ---- sixteen fields, in the bytes of two words
 

@@ -191,6 +191,9 @@ fn in_bytes(word: u64, bits: usize) -> u64
     requires fields { word < 2 ^ (8 * bits) }
     ensures { (p : ℕ) → p < 8 → result / 2 ^ (p * 8) % 2 ^ 8 ≡ word / 2 ^ (p * bits) % 2 ^ bits }
 {
+    if word == 0 {
+        return 0; // as the upper half of a row of up to eight processes
+    }
     let fours = apart(word, 4 * bits, 32, 0x0000_0001_0000_0001);
     let pairs = apart(fours, 2 * bits, 16, 0x0001_0001_0001_0001);
     apart(pairs, bits, 8, 0x0101_0101_0101_0101)
