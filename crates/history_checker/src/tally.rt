@@ -2,6 +2,7 @@
 ghost use Rattle.std.specs.Prelude.{◌≡◌, [], ◌≤◌, IfOk};
 ghost use Rattle.std.specs.Option.{option_map};
 ghost use Rattle.history_checker.specs.Verdicts.{StaysSo, TallyStands, TaskStands};
+ghost use Rattle.room_spec.specs.declared.spec.TheConstants.{MAX_AGREED};
 
 use crate::task::Decided;
 use room_spec::Spec;
@@ -41,7 +42,7 @@ impl Tally {
 
     /// Takes in an event, which stands on this line, of a room whose task allows `most` values.
     pub fn feed(&mut self, spec: &Spec, most: usize, event: &Event, line: u64)
-        requires { most ≤ 16 }
+        requires { most ≤ MAX_AGREED }
         ensures { StaysSo event.now line
             (λ fed. TallyStands spec.now most fed self.old.decided self.old.excess) (λ fed. TallyStands spec.now most fed self.new.decided self.new.excess) }
     {

@@ -2,16 +2,17 @@
 ghost use Rattle.std.specs.Prelude.{◌≡◌, ◌↔◌, ◌≤◌, [], ℕ, IsOk, Err, Some};
 ghost use Rattle.transcript.specs.Tasks.{IsFirstExcess, KeepsTask};
 ghost use Rattle.history_checker.specs.Tasks.{Allows, HasDecided, KeepsOwnTask};
+ghost use Rattle.room_spec.specs.declared.spec.TheConstants.{MAX_AGREED};
 
 use arrayvec::ArrayVec;
-use room_spec::Spec;
+use room_spec::{MAX_AGREED, Spec};
 use std::marker::Model;
 use transcript::Event;
 
 /// The different values that were decided, while the task allows them.
 #[derive(Drop)]
 pub struct Decided {
-    values: ArrayVec<u32, 16>,
+    values: ArrayVec<u32, MAX_AGREED>,
 }
 
 impl Model for Decided {
@@ -35,7 +36,7 @@ impl Decided {
     /// Takes one more decision in, if a task of at most `most` values allows it.
     #[tactic(auto, using(crate::proofs::Tallies::refuses))]
     fn take(&mut self, spec: &Spec, most: usize, v: u32) -> bool
-        requires { most ≤ 16 }
+        requires { most ≤ MAX_AGREED }
         ensures { Allows spec.now most v self.old result self.new }
     {
         if !spec.has_input(v) {
@@ -53,7 +54,7 @@ impl Decided {
 
     /// Takes an event in, if a task of at most `most` values allows it. Those that decide nothing change nothing.
     pub fn follow(&mut self, spec: &Spec, most: usize, event: &Event) -> bool
-        requires { most ≤ 16 }
+        requires { most ≤ MAX_AGREED }
         ensures { HasDecided spec.now most event.now self.old result self.new }
     {
         match event {
@@ -79,7 +80,7 @@ pub fn check_task(spec: &Spec, events: &[Event]) -> Result<(), usize>
 
 /// The same of a task that allows `most` different values.
 fn check_agreement(spec: &Spec, most: usize, events: &[Event]) -> Result<(), usize>
-    requires { most ≤ 16 }
+    requires { most ≤ MAX_AGREED }
     ensures keeps { IsOk result ↔ KeepsTask spec.now most events.now }
     ensures first { (t : ℕ) → (result ≡ Err t) ↔ IsFirstExcess spec.now most events.now t }
 {

@@ -56,7 +56,7 @@ view_at spec fields j k = fields.view (shown_of spec fields j k) j k
 
 -- it has looked, has seen no level 2, and has not left yet
 pub record HasLookedBlind (fields : Fields) (i j k : ℕ) : Type 0 where
-  pub process : (fields.mind i).sweep ≡ j
+  pub process : (fields.mind i).process ≡ j
   pub round : current_round (fields.mind i) ≡ k
   pub line : (fields.mind i).line ≡ Leave false
 
@@ -104,7 +104,7 @@ IsInside line = ⊥
 
 -- the open turn of simulator i is on process j and round k, inside the agreement
 pub record IsInsideTurn (fields : Fields) (i j k : ℕ) : Type 0 where
-  pub process : (fields.mind i).sweep ≡ j
+  pub process : (fields.mind i).process ≡ j
   pub round : current_round (fields.mind i) ≡ k
   pub line : IsInside (fields.mind i).line
 

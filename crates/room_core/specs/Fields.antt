@@ -137,7 +137,7 @@ first_line (Some j) spec fields i mind = first_line_at (goal_at mind.goals j) sp
 
 -- the lines, of a mind that counts this step; j and k are the process and the round of its turn
 abbrev pub line_on : Line → RoomSpec → Fields → ℕ → ℕ → ℕ → MindOf StepMap → Fields
-line_on Rest spec fields i j k mind = first_line (next_process mind.goals mind.sweep) spec fields i mind
+line_on Rest spec fields i j k mind = first_line (next_process mind.goals mind.process) spec fields i mind
 line_on Raise spec fields i j k mind = with_taken (record fields { step = changed_pair fields.step i j (fields.step i j + 1) }) i (goes_on Snap mind)
 line_on Snap spec fields i j k mind = with_taken fields i (snapped spec (is_same_collect spec (with_loaded spec fields.step mind)) (with_loaded spec fields.step mind))
 line_on Show spec fields i j k mind = with_taken (record fields { view = changed_triple fields.view i j k (with_shown spec (fields.view i j k) mind) }) i (showed spec mind)
@@ -151,7 +151,7 @@ line_on (Out decision) spec fields i j k mind = with_taken (record fields { out 
 
 -- the fields after the line at which simulator i stands
 abbrev pub line : RoomSpec → Fields → ℕ → Fields
-line spec fields i = line_on (fields.mind i).line spec fields i (fields.mind i).sweep (current_round (fields.mind i)) (counted (fields.mind i))
+line spec fields i = line_on (fields.mind i).line spec fields i (fields.mind i).process (current_round (fields.mind i)) (counted (fields.mind i))
 
 -- simulator i is one of the room's and hasn't crashed
 pub record IsAliveIn (spec : RoomSpec) (fields : Fields) (i : ℕ) : Type 0 where

@@ -38,7 +38,7 @@ pub record EndsCollect (spec : RoomSpec) (schedule : List ScheduleEvent) (i j k 
   pub whole : ((fields_at spec schedule last).mind i).word + 1 ≡ words_in spec
   pub stands : ((fields_at spec schedule time).mind i).line ≡ Snap
   pub made : ((fields_at spec schedule time).mind i).collects ≡ collects
-  pub process : ((fields_at spec schedule time).mind i).sweep ≡ j
+  pub process : ((fields_at spec schedule time).mind i).process ≡ j
   pub round : current_round ((fields_at spec schedule time).mind i) ≡ k
 
 -- The content of a scan: the step numbers at a moment at which the simulator had counted the round. Where the memory has more

@@ -24,7 +24,7 @@ abbrev pub worded : Sizes → MindOf StepMap → MindState
 worded sizes mind = record {
   number = mind.number;
   goals = mind.goals;
-  sweep = mind.sweep;
+  process = mind.process;
   turns = mind.turns;
   steps = mind.steps;
   turn_steps = mind.turn_steps;
@@ -75,7 +75,7 @@ abbrev pub unworded : Sizes → MindState → MindOf StepMap
 unworded sizes mind = record {
   number = mind.number;
   goals = mind.goals;
-  sweep = mind.sweep;
+  process = mind.process;
   turns = mind.turns;
   steps = mind.steps;
   turn_steps = mind.turn_steps;

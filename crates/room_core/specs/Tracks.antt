@@ -74,7 +74,7 @@ pub record Tells (rounds : ℕ) (goal : Goal) (stage : Stage) (step : ℕ) (leve
 
 -- where a mind stands with a process: at rest, but for that of its open turn
 abbrev pub stage_for : {S : Type 0} → MindOf S → ℕ → Stage
-stage_for mind p = if p == mind.sweep then stage_of mind.line else AtRest
+stage_for mind p = if p == mind.process then stage_of mind.line else AtRest
 
 -- the goals of a mind tell, each of its own process
 abbrev pub ToldBy : ℕ → MindOf StepMap → (ℕ → ℕ) → (ℕ → ℕ → ℕ) → Type 0

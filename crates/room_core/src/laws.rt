@@ -268,7 +268,7 @@ pub fn settles()
 pub fn scans()
     ensures { (room : RoomState) (fields : Fields) →
         IsWithinLimits room.spec → (are : AreFieldsOf room fields) → (i : ℕ) → i < room.spec.simulators → (fields.mind i).line ≡ Show →
-        IsScan room.spec are.run.schedule (length are.run.schedule) i (fields.mind i).sweep (current_round (fields.mind i))
+        IsScan room.spec are.run.schedule (length are.run.schedule) i (fields.mind i).process (current_round (fields.mind i))
         (fields.mind i).snapshot (fields.mind i).collects }
 {}
 

@@ -154,7 +154,7 @@ impl RoomCore {
         // prefix holds its own last write.
         ensures scan { (fields : Fields) (are : AreFieldsOf self.now fields) →
             (fields.mind i).line ≡ Show →
-            IsScan self.now.spec are.run.schedule (length are.run.schedule) i (fields.mind i).sweep (current_round (fields.mind i))
+            IsScan self.now.spec are.run.schedule (length are.run.schedule) i (fields.mind i).process (current_round (fields.mind i))
             (fields.mind i).snapshot (fields.mind i).collects }
     {
         self.sweeps[i].mind()

@@ -179,7 +179,7 @@ fn read_agreed(words: &[u8]) -> Result<u8, SpecFault>
         .strip_prefix(b"agree ".as_slice())
         .ok_or(SpecFault::TaskLine(7))?;
     let most = read_number(most).ok_or(SpecFault::TaskLine(7))?;
-    if most >= 1 && most <= MAX_AGREED {
+    if most >= 1 && most <= MAX_AGREED as u64 {
         Ok(most as u8)
     } else {
         Err(SpecFault::TaskLine(7))

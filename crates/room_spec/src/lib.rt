@@ -17,7 +17,9 @@ pub use block::{Block, block_len, read_block};
 pub use fault::SpecFault;
 pub use name::Name;
 pub use protocols::Protocols;
-pub use spec::{MAX_MEMORY_WORDS, MAX_PROCESSES, MAX_ROUNDS, MAX_SIMULATORS, Shape, Spec};
+pub use spec::{
+    MAX_AGREED, MAX_MEMORY_WORDS, MAX_PROCESSES, MAX_ROUNDS, MAX_SIMULATORS, Shape, Spec,
+};
 pub use spelled::Spelled;
 pub use text::{cut, cut_near};
 pub use version::Version;

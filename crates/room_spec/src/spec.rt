@@ -26,7 +26,7 @@ pub const MAX_MEMORY_WORDS: usize = 4;
 pub(crate) const MAX_TURNS: u16 = 65535;
 
 /// The most different values that a task lets the processes decide.
-pub(crate) const MAX_AGREED: u64 = 16;
+pub const MAX_AGREED: usize = 16;
 
 /// The numbers that a room's memory depends on: `m` simulators run `n` processes, which write at
 /// most `rounds` times each, and a step number has `bits` binary digits. `n` is 1 to 16, `m` 1 to

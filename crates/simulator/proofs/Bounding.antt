@@ -102,7 +102,7 @@ total_after n rounds after quiet = total n rounds after.mind (quiet_after after.
 -- an open turn, or one that begins, on a process and a round of the room
 record IsTurning {S : Type 0} (n rounds : ℕ) (mind : MindOf S) : Type 0 where
   few : n ≤ 16
-  place : mind.sweep < length mind.goals
+  place : mind.process < length mind.goals
   left : is_unfinished (current_goal mind) ≡ true
   last : current_round mind ≤ rounds
 
@@ -116,7 +116,7 @@ on_line n rounds line mind quiet is = omega (arith, is)
 useful : {S : Type 0} (n rounds : ℕ) (goal : Goal) (mind : MindOf S) (quiet : ℕ) → IsTurning n rounds mind → rounds_left rounds goal < rounds_left rounds (current_goal mind) → total_after n rounds (ended Useful goal mind) quiet ≤ Allowed n rounds mind quiet
 unfolding total
 useful n rounds goal mind quiet is less =
-    let set = left_set rounds mind.goals mind.sweep goal is.place in
+    let set = left_set rounds mind.goals mind.process goal is.place in
     let after = all_left rounds (ended Useful goal mind).mind.goals in
     let fewer : suc after ≤ all_left rounds mind.goals = omega (arith, set, less) in
     let product = mul-le (suc after) n (all_left rounds mind.goals) n fewer (omega arith) in
@@ -125,7 +125,7 @@ useful n rounds goal mind quiet is less =
 quiet_turn : {S : Type 0} (n rounds : ℕ) (mind : MindOf S) (quiet : ℕ) → IsTurning n rounds mind → total_after n rounds (ended Quiet (goals.Ask (current_round mind)) mind) quiet ≤ Allowed n rounds mind quiet
 unfolding total
 quiet_turn n rounds mind quiet is =
-    let set = left_set rounds mind.goals mind.sweep (goals.Ask (current_round mind)) is.place in
+    let set = left_set rounds mind.goals mind.process (goals.Ask (current_round mind)) is.place in
     let was = left_open rounds (current_goal mind) is.left in
     let after = all_left rounds (ended Quiet (goals.Ask (current_round mind)) mind).mind.goals in
     let same : after ≡ all_left rounds mind.goals = omega (arith, set, was) in
@@ -152,7 +152,7 @@ on_test n rounds quiet most false one other is that = that
 
 on_gathered_all : {S : Type 0} (spec : RoomSpec) (mind : MindOf S) (quiet : ℕ) → IsTurning (processes spec) spec.rounds mind → total_after (processes spec) spec.rounds (gathered_all spec mind) quiet ≤ Allowed (processes spec) spec.rounds mind quiet
 on_gathered_all spec mind quiet is =
-    let action = next_action spec.protocol (slice_index spec.inputs mind.sweep) mind.sweep (current_round mind) mind.entries in
+    let action = next_action spec.protocol (slice_index spec.inputs mind.process) mind.process (current_round mind) mind.entries in
     on_test (processes spec) spec.rounds quiet (Allowed (processes spec) spec.rounds mind quiet) (ltb (length mind.entries) (processes spec)) (goes_on Values mind) (acted spec action mind)
     (on_line (processes spec) spec.rounds Values mind quiet refl) (on_acted spec action mind quiet is)
 
@@ -186,12 +186,12 @@ enough_by true true has_turns rest is = absurd cc
 enough_by true false has_turns rest is = refl
 enough_by false enough has_turns rest is = absurd cc
 
-on_opened : (spec : RoomSpec) (next : Option ℕ) (mind : MindState) (answer quiet : ℕ) → IsMind spec mind → next_process mind.goals mind.sweep ≡ next → quiet < unfinished_in mind.goals
+on_opened : (spec : RoomSpec) (next : Option ℕ) (mind : MindState) (answer quiet : ℕ) → IsMind spec mind → next_process mind.goals mind.process ≡ next → quiet < unfinished_in mind.goals
     → total_after (processes spec) spec.rounds (opened next (chosen_in spec answer) (counted mind)) quiet ≤ mind.turns + (all_left spec.rounds mind.goals * processes spec + (processes spec - (quiet + 0)))
-on_opened spec None mind answer quiet is found busy = absurd (omega (arith, none_next mind.goals mind.sweep found, busy))
+on_opened spec None mind answer quiet is found busy = absurd (omega (arith, none_next mind.goals mind.process found, busy))
 on_opened spec (Some process) mind answer quiet is found busy =
     let n = is.limits.shape.n_range in
-    let next = next_is_left mind.goals mind.sweep process (omega (arith, is.sweep, is.goals)) found in
+    let next = next_is_left mind.goals mind.process process (omega (arith, is.process, is.goals)) found in
     let range = round_range spec.rounds (goal_at mind.goals process) (is.rounds process (omega (arith, next.below, is.goals))) next.unfinished in
     let opens = on_opened_at (processes spec) spec.rounds (goal_at mind.goals process) (chosen_in spec answer) (begun process (counted mind)) quiet refl
     (record { few = n.1; place = next.below; left = next.unfinished; last = range.1 }) in
@@ -200,12 +200,12 @@ on_opened spec (Some process) mind answer quiet is found busy =
 turning : (spec : RoomSpec) (mind : MindState) → IsMind spec mind → is_unfinished (current_goal mind) ≡ true → IsTurning (processes spec) spec.rounds (counted mind)
 turning spec mind is left =
     let n = is.limits.shape.n_range in
-    let range = round_range spec.rounds (current_goal mind) (is.rounds mind.sweep is.sweep) left in
-    record { few = n.1; place = omega (arith, is.sweep, is.goals); left = left; last = range.1 }
+    let range = round_range spec.rounds (current_goal mind) (is.rounds mind.process is.process) left in
+    record { few = n.1; place = omega (arith, is.process, is.goals); left = left; last = range.1 }
 
 at_line : (line : Line) (spec : RoomSpec) (mind : MindState) (answer quiet : ℕ) → IsMind spec mind → IsOpenAt line spec mind → (is_resting line ≡ true → quiet < unfinished_in mind.goals)
     → total_after (processes spec) spec.rounds (taken_at line spec (counted mind) answer) quiet ≤ mind.turns + (all_left spec.rounds mind.goals * processes spec + (processes spec - (quiet + open_turns line)))
-at_line Rest spec mind answer quiet is at busy = on_opened spec (next_process mind.goals mind.sweep) mind answer quiet is refl (busy refl)
+at_line Rest spec mind answer quiet is at busy = on_opened spec (next_process mind.goals mind.process) mind answer quiet is refl (busy refl)
 at_line Raise spec mind answer quiet is at busy = on_line (processes spec) spec.rounds Snap (counted mind) quiet refl
 at_line Snap spec mind answer quiet is at busy =
     let got = loaded answer (counted mind) in

@@ -25,7 +25,7 @@ use Rattle.simulator.proofs.Processes.{next_is_left}
 
 -- a mind in an open turn, or at its first step, with its quiet count
 record IsTurning {S : Type 0} (mind : MindOf S) (quiet : ℕ) : Type 0 where
-  place : mind.sweep < length mind.goals
+  place : mind.process < length mind.goals
   left : is_unfinished (current_goal mind) ≡ true
   counts : IsQuietCount mind quiet
 
@@ -33,10 +33,10 @@ abbrev CountsOn : {S : Type 0} → TakenOf S → ℕ → Type 0
 CountsOn taken quiet = IsQuietCount taken.mind (quiet_after taken.turn quiet)
 
 useful : {S : Type 0} (goal : Goal) (mind : MindOf S) (quiet : ℕ) → CountsOn (ended Useful goal mind) quiet
-useful goal mind quiet = no_asks (unfinished_from (ended Useful goal mind).mind.goals (ended Useful goal mind).mind.sweep)
+useful goal mind quiet = no_asks (unfinished_from (ended Useful goal mind).mind.goals (ended Useful goal mind).mind.process)
 
 on_asked : {S : Type 0} (chosen : Option ℕ) (mind : MindOf S) (quiet : ℕ) → IsTurning mind quiet → CountsOn (asked chosen mind) quiet
-on_asked None mind quiet is = quiet_ends mind.goals mind.sweep (current_round mind) quiet (min (quiet + 1) 255) is.place is.left (omega arith) is.counts
+on_asked None mind quiet is = quiet_ends mind.goals mind.process (current_round mind) quiet (min (quiet + 1) 255) is.place is.left (omega arith) is.counts
 on_asked (Some chosen) mind quiet is = is.counts
 
 on_acted : {S : Type 0} (spec : RoomSpec) (action : Action) (mind : MindOf S) (quiet : ℕ) → IsQuietCount mind quiet → CountsOn (acted spec action mind) quiet
@@ -49,7 +49,7 @@ on_test false one other quiet is that = that
 
 on_gathered_all : {S : Type 0} (spec : RoomSpec) (mind : MindOf S) (quiet : ℕ) → IsQuietCount mind quiet → CountsOn (gathered_all spec mind) quiet
 on_gathered_all spec mind quiet counts =
-    let action = next_action spec.protocol (slice_index spec.inputs mind.sweep) mind.sweep (current_round mind) mind.entries in
+    let action = next_action spec.protocol (slice_index spec.inputs mind.process) mind.process (current_round mind) mind.entries in
     on_test (ltb (length mind.entries) (processes spec)) (goes_on Values mind) (acted spec action mind) quiet counts (on_acted spec action mind quiet counts)
 
 on_gathered : {S : Type 0} (row : ℕ → ℕ) (spec : RoomSpec) (entries : List (Option ℕ)) (mind : MindOf S) (quiet : ℕ) → IsQuietCount mind quiet → CountsOn (gathered row spec entries mind) quiet
@@ -67,15 +67,15 @@ on_opened_at (goals.Ask round) chosen mind quiet is = on_asked chosen mind quiet
 on_opened_at goals.Done chosen mind quiet is = is.counts
 on_opened_at goals.Spent chosen mind quiet is = is.counts
 
-on_opened : {S : Type 0} (next chosen : Option ℕ) (mind : MindOf S) (quiet : ℕ) → next_process mind.goals mind.sweep ≡ next → mind.sweep < length mind.goals → IsQuietCount mind quiet → CountsOn (opened next chosen mind) quiet
+on_opened : {S : Type 0} (next chosen : Option ℕ) (mind : MindOf S) (quiet : ℕ) → next_process mind.goals mind.process ≡ next → mind.process < length mind.goals → IsQuietCount mind quiet → CountsOn (opened next chosen mind) quiet
 on_opened None chosen mind quiet found place counts = counts
 on_opened (Some process) chosen mind quiet found place counts =
-    let next = next_is_left mind.goals mind.sweep process (omega (arith, place)) found in
+    let next = next_is_left mind.goals mind.process process (omega (arith, place)) found in
     on_opened_at (goal_at mind.goals process) chosen (begun process mind) quiet
-    (record { place = next.below; left = next.unfinished; counts = subst (λ (l : List Goal). AreAsksAtTheEnd l quiet) (sym (sets_out mind.goals mind.sweep process found)) counts })
+    (record { place = next.below; left = next.unfinished; counts = subst (λ (l : List Goal). AreAsksAtTheEnd l quiet) (sym (sets_out mind.goals mind.process process found)) counts })
 
-at_line : (line : Line) (spec : RoomSpec) (mind : MindState) (answer quiet : ℕ) → mind.sweep < length mind.goals → IsOpenAt line spec mind → IsQuietCount mind quiet → CountsOn (taken_at line spec (counted mind) answer) quiet
-at_line Rest spec mind answer quiet place at counts = on_opened (next_process mind.goals mind.sweep) (chosen_in spec answer) (counted mind) quiet refl place counts
+at_line : (line : Line) (spec : RoomSpec) (mind : MindState) (answer quiet : ℕ) → mind.process < length mind.goals → IsOpenAt line spec mind → IsQuietCount mind quiet → CountsOn (taken_at line spec (counted mind) answer) quiet
+at_line Rest spec mind answer quiet place at counts = on_opened (next_process mind.goals mind.process) (chosen_in spec answer) (counted mind) quiet refl place counts
 at_line Raise spec mind answer quiet place at counts = counts
 at_line Snap spec mind answer quiet place at counts = on_word_line spec Snap (loaded answer (counted mind)) _ quiet counts (on_scanned spec (is_again (loaded answer (counted mind))) (record (loaded answer (counted mind)) { word = 0 }) quiet counts)
 at_line Show spec mind answer quiet place at counts = on_word_line spec Show (counted mind) _ quiet counts counts
@@ -90,10 +90,10 @@ at_line Values spec mind answer quiet place at counts = on_gathered (entry_in sp
 at_line (Out decision) spec mind answer quiet place at counts = useful goals.Done (counted mind) quiet
 
 pub counts_on : (spec : RoomSpec) (mind : MindState) (quiet answer : ℕ) → IsMind spec mind → IsQuietCount mind quiet → IsQuietCount (taken spec mind answer).mind (quiet_after (taken spec mind answer).turn quiet)
-counts_on spec mind quiet answer is counts = at_line mind.line spec mind answer quiet (omega (arith, is.sweep, is.goals)) is.at counts
+counts_on spec mind quiet answer is counts = at_line mind.line spec mind answer quiet (omega (arith, is.process, is.goals)) is.at counts
 
 pub counts_anew : {S : Type 0} (mind : MindOf S) → IsQuietCount mind 0
-counts_anew mind = no_asks (unfinished_from mind.goals mind.sweep)
+counts_anew mind = no_asks (unfinished_from mind.goals mind.process)
 
 -- ---- idle
 
@@ -106,4 +106,4 @@ enough_by false enough has_turns is = absurd cc
 pub idle_waits : {S : Type 0} (spec : RoomSpec) (mind : MindOf S) (quiet process : ℕ) → IsQuietCount mind quiet → ready_of spec mind quiet ≡ ready.Idle → HasNoWrite (goal_at mind.goals process)
 idle_waits spec mind quiet process counts is =
     let enough = leb-true _ _ (enough_by (is_resting mind.line) (leb (unfinished_in mind.goals) quiet) (ltb mind.turns spec.turns) is) in
-    all_asked mind.goals mind.sweep quiet process enough counts
+    all_asked mind.goals mind.process quiet process enough counts

@@ -53,14 +53,14 @@ pub record IsBusy (spec : RoomSpec) (mind : MindState) : Type 0 where
   pub number : mind.number < spec.simulators
   pub goals : length mind.goals ≡ processes spec
   pub rounds : (process : ℕ) → process < processes spec → IsGoal spec.rounds (goal_at mind.goals process)
-  pub sweep : mind.sweep < processes spec
+  pub process : mind.process < processes spec
   pub turns : mind.turns ≤ spec.turns
   pub entries : length mind.entries ≤ processes spec
   pub snapshot : length mind.snapshot ≡ 4
   pub before : length mind.before ≡ 4
   pub counted : mind.steps + greatest_limit ≤ greatest_limit * mind.turns + mind.turn_steps
   pub unfinished : is_unfinished (current_goal mind) ≡ true
-  pub order : AreVisitedLast (unfinished_from mind.goals mind.sweep)
+  pub order : AreVisitedLast (unfinished_from mind.goals mind.process)
 
 busy_at : (spec : RoomSpec) (mind : MindState) → IsMind spec mind → is_unfinished (current_goal mind) ≡ true → mind.steps + greatest_limit ≤ greatest_limit * mind.turns + mind.turn_steps → IsBusy spec (counted mind)
 busy_at spec mind is unfinished charged = record {
@@ -68,7 +68,7 @@ busy_at spec mind is unfinished charged = record {
   number = is.number;
   goals = is.goals;
   rounds = is.rounds;
-  sweep = is.sweep;
+  process = is.process;
   turns = is.turns;
   entries = is.entries;
   snapshot = is.snapshot;
@@ -78,20 +78,20 @@ busy_at spec mind is unfinished charged = record {
   order = is.order;
 }
 
-busy_begun : (spec : RoomSpec) (mind : MindState) (process : ℕ) → next_process mind.goals mind.sweep ≡ Some process → IsMind spec mind → mind.steps ≤ greatest_limit * mind.turns + mind.turn_steps → mind.turns < spec.turns → process < processes spec → is_unfinished (goal_at mind.goals process) ≡ true → IsBusy spec (begun process (counted mind))
+busy_begun : (spec : RoomSpec) (mind : MindState) (process : ℕ) → next_process mind.goals mind.process ≡ Some process → IsMind spec mind → mind.steps ≤ greatest_limit * mind.turns + mind.turn_steps → mind.turns < spec.turns → process < processes spec → is_unfinished (goal_at mind.goals process) ≡ true → IsBusy spec (begun process (counted mind))
 busy_begun spec mind process found is charged left below unfinished = record {
   limits = is.limits;
   number = is.number;
   goals = is.goals;
   rounds = is.rounds;
-  sweep = below;
+  process = below;
   turns = omega arith;
   entries = is.entries;
   snapshot = is.snapshot;
   before = is.before;
   counted = omega arith;
   unfinished = unfinished;
-  order = visited_begun mind.goals mind.sweep process found is.order;
+  order = visited_begun mind.goals mind.process process found is.order;
 }
 
 -- ---- the turn goes on
@@ -102,7 +102,7 @@ goes spec mind line is word collects few charged at = record {
   number = is.number;
   goals = is.goals;
   rounds = is.rounds;
-  sweep = is.sweep;
+  process = is.process;
   turns = is.turns;
   entries = is.entries;
   snapshot = is.snapshot;
@@ -127,9 +127,9 @@ ends : (spec : RoomSpec) (mind : MindState) (turn : Turn) (goal : Goal) → IsBu
 ends spec mind turn goal is range visited word few = record {
   limits = is.limits;
   number = is.number;
-  goals = length-set mind.goals mind.sweep goal ∙ is.goals;
-  rounds = λ process below. set_goal mind.goals mind.sweep process spec.rounds goal (omega (arith, is.goals)) range (is.rounds process below);
-  sweep = let some : 0 < length mind.goals = omega (arith, is.goals, is.sweep) in omega (arith, mod_below (mind.sweep + 1) (length mind.goals) some, is.goals);
+  goals = length-set mind.goals mind.process goal ∙ is.goals;
+  rounds = λ process below. set_goal mind.goals mind.process process spec.rounds goal (omega (arith, is.goals)) range (is.rounds process below);
+  process = let some : 0 < length mind.goals = omega (arith, is.goals, is.process) in omega (arith, mod_below (mind.process + 1) (length mind.goals) some, is.goals);
   turns = is.turns;
   entries = is.entries;
   snapshot = is.snapshot;
@@ -139,13 +139,13 @@ ends spec mind turn goal is range visited word few = record {
   few = omega arith;
   counted = omega (arith, is.counted, limit_most spec is.limits);
   at = tt;
-  order = visited_ended mind.goals mind.sweep goal (omega (arith, is.goals, is.sweep)) is.unfinished visited is.order;
+  order = visited_ended mind.goals mind.process goal (omega (arith, is.goals, is.process)) is.unfinished visited is.order;
 }
 
 -- ---- the lines at which a turn may end
 
 busy_round : (spec : RoomSpec) (mind : MindState) → IsBusy spec mind → (1 ≤ current_round mind) × (current_round mind ≤ spec.rounds)
-busy_round spec mind is = round_range spec.rounds (current_goal mind) (is.rounds mind.sweep is.sweep) is.unfinished
+busy_round spec mind is = round_range spec.rounds (current_goal mind) (is.rounds mind.process is.process) is.unfinished
 
 asks : (spec : RoomSpec) (mind : MindState) (word : ℕ) (chosen : Option ℕ) → chosen_in spec word ≡ chosen → IsBusy spec mind → mind.word < 1 → mind.collects ≤ most_collects spec → mind.turn_steps ≤ 6 + scan_steps spec + words_in spec → IsMind spec (asked chosen mind).mind
 asks spec mind word None found is at collects few = ends spec mind Quiet (goals.Ask (current_round mind)) is (busy_round spec mind is) tt at (limit_over spec mind.turn_steps 0 (omega arith) (omega (arith, few)))
@@ -164,9 +164,9 @@ acts spec mind (actions.Write value) is at collects few =
     ends spec mind Useful (after_write spec.rounds (current_round mind) value) is (write_range _ spec.rounds (current_round mind) value refl) (write_visited (ltb (current_round mind) spec.rounds) (current_round mind) value (busy_round spec mind is).0) at (limit_over spec mind.turn_steps (length mind.entries) is.entries (omega (arith, few)))
 acts spec mind (actions.Decide decision) is at collects few = goes spec mind (Out decision) is at collects few (omega arith) is.unfinished
 
-gathers_all : (spec : RoomSpec) (mind : MindState) (b : Bool) → ltb (length mind.entries) (processes spec) ≡ b → IsBusy spec mind → mind.word < 1 → mind.collects ≤ most_collects spec → mind.turn_steps ≤ 6 + scan_steps spec + 2 * words_in spec + length mind.entries → (length mind.entries < processes spec → 1 ≤ entry_in spec mind.snapshot (length mind.entries)) → IsMind spec (cond b (goes_on Values mind) (acted spec (next_action spec.protocol (get_or spec.inputs mind.sweep 0) mind.sweep (current_round mind) mind.entries) mind)).mind
+gathers_all : (spec : RoomSpec) (mind : MindState) (b : Bool) → ltb (length mind.entries) (processes spec) ≡ b → IsBusy spec mind → mind.word < 1 → mind.collects ≤ most_collects spec → mind.turn_steps ≤ 6 + scan_steps spec + 2 * words_in spec + length mind.entries → (length mind.entries < processes spec → 1 ≤ entry_in spec mind.snapshot (length mind.entries)) → IsMind spec (cond b (goes_on Values mind) (acted spec (next_action spec.protocol (get_or spec.inputs mind.process 0) mind.process (current_round mind) mind.entries) mind)).mind
 gathers_all spec mind true less is at collects few shown = let below = ltb-true _ _ less in goes spec mind Values is at collects few (omega arith) (is.unfinished, below, shown below)
-gathers_all spec mind false less is at collects few shown = acts spec mind (next_action spec.protocol (get_or spec.inputs mind.sweep 0) mind.sweep (current_round mind) mind.entries) is at collects few
+gathers_all spec mind false less is at collects few shown = acts spec mind (next_action spec.protocol (get_or spec.inputs mind.process 0) mind.process (current_round mind) mind.entries) is at collects few
 
 gathers : (spec : RoomSpec) (mind : MindState) (entries : List (Option ℕ)) → IsBusy spec mind → mind.word < 1 → mind.collects ≤ most_collects spec → length entries ≤ processes spec → mind.turn_steps ≤ 6 + scan_steps spec + 2 * words_in spec + length entries → IsMind spec (gathered (entry_in spec mind.snapshot) spec entries mind).mind
 gathers spec mind entries is at collects within few =
@@ -178,7 +178,7 @@ gathers spec mind entries is at collects within few =
       number = is.number;
       goals = is.goals;
       rounds = is.rounds;
-      sweep = is.sweep;
+      process = is.process;
       turns = is.turns;
       entries = omega (arith, padding.short);
       snapshot = is.snapshot;
@@ -196,7 +196,7 @@ loads spec mind answer is = record {
   number = is.number;
   goals = is.goals;
   rounds = is.rounds;
-  sweep = is.sweep;
+  process = is.process;
   turns = is.turns;
   entries = is.entries;
   snapshot = length-set mind.snapshot mind.word answer ∙ is.snapshot;
@@ -213,7 +213,7 @@ moves_on spec mind word collects before long is = record {
   number = is.number;
   goals = is.goals;
   rounds = is.rounds;
-  sweep = is.sweep;
+  process = is.process;
   turns = is.turns;
   entries = is.entries;
   snapshot = is.snapshot;
@@ -274,10 +274,10 @@ charged_operation : (b : Bool) (move : Move) → IsOperation (cond b move OutOfT
 charged_operation true move is = refl
 charged_operation false move is = absurd is
 
-opens_next : (spec : RoomSpec) (mind : MindState) (word : ℕ) (next : Option ℕ) → next_process mind.goals mind.sweep ≡ next → IsMind spec mind → mind.word < 1 → mind.collects ≡ 0 → mind.turn_steps ≤ 0 → mind.steps ≤ greatest_limit * mind.turns + mind.turn_steps → IsOperation (first_move next spec mind) → IsMind spec (opened next (chosen_in spec word) (counted mind)).mind
+opens_next : (spec : RoomSpec) (mind : MindState) (word : ℕ) (next : Option ℕ) → next_process mind.goals mind.process ≡ next → IsMind spec mind → mind.word < 1 → mind.collects ≡ 0 → mind.turn_steps ≤ 0 → mind.steps ≤ greatest_limit * mind.turns + mind.turn_steps → IsOperation (first_move next spec mind) → IsMind spec (opened next (chosen_in spec word) (counted mind)).mind
 opens_next spec mind word None found is at none few charged operation = absurd operation
 opens_next spec mind word (Some process) found is at none few charged operation =
-    let next = next_is_left mind.goals mind.sweep process (omega (arith, is.sweep, is.goals)) found in
+    let next = next_is_left mind.goals mind.process process (omega (arith, is.process, is.goals)) found in
     let left = ltb-true _ _ (charged_operation (ltb mind.turns spec.turns) (first_move_at (goal_at mind.goals process) spec mind.number process) operation) in
     let busy = busy_begun spec mind process found is charged left (omega (arith, next.below, is.goals)) next.unfinished in
     opens_at spec (begun process (counted mind)) word (goal_at mind.goals process) refl busy at none (omega arith)
@@ -286,7 +286,7 @@ opens_next spec mind word (Some process) found is at none few charged operation 
 
 kept_at : (line : Line) (spec : RoomSpec) (mind : MindState) (answer : ℕ) → IsMind spec mind → mind.word < words_at spec line → IsCollectCount spec line mind.collects → mind.turn_steps ≤ most_steps spec line mind.word mind.collects (length mind.entries)
     → charged_steps line mind.steps ≤ greatest_limit * mind.turns + mind.turn_steps → IsOpenAt line spec mind → IsOperation (move_at line spec mind) → IsMind spec (taken_at line spec (counted mind) answer).mind
-kept_at Rest spec mind answer is word collects few charged at operation = opens_next spec mind answer (next_process mind.goals mind.sweep) refl is word collects few charged operation
+kept_at Rest spec mind answer is word collects few charged at operation = opens_next spec mind answer (next_process mind.goals mind.process) refl is word collects few charged operation
 kept_at Raise spec mind answer is word collects few charged at operation =
     goes spec (counted mind) Snap (busy_at spec mind is at charged) (omega (arith, word, no_word spec is.limits)) (omega (arith, collects), λ one. collects) (omega (arith, few)) (omega arith) at
 kept_at Snap spec mind answer is word collects few charged at operation =
@@ -338,7 +338,7 @@ opens spec i limits below =
       number = below;
       goals = length-map-range_with_len (first_goal spec) 0 (processes spec);
       rounds = λ process within. subst (λ g. IsGoal spec.rounds g) (sym (get_or-map-range_with_len (first_goal spec) 0 (processes spec) process process goals.Done within (omega arith))) (omega arith, rounds.0);
-      sweep = mod_below i (processes spec) n.0;
+      process = mod_below i (processes spec) n.0;
       turns = omega arith;
       entries = omega arith;
       snapshot = refl;

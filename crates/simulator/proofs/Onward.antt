@@ -100,7 +100,7 @@ open_scanned spec same mind still =
     open_by (eqb (words_in spec) 1) (goes_on Show mind) (collected spec same next) (λ _. refl) (open_collected spec same next) still
 
 open_taken : (line : Line) (spec : RoomSpec) (mind : MindState) (answer : ℕ) → IsOperation (move_at line spec mind) → IsOpen (taken_at line spec (counted mind) answer)
-open_taken Rest spec mind answer operation still = open_opened (next_process mind.goals mind.sweep) spec (chosen_in spec answer) mind operation still
+open_taken Rest spec mind answer operation still = open_opened (next_process mind.goals mind.process) spec (chosen_in spec answer) mind operation still
 open_taken Raise spec mind answer operation still = refl
 open_taken Snap spec mind answer operation still = open_word spec Snap (loaded answer (counted mind)) _ refl (open_scanned spec (is_again (loaded answer (counted mind))) (record (loaded answer (counted mind)) { word = 0 })) still
 open_taken Show spec mind answer operation still = open_word spec Show (counted mind) _ refl (λ _. refl) still
@@ -170,7 +170,7 @@ aside_opened None chosen line mind = refl
 aside_opened (Some process) chosen line mind = aside_opened_at (goal_at mind.goals process) chosen line (begun process mind)
 
 pub taken_aside : (line other : Line) (spec : RoomSpec) (mind : MindState) (answer : ℕ) → taken_at line spec (counted (at_line other mind)) answer ≡ taken_at line spec (counted mind) answer
-taken_aside Rest other spec mind answer = aside_opened (next_process mind.goals mind.sweep) (chosen_in spec answer) other (counted mind)
+taken_aside Rest other spec mind answer = aside_opened (next_process mind.goals mind.process) (chosen_in spec answer) other (counted mind)
 taken_aside Raise other spec mind answer = refl
 taken_aside Snap other spec mind answer = refl
 taken_aside Show other spec mind answer = refl
@@ -189,7 +189,7 @@ first_aside None spec line mind = refl
 first_aside (Some process) spec line mind = refl
 
 pub move_aside : (line : Line) (spec : RoomSpec) (mind : MindState) → move_of spec (at_line line mind) ≡ move_at line spec mind
-move_aside Rest spec mind = first_aside (next_process mind.goals mind.sweep) spec Rest mind
+move_aside Rest spec mind = first_aside (next_process mind.goals mind.process) spec Rest mind
 move_aside Raise spec mind = refl
 move_aside Snap spec mind = refl
 move_aside Show spec mind = refl

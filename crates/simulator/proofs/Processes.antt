@@ -67,14 +67,14 @@ next_is_left goals sweep process within found = found_left goals sweep process _
 
 -- the same of the goals that a mind shows
 -- the search from the sweep's place, over goals that were read of the mind
-pub found_there : (viewed mind : MindState) (goals : List Goal) (sweep : ℕ) (next : Option ℕ) → viewed ≡ mind → goals ≡ viewed.goals → sweep ≡ mind.sweep → next ≡ next_process goals sweep → next ≡ next_process viewed.goals viewed.sweep
+pub found_there : (viewed mind : MindState) (goals : List Goal) (sweep : ℕ) (next : Option ℕ) → viewed ≡ mind → goals ≡ viewed.goals → sweep ≡ mind.process → next ≡ next_process goals sweep → next ≡ next_process viewed.goals viewed.process
 found_there viewed mind goals sweep next is are stands searched =
-    searched ∙ ap (λ (g : List Goal). next_process g sweep) are ∙ ap (λ (at : ℕ). next_process viewed.goals at) (stands ∙ ap (λ (m : MindState). m.sweep) (sym is))
+    searched ∙ ap (λ (g : List Goal). next_process g sweep) are ∙ ap (λ (at : ℕ). next_process viewed.goals at) (stands ∙ ap (λ (m : MindState). m.process) (sym is))
 
-pub shown_is_left : (viewed mind : MindState) (goals : List Goal) (sweep : ℕ) (next : Option ℕ) (process : ℕ) → viewed ≡ mind → mind.sweep < length mind.goals → goals ≡ viewed.goals → sweep ≡ mind.sweep → next ≡ next_process goals sweep → next ≡ Some process → IsLeft viewed.goals process
+pub shown_is_left : (viewed mind : MindState) (goals : List Goal) (sweep : ℕ) (next : Option ℕ) (process : ℕ) → viewed ≡ mind → mind.process < length mind.goals → goals ≡ viewed.goals → sweep ≡ mind.process → next ≡ next_process goals sweep → next ≡ Some process → IsLeft viewed.goals process
 shown_is_left viewed mind goals sweep next process is within are stands searched found =
-    let below = subst (λ (m : MindState). m.sweep < length m.goals) (sym is) within in
-    next_is_left viewed.goals viewed.sweep process (omega (arith, below)) (sym (found_there viewed mind goals sweep next is are stands searched) ∙ found)
+    let below = subst (λ (m : MindState). m.process < length m.goals) (sym is) within in
+    next_is_left viewed.goals viewed.process process (omega (arith, below)) (sym (found_there viewed mind goals sweep next is are stands searched) ∙ found)
 
 unfinished-append : (goals others : List Goal) → unfinished_in (goals ++ others) ≡ unfinished_in goals + unfinished_in others
 unfinished-append goals others = ap (λ (l : List Goal). length l) (filter-append is_unfinished goals others) ∙ length-append (filter is_unfinished goals) (filter is_unfinished others)

@@ -56,13 +56,13 @@ within_index : (spec : RoomSpec) (place : Place) → IsPlace (sizes_in spec) pla
 within_index spec place range = place_within (sizes_in spec) place range
 
 current_range : (spec : RoomSpec) (mind : MindState) → IsMind spec mind → is_unfinished (current_goal mind) ≡ true → (1 ≤ current_round mind) × (current_round mind ≤ spec.rounds)
-current_range spec mind is unfinished = round_range spec.rounds (current_goal mind) (is.rounds mind.sweep is.sweep) unfinished
+current_range spec mind is unfinished = round_range spec.rounds (current_goal mind) (is.rounds mind.process is.process) unfinished
 
 levels_within : (spec : RoomSpec) (mind : MindState) → IsMind spec mind → is_unfinished (current_goal mind) ≡ true → levels_index spec mind < words_of (sizes_in spec)
-levels_within spec mind is unfinished = within_index spec (places.Levels mind.sweep (current_round mind)) (is.sweep, current_range spec mind is unfinished)
+levels_within spec mind is unfinished = within_index spec (places.Levels mind.process (current_round mind)) (is.process, current_range spec mind is unfinished)
 
 view_within : (spec : RoomSpec) (simulator : ℕ) (mind : MindState) → IsMind spec mind → is_unfinished (current_goal mind) ≡ true → simulator < spec.simulators → mind.word < words_in spec → view_index spec simulator mind < words_of (sizes_in spec)
-view_within spec simulator mind is unfinished below word = within_index spec (places.View simulator mind.sweep (current_round mind) mind.word) (below, is.sweep, current_range spec mind is unfinished, word)
+view_within spec simulator mind is unfinished below word = within_index spec (places.View simulator mind.process (current_round mind) mind.word) (below, is.process, current_range spec mind is unfinished, word)
 
 value_within : (spec : RoomSpec) (mind : MindState) (process : ℕ) → IsMind spec mind → process < processes spec → 1 ≤ entry_in spec mind.snapshot process → value_index spec mind process < words_of (sizes_in spec)
 value_within spec mind process is below shown =
@@ -85,17 +85,17 @@ charged_within : (has_turns : Bool) (move : Move) (count : ℕ) → IsWithin mov
 charged_within true move count within = within
 charged_within false move count within = tt
 
-first_within : (spec : RoomSpec) (mind : MindState) (next : Option ℕ) → IsMind spec mind → next_process mind.goals mind.sweep ≡ next → IsWithin (first_move next spec mind) (words_of (sizes_in spec))
+first_within : (spec : RoomSpec) (mind : MindState) (next : Option ℕ) → IsMind spec mind → next_process mind.goals mind.process ≡ next → IsWithin (first_move next spec mind) (words_of (sizes_in spec))
 first_within spec mind None is found = tt
 first_within spec mind (Some process) is found =
-    let left = next_is_left mind.goals mind.sweep process (omega (arith, is.sweep, is.goals)) found in
+    let left = next_is_left mind.goals mind.process process (omega (arith, is.process, is.goals)) found in
     let below : process < processes spec = omega (arith, left.below, is.goals) in
     charged_within (ltb mind.turns spec.turns) (first_move_at (goal_at mind.goals process) spec mind.number process) (words_of (sizes_in spec))
     (first_within_at (goal_at mind.goals process) spec mind.number process (is.rounds process below) is.number below)
 
 within_at : (line : Line) (spec : RoomSpec) (mind : MindState) → IsMind spec mind → mind.word < words_at spec line → IsOpenAt line spec mind → IsWithin (move_at line spec mind) (words_of (sizes_in spec))
-within_at Rest spec mind is word at = first_within spec mind (next_process mind.goals mind.sweep) is refl
-within_at Raise spec mind is word at = within_index spec (places.Memory (word_of (sizes_in spec) mind.number mind.sweep)) (word_below (sizes_in spec) mind.number mind.sweep is.limits.shape is.number is.sweep)
+within_at Rest spec mind is word at = first_within spec mind (next_process mind.goals mind.process) is refl
+within_at Raise spec mind is word at = within_index spec (places.Memory (word_of (sizes_in spec) mind.number mind.process)) (word_below (sizes_in spec) mind.number mind.process is.limits.shape is.number is.process)
 within_at Snap spec mind is word at = within_index spec (places.Memory mind.word) word
 within_at Show spec mind is word at = view_within spec mind.number mind is at is.number word
 within_at Enter spec mind is word at = levels_within spec mind is at
@@ -104,7 +104,7 @@ within_at (Leave saw_two) spec mind is word at = leave_within saw_two (levels_in
 within_at Ask spec mind is word at = levels_within spec mind is at
 within_at (GetView chosen) spec mind is word at = view_within spec chosen mind is at.0 at.1 word
 within_at Values spec mind is word at = value_within spec mind (length mind.entries) is at.1 at.2
-within_at (Out decision) spec mind is word at = within_index spec (places.Out mind.number mind.sweep) (is.number, is.sweep)
+within_at (Out decision) spec mind is word at = within_index spec (places.Out mind.number mind.process) (is.number, is.process)
 
 -- the same where a move is known to be that of a line, on a list that has all words
 pub within_words : (line : Line) (spec : RoomSpec) (mind : MindState) (move : Move) (count : ℕ) → move ≡ move_at line spec mind → count ≡ words_of (sizes_in spec) → IsMind spec mind → mind.word < words_at spec line → IsOpenAt line spec mind → IsWithin move count

@@ -56,7 +56,7 @@ on_test false mind one other is that = that
 
 on_gathered_all : (spec : RoomSpec) (mind : MindState) → IsOn mind (gathered_all spec mind)
 on_gathered_all spec mind =
-    let action = next_action spec.protocol (slice_index spec.inputs mind.sweep) mind.sweep (current_round mind) mind.entries in
+    let action = next_action spec.protocol (slice_index spec.inputs mind.process) mind.process (current_round mind) mind.entries in
     on_test (ltb (length mind.entries) (processes spec)) mind (goes_on Values mind) (acted spec action mind) (on_line Values mind) (on_acted spec action mind)
 
 on_gathered : (row : ℕ → ℕ) (spec : RoomSpec) (entries : List (Option ℕ)) (mind : MindState) → IsOn mind (gathered row spec entries mind)
@@ -103,14 +103,14 @@ record IsBegun (mind : MindState) (after : TakenOf (List ℕ)) : Type 0 where
   turns : after.mind.turns ≡ mind.turns + 1
   stays : is_resting after.mind.line ≡ false → after.mind.turn_steps ≡ mind.turn_steps + 1
 
-begins : (spec : RoomSpec) (next : Option ℕ) (mind : MindState) (answer quiet : ℕ) → next_process mind.goals mind.sweep ≡ next → quiet < unfinished_in mind.goals → IsBegun mind (opened next (chosen_in spec answer) (counted mind))
-begins spec None mind answer quiet found busy = absurd (omega (arith, none_next mind.goals mind.sweep found, busy))
+begins : (spec : RoomSpec) (next : Option ℕ) (mind : MindState) (answer quiet : ℕ) → next_process mind.goals mind.process ≡ next → quiet < unfinished_in mind.goals → IsBegun mind (opened next (chosen_in spec answer) (counted mind))
+begins spec None mind answer quiet found busy = absurd (omega (arith, none_next mind.goals mind.process found, busy))
 begins spec (Some process) mind answer quiet found busy =
     let is = on_opened_at (goal_at mind.goals process) (chosen_in spec answer) (begun process (counted mind)) in
     record { turns = is.turns; stays = is.stays }
 
 at_rest : (line : Line) (spec : RoomSpec) (mind : MindState) (answer quiet : ℕ) → is_resting line ≡ true → quiet < unfinished_in mind.goals → IsBegun mind (taken_at line spec (counted mind) answer)
-at_rest Rest spec mind answer quiet rests busy = begins spec (next_process mind.goals mind.sweep) mind answer quiet refl busy
+at_rest Rest spec mind answer quiet rests busy = begins spec (next_process mind.goals mind.process) mind answer quiet refl busy
 at_rest Raise spec mind answer quiet rests busy = absurd cc
 at_rest Snap spec mind answer quiet rests busy = absurd cc
 at_rest Show spec mind answer quiet rests busy = absurd cc

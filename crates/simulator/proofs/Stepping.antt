@@ -113,7 +113,7 @@ moved_opened None chosen mind = moved_on Rest mind
 moved_opened (Some process) chosen mind = let is = moved_opened_at (goal_at mind.goals process) chosen _ in record { number = is.number; steps = is.steps; rests = is.rests; stays = is.stays }
 
 moved_taken : (line : Line) (spec : RoomSpec) (mind : MindState) (answer : ℕ) → IsMoved mind (taken_at line spec mind answer)
-moved_taken Rest spec mind answer = moved_opened (next_process mind.goals mind.sweep) (chosen_in spec answer) mind
+moved_taken Rest spec mind answer = moved_opened (next_process mind.goals mind.process) (chosen_in spec answer) mind
 moved_taken Raise spec mind answer = moved_on Snap mind
 moved_taken Snap spec mind answer =
     let is = moved_word spec Snap (loaded answer mind) _ (let scan = moved_scanned spec (is_again (loaded answer mind)) (record (loaded answer mind) { word = 0 }) in record { number = scan.number; steps = scan.steps; rests = scan.rests; stays = scan.stays }) in
@@ -193,11 +193,11 @@ rest_line (GetView chosen) is = absurd cc
 rest_line Values is = absurd cc
 rest_line (Out decision) is = absurd cc
 
-pub resting_move : (spec : RoomSpec) (mind : MindState) → is_resting mind.line ≡ true → move_of spec mind ≡ first_move (next_process mind.goals mind.sweep) spec mind
+pub resting_move : (spec : RoomSpec) (mind : MindState) → is_resting mind.line ≡ true → move_of spec mind ≡ first_move (next_process mind.goals mind.process) spec mind
 resting_move spec mind is = ap (λ (line : Line). move_at line spec mind) (rest_line mind.line is)
 
-sweep_within : (spec : RoomSpec) (mind : MindState) → IsMind spec mind → mind.sweep ≤ length mind.goals
-sweep_within spec mind is = omega (arith, is.sweep, is.goals)
+sweep_within : (spec : RoomSpec) (mind : MindState) → IsMind spec mind → mind.process ≤ length mind.goals
+sweep_within spec mind is = omega (arith, is.process, is.goals)
 
 first_operation : (goal : Goal) (spec : RoomSpec) (simulator process : ℕ) → is_unfinished goal ≡ true → IsOperation (first_move_at goal spec simulator process)
 first_operation (goals.Write round value) spec simulator process is = tt
@@ -206,14 +206,14 @@ first_operation goals.Done spec simulator process is = absurd cc
 first_operation goals.Spent spec simulator process is = absurd cc
 
 -- where a process is unfinished, the first move is that of its goal, or out of turns
-pub first_move_is : (spec : RoomSpec) (mind : MindState) → IsMind spec mind → 0 < unfinished_in mind.goals → (process : ℕ) × IsLeft mind.goals process × (first_move (next_process mind.goals mind.sweep) spec mind ≡ cond (ltb mind.turns spec.turns) (first_move_at (goal_at mind.goals process) spec mind.number process) OutOfTurns)
+pub first_move_is : (spec : RoomSpec) (mind : MindState) → IsMind spec mind → 0 < unfinished_in mind.goals → (process : ℕ) × IsLeft mind.goals process × (first_move (next_process mind.goals mind.process) spec mind ≡ cond (ltb mind.turns spec.turns) (first_move_at (goal_at mind.goals process) spec mind.number process) OutOfTurns)
 first_move_is spec mind is some =
-    let next = next_some mind.goals mind.sweep some in
-    (next.0, next_is_left mind.goals mind.sweep next.0 (sweep_within spec mind is) next.1, ap (λ (n : Option ℕ). first_move n spec mind) next.1)
+    let next = next_some mind.goals mind.process some in
+    (next.0, next_is_left mind.goals mind.process next.0 (sweep_within spec mind is) next.1, ap (λ (n : Option ℕ). first_move n spec mind) next.1)
 
 -- no process is unfinished
 pub finishes : (spec : RoomSpec) (mind : MindState) → IsMind spec mind → is_resting mind.line ≡ true → unfinished_in mind.goals ≡ 0 → move_of spec mind ≡ Finished
-finishes spec mind is rest none = resting_move spec mind rest ∙ ap (λ (n : Option ℕ). first_move n spec mind) (next_none mind.goals mind.sweep (sweep_within spec mind is) none)
+finishes spec mind is rest none = resting_move spec mind rest ∙ ap (λ (n : Option ℕ). first_move n spec mind) (next_none mind.goals mind.process (sweep_within spec mind is) none)
 
 -- one is, and no turn is left
 pub runs_out : (spec : RoomSpec) (mind : MindState) → IsMind spec mind → is_resting mind.line ≡ true → 0 < unfinished_in mind.goals → spec.turns ≤ mind.turns → move_of spec mind ≡ OutOfTurns

@@ -59,12 +59,12 @@ loaded = (refl, refl)
 
 -- the mind of simulator 2, which asks for process 2, and the same between two turns
 abbrev asking : MindState
-asking = record { number = 2; goals = goals; sweep = 2; turns = 3; steps = 20; turn_steps = 6; line = lines.Ask; word = 0; collects = 0; before = no_words; snapshot = no_words; entries = [] }
+asking = record { number = 2; goals = goals; process = 2; turns = 3; steps = 20; turn_steps = 6; line = lines.Ask; word = 0; collects = 0; before = no_words; snapshot = no_words; entries = [] }
 
 abbrev resting : MindState
 resting = record asking { line = lines.Rest }
 
-quiet_turn : ((asked None asking).turn ≡ Quiet) × ((asked None asking).mind.sweep ≡ 3) × ((asked None asking).mind.turn_steps ≡ 0) × ((asked None asking).mind.goals ≡ goals)
+quiet_turn : ((asked None asking).turn ≡ Quiet) × ((asked None asking).mind.process ≡ 3) × ((asked None asking).mind.turn_steps ≡ 0) × ((asked None asking).mind.goals ≡ goals)
 quiet_turn = (refl, refl, refl, refl)
 
 useful_turn : ((ended Useful Done asking).mind.goals ≡ Write 1 7 ∷ Done ∷ Done ∷ Spent ∷ []) × (next_process (ended Useful Done asking).mind.goals 3 ≡ Some 0)
@@ -87,10 +87,10 @@ in_order_of_four = (refl, refl, refl)
 
 -- it has asked for process 2, at which it stands or which it has gone past; and for process 0 not yet
 
-one_quiet : IsQuietCount (record resting { sweep = 3 }) 1
+one_quiet : IsQuietCount (record resting { process = 3 }) 1
 one_quiet = (tt, tt)
 
-not_two : IsQuietCount (record resting { sweep = 3 }) 2 → ⊥
+not_two : IsQuietCount (record resting { process = 3 }) 2 → ⊥
 not_two counts = counts.1.0
 
 none_yet : IsQuietCount resting 1 → ⊥

@@ -11,7 +11,7 @@ use Rattle.simulator.specs.declared.line.Line.{Line}
 use Rattle.simulator.specs.declared.line.Line.TheVariants.{Rest}
 use Rattle.room_spec.specs.declared.spec.TheConstants.{MAX_MEMORY_WORDS}
 
--- number: which simulator it is. goals: what is left to do for each process. sweep: the process at which its sweep stands,
+-- number: which simulator it is. goals: what is left to do for each process. process: the one at which its sweep stands,
 -- on which its open turn works. turns: how many turns it has begun. steps, turn_steps: how many atomic steps it has taken
 -- in all, and in its open turn. line: its next step in that turn. word: on which of the memory's words that step works; 0
 -- where it works on none. collects: how many whole collects the scan of its open turn has made, where the memory has more
@@ -20,7 +20,7 @@ use Rattle.room_spec.specs.declared.spec.TheConstants.{MAX_MEMORY_WORDS}
 pub record MindOf (S : Type 0) : Type 0 where
   pub number : ℕ
   pub goals : List Goal
-  pub sweep : ℕ
+  pub process : ℕ
   pub turns : ℕ
   pub steps : ℕ
   pub turn_steps : ℕ
@@ -65,7 +65,7 @@ next_process goals sweep =
 
 -- the process and the round that a mind works on in its open turn
 abbrev pub current_goal : {S : Type 0} → MindOf S → Goal
-current_goal mind = goal_at mind.goals mind.sweep
+current_goal mind = goal_at mind.goals mind.process
 
 abbrev pub current_round : {S : Type 0} → MindOf S → ℕ
 current_round mind = round_of (current_goal mind)
@@ -82,7 +82,7 @@ abbrev pub opening_mind_of : {S : Type 0} → S → RoomSpec → ℕ → MindOf 
 opening_mind_of blank spec i = record {
   number = i;
   goals = first_goals spec;
-  sweep = i % processes spec;
+  process = i % processes spec;
   turns = 0;
   steps = 0;
   turn_steps = 0;

@@ -25,24 +25,24 @@ index_in spec place = index_of (sizes_in spec) place
 
 -- the indexes of the words that a mind works on in its open turn
 abbrev pub levels_index : RoomSpec → MindState → ℕ
-levels_index spec mind = index_in spec (places.Levels mind.sweep (current_round mind))
+levels_index spec mind = index_in spec (places.Levels mind.process (current_round mind))
 
 abbrev pub view_index : RoomSpec → ℕ → MindState → ℕ
-view_index spec simulator mind = index_in spec (places.View simulator mind.sweep (current_round mind) mind.word)
+view_index spec simulator mind = index_in spec (places.View simulator mind.process (current_round mind) mind.word)
 
 abbrev pub memory_index : RoomSpec → ℕ → ℕ
 memory_index spec w = index_in spec (places.Memory w)
 
 -- the word of its own step number of the process
 abbrev pub step_index : RoomSpec → MindState → ℕ
-step_index spec mind = memory_index spec (word_of (sizes_in spec) mind.number mind.sweep)
+step_index spec mind = memory_index spec (word_of (sizes_in spec) mind.number mind.process)
 
 -- one at the lowest bit of its own level, and of that step number
 abbrev pub level_unit : MindState → ℕ
 level_unit mind = 2 ^ (2 * mind.number)
 
 abbrev pub step_unit : RoomSpec → MindState → ℕ
-step_unit spec mind = 2 ^ place_of (sizes_in spec) mind.number mind.sweep
+step_unit spec mind = 2 ^ place_of (sizes_in spec) mind.number mind.process
 
 -- ---- what memory words show
 
@@ -77,7 +77,7 @@ first_move (Some process) spec mind =
     if nat_lt mind.turns spec.turns then first_move_at (goal_at mind.goals process) spec mind.number process else OutOfTurns
 
 abbrev pub move_at : Line → RoomSpec → MindState → Move
-move_at Rest spec mind = first_move (next_process mind.goals mind.sweep) spec mind
+move_at Rest spec mind = first_move (next_process mind.goals mind.process) spec mind
 move_at Raise spec mind = Add (step_index spec mind) (step_unit spec mind)
 move_at Snap spec mind = Load (memory_index spec mind.word)
 move_at Show spec mind = Store (view_index spec mind.number mind) (slice_index mind.snapshot mind.word)
@@ -87,7 +87,7 @@ move_at (Leave saw_two) spec mind = leave_by saw_two (levels_index spec mind) (l
 move_at Ask spec mind = Load (levels_index spec mind)
 move_at (GetView chosen) spec mind = Load (view_index spec chosen mind)
 move_at Values spec mind = Load (value_index spec mind (length mind.entries))
-move_at (Out decision) spec mind = Store (index_in spec (places.Out mind.number mind.sweep)) (decision + 1)
+move_at (Out decision) spec mind = Store (index_in spec (places.Out mind.number mind.process)) (decision + 1)
 
 abbrev pub move_of : RoomSpec → MindState → Move
 move_of spec mind = move_at mind.line spec mind
@@ -130,7 +130,7 @@ abbrev pub is_again : MindState → Bool
 is_again mind = same_words mind.snapshot mind.before
 
 abbrev pub taken_at : Line → RoomSpec → MindState → ℕ → TakenOf (List ℕ)
-taken_at Rest spec mind answer = opened (next_process mind.goals mind.sweep) (chosen_in spec answer) mind
+taken_at Rest spec mind answer = opened (next_process mind.goals mind.process) (chosen_in spec answer) mind
 taken_at Raise spec mind answer = goes_on Snap mind
 taken_at Snap spec mind answer = snapped spec (is_again (loaded answer mind)) (loaded answer mind)
 taken_at Show spec mind answer = showed spec mind

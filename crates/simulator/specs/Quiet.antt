@@ -24,4 +24,4 @@ AreAsksAtTheEnd goals count = AllByRecursion IsAsk (take count (reverse goals))
 
 -- Going back from the sweep's place, the first `quiet` unfinished goals are asks: it has asked for each of them in vain.
 abbrev pub IsQuietCount : {S : Type 0} → MindOf S → ℕ → Type 0
-IsQuietCount mind quiet = AreAsksAtTheEnd (unfinished_from mind.goals mind.sweep) quiet
+IsQuietCount mind quiet = AreAsksAtTheEnd (unfinished_from mind.goals mind.process) quiet

@@ -85,7 +85,7 @@ pub record IsMind (spec : RoomSpec) (mind : MindState) : Type 0 where
   pub number : mind.number < spec.simulators
   pub goals : length mind.goals ≡ processes spec
   pub rounds : (process : ℕ) → process < processes spec → IsGoal spec.rounds (goal_at mind.goals process)
-  pub sweep : mind.sweep < processes spec
+  pub process : mind.process < processes spec
   pub turns : mind.turns ≤ spec.turns
   pub entries : length mind.entries ≤ processes spec
   pub snapshot : length mind.snapshot ≡ MAX_MEMORY_WORDS
@@ -96,7 +96,7 @@ pub record IsMind (spec : RoomSpec) (mind : MindState) : Type 0 where
   pub counted : charged_steps mind.line mind.steps ≤ greatest_limit * mind.turns + mind.turn_steps
   pub at : IsOpenAt mind.line spec mind
   -- the processes that its sweep hasn't come to yet are the next ones
-  pub order : AreVisitedLast (unfinished_from mind.goals mind.sweep)
+  pub order : AreVisitedLast (unfinished_from mind.goals mind.process)
 
 -- at some line of its own it is one of the room's; which line doesn't matter
 abbrev pub IsMindSomewhere : RoomSpec → MindState → Type 0

@@ -26,7 +26,7 @@ counted mind = record mind { steps = mind.steps + 1; turn_steps = mind.turn_step
 
 -- a turn begins, on this process
 abbrev pub begun : {S : Type 0} → ℕ → MindOf S → MindOf S
-begun process mind = record mind { sweep = process; turns = mind.turns + 1 }
+begun process mind = record mind { process = process; turns = mind.turns + 1 }
 
 -- the turn goes on, at this line
 abbrev pub goes_on : {S : Type 0} → Line → MindOf S → TakenOf S
@@ -35,7 +35,7 @@ goes_on line mind = record { mind = record mind { line = line }; turn = Still }
 -- The turn ends, with this goal for its process from now on; the sweep goes on by one process.
 abbrev pub ended : {S : Type 0} → Turn → Goal → MindOf S → TakenOf S
 ended turn goal mind = record {
-  mind = record mind { goals = slice_set mind.goals mind.sweep goal; sweep = (mind.sweep + 1) % length mind.goals; turn_steps = 0; line = Rest; collects = 0 };
+  mind = record mind { goals = slice_set mind.goals mind.process goal; process = (mind.process + 1) % length mind.goals; turn_steps = 0; line = Rest; collects = 0 };
   turn = turn;
 }
 
@@ -94,7 +94,7 @@ padded row n entries = entries ++ map (λ q. None) (silent_from row n (length en
 abbrev pub gathered_all : {S : Type 0} → RoomSpec → MindOf S → TakenOf S
 gathered_all spec mind =
     if nat_lt (length mind.entries) (processes spec) then goes_on Values mind
-    else acted spec (next_action spec.protocol (slice_index spec.inputs mind.sweep) mind.sweep (current_round mind) mind.entries) mind
+    else acted spec (next_action spec.protocol (slice_index spec.inputs mind.process) mind.process (current_round mind) mind.entries) mind
 
 abbrev pub gathered : {S : Type 0} → (ℕ → ℕ) → RoomSpec → List (Option ℕ) → MindOf S → TakenOf S
 gathered row spec entries mind =

@@ -23,7 +23,7 @@ use std::marker::Model;
 pub struct Mind {
     pub(crate) number: u8,
     pub(crate) goals: ArrayVec<Goal, MAX_PROCESSES>,
-    pub(crate) sweep: u8,
+    pub(crate) process: u8,
     pub(crate) turns: u16,
     pub(crate) steps: u32,
     pub(crate) turn_steps: u16,
@@ -43,7 +43,7 @@ impl Model for Mind {
     ghost view = { λ m. record {
       number = m.number;
       goals = m.goals.items;
-      sweep = m.sweep;
+      process = m.process;
       turns = m.turns;
       steps = m.steps;
       turn_steps = m.turn_steps;
@@ -68,7 +68,7 @@ impl Mind {
         Mind {
             number: i as u8,
             goals: first_goals(spec),
-            sweep: (i % shape.n) as u8,
+            process: (i % shape.n) as u8,
             turns: 0,
             steps: 0,
             turn_steps: 0,
@@ -137,9 +137,9 @@ impl Mind {
 
     /// The process at which its sweep stands.
     pub(crate) fn process(&self) -> usize
-        ensures { result ≡ self.now.sweep }
+        ensures { result ≡ self.now.process }
     {
-        usize::from(self.sweep)
+        usize::from(self.process)
     }
 
     /// The memory word on which its line works.

@@ -44,7 +44,7 @@ impl Mind {
     /// The first step of the next turn.
     fn first_move(&self, spec: &Spec) -> Move
         requires { IsMindSomewhere spec.now self.now }
-        ensures { result ≡ first_move (next_process self.now.goals self.now.sweep) spec.now self.now }
+        ensures { result ≡ first_move (next_process self.now.goals self.now.process) spec.now self.now }
     {
         let Some(process) = next_process(self.goals.as_slice(), self.process()) else {
             return Move::Finished;
@@ -139,7 +139,7 @@ impl Mind {
 
     fn out_move(&self, spec: &Spec, decision: u32) -> Move
         requires { IsMindSomewhere spec.now self.now }
-        ensures { result ≡ moves.Store (index_in spec.now (places.Out self.now.number self.now.sweep)) (decision + 1) }
+        ensures { result ≡ moves.Store (index_in spec.now (places.Out self.now.number self.now.process)) (decision + 1) }
     {
         let out = Place::Out {
             simulator: self.number(),
@@ -180,7 +180,7 @@ impl Mind {
 
     /// The round of the process that its turn works on.
     pub(crate) fn round(&self) -> u8
-        requires { self.now.sweep < length self.now.goals }
+        requires { self.now.process < length self.now.goals }
         ensures { result ≡ current_round self.now }
     {
         self.goals[self.process()].round()

@@ -29,15 +29,15 @@ impl Mind {
 
     /// Begins the next turn, with its first step.
     pub(crate) fn open(&mut self, spec: &Spec, answer: u64) -> Turn
-        requires sweep { self.old.sweep < length self.old.goals }
+        requires process { self.old.process < length self.old.goals }
         requires turns { self.old.turns < u16.MAX }
-        ensures mind { self.new ≡ (opened (next_process self.old.goals self.old.sweep) (chosen_in spec.now answer) self.old).mind }
-        ensures turn { result ≡ (opened (next_process self.old.goals self.old.sweep) (chosen_in spec.now answer) self.old).turn }
+        ensures mind { self.new ≡ (opened (next_process self.old.goals self.old.process) (chosen_in spec.now answer) self.old).mind }
+        ensures turn { result ≡ (opened (next_process self.old.goals self.old.process) (chosen_in spec.now answer) self.old).turn }
     {
         let Some(process) = next_process(self.goals.as_slice(), self.process()) else {
             return self.go_on(Line::Rest);
         };
-        self.sweep = process as u8;
+        self.process = process as u8;
         self.turns += 1;
         match self.goals[process] {
             Goal::Write { .. } => self.go_on(Line::Raise),
@@ -56,14 +56,14 @@ impl Mind {
 
     /// Ends the turn, with this goal for its process.
     pub(crate) fn end(&mut self, turn: Turn, goal: Goal) -> Turn
-        requires { self.old.sweep < length self.old.goals }
+        requires { self.old.process < length self.old.goals }
         ensures mind { self.new ≡ (ended turn goal self.old).mind }
         ensures turn { result ≡ turn }
     {
         let process = self.process();
         self.goals[process] = goal;
-        self.sweep = if process + 1 < self.goals.len() {
-            self.sweep + 1
+        self.process = if process + 1 < self.goals.len() {
+            self.process + 1
         } else {
             0
         };
@@ -158,7 +158,7 @@ impl Mind {
     }
 
     pub(crate) fn ask(&mut self, chosen: Option<u16>) -> Turn
-        requires { self.old.sweep < length self.old.goals }
+        requires { self.old.process < length self.old.goals }
         ensures mind { self.new ≡ (asked chosen self.old).mind }
         ensures turn { result ≡ (asked chosen self.old).turn }
     {
@@ -174,7 +174,7 @@ impl Mind {
     /// Takes in a word of the chosen proposal.
     pub(crate) fn get_view(&mut self, spec: &Spec, chosen: u16, word: u64) -> Turn
         requires word { self.old.word < MAX_MEMORY_WORDS }
-        requires sweep { self.old.sweep < length self.old.goals }
+        requires process { self.old.process < length self.old.goals }
         requires goals { length self.old.goals ≡ processes spec.now }
         ensures mind { self.new ≡ (got_view (entry_in spec.now (loaded word self.old).snapshot) spec.now chosen (loaded word self.old)).mind }
         ensures turn { result ≡ (got_view (entry_in spec.now (loaded word self.old).snapshot) spec.now chosen (loaded word self.old)).turn }
@@ -192,7 +192,7 @@ impl Mind {
     }
 
     pub(crate) fn get_value(&mut self, spec: &Spec, value: u64) -> Turn
-        requires sweep { self.old.sweep < length self.old.goals }
+        requires process { self.old.process < length self.old.goals }
         requires goals { length self.old.goals ≡ processes spec.now }
         requires entries { length self.old.entries < processes spec.now }
         requires few { processes spec.now ≤ MAX_PROCESSES }
@@ -206,7 +206,7 @@ impl Mind {
 
     /// Goes on to the next value that the snapshot shows, or after the last to what the process does.
     fn gather(&mut self, spec: &Spec) -> Turn
-        requires sweep { self.old.sweep < length self.old.goals }
+        requires process { self.old.process < length self.old.goals }
         requires goals { length self.old.goals ≡ processes spec.now }
         requires entries { length self.old.entries ≤ processes spec.now }
         ensures mind { self.new ≡ (gathered (entry_in spec.now self.old.snapshot) spec.now self.old.entries self.old).mind }
@@ -222,7 +222,7 @@ impl Mind {
     /// The same, where the snapshot may show nothing of the next processes.
     #[inline(never)]
     fn gather_padded(&mut self, spec: &Spec) -> Turn
-        requires sweep { self.old.sweep < length self.old.goals }
+        requires process { self.old.process < length self.old.goals }
         requires goals { length self.old.goals ≡ processes spec.now }
         requires entries { length self.old.entries ≤ processes spec.now }
         ensures mind { self.new ≡ (gathered (entry_in spec.now self.old.snapshot) spec.now self.old.entries self.old).mind }
@@ -238,7 +238,7 @@ impl Mind {
     /// Goes on to what the process does after its snapshot, which is whole.
     #[inline(never)]
     fn conclude(&mut self, spec: &Spec) -> Turn
-        requires sweep { self.old.sweep < length self.old.goals }
+        requires process { self.old.process < length self.old.goals }
         requires goals { length self.old.goals ≡ processes spec.now }
         requires whole { processes spec.now ≤ length self.old.entries }
         requires few { processes spec.now ≤ MAX_PROCESSES }
@@ -248,7 +248,7 @@ impl Mind {
         let action = next(
             spec.protocol(),
             spec.input(self.process()),
-            u32::from(self.sweep),
+            u32::from(self.process),
             u32::from(self.round()),
             &self.entries,
         );
@@ -257,7 +257,7 @@ impl Mind {
 
     /// What follows from what the process does after its snapshot.
     fn act(&mut self, spec: &Spec, action: Action) -> Turn
-        requires { self.old.sweep < length self.old.goals }
+        requires { self.old.process < length self.old.goals }
         ensures mind { self.new ≡ (acted spec.now action self.old).mind }
         ensures turn { result ≡ (acted spec.now action self.old).turn }
     {

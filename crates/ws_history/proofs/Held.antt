@@ -143,7 +143,7 @@ held_among spec fields j i below is =
 module _ (room : RoomState) (fields : Fields) (limits : IsWithinLimits room.spec) (are : AreFieldsOf room fields) where
   -- the process on which the open turn of a simulator works
   abbrev sweep_of : ℕ → ℕ
-  sweep_of i = (fields.mind i).sweep
+  sweep_of i = (fields.mind i).process
 
   -- whoever has crashed inside an agreement of a process works on it
   held_at : (j i : ℕ) → held_by room.spec fields j ≡ Some i → list_any (eqb j) (map sweep_of (crashed_in room.spec fields)) ≡ true

@@ -44,14 +44,14 @@ module _ (spec : RoomSpec) (fields : Fields) (own : Own) (p : ℕ) where
   own_outs after (enters turn count none) was = was
   own_outs after (looks turn count one) was = was
   own_outs after (leaves saw_two turn count one) was = was
-  own_outs after (asks_in_vain asking asks is) was = ended_outs asking.goals asking.sweep _ asks.goals asks.left was
+  own_outs after (asks_in_vain asking asks is) was = ended_outs asking.goals asking.process _ asks.goals asks.left was
   own_outs after (finds asking chosen asks is) was = λ out. ap (λ (l : List Goal). goal_at l p) asks.goals ∙ was out
   own_outs after (gathers reading reads more) was = λ out. ap (λ (l : List Goal). goal_at l p) reads.goals ∙ was out
   own_outs after (goes_to reading value reads all is) was =
-      let left : is_unfinished (goal_at reading.goals reading.sweep) ≡ true = ap (λ (l : List Goal). is_unfinished (goal_at l reading.sweep)) reads.goals ∙ ap (λ (q : ℕ). is_unfinished (goal_at own.mind.goals q)) reads.sweep ∙ reads.left in
-      ended_outs reading.goals reading.sweep _ reads.goals left was
+      let left : is_unfinished (goal_at reading.goals reading.process) ≡ true = ap (λ (l : List Goal). is_unfinished (goal_at l reading.process)) reads.goals ∙ ap (λ (q : ℕ). is_unfinished (goal_at own.mind.goals q)) reads.process ∙ reads.left in
+      ended_outs reading.goals reading.process _ reads.goals left was
   own_outs after (will_decide reading decision reads all is) was = λ out. ap (λ (l : List Goal). goal_at l p) reads.goals ∙ was out
-  own_outs after (decides decision turn count) was = decided_outs own.mind.sweep (decision + 1) (let l = turn.long in let b = turn.process in omega arith) was
+  own_outs after (decides decision turn count) was = decided_outs own.mind.process (decision + 1) (let l = turn.long in let b = turn.process in omega arith) was
 
   -- what is stored stays
   pub own_kept : (after : Own) → Effect spec fields own after → HasDecided own p → own.out p ≢ 0 → after.out p ≡ own.out p
@@ -71,6 +71,6 @@ module _ (spec : RoomSpec) (fields : Fields) (own : Own) (p : ℕ) where
   own_kept after (gathers reading reads more) was out = refl
   own_kept after (goes_to reading value reads all is) was out = refl
   own_kept after (will_decide reading decision reads all is) was out = refl
-  own_kept after (decides decision turn count) was out = dite (ℕ_discrete p own.mind.sweep)
-      (λ (e : p ≡ own.mind.sweep). absurd (not_done (current_goal own.mind) turn.left (ap (λ (q : ℕ). goal_at own.mind.goals q) (sym e) ∙ was out)))
-      (λ (n : p ≢ own.mind.sweep). changed_else own.out own.mind.sweep (decision + 1) p n)
+  own_kept after (decides decision turn count) was out = dite (ℕ_discrete p own.mind.process)
+      (λ (e : p ≡ own.mind.process). absurd (not_done (current_goal own.mind) turn.left (ap (λ (q : ℕ). goal_at own.mind.goals q) (sym e) ∙ was out)))
+      (λ (n : p ≢ own.mind.process). changed_else own.out own.mind.process (decision + 1) p n)

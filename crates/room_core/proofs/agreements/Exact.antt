@@ -99,12 +99,12 @@ module _ (spec : RoomSpec) (limits : IsWithinLimits spec) (done : List ScheduleE
   ]
 
   -- and so is the proposal, in range
-  as_view : (p r : ℕ) → after.view i p r ≡ with_shown spec (fields.view i p r) (fields.mind i) → IsLastWord spec (own_of fields i) → p ≡ (fields.mind i).sweep → r ≡ current_round (fields.mind i) → (fields.mind i).line ≡ Show → p < processes spec
+  as_view : (p r : ℕ) → after.view i p r ≡ with_shown spec (fields.view i p r) (fields.mind i) → IsLastWord spec (own_of fields i) → p ≡ (fields.mind i).process → r ≡ current_round (fields.mind i) → (fields.mind i).line ≡ Show → p < processes spec
       → ShowsAtMost spec (fields.mind i).snapshot p r ⊎ (IsFixed spec.simulators (phases_in after p r) × (after.level i p r ≢ 2)) → ShowsAtMost spec (after.view i p r) p r ⊎ (IsFixed spec.simulators (phases_in after p r) × (after.level i p r ≢ 2))
   as_view p r is last e e' stands below (inl most) = inl (λ a less. let same = view_same spec limits done event fields after i tracks leads' effect history p r is last e e' stands a p less below in let b = most a less in omega (arith, same, b))
   as_view p r is last e e' stands below (inr late) = inr late
 
-  by_shown : (p r : ℕ) → 1 ≤ r → (HasShown (progress_own (own_of fields i) p r) × (after.view i p r ≡ fields.view i p r)) ⊎ ((progress_own (own_of fields i) p r ≡ Scanned) × (after.view i p r ≡ with_shown spec (fields.view i p r) (fields.mind i)) × IsLastWord spec (own_of fields i) × (p ≡ (fields.mind i).sweep) × (r ≡ current_round (fields.mind i)) × ((fields.mind i).line ≡ Show) × (p < processes spec))
+  by_shown : (p r : ℕ) → 1 ≤ r → (HasShown (progress_own (own_of fields i) p r) × (after.view i p r ≡ fields.view i p r)) ⊎ ((progress_own (own_of fields i) p r ≡ Scanned) × (after.view i p r ≡ with_shown spec (fields.view i p r) (fields.mind i)) × IsLastWord spec (own_of fields i) × (p ≡ (fields.mind i).process) × (r ≡ current_round (fields.mind i)) × ((fields.mind i).line ≡ Show) × (p < processes spec))
       → ShowsAtMost spec (after.view i p r) p r ⊎ (IsFixed spec.simulators (phases_in after p r) × (after.level i p r ≢ 2))
   by_shown p r first (inl kept) =
       subst (λ (view : StepMap). ShowsAtMost spec view p r ⊎ (IsFixed spec.simulators (phases_in after p r) × (after.level i p r ≢ 2))) (sym kept.1) (pass_on i p r (fields.view i p r) effect.below (exact.shown i p r effect.below first kept.0))
@@ -206,9 +206,9 @@ module _ (room : RoomState) (fields : Fields) (limits : IsWithinLimits room.spec
   of_base : (P : Fields → Type 0) → P (with_quiet (replay_fields room.spec (opening_fields room.spec) are.run.schedule) fields.quiet) → P fields
   of_base P is = subst P (sym (leads_of room fields are)) is
 
-  pub room_scans : (i : ℕ) → i < room.spec.simulators → (fields.mind i).line ≡ Show → IsScan room.spec are.run.schedule (length are.run.schedule) i (fields.mind i).sweep (current_round (fields.mind i)) (fields.mind i).snapshot (fields.mind i).collects
+  pub room_scans : (i : ℕ) → i < room.spec.simulators → (fields.mind i).line ≡ Show → IsScan room.spec are.run.schedule (length are.run.schedule) i (fields.mind i).process (current_round (fields.mind i)) (fields.mind i).snapshot (fields.mind i).collects
   room_scans =
-      of_base (λ (f : Fields). (i : ℕ) → i < room.spec.simulators → (f.mind i).line ≡ Show → IsScan room.spec are.run.schedule (length are.run.schedule) i (f.mind i).sweep (current_round (f.mind i)) (f.mind i).snapshot (f.mind i).collects)
+      of_base (λ (f : Fields). (i : ℕ) → i < room.spec.simulators → (f.mind i).line ≡ Show → IsScan room.spec are.run.schedule (length are.run.schedule) i (f.mind i).process (current_round (f.mind i)) (f.mind i).snapshot (f.mind i).collects)
       (let history = history_run (configuration_of room) limits are.run in history.scans)
 
   pub room_entry : (i j k : ℕ) → i < room.spec.simulators → 1 ≤ k → fields.level i j k ≡ 2 → entry_of_steps room.spec (fields.view i j k) j ≡ k

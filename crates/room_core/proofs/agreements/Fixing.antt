@@ -57,10 +57,10 @@ seen_by step k here line level saw is = by_order (cases_order step k)
     by_order (inr (inr less)) = absurd (no_left (ap (λ (p : Progress). phase_of p level) (sym (earlier step k here (line_progress line) less)) ∙ is))
 
 -- the round of a turn that stands at Leave is counted
-left_round : (rounds : ℕ) (mind : MindOf StepMap) (step : ℕ → ℕ) (level : ℕ → ℕ → ℕ) (saw : Bool) → ToldBy rounds mind step level → mind.line ≡ Leave saw → step mind.sweep ≡ current_round mind
+left_round : (rounds : ℕ) (mind : MindOf StepMap) (step : ℕ → ℕ) (level : ℕ → ℕ → ℕ) (saw : Bool) → ToldBy rounds mind step level → mind.line ≡ Leave saw → step mind.process ≡ current_round mind
 left_round rounds mind step level saw told is =
-    inside_round rounds (current_goal mind) (step mind.sweep)
-    (subst (λ (line : Line). Tells rounds (current_goal mind) (stage_of line) (step mind.sweep) (level mind.sweep)) is (at_sweep rounds mind step level told)).counts
+    inside_round rounds (current_goal mind) (step mind.process)
+    (subst (λ (line : Line). Tells rounds (current_goal mind) (stage_of line) (step mind.process) (level mind.process)) is (at_sweep rounds mind step level told)).counts
 
 -- ---- fixed, by phases and by fields
 
@@ -69,7 +69,7 @@ module _ (spec : RoomSpec) (fields : Fields) (tracks : KeepsTrack spec fields) (
   blind_phase i blind =
       let mind = fields.mind i in
       let count : fields.step i j ≡ k = ap (fields.step i) (sym blind.process) ∙ left_round spec.rounds mind (fields.step i) (fields.level i) false (tracks.told i) blind.line ∙ blind.round in
-      ap (λ (b : Bool). phase_by (fields.step i j) k b (line_progress mind.line) (fields.level i j k)) (eq-eqb j mind.sweep (sym blind.process))
+      ap (λ (b : Bool). phase_by (fields.step i j) k b (line_progress mind.line) (fields.level i j k)) (eq-eqb j mind.process (sym blind.process))
       ∙ ap (λ (p : Progress). phase_of p (fields.level i j k)) (now (fields.step i j) k true (line_progress mind.line) count)
       ∙ ap (λ (line : Line). phase_of (line_progress line) (fields.level i j k)) blind.line
 
@@ -84,8 +84,8 @@ module _ (spec : RoomSpec) (fields : Fields) (tracks : KeepsTrack spec fields) (
   blind_from : (i : ℕ) → phases_in fields j k i ≡ Looked false → HasLookedBlind fields i j k
   blind_from i is =
       let mind = fields.mind i in
-      let at = seen_by (fields.step i j) k (eqb j mind.sweep) mind.line (fields.level i j k) false is in
-      let here : j ≡ mind.sweep = eqb-true j mind.sweep at.1 in
+      let at = seen_by (fields.step i j) k (eqb j mind.process) mind.line (fields.level i j k) false is in
+      let here : j ≡ mind.process = eqb-true j mind.process at.1 in
       record {
         process = sym here;
         round = sym (left_round spec.rounds mind (fields.step i) (fields.level i) false (tracks.told i) at.2) ∙ ap (fields.step i) (sym here) ∙ at.0;
@@ -131,7 +131,7 @@ pub counted_is_fixed : (spec : RoomSpec) (fields : Fields) (i j k : ℕ) → Kee
 counted_is_fixed spec fields i j k tracks sound below first less =
     let mind = fields.mind i in
     sound.resolved i j k below first
-    (counted_resolved spec.rounds (goal_at mind.goals j) (stage_for mind j) (cond (is_reading mind.line) (eqb j mind.sweep) false) (fields.step i j) k ((tracks.told i) j).counts less)
+    (counted_resolved spec.rounds (goal_at mind.goals j) (stage_for mind j) (cond (is_reading mind.line) (eqb j mind.process) false) (fields.step i j) k ((tracks.told i) j).counts less)
 
 -- It is clean; or some simulator has gone on from it: it has counted a later write of the process, or has stored a decision, after this
 -- round or a later one.
@@ -145,7 +145,7 @@ passed_is_fixed spec fields j k tracks sound first (clean is) = clean_is_fixed s
 passed_is_fixed spec fields j k tracks sound first (written i below less) = counted_is_fixed spec fields i j k tracks sound below first less
 passed_is_fixed spec fields j k tracks sound first (decided i below out most) =
     let mind = fields.mind i in
-    sound.resolved i j k below first (subst (λ (goal : Goal). k ≤ resolved_by goal (cond (is_reading mind.line) (eqb j mind.sweep) false) (fields.step i j)) (sym (sound.outs i j out)) most)
+    sound.resolved i j k below first (subst (λ (goal : Goal). k ≤ resolved_by goal (cond (is_reading mind.line) (eqb j mind.process) false) (fields.step i j)) (sym (sound.outs i j out)) most)
 
 -- ---- the least simulator at level 2 of a fixed agreement
 
@@ -163,7 +163,7 @@ fixed_has_least spec fields j k at =
 -- An agreement of a round before one that was counted, in which nobody is at level 1, is clean: only a simulator that stopped inside
 -- can hold it.
 left_phase : (spec : RoomSpec) (fields : Fields) (i j k : ℕ) → k < fields.step i j → phases_in fields j k i ≡ Left (fields.level i j k)
-left_phase spec fields i j k less = ap (λ (p : Progress). phase_of p (fields.level i j k)) (earlier (fields.step i j) k (eqb j (fields.mind i).sweep) (line_progress (fields.mind i).line) less)
+left_phase spec fields i j k less = ap (λ (p : Progress). phase_of p (fields.level i j k)) (earlier (fields.step i j) k (eqb j (fields.mind i).process) (line_progress (fields.mind i).line) less)
 
 pub left_is_clean : (spec : RoomSpec) (fields : Fields) (i j k : ℕ) → KeepsTrack spec fields → IsSound spec fields → i < spec.simulators → 1 ≤ k → k < fields.step i j → ((a : ℕ) → a < spec.simulators → fields.level a j k ≢ 1) → IsClean (levels_at spec fields j k)
 left_is_clean spec fields i j k tracks sound below first less none =

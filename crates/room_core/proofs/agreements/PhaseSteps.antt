@@ -74,7 +74,7 @@ module _ (spec : RoomSpec) (fields : Fields) (own : Own) (i p r : ℕ) where
 
   -- the turn goes from one line to the next
   line_on_else : (line line' : Progress) (level' : ℕ → ℕ → ℕ) → own.step (process_on own) ≡ round_on own → (p ≡ process_on own → r ≡ round_on own → ⊥) → line_progress own.mind.line ≡ line
-      → level' p r ≡ own.level p r → phase_by (own.step p) r (eqb p own.mind.sweep) line' (level' p r) ≡ phase_own own p r
+      → level' p r ≡ own.level p r → phase_by (own.step p) r (eqb p own.mind.process) line' (level' p r) ≡ phase_own own p r
   line_on_else line line' level' count other is same =
       turn_else own.step (process_on own) (round_on own) p r (line_progress own.mind.line) line' (own.level p r) (level' p r) count other same
 
@@ -82,14 +82,14 @@ module _ (spec : RoomSpec) (fields : Fields) (own : Own) (i p r : ℕ) where
   move_here : (change : Change) (line line' : Progress) (level' : ℕ → ℕ → ℕ) → mover change ≡ i → own.step (process_on own) ≡ round_on own → line_progress own.mind.line ≡ line
       → (e : p ≡ process_on own) (e' : r ≡ round_on own)
       → MayMove change (phase_of line (own.level p r)) → phase_of line' (level' p r) ≡ moved (levels_at spec fields p r) change (phase_of line (own.level p r))
-      → IsMove (levels_at spec fields p r) i (phase_own own p r) (phase_by (own.step p) r (eqb p own.mind.sweep) line' (level' p r))
+      → IsMove (levels_at spec fields p r) i (phase_own own p r) (phase_by (own.step p) r (eqb p own.mind.process) line' (level' p r))
   move_here change line line' level' of count is e e' may own_is =
-      let here : eqb p own.mind.sweep ≡ true = eq-eqb p own.mind.sweep e in
+      let here : eqb p own.mind.process ≡ true = eq-eqb p own.mind.process e in
       let same : own.step p ≡ r = ap own.step e ∙ count ∙ sym e' in
       let before : phase_own own p r ≡ phase_of line (own.level p r) =
       ap (λ (b : Bool). phase_by (own.step p) r b (line_progress own.mind.line) (own.level p r)) here
       ∙ ap (λ (q : Progress). phase_of q (own.level p r)) (now (own.step p) r true (line_progress own.mind.line) same ∙ is) in
-      let after : phase_by (own.step p) r (eqb p own.mind.sweep) line' (level' p r) ≡ phase_of line' (level' p r) =
+      let after : phase_by (own.step p) r (eqb p own.mind.process) line' (level' p r) ≡ phase_of line' (level' p r) =
       ap (λ (b : Bool). phase_by (own.step p) r b line' (level' p r)) here ∙ ap (λ (q : Progress). phase_of q (level' p r)) (now (own.step p) r true line' same) in
       record {
         change = change;
@@ -100,26 +100,26 @@ module _ (spec : RoomSpec) (fields : Fields) (own : Own) (i p r : ℕ) where
 
   -- between two turns, and in a turn before it has counted or after it has left
   quiet_effect : (mind : MindOf StepMap) → line_progress own.mind.line ≡ Past → line_progress mind.line ≡ Past → phase_at mind own.step own.level p r ≡ phase_own own p r
-  quiet_effect mind is is' = quiet (own.step p) r (eqb p own.mind.sweep) (eqb p mind.sweep) (line_progress own.mind.line) (line_progress mind.line) (own.level p r) is is'
+  quiet_effect mind is is' = quiet (own.step p) r (eqb p own.mind.process) (eqb p mind.process) (line_progress own.mind.line) (line_progress mind.line) (own.level p r) is is'
 
-  raise_effect : own.mind.line ≡ Raise → phase_by (changed own.step (process_on own) (own.step (process_on own) + 1) p) r (eqb p own.mind.sweep) Fresh (own.level p r) ≡ phase_own own p r
-  raise_effect is = dite (ℕ_discrete p own.mind.sweep)
-      (λ (e : p ≡ own.mind.sweep).
+  raise_effect : own.mind.line ≡ Raise → phase_by (changed own.step (process_on own) (own.step (process_on own) + 1) p) r (eqb p own.mind.process) Fresh (own.level p r) ≡ phase_own own p r
+  raise_effect is = dite (ℕ_discrete p own.mind.process)
+      (λ (e : p ≡ own.mind.process).
       let step : changed own.step (process_on own) (own.step (process_on own) + 1) p ≡ own.step p + 1 = changed_here own.step (process_on own) (own.step (process_on own) + 1) p e ∙ ap (λ (q : ℕ). own.step q + 1) (sym e) in
-      ap (λ (s : ℕ). phase_by s r (eqb p own.mind.sweep) Fresh (own.level p r)) step
-      ∙ ap (λ (b : Bool). phase_by (own.step p + 1) r b Fresh (own.level p r)) (eq-eqb p own.mind.sweep e)
+      ap (λ (s : ℕ). phase_by s r (eqb p own.mind.process) Fresh (own.level p r)) step
+      ∙ ap (λ (b : Bool). phase_by (own.step p + 1) r b Fresh (own.level p r)) (eq-eqb p own.mind.process e)
       ∙ raised_here (own.step p) r (own.level p r)
-      ∙ ap (λ (b : Bool). phase_by (own.step p) r b Past (own.level p r)) (sym (eq-eqb p own.mind.sweep e))
-      ∙ ap (λ (l : Line). phase_by (own.step p) r (eqb p own.mind.sweep) (line_progress l) (own.level p r)) (sym is))
-      (λ (n : p ≢ own.mind.sweep).
-      ap (λ (s : ℕ). phase_by s r (eqb p own.mind.sweep) Fresh (own.level p r)) (changed_else own.step (process_on own) (own.step (process_on own) + 1) p n)
-      ∙ ap (λ (b : Bool). phase_by (own.step p) r b Fresh (own.level p r)) (ne_eqb p own.mind.sweep n)
-      ∙ ap (λ (b : Bool). phase_by (own.step p) r b (line_progress own.mind.line) (own.level p r)) (sym (ne_eqb p own.mind.sweep n)))
+      ∙ ap (λ (b : Bool). phase_by (own.step p) r b Past (own.level p r)) (sym (eq-eqb p own.mind.process e))
+      ∙ ap (λ (l : Line). phase_by (own.step p) r (eqb p own.mind.process) (line_progress l) (own.level p r)) (sym is))
+      (λ (n : p ≢ own.mind.process).
+      ap (λ (s : ℕ). phase_by s r (eqb p own.mind.process) Fresh (own.level p r)) (changed_else own.step (process_on own) (own.step (process_on own) + 1) p n)
+      ∙ ap (λ (b : Bool). phase_by (own.step p) r b Fresh (own.level p r)) (ne_eqb p own.mind.process n)
+      ∙ ap (λ (b : Bool). phase_by (own.step p) r b (line_progress own.mind.line) (own.level p r)) (sym (ne_eqb p own.mind.process n)))
 
-  next_line : (line line' : Progress) → line_progress own.mind.line ≡ line → phase_of line' (own.level p r) ≡ phase_of line (own.level p r) → phase_by (own.step p) r (eqb p own.mind.sweep) line' (own.level p r) ≡ phase_own own p r
+  next_line : (line line' : Progress) → line_progress own.mind.line ≡ line → phase_of line' (own.level p r) ≡ phase_of line (own.level p r) → phase_by (own.step p) r (eqb p own.mind.process) line' (own.level p r) ≡ phase_own own p r
   next_line line line' is same =
-      same_line (own.step p) r (eqb p own.mind.sweep) line' line (own.level p r) same
-      ∙ ap (λ (l : Progress). phase_by (own.step p) r (eqb p own.mind.sweep) l (own.level p r)) (sym is)
+      same_line (own.step p) r (eqb p own.mind.process) line' line (own.level p r) same
+      ∙ ap (λ (l : Progress). phase_by (own.step p) r (eqb p own.mind.process) l (own.level p r)) (sym is)
 
   -- at the turn's own agreement, or at another
   by_place : {A : Type 0} → ((e : p ≡ process_on own) → r ≡ round_on own → A) → ((p ≡ process_on own → r ≡ round_on own → ⊥) → A) → A

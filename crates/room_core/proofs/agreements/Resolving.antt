@@ -28,7 +28,7 @@ resolved_by goals.Done reading step = step
 resolved_by goals.Spent reading step = step
 
 abbrev pub resolved_in : MindOf StepMap → (ℕ → ℕ) → ℕ → ℕ
-resolved_in mind step p = resolved_by (goal_at mind.goals p) (cond (is_reading mind.line) (eqb p mind.sweep) false) (step p)
+resolved_in mind step p = resolved_by (goal_at mind.goals p) (cond (is_reading mind.line) (eqb p mind.process) false) (step p)
 
 abbrev pub resolved_own : Own → ℕ → ℕ
 resolved_own own p = resolved_in own.mind own.step p
@@ -77,63 +77,63 @@ module _ (spec : RoomSpec) (fields : Fields) (own : Own) (p : ℕ) where
   -- neither before nor after has the turn got what was chosen, and the goals are as they were
   unread_effect : (mind : MindOf StepMap) → mind.goals ≡ own.mind.goals → is_reading own.mind.line ≡ false → is_reading mind.line ≡ false → resolved_in mind own.step p ≡ resolved_own own p
   unread_effect mind same was is =
-      ap (λ (b : Bool). resolved_by (goal_at mind.goals p) b (own.step p)) (unread_at mind.line (eqb p mind.sweep) is)
+      ap (λ (b : Bool). resolved_by (goal_at mind.goals p) b (own.step p)) (unread_at mind.line (eqb p mind.process) is)
       ∙ ap (λ (l : List Goal). resolved_by (goal_at l p) false (own.step p)) same
-      ∙ ap (λ (b : Bool). resolved_by (goal_at own.mind.goals p) b (own.step p)) (sym (unread_at own.mind.line (eqb p own.mind.sweep) was))
+      ∙ ap (λ (b : Bool). resolved_by (goal_at own.mind.goals p) b (own.step p)) (sym (unread_at own.mind.line (eqb p own.mind.process) was))
 
   -- the goal of the turn's process has changed, and the turn has ended
-  ended_effect : (turn : Turn) (goal : Goal) (mind : MindOf StepMap) → mind.goals ≡ own.mind.goals → mind.sweep < length mind.goals
-      → (p ≡ mind.sweep → resolved_by goal false (own.step p) ≡ resolved_own own p) → (p ≢ mind.sweep → cond (is_reading own.mind.line) (eqb p own.mind.sweep) false ≡ false)
+  ended_effect : (turn : Turn) (goal : Goal) (mind : MindOf StepMap) → mind.goals ≡ own.mind.goals → mind.process < length mind.goals
+      → (p ≡ mind.process → resolved_by goal false (own.step p) ≡ resolved_own own p) → (p ≢ mind.process → cond (is_reading own.mind.line) (eqb p own.mind.process) false ≡ false)
       → resolved_in (ended turn goal mind).mind own.step p ≡ resolved_own own p
-  ended_effect turn goal mind same below here else = dite (ℕ_discrete p mind.sweep)
-      (λ (e : p ≡ mind.sweep).
-      let new : goal_at (set mind.goals mind.sweep goal) p ≡ goal = ap (λ (q : ℕ). get_or (set mind.goals mind.sweep goal) q goals.Done) e ∙ get_or-set_same mind.goals mind.sweep goal goals.Done below in
+  ended_effect turn goal mind same below here else = dite (ℕ_discrete p mind.process)
+      (λ (e : p ≡ mind.process).
+      let new : goal_at (set mind.goals mind.process goal) p ≡ goal = ap (λ (q : ℕ). get_or (set mind.goals mind.process goal) q goals.Done) e ∙ get_or-set_same mind.goals mind.process goal goals.Done below in
       ap (λ (g : Goal). resolved_by g false (own.step p)) new ∙ here e)
-      (λ (n : p ≢ mind.sweep).
-      ap (λ (g : Goal). resolved_by g false (own.step p)) (get_or-set_other mind.goals mind.sweep p goal goals.Done n)
+      (λ (n : p ≢ mind.process).
+      ap (λ (g : Goal). resolved_by g false (own.step p)) (get_or-set_other mind.goals mind.process p goal goals.Done n)
       ∙ ap (λ (l : List Goal). resolved_by (goal_at l p) false (own.step p)) same
       ∙ ap (λ (b : Bool). resolved_by (goal_at own.mind.goals p) b (own.step p)) (sym (else n)))
 
   raise_effect : own.mind.line ≡ Raise → is_unfinished (current_goal own.mind) ≡ true → (mind : MindOf StepMap) → mind.goals ≡ own.mind.goals → is_reading mind.line ≡ false
       → resolved_in mind (changed own.step (process_on own) (own.step (process_on own) + 1)) p ≡ resolved_own own p
-  raise_effect is left mind same unread = dite (ℕ_discrete p own.mind.sweep)
-      (λ (e : p ≡ own.mind.sweep).
+  raise_effect is left mind same unread = dite (ℕ_discrete p own.mind.process)
+      (λ (e : p ≡ own.mind.process).
       let goal : is_unfinished (goal_at mind.goals p) ≡ true = ap (λ (l : List Goal). is_unfinished (goal_at l p)) same ∙ ap (λ (q : ℕ). is_unfinished (goal_at own.mind.goals q)) e ∙ left in
-      any_step (goal_at mind.goals p) (cond (is_reading mind.line) (eqb p mind.sweep) false) (changed own.step (process_on own) (own.step (process_on own) + 1) p) (own.step p) goal ∙ unread_effect mind same (ap is_reading is) unread)
-      (λ (n : p ≢ own.mind.sweep).
-      ap (λ (s : ℕ). resolved_by (goal_at mind.goals p) (cond (is_reading mind.line) (eqb p mind.sweep) false) s) (changed_else own.step (process_on own) (own.step (process_on own) + 1) p n) ∙ unread_effect mind same (ap is_reading is) unread)
+      any_step (goal_at mind.goals p) (cond (is_reading mind.line) (eqb p mind.process) false) (changed own.step (process_on own) (own.step (process_on own) + 1) p) (own.step p) goal ∙ unread_effect mind same (ap is_reading is) unread)
+      (λ (n : p ≢ own.mind.process).
+      ap (λ (s : ℕ). resolved_by (goal_at mind.goals p) (cond (is_reading mind.line) (eqb p mind.process) false) s) (changed_else own.step (process_on own) (own.step (process_on own) + 1) p n) ∙ unread_effect mind same (ap is_reading is) unread)
 
   -- what a simulator that asks has found resolved before
-  asking_is : (asking : MindOf StepMap) → IsAsking spec own asking → p ≡ asking.sweep → resolved_own own p ≡ current_round asking - 1
+  asking_is : (asking : MindOf StepMap) → IsAsking spec own asking → p ≡ asking.process → resolved_own own p ≡ current_round asking - 1
   asking_is asking asks e =
       let goal : goal_at own.mind.goals p ≡ current_goal asking = ap (λ (l : List Goal). goal_at l p) (sym asks.goals) ∙ ap (λ (q : ℕ). goal_at asking.goals q) e in
-      ap (λ (b : Bool). resolved_by (goal_at own.mind.goals p) b (own.step p)) (unread_at own.mind.line (eqb p own.mind.sweep) asks.unread)
+      ap (λ (b : Bool). resolved_by (goal_at own.mind.goals p) b (own.step p)) (unread_at own.mind.line (eqb p own.mind.process) asks.unread)
       ∙ ap (λ (g : Goal). resolved_by g false (own.step p)) goal ∙ unread_is (current_goal asking) (own.step p) asks.left
 
   -- and one that reads
-  pub reading_is : is_reading own.mind.line ≡ true → is_unfinished (current_goal own.mind) ≡ true → p ≡ own.mind.sweep → resolved_own own p ≡ round_on own
+  pub reading_is : is_reading own.mind.line ≡ true → is_unfinished (current_goal own.mind) ≡ true → p ≡ own.mind.process → resolved_own own p ≡ round_on own
   reading_is reads left e =
-      ap (λ (b : Bool). resolved_by (goal_at own.mind.goals p) b (own.step p)) (read_at own.mind.line (eqb p own.mind.sweep) reads ∙ eq-eqb p own.mind.sweep e)
+      ap (λ (b : Bool). resolved_by (goal_at own.mind.goals p) b (own.step p)) (read_at own.mind.line (eqb p own.mind.process) reads ∙ eq-eqb p own.mind.process e)
       ∙ ap (λ (q : ℕ). resolved_by (goal_at own.mind.goals q) true (own.step p)) e ∙ read_is (current_goal own.mind) (own.step p) left
 
-  reading_else : is_reading own.mind.line ≡ true → p ≢ own.mind.sweep → cond (is_reading own.mind.line) (eqb p own.mind.sweep) false ≡ false
-  reading_else reads n = read_at own.mind.line (eqb p own.mind.sweep) reads ∙ ne_eqb p own.mind.sweep n
+  reading_else : is_reading own.mind.line ≡ true → p ≢ own.mind.process → cond (is_reading own.mind.line) (eqb p own.mind.process) false ≡ false
+  reading_else reads n = read_at own.mind.line (eqb p own.mind.process) reads ∙ ne_eqb p own.mind.process n
 
   -- it goes on reading, of the same process
-  still_effect : (mind : MindOf StepMap) → mind.goals ≡ own.mind.goals → mind.sweep ≡ own.mind.sweep → is_reading own.mind.line ≡ true → is_reading mind.line ≡ true → resolved_in mind own.step p ≡ resolved_own own p
+  still_effect : (mind : MindOf StepMap) → mind.goals ≡ own.mind.goals → mind.process ≡ own.mind.process → is_reading own.mind.line ≡ true → is_reading mind.line ≡ true → resolved_in mind own.step p ≡ resolved_own own p
   still_effect mind same same' was is =
-      ap (λ (b : Bool). resolved_by (goal_at mind.goals p) b (own.step p)) (read_at mind.line (eqb p mind.sweep) is)
-      ∙ ap (λ (l : List Goal). resolved_by (goal_at l p) (eqb p mind.sweep) (own.step p)) same
+      ap (λ (b : Bool). resolved_by (goal_at mind.goals p) b (own.step p)) (read_at mind.line (eqb p mind.process) is)
+      ∙ ap (λ (l : List Goal). resolved_by (goal_at l p) (eqb p mind.process) (own.step p)) same
       ∙ ap (λ (q : ℕ). resolved_by (goal_at own.mind.goals p) (eqb p q) (own.step p)) same'
-      ∙ ap (λ (b : Bool). resolved_by (goal_at own.mind.goals p) b (own.step p)) (sym (read_at own.mind.line (eqb p own.mind.sweep) was))
+      ∙ ap (λ (b : Bool). resolved_by (goal_at own.mind.goals p) b (own.step p)) (sym (read_at own.mind.line (eqb p own.mind.process) was))
 
-  found_effect : (asking mind : MindOf StepMap) (chosen : ℕ) → IsAsking spec own asking → chosen_at spec fields asking.sweep (current_round asking) ≡ Some chosen → mind.goals ≡ asking.goals → mind.sweep ≡ asking.sweep → is_reading mind.line ≡ true
+  found_effect : (asking mind : MindOf StepMap) (chosen : ℕ) → IsAsking spec own asking → chosen_at spec fields asking.process (current_round asking) ≡ Some chosen → mind.goals ≡ asking.goals → mind.process ≡ asking.process → is_reading mind.line ≡ true
       → (resolved_in mind own.step p ≡ resolved_own own p) ⊎ IsFound spec fields p (resolved_own own p) (resolved_in mind own.step p)
-  found_effect asking mind chosen asks is same same' reads = dite (ℕ_discrete p asking.sweep)
-      (λ (e : p ≡ asking.sweep).
+  found_effect asking mind chosen asks is same same' reads = dite (ℕ_discrete p asking.process)
+      (λ (e : p ≡ asking.process).
       let before = asking_is asking asks e in
       let after : resolved_in mind own.step p ≡ current_round asking =
-      ap (λ (b : Bool). resolved_by (goal_at mind.goals p) b (own.step p)) (read_at mind.line (eqb p mind.sweep) reads ∙ eq-eqb p mind.sweep (e ∙ sym same'))
+      ap (λ (b : Bool). resolved_by (goal_at mind.goals p) b (own.step p)) (read_at mind.line (eqb p mind.process) reads ∙ eq-eqb p mind.process (e ∙ sym same'))
       ∙ ap (λ (l : List Goal). resolved_by (goal_at l p) true (own.step p)) same ∙ ap (λ (q : ℕ). resolved_by (goal_at asking.goals q) true (own.step p)) e
       ∙ read_is (current_goal asking) (own.step p) asks.left in
       let first = asks.first in
@@ -142,11 +142,11 @@ module _ (spec : RoomSpec) (fields : Fields) (own : Own) (p : ℕ) where
         is = ap (λ (k : ℕ). chosen_at spec fields p k) after ∙ ap (λ (q : ℕ). chosen_at spec fields q (current_round asking)) e ∙ is;
         next = after ∙ omega (arith, before, first);
       }))
-      (λ (n : p ≢ asking.sweep).
-      let unread : eqb p mind.sweep ≡ false = ne_eqb p mind.sweep (λ e. n (e ∙ same')) in
-      inl (ap (λ (b : Bool). resolved_by (goal_at mind.goals p) b (own.step p)) (read_at mind.line (eqb p mind.sweep) reads ∙ unread)
+      (λ (n : p ≢ asking.process).
+      let unread : eqb p mind.process ≡ false = ne_eqb p mind.process (λ e. n (e ∙ same')) in
+      inl (ap (λ (b : Bool). resolved_by (goal_at mind.goals p) b (own.step p)) (read_at mind.line (eqb p mind.process) reads ∙ unread)
       ∙ ap (λ (l : List Goal). resolved_by (goal_at l p) false (own.step p)) (same ∙ asks.goals)
-      ∙ ap (λ (b : Bool). resolved_by (goal_at own.mind.goals p) b (own.step p)) (sym (unread_at own.mind.line (eqb p own.mind.sweep) asks.unread))))
+      ∙ ap (λ (b : Bool). resolved_by (goal_at own.mind.goals p) b (own.step p)) (sym (unread_at own.mind.line (eqb p own.mind.process) asks.unread))))
 
   pub own_resolves : (after : Own) → Effect spec fields own after → (resolved_own after p ≡ resolved_own own p) ⊎ IsFound spec fields p (resolved_own own p) (resolved_own after p)
   own_resolves after (stores j k value rest goal count process first last) = inl (unread_effect after.mind refl (ap is_reading rest) refl)
@@ -162,15 +162,15 @@ module _ (spec : RoomSpec) (fields : Fields) (own : Own) (p : ℕ) where
   own_resolves after (leaves saw_two turn count one) = inl (unread_effect after.mind refl (ap is_reading turn.stands) refl)
   own_resolves after (asks_in_vain asking asks is) =
       inl (ended_effect Quiet (goals.Ask (current_round asking)) asking asks.goals (let l = asks.long in let b = asks.process in omega arith)
-      (λ e. sym (asking_is asking asks e)) (λ n. unread_at own.mind.line (eqb p own.mind.sweep) asks.unread))
+      (λ e. sym (asking_is asking asks e)) (λ n. unread_at own.mind.line (eqb p own.mind.process) asks.unread))
   own_resolves after (finds asking chosen asks is) = found_effect asking after.mind chosen asks is refl refl refl
-  own_resolves after (gathers reading reads more) = inl (still_effect after.mind reads.goals reads.sweep reads.reads refl)
+  own_resolves after (gathers reading reads more) = inl (still_effect after.mind reads.goals reads.process reads.reads refl)
   own_resolves after (goes_to reading value reads all is) =
-      let round : current_round reading ≡ round_on own = ap (λ (l : List Goal). round_of (goal_at l reading.sweep)) reads.goals ∙ ap (λ (q : ℕ). round_of (goal_at own.mind.goals q)) reads.sweep in
-      inl (ended_effect Useful (after_write spec.rounds (current_round reading) value) reading reads.goals (let l = ap length reads.goals in let l' = reads.long in let b = reads.process in let s = reads.sweep in omega arith)
-      (λ e. next_by (ltb (current_round reading) spec.rounds) (current_round reading) value (own.step p) (ap own.step (e ∙ reads.sweep) ∙ reads.count ∙ sym round) ∙ round ∙ sym (reading_is reads.reads reads.left (e ∙ reads.sweep)))
-      (λ n. reading_else reads.reads (λ e. n (e ∙ sym reads.sweep))))
-  own_resolves after (will_decide reading decision reads all is) = inl (still_effect after.mind reads.goals reads.sweep reads.reads refl)
+      let round : current_round reading ≡ round_on own = ap (λ (l : List Goal). round_of (goal_at l reading.process)) reads.goals ∙ ap (λ (q : ℕ). round_of (goal_at own.mind.goals q)) reads.process in
+      inl (ended_effect Useful (after_write spec.rounds (current_round reading) value) reading reads.goals (let l = ap length reads.goals in let l' = reads.long in let b = reads.process in let s = reads.process in omega arith)
+      (λ e. next_by (ltb (current_round reading) spec.rounds) (current_round reading) value (own.step p) (ap own.step (e ∙ reads.process) ∙ reads.count ∙ sym round) ∙ round ∙ sym (reading_is reads.reads reads.left (e ∙ reads.process)))
+      (λ n. reading_else reads.reads (λ e. n (e ∙ sym reads.process))))
+  own_resolves after (will_decide reading decision reads all is) = inl (still_effect after.mind reads.goals reads.process reads.reads refl)
   own_resolves after (decides decision turn count) =
       inl (ended_effect Useful goals.Done own.mind refl (let l = turn.long in let b = turn.process in omega arith)
       (λ e. ap own.step e ∙ count ∙ sym (reading_is (ap is_reading turn.stands) turn.left e)) (λ n. reading_else (ap is_reading turn.stands) n))

@@ -134,14 +134,14 @@ away step k line level = refl
 
 -- the phase of a simulator in the agreement on (p, k)
 abbrev pub phase_at : MindOf StepMap → (ℕ → ℕ) → (ℕ → ℕ → ℕ) → ℕ → ℕ → Phase
-phase_at mind step level p k = phase_by (step p) k (eqb p mind.sweep) (line_progress mind.line) (level p k)
+phase_at mind step level p k = phase_by (step p) k (eqb p mind.process) (line_progress mind.line) (level p k)
 
 by_sweep : (here : Bool) (line : Line) (step k : ℕ) (level : ℕ → ℕ) → Levels (cond here (stage_of line) AtRest) step level → level k ≡ phase_level (phase_by step k here (line_progress line) (level k))
 by_sweep true line step k level all = line_level line step k level all
 by_sweep false line step k level all = rest_level step k false level all.0
 
 pub level_is : (rounds : ℕ) (mind : MindOf StepMap) (step : ℕ → ℕ) (level : ℕ → ℕ → ℕ) → ToldBy rounds mind step level → (p k : ℕ) → level p k ≡ phase_level (phase_at mind step level p k)
-level_is rounds mind step level told p k = by_sweep (eqb p mind.sweep) mind.line (step p) k (level p) (told p).levels
+level_is rounds mind step level told p k = by_sweep (eqb p mind.process) mind.line (step p) k (level p) (told p).levels
 
 -- the phases in the agreement on (p, k)
 abbrev pub phases_in : Fields → ℕ → ℕ → ℕ → Phase
@@ -192,10 +192,10 @@ inside_line (Out decision) rounds goal step k level told one = absurd (rest_no_o
 
 -- A simulator at level 1 is inside that agreement in its open turn.
 pub one_inside : (spec : RoomSpec) (fields : Fields) → KeepsTrack spec fields → (i j k : ℕ) → fields.level i j k ≡ 1 → IsInsideTurn fields i j k
-one_inside spec fields tracks i j k one = dite (ℕ_discrete j (fields.mind i).sweep)
-    (λ (e : j ≡ (fields.mind i).sweep).
+one_inside spec fields tracks i j k one = dite (ℕ_discrete j (fields.mind i).process)
+    (λ (e : j ≡ (fields.mind i).process).
     let mind = fields.mind i in
     let own = at_sweep spec.rounds mind (fields.step i) (fields.level i) (tracks.told i) in
-    let at = inside_line mind.line spec.rounds (current_goal mind) (fields.step i mind.sweep) k (fields.level i mind.sweep) own (ap (λ (p : ℕ). fields.level i p k) (sym e) ∙ one) in
+    let at = inside_line mind.line spec.rounds (current_goal mind) (fields.step i mind.process) k (fields.level i mind.process) own (ap (λ (p : ℕ). fields.level i p k) (sym e) ∙ one) in
     record { process = sym e; round = at.1; line = at.0 })
-    (λ (n : j ≢ (fields.mind i).sweep). absurd (rest_no_one (fields.step i j) k (fields.level i j) (beside spec.rounds (fields.mind i) (fields.step i) (fields.level i) (tracks.told i) j n).levels one))
+    (λ (n : j ≢ (fields.mind i).process). absurd (rest_no_one (fields.step i j) k (fields.level i j) (beside spec.rounds (fields.mind i) (fields.step i) (fields.level i) (tracks.told i) j n).levels one))

@@ -46,7 +46,7 @@ own_of fields i = record { mind = fields.mind i; step = fields.step i; level = f
 
 -- the process and the round of an open turn
 abbrev pub process_on : Own → ℕ
-process_on own = own.mind.sweep
+process_on own = own.mind.process
 
 abbrev pub round_on : Own → ℕ
 round_on own = current_round own.mind
@@ -62,7 +62,7 @@ is_reading line = false
 pub record IsTurn (spec : RoomSpec) (own : Own) (line : Line) : Type 0 where
   pub stands : own.mind.line ≡ line
   pub left : is_unfinished (current_goal own.mind) ≡ true
-  pub process : own.mind.sweep < processes spec
+  pub process : own.mind.process < processes spec
   pub first : 1 ≤ current_round own.mind
   pub last : current_round own.mind ≤ spec.rounds
   pub long : length own.mind.goals ≡ processes spec
@@ -74,8 +74,8 @@ pub record IsAsking (spec : RoomSpec) (own : Own) (asking : MindOf StepMap) : Ty
   pub unread : is_reading own.mind.line ≡ false
   pub fresh : asking.word ≡ 0
   pub left : is_unfinished (current_goal asking) ≡ true
-  pub count : own.step asking.sweep ≡ current_round asking
-  pub process : asking.sweep < processes spec
+  pub count : own.step asking.process ≡ current_round asking
+  pub process : asking.process < processes spec
   pub first : 1 ≤ current_round asking
   pub last : current_round asking ≤ spec.rounds
   pub long : length asking.goals ≡ processes spec
@@ -104,19 +104,19 @@ pub data Loads (spec : RoomSpec) (fields : Fields) (own : Own) : MindOf StepMap 
 
 pub record IsReading (spec : RoomSpec) (fields : Fields) (own : Own) (reading : MindOf StepMap) : Type 0 where
   pub goals : reading.goals ≡ own.mind.goals
-  pub sweep : reading.sweep ≡ own.mind.sweep
+  pub process : reading.process ≡ own.mind.process
   pub past : line_progress own.mind.line ≡ Past
   pub reads : is_reading own.mind.line ≡ true
   pub left : is_unfinished (current_goal own.mind) ≡ true
-  pub count : own.step own.mind.sweep ≡ current_round own.mind
-  pub process : own.mind.sweep < processes spec
+  pub count : own.step own.mind.process ≡ current_round own.mind
+  pub process : own.mind.process < processes spec
   pub long : length own.mind.goals ≡ processes spec
   pub last : current_round own.mind ≤ spec.rounds
   pub loads : Loads spec fields own reading
 
 -- what the process does next, by the entries that were gathered
 abbrev pub action_of : RoomSpec → MindOf StepMap → Action
-action_of spec mind = next_action spec.protocol (slice_index spec.inputs mind.sweep) mind.sweep (current_round mind) mind.entries
+action_of spec mind = next_action spec.protocol (slice_index spec.inputs mind.process) mind.process (current_round mind) mind.entries
 
 -- Why a scan ends: the memory is one word; or the collect is the last, and one more was made.
 abbrev pub ScanEnds : RoomSpec → Fields → Own → ℕ → Type 0
@@ -143,9 +143,9 @@ pub data Effect (spec : RoomSpec) (fields : Fields) (own : Own) : Own → Type 0
       → Effect spec fields own (record own { mind = (goes_on (Leave (has_level 2 (levels_at spec fields (process_on own) (round_on own)))) (counted own.mind)).mind })
   leaves : (saw_two : Bool) → IsTurn spec own (Leave saw_two) → own.step (process_on own) ≡ round_on own → own.level (process_on own) (round_on own) ≡ 1
       → Effect spec fields own (record own { mind = (goes_on Ask (counted own.mind)).mind; level = changed_pair own.level (process_on own) (round_on own) (left_level saw_two) })
-  asks_in_vain : (asking : MindOf StepMap) → IsAsking spec own asking → chosen_at spec fields asking.sweep (current_round asking) ≡ None
+  asks_in_vain : (asking : MindOf StepMap) → IsAsking spec own asking → chosen_at spec fields asking.process (current_round asking) ≡ None
       → Effect spec fields own (record own { mind = (ended Quiet (goals.Ask (current_round asking)) asking).mind })
-  finds : (asking : MindOf StepMap) (chosen : ℕ) → IsAsking spec own asking → chosen_at spec fields asking.sweep (current_round asking) ≡ Some chosen
+  finds : (asking : MindOf StepMap) (chosen : ℕ) → IsAsking spec own asking → chosen_at spec fields asking.process (current_round asking) ≡ Some chosen
       → Effect spec fields own (record own { mind = (goes_on (GetView chosen) asking).mind })
   loads_word : (chosen : ℕ) → IsTurn spec own (GetView chosen) → chosen < spec.simulators → own.mind.word + 1 < words_in spec
       → Effect spec fields own (record own { mind = (goes_on (GetView chosen) (record (view_loaded spec fields own chosen) { word = own.mind.word + 1 })).mind })
@@ -177,9 +177,9 @@ module _ (spec : RoomSpec) (fields : Fields) (i : ℕ) where
   is_turn line is left at =
       let mind = fields.mind i in
       let place = open_round spec mind at.is_mind left in
-      record { stands = is; left = left; process = at.is_mind.sweep; first = place.0; last = place.1; long = at.is_mind.goals }
+      record { stands = is; left = left; process = at.is_mind.process; first = place.0; last = place.1; long = at.is_mind.goals }
 
-  asked_effect : (asking : MindOf StepMap) (chosen : Option ℕ) → IsAsking spec (own_of fields i) asking → chosen_at spec fields asking.sweep (current_round asking) ≡ chosen
+  asked_effect : (asking : MindOf StepMap) (chosen : Option ℕ) → IsAsking spec (own_of fields i) asking → chosen_at spec fields asking.process (current_round asking) ≡ chosen
       → Effect spec fields (own_of fields i) (own_after fields i (asked chosen asking).mind)
   asked_effect asking None asks is = asks_in_vain asking asks is
   asked_effect asking (Some chosen) asks is = finds asking chosen asks is
@@ -200,7 +200,7 @@ module _ (spec : RoomSpec) (fields : Fields) (i : ℕ) where
   first_effect (goals.Write k value) j number is rest at moves =
       let mind = fields.mind i in
       let place = first_place spec mind j (goals.Write k value) at.is_mind is refl in
-      let tells = each_at_rest spec.rounds mind.sweep mind.goals (fields.step i) (fields.level i) at.others at.own j in
+      let tells = each_at_rest spec.rounds mind.process mind.goals (fields.step i) (fields.level i) at.others at.own j in
       let count : fields.step i j + 1 ≡ k = (subst (λ (g : Goal). Tells spec.rounds g AtRest (fields.step i j) (fields.level i j)) is tells).counts in
       subst (λ (mind' : MindOf StepMap). Effect spec fields (own_of fields i) (own_after (stored_first_at (goals.Write k value) fields i j) i mind')) (sym (ap (λ (g : Goal). (opened_at g None (begun j (counted mind))).mind) is))
       (subst (λ (row : ℕ → ℕ → ℕ). Effect spec fields (own_of fields i) (record (own_of fields i) { mind = (goes_on Raise (begun j (counted mind))).mind; value = row })) (sym (changed_here fields.value i (changed_pair (fields.value i) j k value) i refl))
@@ -208,7 +208,7 @@ module _ (spec : RoomSpec) (fields : Fields) (i : ℕ) where
   first_effect (goals.Ask k) j number is rest at moves =
       let mind = fields.mind i in
       let place = first_place spec mind j (goals.Ask k) at.is_mind is refl in
-      let tells = each_at_rest spec.rounds mind.sweep mind.goals (fields.step i) (fields.level i) at.others at.own j in
+      let tells = each_at_rest spec.rounds mind.process mind.goals (fields.step i) (fields.level i) at.others at.own j in
       let count : fields.step i j ≡ k = (subst (λ (g : Goal). Tells spec.rounds g AtRest (fields.step i j) (fields.level i j)) is tells).counts in
       let round : round_of (goal_at mind.goals j) ≡ k = ap round_of is in
       subst (λ (mind' : MindOf StepMap). Effect spec fields (own_of fields i) (own_after fields i mind')) (sym (ap (λ (g : Goal). (opened_at g (chosen_at spec fields j k) (begun j (counted mind))).mind) is))
@@ -235,27 +235,27 @@ module _ (spec : RoomSpec) (fields : Fields) (i : ℕ) where
       first_effect (goal_at mind.goals j) j mind.number refl rest at (operation_of (ltb mind.turns spec.turns) (first_move_at (goal_at mind.goals j) spec mind.number j) moves)
 
   reads_at : (line : Line) (reading : MindOf StepMap) → (fields.mind i).line ≡ line → StandsAt line spec fields i (fields.mind i) → line_progress line ≡ Past → is_reading line ≡ true
-      → reading.goals ≡ (fields.mind i).goals → reading.sweep ≡ (fields.mind i).sweep → is_unfinished (current_goal (fields.mind i)) ≡ true → fields.step i (fields.mind i).sweep ≡ current_round (fields.mind i)
+      → reading.goals ≡ (fields.mind i).goals → reading.process ≡ (fields.mind i).process → is_unfinished (current_goal (fields.mind i)) ≡ true → fields.step i (fields.mind i).process ≡ current_round (fields.mind i)
       → Loads spec fields (own_of fields i) reading → IsReading spec fields (own_of fields i) reading
   reads_at line reading is at past reads same same' left count loads = record {
     goals = same;
-    sweep = same';
+    process = same';
     past = ap line_progress is ∙ past;
     reads = ap is_reading is ∙ reads;
     left = left;
     count = count;
-    process = at.is_mind.sweep;
+    process = at.is_mind.process;
     long = at.is_mind.goals;
     last = (open_round spec (fields.mind i) at.is_mind left).1;
     loads = loads;
   }
 
   pub effect_on : (line : Line) → (fields.mind i).line ≡ line → StandsAt line spec fields i (fields.mind i)
-      → Effect spec fields (own_of fields i) (own_after (stored_on line spec fields i (fields.mind i).sweep (current_round (fields.mind i)) (counted (fields.mind i))) i (taken_on line spec fields (fields.mind i).sweep (current_round (fields.mind i)) (counted (fields.mind i))).mind)
-  effect_on Rest is at = next_effect (next_process (fields.mind i).goals (fields.mind i).sweep) is at at.moves
+      → Effect spec fields (own_of fields i) (own_after (stored_on line spec fields i (fields.mind i).process (current_round (fields.mind i)) (counted (fields.mind i))) i (taken_on line spec fields (fields.mind i).process (current_round (fields.mind i)) (counted (fields.mind i))).mind)
+  effect_on Rest is at = next_effect (next_process (fields.mind i).goals (fields.mind i).process) is at at.moves
   effect_on Raise is at =
       let mind = fields.mind i in
-      let j = mind.sweep in
+      let j = mind.process in
       subst (λ (row : ℕ → ℕ). Effect spec fields (own_of fields i) (record (own_of fields i) { mind = (goes_on Snap (counted mind)).mind; step = row })) (sym (changed_here fields.step i (changed (fields.step i) j (fields.step i j + 1)) i refl))
       (raises (is_turn Raise is at.open_at at) (let w = at.word in omega arith) at.collects (stored_round spec.rounds (current_goal mind) (fields.step i j) at.own.counts))
   effect_on Snap is at =
@@ -263,8 +263,8 @@ module _ (spec : RoomSpec) (fields : Fields) (i : ℕ) where
       let into = with_loaded spec fields.step (counted mind) in
       let same = is_same_collect spec into in
       let turn = is_turn Snap is at.open_at at in
-      let count = counted_round spec.rounds (current_goal mind) (fields.step i mind.sweep) at.own.counts in
-      let none = outside spec.rounds (current_goal mind) (fields.step i mind.sweep) (fields.level i mind.sweep) at.own in
+      let count = counted_round spec.rounds (current_goal mind) (fields.step i mind.process) at.own.counts in
+      let none = outside spec.rounds (current_goal mind) (fields.step i mind.process) (fields.level i mind.process) at.own in
       let more = record into { word = 0; collects = mind.collects + 1 } in
       either_is (λ (taken : TakenOf StepMap). Effect spec fields (own_of fields i) (own_after fields i taken.mind)) (ltb (mind.word + 1) (words_in spec)) (goes_on Snap (record into { word = mind.word + 1 })) (scanned spec same (record into { word = 0 }))
       (λ next. collects_word turn count none (ltb-true _ _ next))
@@ -278,7 +278,7 @@ module _ (spec : RoomSpec) (fields : Fields) (i : ℕ) where
       (λ goes. collects_again turn count none last (eqb-false _ _ several) goes)))
   effect_on Show is at =
       let mind = fields.mind i in
-      let j = mind.sweep in
+      let j = mind.process in
       let k = current_round mind in
       let view = with_shown spec (fields.view i j k) mind in
       let turn = is_turn Show is at.open_at at in
@@ -293,27 +293,27 @@ module _ (spec : RoomSpec) (fields : Fields) (i : ℕ) where
       (shows turn count none (last_word mind.word (words_in spec) at.word stop)))
   effect_on Enter is at =
       let mind = fields.mind i in
-      let j = mind.sweep in
+      let j = mind.process in
       subst (λ (row : ℕ → ℕ → ℕ). Effect spec fields (own_of fields i) (record (own_of fields i) { mind = (goes_on Look (counted mind)).mind; level = row })) (sym (changed_here fields.level i (changed_pair (fields.level i) j (current_round mind) (fields.level i j (current_round mind) + 1)) i refl))
       (enters (is_turn Enter is at.open_at at) (counted_round spec.rounds (current_goal mind) (fields.step i j) at.own.counts) (outside spec.rounds (current_goal mind) (fields.step i j) (fields.level i j) at.own))
   effect_on Look is at =
       let mind = fields.mind i in
-      looks (is_turn Look is at.open_at at) (inside_round spec.rounds (current_goal mind) (fields.step i mind.sweep) at.own.counts) (inside spec.rounds (current_goal mind) (fields.step i mind.sweep) (fields.level i mind.sweep) at.own)
+      looks (is_turn Look is at.open_at at) (inside_round spec.rounds (current_goal mind) (fields.step i mind.process) at.own.counts) (inside spec.rounds (current_goal mind) (fields.step i mind.process) (fields.level i mind.process) at.own)
   effect_on (Leave saw_two) is at =
       let mind = fields.mind i in
-      let j = mind.sweep in
+      let j = mind.process in
       subst (λ (row : ℕ → ℕ → ℕ). Effect spec fields (own_of fields i) (record (own_of fields i) { mind = (goes_on Ask (counted mind)).mind; level = row })) (sym (changed_here fields.level i (changed_pair (fields.level i) j (current_round mind) (left_level saw_two)) i refl))
       (leaves saw_two (is_turn (Leave saw_two) is at.open_at at) (inside_round spec.rounds (current_goal mind) (fields.step i j) at.own.counts) (inside spec.rounds (current_goal mind) (fields.step i j) (fields.level i j) at.own))
   effect_on Ask is at =
       let mind = fields.mind i in
       let turn = is_turn Ask is at.open_at at in
-      asked_effect (counted mind) (chosen_at spec fields mind.sweep (current_round mind)) (record {
+      asked_effect (counted mind) (chosen_at spec fields mind.process (current_round mind)) (record {
         goals = refl;
         past = ap line_progress is;
         unread = ap is_reading is;
         fresh = let w = at.word in omega arith;
         left = turn.left;
-        count = past_round spec.rounds (current_goal mind) (fields.step i mind.sweep) at.own.counts;
+        count = past_round spec.rounds (current_goal mind) (fields.step i mind.process) at.own.counts;
         process = turn.process;
         first = turn.first;
         last = turn.last;
@@ -321,9 +321,9 @@ module _ (spec : RoomSpec) (fields : Fields) (i : ℕ) where
       }) refl
   effect_on (GetView chosen) is at =
       let mind = fields.mind i in
-      let into = with_loaded spec (fields.view chosen mind.sweep (current_round mind)) (counted mind) in
+      let into = with_loaded spec (fields.view chosen mind.process (current_round mind)) (counted mind) in
       let reading : MindOf StepMap = record into { word = 0; entries = padded (entry_of_steps spec into.snapshot) (processes spec) [] } in
-      let count = past_round spec.rounds (current_goal mind) (fields.step i mind.sweep) at.own.counts in
+      let count = past_round spec.rounds (current_goal mind) (fields.step i mind.process) at.own.counts in
       let turn = is_turn (GetView chosen) is at.open_at.0 at in
       either_is (λ (taken : TakenOf StepMap). Effect spec fields (own_of fields i) (own_after fields i taken.mind)) (ltb (mind.word + 1) (words_in spec)) (goes_on (GetView chosen) (record into { word = mind.word + 1 })) (gathered (entry_of_steps spec into.snapshot) spec [] (record into { word = 0 }))
       (λ next. loads_word chosen turn at.open_at.1 (ltb-true _ _ next))
@@ -334,12 +334,12 @@ module _ (spec : RoomSpec) (fields : Fields) (i : ℕ) where
       let mind = fields.mind i in
       let more = mind.entries ++ Some (min (shown_value spec fields mind.snapshot (length mind.entries)) greatest) ∷ [] in
       let reading : MindOf StepMap = record (counted mind) { entries = padded (entry_of_steps spec mind.snapshot) (processes spec) more } in
-      let count = past_round spec.rounds (current_goal mind) (fields.step i mind.sweep) at.own.counts in
+      let count = past_round spec.rounds (current_goal mind) (fields.step i mind.process) at.own.counts in
       gathered_effect reading (ltb (length reading.entries) (processes spec)) (action_of spec reading)
       (reads_at Values reading is at refl refl refl refl at.open_at.0 count (loads_value (is_turn Values is at.open_at.0 at) at.open_at.1 (subst (λ (row : ℕ). 1 ≤ row) (same_row spec mind.snapshot (length mind.entries) at.is_mind.limits at.snapshot at.open_at.1) at.open_at.2))) refl refl
   effect_on (Out decision) is at =
       let mind = fields.mind i in
-      let j = mind.sweep in
+      let j = mind.process in
       subst (λ (row : ℕ → ℕ). Effect spec fields (own_of fields i) (record (own_of fields i) { mind = (decided (counted mind)).mind; out = row })) (sym (changed_here fields.out i (changed (fields.out i) j (decision + 1)) i refl))
       (decides decision (is_turn (Out decision) is at.open_at at) (past_round spec.rounds (current_goal mind) (fields.step i j) at.own.counts))
 
@@ -347,11 +347,11 @@ module _ (spec : RoomSpec) (fields : Fields) (i : ℕ) where
 
 -- the one that takes it
 pub own_changes : (spec : RoomSpec) (fields : Fields) (i : ℕ) (line : Line) → (fields.mind i).line ≡ line → StandsAt line spec fields i (fields.mind i)
-    → Effect spec fields (own_of fields i) (own_of (with_taken (stored_on line spec fields i (fields.mind i).sweep (current_round (fields.mind i)) (counted (fields.mind i))) i (taken_on line spec fields (fields.mind i).sweep (current_round (fields.mind i)) (counted (fields.mind i)))) i)
+    → Effect spec fields (own_of fields i) (own_of (with_taken (stored_on line spec fields i (fields.mind i).process (current_round (fields.mind i)) (counted (fields.mind i))) i (taken_on line spec fields (fields.mind i).process (current_round (fields.mind i)) (counted (fields.mind i)))) i)
 own_changes spec fields i line is at =
     let mind = fields.mind i in
-    let stored = stored_on line spec fields i mind.sweep (current_round mind) (counted mind) in
-    let new = (taken_on line spec fields mind.sweep (current_round mind) (counted mind)).mind in
+    let stored = stored_on line spec fields i mind.process (current_round mind) (counted mind) in
+    let new = (taken_on line spec fields mind.process (current_round mind) (counted mind)).mind in
     subst (λ (one : MindOf StepMap). Effect spec fields (own_of fields i) (own_after stored i one)) (sym (changed_here stored.mind i new i refl)) (effect_on spec fields i line is at)
 
 -- the others
@@ -375,11 +375,11 @@ pub line_effect : (room : Configuration) (fields : Fields) (i : ℕ) → IsShape
 line_effect room fields i shape for may =
     let mind = fields.mind i in
     let at = stands_at room fields i shape for may in
-    let stored = stored_on mind.line room.spec fields i mind.sweep (current_round mind) (counted mind) in
-    let taken = taken_on mind.line room.spec fields mind.sweep (current_round mind) (counted mind) in
+    let stored = stored_on mind.line room.spec fields i mind.process (current_round mind) (counted mind) in
+    let taken = taken_on mind.line room.spec fields mind.process (current_round mind) (counted mind) in
     subst (λ (after : Fields). IsLineOf room.spec fields after i) (sym (line_is room fields i shape for may))
     (record {
       below = may.alive.below;
       own = own_changes room.spec fields i mind.line refl at;
-      others = others_stay fields stored i taken (is_store mind.line room.spec fields i mind.sweep (current_round mind) (counted mind));
+      others = others_stay fields stored i taken (is_store mind.line room.spec fields i mind.process (current_round mind) (counted mind));
     })

@@ -61,7 +61,7 @@ next_line_quiet (Some j) spec fields quiet i mind = first_line_quiet (goal_at mi
 
 line_quiet_on : (at : Line) (spec : RoomSpec) (fields : Fields) (quiet : ℕ → ℕ) (i j k : ℕ) (mind : MindOf StepMap)
     → line_on at spec (with_quiet fields quiet) i j k mind ≡ with_quiet (line_on at spec fields i j k mind) (line_on at spec (with_quiet fields quiet) i j k mind).quiet
-line_quiet_on Rest spec fields quiet i j k mind = next_line_quiet (next_process mind.goals mind.sweep) spec fields quiet i mind
+line_quiet_on Rest spec fields quiet i j k mind = next_line_quiet (next_process mind.goals mind.process) spec fields quiet i mind
 line_quiet_on Raise spec fields quiet i j k mind = refl
 line_quiet_on Snap spec fields quiet i j k mind = refl
 line_quiet_on Show spec fields quiet i j k mind = refl
@@ -74,7 +74,7 @@ line_quiet_on Values spec fields quiet i j k mind = refl
 line_quiet_on (Out decision) spec fields quiet i j k mind = refl
 
 line_quiet : (spec : RoomSpec) (fields : Fields) (quiet : ℕ → ℕ) (i : ℕ) → line spec (with_quiet fields quiet) i ≡ with_quiet (line spec fields i) (line spec (with_quiet fields quiet) i).quiet
-line_quiet spec fields quiet i = line_quiet_on (fields.mind i).line spec fields quiet i (fields.mind i).sweep (current_round (fields.mind i)) (counted (fields.mind i))
+line_quiet spec fields quiet i = line_quiet_on (fields.mind i).line spec fields quiet i (fields.mind i).process (current_round (fields.mind i)) (counted (fields.mind i))
 
 line_leads : (spec : RoomSpec) (fields base : Fields) (i : ℕ) → fields ≡ with_quiet base fields.quiet → line spec fields i ≡ with_quiet (line spec base i) (line spec fields i).quiet
 line_leads spec fields base i leads = subst (λ (f : Fields). line spec f i ≡ with_quiet (line spec base i) (line spec f i).quiet) (sym leads) (line_quiet spec base fields.quiet i)
@@ -105,15 +105,15 @@ moved_run room i one may = record {
 
 -- the turn of simulator i, in its fields
 abbrev taken_in : RoomSpec → Fields → ℕ → TakenOf StepMap
-taken_in spec fields i = taken_on (fields.mind i).line spec fields (fields.mind i).sweep (current_round (fields.mind i)) (counted (fields.mind i))
+taken_in spec fields i = taken_on (fields.mind i).line spec fields (fields.mind i).process (current_round (fields.mind i)) (counted (fields.mind i))
 
 line_counts : (room : RoomState) (fields : Fields) (i : ℕ) → IsShaped (configuration_of room) → StandsFor (configuration_of room) fields → HasLine (configuration_of room) i → ((a : ℕ) → a < room.spec.simulators → fields.quiet a ≡ (sweep_at room a).quiet)
     → (a : ℕ) → a < room.spec.simulators → (line room.spec fields i).quiet a ≡ (sweep_at (moved room i) a).quiet
 line_counts room fields i shape for may counts a less =
     let below = may.alive.below in
     let mind = fields.mind i in
-    let after = stored_on mind.line room.spec fields i mind.sweep (current_round mind) (counted mind) in
-    let kept : after.quiet ≡ fields.quiet = (is_store mind.line room.spec fields i mind.sweep (current_round mind) (counted mind)).quiet in
+    let after = stored_on mind.line room.spec fields i mind.process (current_round mind) (counted mind) in
+    let kept : after.quiet ≡ fields.quiet = (is_store mind.line room.spec fields i mind.process (current_round mind) (counted mind)).quiet in
     let own = sweep_after (taken_by room i) (sweep_at room i).quiet in
     let place : i < length room.sweeps = let count = sweep_count room shape in omega arith in
     let turn : (taken_by room i).turn ≡ (taken_in room.spec fields i).turn =

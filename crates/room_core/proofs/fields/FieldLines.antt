@@ -51,7 +51,7 @@ level_store : (fields : Fields) (i j k level : ℕ) → IsStoreOf i fields (reco
 level_store fields i j k level = record { mind = refl; quiet = refl; crashed = refl; step = λ a other. refl; level = λ a other. changed_else fields.level i (changed_pair (fields.level i) j k level) a other; view = λ a other. refl; value = λ a other. refl; out = λ a other. refl }
 
 pub is_store : (line : Line) (spec : RoomSpec) (fields : Fields) (i j k : ℕ) (mind : MindOf StepMap) → IsStoreOf i fields (stored_on line spec fields i j k mind)
-is_store Rest spec fields i j k mind = next_store (next_process mind.goals mind.sweep) fields i mind
+is_store Rest spec fields i j k mind = next_store (next_process mind.goals mind.process) fields i mind
 is_store Raise spec fields i j k mind = record { mind = refl; quiet = refl; crashed = refl; step = λ a other. changed_else fields.step i (changed (fields.step i) j (fields.step i j + 1)) a other; level = λ a other. refl; view = λ a other. refl; value = λ a other. refl; out = λ a other. refl }
 is_store Snap spec fields i j k mind = no_store fields i
 is_store Show spec fields i j k mind = record { mind = refl; quiet = refl; crashed = refl; step = λ a other. refl; level = λ a other. refl; view = λ a other. changed_else fields.view i (changed_pair (fields.view i) j k (with_shown spec (fields.view i j k) mind)) a other; value = λ a other. refl; out = λ a other. refl }
@@ -83,20 +83,20 @@ left_low : (saw_two : Bool) → left_level saw_two ≤ 2
 left_low true = omega arith
 left_low false = omega arith
 
-pub in_range_line : (line : Line) (spec : RoomSpec) (fields : Fields) (i : ℕ) (mind : MindOf StepMap) → StandsAt line spec fields i mind → AreInRange spec (stored_on line spec fields i mind.sweep (current_round mind) (counted mind))
-in_range_line Rest spec fields i mind at = next_in_range spec fields at.range (next_process mind.goals mind.sweep) i (counted mind)
+pub in_range_line : (line : Line) (spec : RoomSpec) (fields : Fields) (i : ℕ) (mind : MindOf StepMap) → StandsAt line spec fields i mind → AreInRange spec (stored_on line spec fields i mind.process (current_round mind) (counted mind))
+in_range_line Rest spec fields i mind at = next_in_range spec fields at.range (next_process mind.goals mind.process) i (counted mind)
 in_range_line Raise spec fields i mind at =
-    let room = raised_below (current_goal mind) spec.rounds (fields.step i mind.sweep) (fields.level i mind.sweep) (at.is_mind.rounds mind.sweep at.is_mind.sweep) at.own in
-    record { step = each_pair (λ (x : ℕ). x ≤ spec.rounds) fields.step i mind.sweep (fields.step i mind.sweep + 1) (omega arith) at.range.step; level = at.range.level; view = at.range.view }
+    let room = raised_below (current_goal mind) spec.rounds (fields.step i mind.process) (fields.level i mind.process) (at.is_mind.rounds mind.process at.is_mind.process) at.own in
+    record { step = each_pair (λ (x : ℕ). x ≤ spec.rounds) fields.step i mind.process (fields.step i mind.process + 1) (omega arith) at.range.step; level = at.range.level; view = at.range.view }
 in_range_line Snap spec fields i mind at = at.range
 in_range_line Show spec fields i mind at =
-    record { step = at.range.step; level = at.range.level; view = each_triple (AreWithin (sizes_in spec)) fields.view i mind.sweep (current_round mind) (with_shown spec (fields.view i mind.sweep (current_round mind)) mind) (part_within (sizes_in spec) mind.word mind.snapshot (fields.view i mind.sweep (current_round mind)) at.snapshot (at.range.view i mind.sweep (current_round mind))) at.range.view }
+    record { step = at.range.step; level = at.range.level; view = each_triple (AreWithin (sizes_in spec)) fields.view i mind.process (current_round mind) (with_shown spec (fields.view i mind.process (current_round mind)) mind) (part_within (sizes_in spec) mind.word mind.snapshot (fields.view i mind.process (current_round mind)) at.snapshot (at.range.view i mind.process (current_round mind))) at.range.view }
 in_range_line Enter spec fields i mind at =
-    let none = outside spec.rounds (current_goal mind) (fields.step i mind.sweep) (fields.level i mind.sweep) at.own in
-    level_in_range spec fields at.range i mind.sweep (current_round mind) (fields.level i mind.sweep (current_round mind) + 1) (omega arith)
+    let none = outside spec.rounds (current_goal mind) (fields.step i mind.process) (fields.level i mind.process) at.own in
+    level_in_range spec fields at.range i mind.process (current_round mind) (fields.level i mind.process (current_round mind) + 1) (omega arith)
 in_range_line Look spec fields i mind at = at.range
 in_range_line (Leave saw_two) spec fields i mind at =
-    level_in_range spec fields at.range i mind.sweep (current_round mind) (left_level saw_two) (left_low saw_two)
+    level_in_range spec fields at.range i mind.process (current_round mind) (left_level saw_two) (left_low saw_two)
 in_range_line Ask spec fields i mind at = at.range
 in_range_line (GetView chosen) spec fields i mind at = at.range
 in_range_line Values spec fields i mind at = at.range
@@ -129,7 +129,7 @@ module _ (spec : RoomSpec) (mind : MindOf StepMap) (within : AreBothWithin spec 
 gathered_within : (spec : RoomSpec) (row : ℕ → ℕ) (entries : List (Option ℕ)) (mind : MindOf StepMap) → AreBothWithin spec mind → AreBothWithin spec (gathered row spec entries mind).mind
 gathered_within spec row entries mind within =
     let all = padded row (processes spec) entries in
-    all_within spec (record mind { entries = all }) within (ltb (length all) (processes spec)) (next_action spec.protocol (slice_index spec.inputs mind.sweep) mind.sweep (current_round mind) all)
+    all_within spec (record mind { entries = all }) within (ltb (length all) (processes spec)) (next_action spec.protocol (slice_index spec.inputs mind.process) mind.process (current_round mind) all)
 
 first_within : (goal : Goal) (spec : RoomSpec) (fields : Fields) (j : ℕ) (mind : MindOf StepMap) → AreBothWithin spec mind → AreBothWithin spec (taken_first_at goal spec fields j mind).mind
 first_within (goals.Write k value) spec fields j mind within = opened_at_within spec (begun j mind) within (goal_at mind.goals j) None
@@ -141,8 +141,8 @@ next_within : (next : Option ℕ) (spec : RoomSpec) (fields : Fields) (mind : Mi
 next_within None spec fields mind within = within
 next_within (Some j) spec fields mind within = first_within (goal_at mind.goals j) spec fields j mind within
 
-pub snapshot_line : (line : Line) (spec : RoomSpec) (fields : Fields) (i : ℕ) (mind : MindOf StepMap) → StandsAt line spec fields i mind → AreBothWithin spec (taken_on line spec fields mind.sweep (current_round mind) (counted mind)).mind
-snapshot_line Rest spec fields i mind at = next_within (next_process mind.goals mind.sweep) spec fields (counted mind) (at.before, at.snapshot)
+pub snapshot_line : (line : Line) (spec : RoomSpec) (fields : Fields) (i : ℕ) (mind : MindOf StepMap) → StandsAt line spec fields i mind → AreBothWithin spec (taken_on line spec fields mind.process (current_round mind) (counted mind)).mind
+snapshot_line Rest spec fields i mind at = next_within (next_process mind.goals mind.process) spec fields (counted mind) (at.before, at.snapshot)
 snapshot_line Raise spec fields i mind at = (at.before, at.snapshot)
 snapshot_line Snap spec fields i mind at =
     let into = with_loaded spec fields.step (counted mind) in
@@ -152,11 +152,11 @@ snapshot_line Show spec fields i mind at = showed_by (λ (taken : TakenOf StepMa
 snapshot_line Enter spec fields i mind at = (at.before, at.snapshot)
 snapshot_line Look spec fields i mind at = (at.before, at.snapshot)
 snapshot_line (Leave saw_two) spec fields i mind at = (at.before, at.snapshot)
-snapshot_line Ask spec fields i mind at = asked_within spec (counted mind) (at.before, at.snapshot) (chosen_at spec fields mind.sweep (current_round mind))
+snapshot_line Ask spec fields i mind at = asked_within spec (counted mind) (at.before, at.snapshot) (chosen_at spec fields mind.process (current_round mind))
 snapshot_line (GetView chosen) spec fields i mind at =
-    let view = fields.view chosen mind.sweep (current_round mind) in
+    let view = fields.view chosen mind.process (current_round mind) in
     let into = with_loaded spec view (counted mind) in
-    let within = part_within (sizes_in spec) mind.word view mind.snapshot (at.range.view chosen mind.sweep (current_round mind)) at.snapshot in
+    let within = part_within (sizes_in spec) mind.word view mind.snapshot (at.range.view chosen mind.process (current_round mind)) at.snapshot in
     got_view_by (λ (taken : TakenOf StepMap). AreBothWithin spec taken.mind) spec into (entry_of_steps spec into.snapshot) chosen (at.before, within)
     (gathered_within spec (entry_of_steps spec into.snapshot) [] (record into { word = 0 }) (at.before, within))
 snapshot_line Values spec fields i mind at =

@@ -104,14 +104,14 @@ each_mind P i fields after mind store own all a = dite (ℕ_discrete a i)
 
 -- the fields after a line, as `line_parts` has them
 abbrev pub fields_by : RoomSpec → Fields → ℕ → Fields
-fields_by spec fields i = with_taken (stored_on (fields.mind i).line spec fields i (fields.mind i).sweep (current_round (fields.mind i)) (counted (fields.mind i))) i (taken_on (fields.mind i).line spec fields (fields.mind i).sweep (current_round (fields.mind i)) (counted (fields.mind i)))
+fields_by spec fields i = with_taken (stored_on (fields.mind i).line spec fields i (fields.mind i).process (current_round (fields.mind i)) (counted (fields.mind i))) i (taken_on (fields.mind i).line spec fields (fields.mind i).process (current_round (fields.mind i)) (counted (fields.mind i)))
 
 tracks_line : (spec : RoomSpec) (fields : Fields) (i : ℕ) → StandsAt (fields.mind i).line spec fields i (fields.mind i) → KeepsTrack spec fields → KeepsTrack spec (fields_by spec fields i)
 tracks_line spec fields i at tracks =
     let mind = fields.mind i in
-    let after = stored_on mind.line spec fields i mind.sweep (current_round mind) (counted mind) in
-    let new = (taken_on mind.line spec fields mind.sweep (current_round mind) (counted mind)).mind in
-    let store = is_store mind.line spec fields i mind.sweep (current_round mind) (counted mind) in
+    let after = stored_on mind.line spec fields i mind.process (current_round mind) (counted mind) in
+    let new = (taken_on mind.line spec fields mind.process (current_round mind) (counted mind)).mind in
+    let store = is_store mind.line spec fields i mind.process (current_round mind) (counted mind) in
     let range = in_range_line mind.line spec fields i mind at in
     let both = snapshot_line mind.line spec fields i mind at in
     record {
@@ -123,7 +123,7 @@ tracks_line spec fields i at tracks =
 
 -- the turn of the mind that took its answer in is that of the line
 pub taken_is : (room : Configuration) (fields : Fields) (i : ℕ) → IsShaped room → StandsFor room fields → HasLine room i
-    → taken room.spec (mind_at room i) (answer_to room i) ≡ worded_taken (sizes_in room.spec) (taken_on (fields.mind i).line room.spec fields (fields.mind i).sweep (current_round (fields.mind i)) (counted (fields.mind i)))
+    → taken room.spec (mind_at room i) (answer_to room i) ≡ worded_taken (sizes_in room.spec) (taken_on (fields.mind i).line room.spec fields (fields.mind i).process (current_round (fields.mind i)) (counted (fields.mind i)))
 taken_is room fields i shape for may =
     ap (λ (one : MindState). taken room.spec one (answer_of (move_of room.spec one) room.words)) (mind_is room fields i for may.alive.below)
     ∙ same_taken (fields.mind i).line room.spec fields i room.words (fields.mind i) (stands_at room fields i shape for may) (held_of room fields for)
@@ -133,9 +133,9 @@ parts_stand room fields i shape may for =
     let below = may.alive.below in
     let mind = fields.mind i in
     let at = stands_at room fields i shape for may in
-    let after = stored_on mind.line room.spec fields i mind.sweep (current_round mind) (counted mind) in
-    let store = is_store mind.line room.spec fields i mind.sweep (current_round mind) (counted mind) in
-    let new = (taken_on mind.line room.spec fields mind.sweep (current_round mind) (counted mind)).mind in
+    let after = stored_on mind.line room.spec fields i mind.process (current_round mind) (counted mind) in
+    let store = is_store mind.line room.spec fields i mind.process (current_round mind) (counted mind) in
+    let new = (taken_on mind.line room.spec fields mind.process (current_round mind) (counted mind)).mind in
     let own = (taken room.spec (mind_at room i) (answer_to room i)).mind in
     let place : i < length room.minds = let count = shape.minds in omega arith in
     stand_by (stepped room i) (fields_by room.spec fields i)
@@ -154,7 +154,7 @@ parts_stand room fields i shape may for =
 pub line_is : (room : Configuration) (fields : Fields) (i : ℕ) → IsShaped room → StandsFor room fields → HasLine room i → line room.spec fields i ≡ fields_by room.spec fields i
 line_is room fields i shape for may =
     let at = stands_at room fields i shape for may in
-    line_parts (fields.mind i).line room.spec fields i (fields.mind i).sweep (current_round (fields.mind i)) (fields.mind i) at.moves
+    line_parts (fields.mind i).line room.spec fields i (fields.mind i).process (current_round (fields.mind i)) (fields.mind i) at.moves
 
 -- ---- one event, and a list of them
 

@@ -100,8 +100,8 @@ loaded_worded spec mind source answer limits one is =
 -- ---- all lines
 
 pub same_taken : (line : Line) (spec : RoomSpec) (fields : Fields) (i : ℕ) (words : List ℕ) (mind : MindOf StepMap) → StandsAt line spec fields i mind → Hold (sizes_in spec) words fields
-    → taken_at line spec (counted (worded (sizes_in spec) mind)) (answer_of (move_at line spec (worded (sizes_in spec) mind)) words) ≡ worded_taken (sizes_in spec) (taken_on line spec fields mind.sweep (current_round mind) (counted mind))
-same_taken Rest spec fields i words mind at held = next_answer spec fields words mind held at.range at.is_mind (next_process mind.goals mind.sweep) at.moves
+    → taken_at line spec (counted (worded (sizes_in spec) mind)) (answer_of (move_at line spec (worded (sizes_in spec) mind)) words) ≡ worded_taken (sizes_in spec) (taken_on line spec fields mind.process (current_round mind) (counted mind))
+same_taken Rest spec fields i words mind at held = next_answer spec fields words mind held at.range at.is_mind (next_process mind.goals mind.process) at.moves
 same_taken Raise spec fields i words mind at held = refl
 same_taken Snap spec fields i words mind at held =
     let one : mind.word < memory_words (sizes_in spec) = at.word in
@@ -114,25 +114,25 @@ same_taken Snap spec fields i words mind at held =
 same_taken Show spec fields i words mind at held = showed_worded (sizes_in spec) spec (counted mind)
 same_taken Enter spec fields i words mind at held = refl
 same_taken Look spec fields i words mind at held =
-    let j = mind.sweep in
+    let j = mind.process in
     let k = current_round mind in
     let round = open_round spec mind at.is_mind at.open_at in
-    let word : slice_index words (index_in spec (places.Levels j k)) ≡ packed (λ a. fields.level a j k) 2 spec.simulators = held (places.Levels j k) (at.is_mind.sweep, round) in
+    let word : slice_index words (index_in spec (places.Levels j k)) ≡ packed (λ a. fields.level a j k) 2 spec.simulators = held (places.Levels j k) (at.is_mind.process, round) in
     ap (λ (levels : List ℕ). goes_on (Leave (has_level 2 levels)) (counted (worded (sizes_in spec) mind))) (ap (λ (w : ℕ). levels_of w spec.simulators) word ∙ same_levels (λ a. fields.level a j k) spec.simulators (λ a. at.range.level a j k))
 same_taken (Leave saw_two) spec fields i words mind at held = refl
 same_taken Ask spec fields i words mind at held =
-    let j = mind.sweep in
+    let j = mind.process in
     let k = current_round mind in
     let round = open_round spec mind at.is_mind at.open_at in
-    ap (λ (chosen : Option ℕ). asked chosen (counted (worded (sizes_in spec) mind))) (chosen_at_place spec fields words j k held at.range at.is_mind.sweep round) ∙ asked_worded (sizes_in spec) spec (chosen_at spec fields j k) (counted mind)
+    ap (λ (chosen : Option ℕ). asked chosen (counted (worded (sizes_in spec) mind))) (chosen_at_place spec fields words j k held at.range at.is_mind.process round) ∙ asked_worded (sizes_in spec) spec (chosen_at spec fields j k) (counted mind)
 same_taken (GetView chosen) spec fields i words mind at held =
-    let j = mind.sweep in
+    let j = mind.process in
     let k = current_round mind in
     let view = fields.view chosen j k in
     let one : mind.word < memory_words (sizes_in spec) = at.word in
     let round = open_round spec mind at.is_mind at.open_at.0 in
     let into = with_loaded spec view (counted mind) in
-    let is = loaded_worded spec mind view (slice_index words (index_in spec (places.View chosen j k mind.word))) at.is_mind.limits one (held (places.View chosen j k mind.word) (at.open_at.1, at.is_mind.sweep, round, one)) in
+    let is = loaded_worded spec mind view (slice_index words (index_in spec (places.View chosen j k mind.word))) at.is_mind.limits one (held (places.View chosen j k mind.word) (at.open_at.1, at.is_mind.process, round, one)) in
     let within = part_within (sizes_in spec) mind.word view mind.snapshot (at.range.view chosen j k) at.snapshot in
     ap (λ (m : MindState). got_view (entry_in spec m.snapshot) spec chosen m) is
     ∙ got_view_worded (sizes_in spec) spec (entry_in spec (memory_of (sizes_in spec) into.snapshot)) (entry_of_steps spec into.snapshot) chosen into (λ p below. same_row spec into.snapshot p at.is_mind.limits within below)

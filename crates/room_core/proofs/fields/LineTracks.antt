@@ -30,28 +30,28 @@ use Rattle.room_core.proofs.fields.Lines.{stored_first_at, stored_first, stored_
 -- ---- what a mind tells after a part of a turn
 
 module _ (spec : RoomSpec) (step : ℕ → ℕ) (level : ℕ → ℕ → ℕ) where
-  goes_told : (line : Line) (mind : MindOf StepMap) → ToldBeside spec.rounds mind.sweep mind.goals step level → Tells spec.rounds (current_goal mind) (stage_of line) (step mind.sweep) (level mind.sweep) → ToldBy spec.rounds (goes_on line mind).mind step level
+  goes_told : (line : Line) (mind : MindOf StepMap) → ToldBeside spec.rounds mind.process mind.goals step level → Tells spec.rounds (current_goal mind) (stage_of line) (step mind.process) (level mind.process) → ToldBy spec.rounds (goes_on line mind).mind step level
   goes_told line mind others own = told_by spec.rounds (goes_on line mind).mind step level others own
 
-  ended_told : (turn : Turn) (goal : Goal) (mind : MindOf StepMap) → mind.sweep < length mind.goals → ToldBeside spec.rounds mind.sweep mind.goals step level → Tells spec.rounds goal AtRest (step mind.sweep) (level mind.sweep) → ToldBy spec.rounds (ended turn goal mind).mind step level
-  ended_told turn goal mind below others own = told_at_rest spec.rounds (ended turn goal mind).mind step level refl (told_with_goal spec.rounds mind.goals mind.sweep goal step level below others own)
+  ended_told : (turn : Turn) (goal : Goal) (mind : MindOf StepMap) → mind.process < length mind.goals → ToldBeside spec.rounds mind.process mind.goals step level → Tells spec.rounds goal AtRest (step mind.process) (level mind.process) → ToldBy spec.rounds (ended turn goal mind).mind step level
+  ended_told turn goal mind below others own = told_at_rest spec.rounds (ended turn goal mind).mind step level refl (told_with_goal spec.rounds mind.goals mind.process goal step level below others own)
 
-  asked_told : (chosen : Option ℕ) (mind : MindOf StepMap) → mind.sweep < length mind.goals → ToldBeside spec.rounds mind.sweep mind.goals step level → Tells spec.rounds (current_goal mind) Past (step mind.sweep) (level mind.sweep) → ToldBy spec.rounds (asked chosen mind).mind step level
-  asked_told None mind below others own = ended_told Quiet (goals.Ask (current_round mind)) mind below others (tells_asked spec.rounds (current_goal mind) (step mind.sweep) (level mind.sweep) own)
+  asked_told : (chosen : Option ℕ) (mind : MindOf StepMap) → mind.process < length mind.goals → ToldBeside spec.rounds mind.process mind.goals step level → Tells spec.rounds (current_goal mind) Past (step mind.process) (level mind.process) → ToldBy spec.rounds (asked chosen mind).mind step level
+  asked_told None mind below others own = ended_told Quiet (goals.Ask (current_round mind)) mind below others (tells_asked spec.rounds (current_goal mind) (step mind.process) (level mind.process) own)
   asked_told (Some chosen) mind below others own = goes_told (GetView chosen) mind others own
 
-  acted_told : (action : Action) (mind : MindOf StepMap) → mind.sweep < length mind.goals → IsGoal spec.rounds (current_goal mind) → ToldBeside spec.rounds mind.sweep mind.goals step level → Tells spec.rounds (current_goal mind) Past (step mind.sweep) (level mind.sweep) → ToldBy spec.rounds (acted spec action mind).mind step level
-  acted_told (actions.Write value) mind below range others own = ended_told Useful (after_write spec.rounds (current_round mind) value) mind below others (tells_written spec.rounds (current_goal mind) value (step mind.sweep) (level mind.sweep) range own)
+  acted_told : (action : Action) (mind : MindOf StepMap) → mind.process < length mind.goals → IsGoal spec.rounds (current_goal mind) → ToldBeside spec.rounds mind.process mind.goals step level → Tells spec.rounds (current_goal mind) Past (step mind.process) (level mind.process) → ToldBy spec.rounds (acted spec action mind).mind step level
+  acted_told (actions.Write value) mind below range others own = ended_told Useful (after_write spec.rounds (current_round mind) value) mind below others (tells_written spec.rounds (current_goal mind) value (step mind.process) (level mind.process) range own)
   acted_told (actions.Decide decision) mind below range others own = goes_told (Out decision) mind others own
 
-  all_told : (b : Bool) (action : Action) (mind : MindOf StepMap) → mind.sweep < length mind.goals → IsGoal spec.rounds (current_goal mind) → ToldBeside spec.rounds mind.sweep mind.goals step level → Tells spec.rounds (current_goal mind) Past (step mind.sweep) (level mind.sweep) → ToldBy spec.rounds (cond b (goes_on Values mind) (acted spec action mind)).mind step level
+  all_told : (b : Bool) (action : Action) (mind : MindOf StepMap) → mind.process < length mind.goals → IsGoal spec.rounds (current_goal mind) → ToldBeside spec.rounds mind.process mind.goals step level → Tells spec.rounds (current_goal mind) Past (step mind.process) (level mind.process) → ToldBy spec.rounds (cond b (goes_on Values mind) (acted spec action mind)).mind step level
   all_told true action mind below range others own = goes_told Values mind others own
   all_told false action mind below range others own = acted_told action mind below range others own
 
-  gathered_told : (row : ℕ → ℕ) (entries : List (Option ℕ)) (mind : MindOf StepMap) → mind.sweep < length mind.goals → IsGoal spec.rounds (current_goal mind) → ToldBeside spec.rounds mind.sweep mind.goals step level → Tells spec.rounds (current_goal mind) Past (step mind.sweep) (level mind.sweep) → ToldBy spec.rounds (gathered row spec entries mind).mind step level
+  gathered_told : (row : ℕ → ℕ) (entries : List (Option ℕ)) (mind : MindOf StepMap) → mind.process < length mind.goals → IsGoal spec.rounds (current_goal mind) → ToldBeside spec.rounds mind.process mind.goals step level → Tells spec.rounds (current_goal mind) Past (step mind.process) (level mind.process) → ToldBy spec.rounds (gathered row spec entries mind).mind step level
   gathered_told row entries mind below range others own =
       let all = padded row (processes spec) entries in
-      all_told (ltb (length all) (processes spec)) (next_action spec.protocol (slice_index spec.inputs mind.sweep) mind.sweep (current_round mind) all) (record mind { entries = all }) below range others own
+      all_told (ltb (length all) (processes spec)) (next_action spec.protocol (slice_index spec.inputs mind.process) mind.process (current_round mind) all) (record mind { entries = all }) below range others own
 
 tells_first_write : (rounds : ℕ) (goal : Goal) (k value step : ℕ) (level : ℕ → ℕ) → goal ≡ goals.Write k value → Tells rounds goal AtRest step level → Tells rounds goal Stored step level
 tells_first_write rounds (goals.Write round value') k value step level is told = record { counts = told.counts; levels = told.levels }
@@ -88,30 +88,30 @@ beside_step rounds j list step level entry others p other = subst (λ (s : ℕ).
 beside_level : (rounds : ℕ) (j : ℕ) (list : List Goal) (step : ℕ → ℕ) (level : ℕ → ℕ → ℕ) (entry : ℕ → ℕ) → ToldBeside rounds j list step level → ToldBeside rounds j list step (changed level j entry)
 beside_level rounds j list step level entry others p other = subst (λ (l : ℕ → ℕ). Tells rounds (goal_at list p) AtRest (step p) l) (sym (changed_else level j entry p other)) (others p other)
 
-raised_told : (rounds : ℕ) (line : Line) (mind : MindOf StepMap) (all : StepMap) (level : ℕ → ℕ → ℕ) (i entry : ℕ) → ToldBeside rounds mind.sweep mind.goals (all i) level → Tells rounds (current_goal mind) (stage_of line) entry (level mind.sweep) → ToldBy rounds (goes_on line mind).mind (changed_pair all i mind.sweep entry i) level
+raised_told : (rounds : ℕ) (line : Line) (mind : MindOf StepMap) (all : StepMap) (level : ℕ → ℕ → ℕ) (i entry : ℕ) → ToldBeside rounds mind.process mind.goals (all i) level → Tells rounds (current_goal mind) (stage_of line) entry (level mind.process) → ToldBy rounds (goes_on line mind).mind (changed_pair all i mind.process entry i) level
 raised_told rounds line mind all level i entry others own =
-    subst (λ (row : ℕ → ℕ). ToldBy rounds (goes_on line mind).mind row level) (sym (changed_here all i (changed (all i) mind.sweep entry) i refl))
-    (told_by rounds (goes_on line mind).mind (changed (all i) mind.sweep entry) level (beside_step rounds mind.sweep mind.goals (all i) level entry others)
-    (subst (λ (s : ℕ). Tells rounds (current_goal mind) (stage_of line) s (level mind.sweep)) (sym (changed_here (all i) mind.sweep entry mind.sweep refl)) own))
+    subst (λ (row : ℕ → ℕ). ToldBy rounds (goes_on line mind).mind row level) (sym (changed_here all i (changed (all i) mind.process entry) i refl))
+    (told_by rounds (goes_on line mind).mind (changed (all i) mind.process entry) level (beside_step rounds mind.process mind.goals (all i) level entry others)
+    (subst (λ (s : ℕ). Tells rounds (current_goal mind) (stage_of line) s (level mind.process)) (sym (changed_here (all i) mind.process entry mind.process refl)) own))
 
-level_told : (rounds : ℕ) (line : Line) (mind : MindOf StepMap) (step : ℕ → ℕ) (all : ℕ → ℕ → ℕ → ℕ) (i k entry : ℕ) → ToldBeside rounds mind.sweep mind.goals step (all i) → Tells rounds (current_goal mind) (stage_of line) (step mind.sweep) (changed (all i mind.sweep) k entry) → ToldBy rounds (goes_on line mind).mind step (changed_triple all i mind.sweep k entry i)
+level_told : (rounds : ℕ) (line : Line) (mind : MindOf StepMap) (step : ℕ → ℕ) (all : ℕ → ℕ → ℕ → ℕ) (i k entry : ℕ) → ToldBeside rounds mind.process mind.goals step (all i) → Tells rounds (current_goal mind) (stage_of line) (step mind.process) (changed (all i mind.process) k entry) → ToldBy rounds (goes_on line mind).mind step (changed_triple all i mind.process k entry i)
 level_told rounds line mind step all i k entry others own =
-    let new = changed (all i mind.sweep) k entry in
-    subst (λ (row : ℕ → ℕ → ℕ). ToldBy rounds (goes_on line mind).mind step row) (sym (changed_here all i (changed (all i) mind.sweep new) i refl))
-    (told_by rounds (goes_on line mind).mind step (changed (all i) mind.sweep new) (beside_level rounds mind.sweep mind.goals step (all i) new others)
-    (subst (λ (l : ℕ → ℕ). Tells rounds (current_goal mind) (stage_of line) (step mind.sweep) l) (sym (changed_here (all i) mind.sweep new mind.sweep refl)) own))
+    let new = changed (all i mind.process) k entry in
+    subst (λ (row : ℕ → ℕ → ℕ). ToldBy rounds (goes_on line mind).mind step row) (sym (changed_here all i (changed (all i) mind.process new) i refl))
+    (told_by rounds (goes_on line mind).mind step (changed (all i) mind.process new) (beside_level rounds mind.process mind.goals step (all i) new others)
+    (subst (λ (l : ℕ → ℕ). Tells rounds (current_goal mind) (stage_of line) (step mind.process) l) (sym (changed_here (all i) mind.process new mind.process refl)) own))
 
 pub each_at_rest : (rounds : ℕ) (j : ℕ) (list : List Goal) (step : ℕ → ℕ) (level : ℕ → ℕ → ℕ) → ToldBeside rounds j list step level → Tells rounds (goal_at list j) AtRest (step j) (level j) → (p : ℕ) → Tells rounds (goal_at list p) AtRest (step p) (level p)
 each_at_rest rounds j list step level others own p = dite (ℕ_discrete p j) (λ (e : p ≡ j). subst (λ (q : ℕ). Tells rounds (goal_at list q) AtRest (step q) (level q)) (sym e) own) (λ (n : p ≢ j). others p n)
 
 -- ---- all lines
 
-pub sweep_below : (spec : RoomSpec) (mind : MindOf StepMap) → IsMind spec (worded (sizes_in spec) mind) → mind.sweep < length mind.goals
-sweep_below spec mind is = let long = is.goals in let less = is.sweep in omega arith
+pub sweep_below : (spec : RoomSpec) (mind : MindOf StepMap) → IsMind spec (worded (sizes_in spec) mind) → mind.process < length mind.goals
+sweep_below spec mind is = let long = is.goals in let less = is.process in omega arith
 
 -- the goal of its turn is of one of the rounds
 pub goal_range : (spec : RoomSpec) (mind : MindOf StepMap) → IsMind spec (worded (sizes_in spec) mind) → IsGoal spec.rounds (current_goal mind)
-goal_range spec mind is = is.rounds mind.sweep is.sweep
+goal_range spec mind is = is.rounds mind.process is.process
 
 -- a simulator leaves level 1
 left_other : (saw_two : Bool) → left_level saw_two ≢ 1
@@ -119,31 +119,31 @@ left_other true left = omega arith
 left_other false left = omega arith
 
 pub told_line : (line : Line) (spec : RoomSpec) (fields : Fields) (i : ℕ) (mind : MindOf StepMap) → StandsAt line spec fields i mind
-    → ToldBy spec.rounds (taken_on line spec fields mind.sweep (current_round mind) (counted mind)).mind ((stored_on line spec fields i mind.sweep (current_round mind) (counted mind)).step i) ((stored_on line spec fields i mind.sweep (current_round mind) (counted mind)).level i)
-told_line Rest spec fields i mind at = next_told spec fields i mind (each_at_rest spec.rounds mind.sweep mind.goals (fields.step i) (fields.level i) at.others at.own) (next_process mind.goals mind.sweep) at.moves
+    → ToldBy spec.rounds (taken_on line spec fields mind.process (current_round mind) (counted mind)).mind ((stored_on line spec fields i mind.process (current_round mind) (counted mind)).step i) ((stored_on line spec fields i mind.process (current_round mind) (counted mind)).level i)
+told_line Rest spec fields i mind at = next_told spec fields i mind (each_at_rest spec.rounds mind.process mind.goals (fields.step i) (fields.level i) at.others at.own) (next_process mind.goals mind.process) at.moves
 told_line Raise spec fields i mind at =
-    raised_told spec.rounds Snap (counted mind) fields.step (fields.level i) i (fields.step i mind.sweep + 1) at.others (tells_raised spec.rounds (current_goal mind) (fields.step i mind.sweep) (fields.level i mind.sweep) at.own)
+    raised_told spec.rounds Snap (counted mind) fields.step (fields.level i) i (fields.step i mind.process + 1) at.others (tells_raised spec.rounds (current_goal mind) (fields.step i mind.process) (fields.level i mind.process) at.own)
 told_line Snap spec fields i mind at =
     let into = with_loaded spec fields.step (counted mind) in
-    let goes : (line : Line) (one : MindOf StepMap) → ToldBeside spec.rounds one.sweep one.goals (fields.step i) (fields.level i) → Tells spec.rounds (current_goal one) (stage_of line) (fields.step i one.sweep) (fields.level i one.sweep) → ToldBy spec.rounds (goes_on line one).mind (fields.step i) (fields.level i) = goes_told spec (fields.step i) (fields.level i) in
+    let goes : (line : Line) (one : MindOf StepMap) → ToldBeside spec.rounds one.process one.goals (fields.step i) (fields.level i) → Tells spec.rounds (current_goal one) (stage_of line) (fields.step i one.process) (fields.level i one.process) → ToldBy spec.rounds (goes_on line one).mind (fields.step i) (fields.level i) = goes_told spec (fields.step i) (fields.level i) in
     snapped_by (λ (taken : TakenOf StepMap). ToldBy spec.rounds taken.mind (fields.step i) (fields.level i)) spec into (is_same_collect spec into)
     (goes Snap (record into { word = into.word + 1 }) at.others at.own) (goes Show (record into { word = 0 }) at.others at.own) (goes Show (record into { word = 0; collects = into.collects + 1 }) at.others at.own) (goes Snap (record into { word = 0; collects = into.collects + 1; before = into.snapshot }) at.others at.own)
 told_line Show spec fields i mind at =
     showed_by (λ (taken : TakenOf StepMap). ToldBy spec.rounds taken.mind (fields.step i) (fields.level i)) spec (counted mind)
     (goes_told spec (fields.step i) (fields.level i) Show (record (counted mind) { word = mind.word + 1 }) at.others at.own) (goes_told spec (fields.step i) (fields.level i) Enter (record (counted mind) { word = 0 }) at.others at.own)
 told_line Enter spec fields i mind at =
-    level_told spec.rounds Look (counted mind) (fields.step i) fields.level i (current_round mind) (fields.level i mind.sweep (current_round mind) + 1) at.others (tells_entered spec.rounds (current_goal mind) (fields.step i mind.sweep) (fields.level i mind.sweep) at.own)
-told_line Look spec fields i mind at = goes_told spec (fields.step i) (fields.level i) (Leave (has_level 2 (levels_at spec fields mind.sweep (current_round mind)))) (counted mind) at.others at.own
+    level_told spec.rounds Look (counted mind) (fields.step i) fields.level i (current_round mind) (fields.level i mind.process (current_round mind) + 1) at.others (tells_entered spec.rounds (current_goal mind) (fields.step i mind.process) (fields.level i mind.process) at.own)
+told_line Look spec fields i mind at = goes_told spec (fields.step i) (fields.level i) (Leave (has_level 2 (levels_at spec fields mind.process (current_round mind)))) (counted mind) at.others at.own
 told_line (Leave saw_two) spec fields i mind at =
-    level_told spec.rounds Ask (counted mind) (fields.step i) fields.level i (current_round mind) (left_level saw_two) at.others (tells_left spec.rounds (current_goal mind) (fields.step i mind.sweep) (fields.level i mind.sweep) (left_level saw_two) (left_other saw_two) at.own)
+    level_told spec.rounds Ask (counted mind) (fields.step i) fields.level i (current_round mind) (left_level saw_two) at.others (tells_left spec.rounds (current_goal mind) (fields.step i mind.process) (fields.level i mind.process) (left_level saw_two) (left_other saw_two) at.own)
 told_line Ask spec fields i mind at =
-    asked_told spec (fields.step i) (fields.level i) (chosen_at spec fields mind.sweep (current_round mind)) (counted mind) (sweep_below spec mind at.is_mind) at.others at.own
+    asked_told spec (fields.step i) (fields.level i) (chosen_at spec fields mind.process (current_round mind)) (counted mind) (sweep_below spec mind at.is_mind) at.others at.own
 told_line (GetView chosen) spec fields i mind at =
-    let into = with_loaded spec (fields.view chosen mind.sweep (current_round mind)) (counted mind) in
+    let into = with_loaded spec (fields.view chosen mind.process (current_round mind)) (counted mind) in
     got_view_by (λ (taken : TakenOf StepMap). ToldBy spec.rounds taken.mind (fields.step i) (fields.level i)) spec into (entry_of_steps spec into.snapshot) chosen
     (goes_told spec (fields.step i) (fields.level i) (GetView chosen) (record into { word = into.word + 1 }) at.others at.own)
     (gathered_told spec (fields.step i) (fields.level i) (entry_of_steps spec into.snapshot) [] (record into { word = 0 }) (sweep_below spec mind at.is_mind) (goal_range spec mind at.is_mind) at.others at.own)
 told_line Values spec fields i mind at =
     gathered_told spec (fields.step i) (fields.level i) (entry_of_steps spec mind.snapshot) (mind.entries ++ Some (min (shown_value spec fields mind.snapshot (length mind.entries)) greatest) ∷ []) (counted mind) (sweep_below spec mind at.is_mind) (goal_range spec mind at.is_mind) at.others at.own
 told_line (Out decision) spec fields i mind at =
-    ended_told spec (fields.step i) (fields.level i) Useful goals.Done (counted mind) (sweep_below spec mind at.is_mind) at.others (tells_decided spec.rounds (current_goal mind) (fields.step i mind.sweep) (fields.level i mind.sweep) at.own)
+    ended_told spec (fields.step i) (fields.level i) Useful goals.Done (counted mind) (sweep_below spec mind at.is_mind) at.others (tells_decided spec.rounds (current_goal mind) (fields.step i mind.process) (fields.level i mind.process) at.own)

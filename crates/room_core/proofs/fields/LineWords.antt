@@ -153,34 +153,34 @@ module _ (spec : RoomSpec) (fields : Fields) (i : ℕ) (words : List ℕ) (mind 
 -- ---- all lines
 
 pub held_line : (line : Line) (spec : RoomSpec) (fields : Fields) (i : ℕ) (words : List ℕ) (mind : MindOf StepMap) → length words ≡ words_of (sizes_in spec) → StandsAt line spec fields i mind → Hold (sizes_in spec) words fields
-    → Hold (sizes_in spec) (words_after (move_at line spec (worded (sizes_in spec) mind)) words) (stored_on line spec fields i mind.sweep (current_round mind) (counted mind))
-held_line Rest spec fields i words mind whole at held = next_stored spec fields i words mind whole held at.below at.number (next_process mind.goals mind.sweep) at.is_mind at.moves
+    → Hold (sizes_in spec) (words_after (move_at line spec (worded (sizes_in spec) mind)) words) (stored_on line spec fields i mind.process (current_round mind) (counted mind))
+held_line Rest spec fields i words mind whole at held = next_stored spec fields i words mind whole held at.below at.number (next_process mind.goals mind.process) at.is_mind at.moves
 held_line Raise spec fields i words mind whole at held =
-    let room = raised_below (current_goal mind) spec.rounds (fields.step i mind.sweep) (fields.level i mind.sweep) (at.is_mind.rounds mind.sweep at.is_mind.sweep) at.own in
-    stored_step spec fields i words mind whole held at.below at.number mind.sweep at.is_mind.limits (λ a p _ _. at.range.step a p) at.is_mind.sweep room
+    let room = raised_below (current_goal mind) spec.rounds (fields.step i mind.process) (fields.level i mind.process) (at.is_mind.rounds mind.process at.is_mind.process) at.own in
+    stored_step spec fields i words mind whole held at.below at.number mind.process at.is_mind.limits (λ a p _ _. at.range.step a p) at.is_mind.process room
 held_line Snap spec fields i words mind whole at held = held
 held_line Show spec fields i words mind whole at held =
     let round = open_round spec mind at.is_mind at.open_at in
     let w = mind.word in
     let one : w < memory_words (sizes_in spec) = at.word in
     let few = (are_memory_words (sizes_in spec) at.is_mind.limits.shape).few in
-    subst (λ (word : ℕ). Hold (sizes_in spec) (with_word (sizes_in spec) words (places.View mind.number mind.sweep (current_round mind) w) word) (record fields { view = changed_triple fields.view i mind.sweep (current_round mind) (with_part (sizes_in spec) w mind.snapshot (fields.view i mind.sweep (current_round mind))) }))
+    subst (λ (word : ℕ). Hold (sizes_in spec) (with_word (sizes_in spec) words (places.View mind.number mind.process (current_round mind) w) word) (record fields { view = changed_triple fields.view i mind.process (current_round mind) (with_part (sizes_in spec) w mind.snapshot (fields.view i mind.process (current_round mind))) }))
     (sym (memory_at (sizes_in spec) mind.snapshot w (omega arith)))
-    (stored_view spec fields i words mind whole held at.below at.number mind.sweep (current_round mind) w mind.snapshot at.is_mind.sweep round one)
+    (stored_view spec fields i words mind whole held at.below at.number mind.process (current_round mind) w mind.snapshot at.is_mind.process round one)
 held_line Enter spec fields i words mind whole at held =
     let round = open_round spec mind at.is_mind at.open_at in
-    let none = outside spec.rounds (current_goal mind) (fields.step i mind.sweep) (fields.level i mind.sweep) at.own in
-    raised_level spec fields i words mind whole held at.below at.number mind.sweep (current_round mind) (fields.level i mind.sweep (current_round mind) + 1) at.is_mind.limits at.range.level refl (omega arith) at.is_mind.sweep round
+    let none = outside spec.rounds (current_goal mind) (fields.step i mind.process) (fields.level i mind.process) at.own in
+    raised_level spec fields i words mind whole held at.below at.number mind.process (current_round mind) (fields.level i mind.process (current_round mind) + 1) at.is_mind.limits at.range.level refl (omega arith) at.is_mind.process round
 held_line Look spec fields i words mind whole at held = held
 held_line (Leave true) spec fields i words mind whole at held =
     let round = open_round spec mind at.is_mind at.open_at in
-    let one = inside spec.rounds (current_goal mind) (fields.step i mind.sweep) (fields.level i mind.sweep) at.own in
-    lowered_level spec fields i words mind whole held at.below at.number mind.sweep (current_round mind) at.is_mind.limits at.range.level one at.is_mind.sweep round
+    let one = inside spec.rounds (current_goal mind) (fields.step i mind.process) (fields.level i mind.process) at.own in
+    lowered_level spec fields i words mind whole held at.below at.number mind.process (current_round mind) at.is_mind.limits at.range.level one at.is_mind.process round
 held_line (Leave false) spec fields i words mind whole at held =
     let round = open_round spec mind at.is_mind at.open_at in
-    let one = inside spec.rounds (current_goal mind) (fields.step i mind.sweep) (fields.level i mind.sweep) at.own in
-    raised_level spec fields i words mind whole held at.below at.number mind.sweep (current_round mind) 2 at.is_mind.limits at.range.level (omega arith) (omega arith) at.is_mind.sweep round
+    let one = inside spec.rounds (current_goal mind) (fields.step i mind.process) (fields.level i mind.process) at.own in
+    raised_level spec fields i words mind whole held at.below at.number mind.process (current_round mind) 2 at.is_mind.limits at.range.level (omega arith) (omega arith) at.is_mind.process round
 held_line Ask spec fields i words mind whole at held = held
 held_line (GetView chosen) spec fields i words mind whole at held = held
 held_line Values spec fields i words mind whole at held = held
-held_line (Out decision) spec fields i words mind whole at held = stored_out spec fields i words mind whole held at.below at.number mind.sweep (decision + 1) at.is_mind.sweep
+held_line (Out decision) spec fields i words mind whole at held = stored_out spec fields i words mind whole held at.below at.number mind.process (decision + 1) at.is_mind.process

@@ -33,7 +33,7 @@ stored_first None fields i mind = fields
 stored_first (Some j) fields i mind = stored_first_at (goal_at mind.goals j) fields i j
 
 abbrev pub stored_on : Line → RoomSpec → Fields → ℕ → ℕ → ℕ → MindOf StepMap → Fields
-stored_on Rest spec fields i j k mind = stored_first (next_process mind.goals mind.sweep) fields i mind
+stored_on Rest spec fields i j k mind = stored_first (next_process mind.goals mind.process) fields i mind
 stored_on Raise spec fields i j k mind = record fields { step = changed_pair fields.step i j (fields.step i j + 1) }
 stored_on Snap spec fields i j k mind = fields
 stored_on Show spec fields i j k mind = record fields { view = changed_triple fields.view i j k (with_shown spec (fields.view i j k) mind) }
@@ -56,7 +56,7 @@ taken_first None spec fields mind = goes_on Rest mind
 taken_first (Some j) spec fields mind = taken_first_at (goal_at mind.goals j) spec fields j mind
 
 abbrev pub taken_on : Line → RoomSpec → Fields → ℕ → ℕ → MindOf StepMap → TakenOf StepMap
-taken_on Rest spec fields j k mind = taken_first (next_process mind.goals mind.sweep) spec fields mind
+taken_on Rest spec fields j k mind = taken_first (next_process mind.goals mind.process) spec fields mind
 taken_on Raise spec fields j k mind = goes_on Snap mind
 taken_on Snap spec fields j k mind = snapped spec (is_same_collect spec (with_loaded spec fields.step mind)) (with_loaded spec fields.step mind)
 taken_on Show spec fields j k mind = showed spec mind
@@ -85,7 +85,7 @@ first_parts None spec fields i mind moves = absurd moves
 first_parts (Some j) spec fields i mind moves = first_parts_at (goal_at mind.goals j) spec fields i j (counted mind) mind.number (operation_of (ltb mind.turns spec.turns) (first_move_at (goal_at mind.goals j) spec mind.number j) moves)
 
 pub line_parts : (line : Line) (spec : RoomSpec) (fields : Fields) (i j k : ℕ) (mind : MindOf StepMap) → IsOperation (move_at line spec (worded (sizes_in spec) mind)) → line_on line spec fields i j k (counted mind) ≡ with_taken (stored_on line spec fields i j k (counted mind)) i (taken_on line spec fields j k (counted mind))
-line_parts Rest spec fields i j k mind moves = first_parts (next_process mind.goals mind.sweep) spec fields i mind moves
+line_parts Rest spec fields i j k mind moves = first_parts (next_process mind.goals mind.process) spec fields i mind moves
 line_parts Raise spec fields i j k mind moves = refl
 line_parts Snap spec fields i j k mind moves = refl
 line_parts Show spec fields i j k mind moves = refl
@@ -108,8 +108,8 @@ pub record StandsAt (line : Line) (spec : RoomSpec) (fields : Fields) (i : ℕ) 
   pub collects : IsCollectCount spec line mind.collects
   pub open_at : IsOpenAt line spec (worded (sizes_in spec) mind)
   pub moves : IsOperation (move_at line spec (worded (sizes_in spec) mind))
-  pub others : ToldBeside spec.rounds mind.sweep mind.goals (fields.step i) (fields.level i)
-  pub own : Tells spec.rounds (current_goal mind) (stage_of line) (fields.step i mind.sweep) (fields.level i mind.sweep)
+  pub others : ToldBeside spec.rounds mind.process mind.goals (fields.step i) (fields.level i)
+  pub own : Tells spec.rounds (current_goal mind) (stage_of line) (fields.step i mind.process) (fields.level i mind.process)
   pub range : AreInRange spec fields
   pub before : AreWithin (sizes_in spec) mind.before
   pub snapshot : AreWithin (sizes_in spec) mind.snapshot
@@ -129,7 +129,7 @@ process_in (goal ∷ list) (suc process) left = let less = process_in list proce
 
 -- an open turn works on a round of the room
 pub open_round : (spec : RoomSpec) (mind : MindOf StepMap) → IsMind spec (worded (sizes_in spec) mind) → is_unfinished (current_goal mind) ≡ true → IsRound (sizes_in spec) (current_round mind)
-open_round spec mind is left = round_in (sizes_in spec) (current_goal mind) left (is.rounds mind.sweep is.sweep)
+open_round spec mind is left = round_in (sizes_in spec) (current_goal mind) left (is.rounds mind.process is.process)
 
 -- and a turn begins on a process and a round of the room
 pub first_place : (spec : RoomSpec) (mind : MindOf StepMap) (j : ℕ) (goal : Goal) → IsMind spec (worded (sizes_in spec) mind) → goal_at mind.goals j ≡ goal → is_unfinished goal ≡ true → IsProcess (sizes_in spec) j × IsRound (sizes_in spec) (round_of goal)

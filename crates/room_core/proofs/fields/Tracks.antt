@@ -142,24 +142,24 @@ tells_decided rounds goal step level told = record { counts = tt; levels = told.
 abbrev pub ToldBeside : ℕ → ℕ → List Goal → (ℕ → ℕ) → (ℕ → ℕ → ℕ) → Type 0
 ToldBeside rounds j list step level = (p : ℕ) → p ≢ j → Tells rounds (goal_at list p) AtRest (step p) (level p)
 
-pub beside : (rounds : ℕ) (mind : MindOf StepMap) (step : ℕ → ℕ) (level : ℕ → ℕ → ℕ) → ToldBy rounds mind step level → ToldBeside rounds mind.sweep mind.goals step level
+pub beside : (rounds : ℕ) (mind : MindOf StepMap) (step : ℕ → ℕ) (level : ℕ → ℕ → ℕ) → ToldBy rounds mind step level → ToldBeside rounds mind.process mind.goals step level
 beside rounds mind step level told p other =
-    let resting : stage_for mind p ≡ AtRest = ap (λ (b : Bool). cond b (stage_of mind.line) AtRest) (ne_eqb p mind.sweep other) in
+    let resting : stage_for mind p ≡ AtRest = ap (λ (b : Bool). cond b (stage_of mind.line) AtRest) (ne_eqb p mind.process other) in
     subst (λ (stage : Stage). Tells rounds (goal_at mind.goals p) stage (step p) (level p)) resting (told p)
 
-pub at_sweep : (rounds : ℕ) (mind : MindOf StepMap) (step : ℕ → ℕ) (level : ℕ → ℕ → ℕ) → ToldBy rounds mind step level → Tells rounds (current_goal mind) (stage_of mind.line) (step mind.sweep) (level mind.sweep)
+pub at_sweep : (rounds : ℕ) (mind : MindOf StepMap) (step : ℕ → ℕ) (level : ℕ → ℕ → ℕ) → ToldBy rounds mind step level → Tells rounds (current_goal mind) (stage_of mind.line) (step mind.process) (level mind.process)
 at_sweep rounds mind step level told =
-    let here : stage_for mind mind.sweep ≡ stage_of mind.line = ap (λ (b : Bool). cond b (stage_of mind.line) AtRest) (eq-eqb mind.sweep mind.sweep refl) in
-    subst (λ (stage : Stage). Tells rounds (current_goal mind) stage (step mind.sweep) (level mind.sweep)) here (told mind.sweep)
+    let here : stage_for mind mind.process ≡ stage_of mind.line = ap (λ (b : Bool). cond b (stage_of mind.line) AtRest) (eq-eqb mind.process mind.process refl) in
+    subst (λ (stage : Stage). Tells rounds (current_goal mind) stage (step mind.process) (level mind.process)) here (told mind.process)
 
-pub told_by : (rounds : ℕ) (mind : MindOf StepMap) (step : ℕ → ℕ) (level : ℕ → ℕ → ℕ) → ToldBeside rounds mind.sweep mind.goals step level → Tells rounds (current_goal mind) (stage_of mind.line) (step mind.sweep) (level mind.sweep) → ToldBy rounds mind step level
-told_by rounds mind step level others own p = dite (ℕ_discrete p mind.sweep)
-    (λ (e : p ≡ mind.sweep).
-    let here : stage_for mind p ≡ stage_of mind.line = ap (λ (b : Bool). cond b (stage_of mind.line) AtRest) (eq-eqb p mind.sweep e) in
+pub told_by : (rounds : ℕ) (mind : MindOf StepMap) (step : ℕ → ℕ) (level : ℕ → ℕ → ℕ) → ToldBeside rounds mind.process mind.goals step level → Tells rounds (current_goal mind) (stage_of mind.line) (step mind.process) (level mind.process) → ToldBy rounds mind step level
+told_by rounds mind step level others own p = dite (ℕ_discrete p mind.process)
+    (λ (e : p ≡ mind.process).
+    let here : stage_for mind p ≡ stage_of mind.line = ap (λ (b : Bool). cond b (stage_of mind.line) AtRest) (eq-eqb p mind.process e) in
     subst (λ (stage : Stage). Tells rounds (goal_at mind.goals p) stage (step p) (level p)) (sym here)
     (subst (λ (q : ℕ). Tells rounds (goal_at mind.goals q) (stage_of mind.line) (step q) (level q)) (sym e) own))
-    (λ (n : p ≢ mind.sweep).
-    let resting : stage_for mind p ≡ AtRest = ap (λ (b : Bool). cond b (stage_of mind.line) AtRest) (ne_eqb p mind.sweep n) in
+    (λ (n : p ≢ mind.process).
+    let resting : stage_for mind p ≡ AtRest = ap (λ (b : Bool). cond b (stage_of mind.line) AtRest) (ne_eqb p mind.process n) in
     subst (λ (stage : Stage). Tells rounds (goal_at mind.goals p) stage (step p) (level p)) (sym resting) (others p n))
 
 same_branches : {A : Type 0} (b : Bool) (x : A) → cond b x x ≡ x
@@ -169,12 +169,12 @@ same_branches false x = refl
 -- between two turns
 pub at_rest : (rounds : ℕ) (mind : MindOf StepMap) (step : ℕ → ℕ) (level : ℕ → ℕ → ℕ) → mind.line ≡ Rest → ToldBy rounds mind step level → (p : ℕ) → Tells rounds (goal_at mind.goals p) AtRest (step p) (level p)
 at_rest rounds mind step level rest told p =
-    let resting : stage_for mind p ≡ AtRest = ap (λ (line : Line). cond (eqb p mind.sweep) (stage_of line) AtRest) rest ∙ same_branches (eqb p mind.sweep) AtRest in
+    let resting : stage_for mind p ≡ AtRest = ap (λ (line : Line). cond (eqb p mind.process) (stage_of line) AtRest) rest ∙ same_branches (eqb p mind.process) AtRest in
     subst (λ (stage : Stage). Tells rounds (goal_at mind.goals p) stage (step p) (level p)) resting (told p)
 
 pub told_at_rest : (rounds : ℕ) (mind : MindOf StepMap) (step : ℕ → ℕ) (level : ℕ → ℕ → ℕ) → mind.line ≡ Rest → ((p : ℕ) → Tells rounds (goal_at mind.goals p) AtRest (step p) (level p)) → ToldBy rounds mind step level
 told_at_rest rounds mind step level rest each p =
-    let resting : stage_for mind p ≡ AtRest = ap (λ (line : Line). cond (eqb p mind.sweep) (stage_of line) AtRest) rest ∙ same_branches (eqb p mind.sweep) AtRest in
+    let resting : stage_for mind p ≡ AtRest = ap (λ (line : Line). cond (eqb p mind.process) (stage_of line) AtRest) rest ∙ same_branches (eqb p mind.process) AtRest in
     subst (λ (stage : Stage). Tells rounds (goal_at mind.goals p) stage (step p) (level p)) (sym resting) (each p)
 
 pub told_with_goal : (rounds : ℕ) (list : List Goal) (j : ℕ) (goal : Goal) (step : ℕ → ℕ) (level : ℕ → ℕ → ℕ) → j < length list → ToldBeside rounds j list step level → Tells rounds goal AtRest (step j) (level j) → (p : ℕ) → Tells rounds (goal_at (set list j goal) p) AtRest (step p) (level p)

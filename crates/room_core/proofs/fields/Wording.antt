@@ -53,7 +53,7 @@ module _ (sizes : Sizes) (spec : RoomSpec) where
   all_worded false action mind = acted_worded action mind
 
   gathered_all_worded : (mind : MindOf StepMap) → gathered_all spec (worded sizes mind) ≡ worded_taken sizes (gathered_all spec mind)
-  gathered_all_worded mind = all_worded (ltb (length mind.entries) (processes spec)) (next_action spec.protocol (slice_index spec.inputs mind.sweep) mind.sweep (current_round mind) mind.entries) mind
+  gathered_all_worded mind = all_worded (ltb (length mind.entries) (processes spec)) (next_action spec.protocol (slice_index spec.inputs mind.process) mind.process (current_round mind) mind.entries) mind
 
   pub gathered_worded : (row other : ℕ → ℕ) (entries : List (Option ℕ)) (mind : MindOf StepMap) → length entries ≤ processes spec → ((p : ℕ) → p < processes spec → row p ≡ other p) → gathered row spec entries (worded sizes mind) ≡ worded_taken sizes (gathered other spec entries mind)
   gathered_worded row other entries mind fits same =

@@ -319,7 +319,7 @@ ends_rest spec schedule event i j k collects time early is =
       whole = ap (λ (f : Fields). (f.mind i).word + 1) at' ∙ is.whole;
       stands = ap (λ (f : Fields). (f.mind i).line) at ∙ is.stands;
       made = ap (λ (f : Fields). (f.mind i).collects) at ∙ is.made;
-      process = ap (λ (f : Fields). (f.mind i).sweep) at ∙ is.process;
+      process = ap (λ (f : Fields). (f.mind i).process) at ∙ is.process;
       round = ap (λ (f : Fields). current_round (f.mind i)) at ∙ is.round;
     }
 
@@ -375,12 +375,12 @@ module _ (spec : RoomSpec) (limits : IsWithinLimits spec) (done : List ScheduleE
   was_collecting several is = collects_rest spec done event i (own_of fields i) (history.collecting i effect.below several is)
 
   -- a proposal whose last word was stored is the snapshot
-  pub view_same : (p r : ℕ) → after.view i p r ≡ with_shown spec (fields.view i p r) (fields.mind i) → IsLastWord spec (own_of fields i) → p ≡ (fields.mind i).sweep → r ≡ current_round (fields.mind i) → (fields.mind i).line ≡ Show
+  pub view_same : (p r : ℕ) → after.view i p r ≡ with_shown spec (fields.view i p r) (fields.mind i) → IsLastWord spec (own_of fields i) → p ≡ (fields.mind i).process → r ≡ current_round (fields.mind i) → (fields.mind i).line ≡ Show
       → AreSameSteps spec.simulators (processes spec) (after.view i p r) (fields.mind i).snapshot
   view_same p r is last e e' stands a q below below' =
       ap (λ (map : StepMap). map a q) is
       ∙ word_stored spec fields (own_of fields i) (fields.view i p r) a q
-      (λ a' q' less less' early. ap (λ (j : ℕ). fields.view i j r a' q') e ∙ ap (λ (k : ℕ). fields.view i (fields.mind i).sweep k a' q') e' ∙ history.stored i effect.below stands a' q' less less' early) below below'
+      (λ a' q' less less' early. ap (λ (j : ℕ). fields.view i j r a' q') e ∙ ap (λ (k : ℕ). fields.view i (fields.mind i).process k a' q') e' ∙ history.stored i effect.below stands a' q' less less' early) below below'
       (let w = word_below (sizes_in spec) a q limits.shape below below' in omega (arith, w, last))
 
   moment_as : (p r : ℕ) (map other : StepMap) → p < processes spec → AreSameSteps spec.simulators (processes spec) map other → IsMoment spec done i p r other → IsMoment spec done i p r map
@@ -392,14 +392,14 @@ module _ (spec : RoomSpec) (limits : IsWithinLimits spec) (done : List ScheduleE
   }
 
   by_shown : (p r : ℕ) → 1 ≤ r
-      → (HasShown (progress_own (own_of fields i) p r) × (after.view i p r ≡ fields.view i p r)) ⊎ ((progress_own (own_of fields i) p r ≡ Scanned) × (after.view i p r ≡ with_shown spec (fields.view i p r) (fields.mind i)) × IsLastWord spec (own_of fields i) × (p ≡ (fields.mind i).sweep) × (r ≡ current_round (fields.mind i)) × ((fields.mind i).line ≡ Show) × (p < processes spec))
+      → (HasShown (progress_own (own_of fields i) p r) × (after.view i p r ≡ fields.view i p r)) ⊎ ((progress_own (own_of fields i) p r ≡ Scanned) × (after.view i p r ≡ with_shown spec (fields.view i p r) (fields.mind i)) × IsLastWord spec (own_of fields i) × (p ≡ (fields.mind i).process) × (r ≡ current_round (fields.mind i)) × ((fields.mind i).line ≡ Show) × (p < processes spec))
       → IsMoment spec (done ++ event ∷ []) i p r (after.view i p r)
   by_shown p r first (inl kept) = subst (IsMoment spec (done ++ event ∷ []) i p r) (sym kept.1) (moment_more spec done event i p r (fields.view i p r) (history.shown i p r effect.below first kept.0))
   by_shown p r first (inr new) =
       moment_more spec done event i p r (after.view i p r) (moment_as p r (after.view i p r) (fields.mind i).snapshot new.6 (view_same p r new.1 new.2 new.3 new.4 new.5) (history.scanned i p r effect.below first new.0))
 
   by_scanned : (p r : ℕ) → 1 ≤ r
-      → ((progress_own (own_of fields i) p r ≡ Scanned) × ((after.mind i).snapshot ≡ (fields.mind i).snapshot)) ⊎ (((after.mind i).snapshot ≡ (step_loaded spec fields (own_of fields i)).snapshot) × (fields.step i p ≡ r) × (p ≡ (fields.mind i).sweep) × ((fields.mind i).line ≡ Snap) × IsLastWord spec (own_of fields i) × (p < processes spec) × (fields.step i (fields.mind i).sweep ≡ current_round (fields.mind i)) × ScanEnds spec fields (own_of fields i) (after.mind i).collects)
+      → ((progress_own (own_of fields i) p r ≡ Scanned) × ((after.mind i).snapshot ≡ (fields.mind i).snapshot)) ⊎ (((after.mind i).snapshot ≡ (step_loaded spec fields (own_of fields i)).snapshot) × (fields.step i p ≡ r) × (p ≡ (fields.mind i).process) × ((fields.mind i).line ≡ Snap) × IsLastWord spec (own_of fields i) × (p < processes spec) × (fields.step i (fields.mind i).process ≡ current_round (fields.mind i)) × ScanEnds spec fields (own_of fields i) (after.mind i).collects)
       → IsMoment spec (done ++ event ∷ []) i p r (after.mind i).snapshot
   by_scanned p r first (inl kept) = subst (IsMoment spec (done ++ event ∷ []) i p r) (sym kept.1) (moment_more spec done event i p r (fields.mind i).snapshot (history.scanned i p r effect.below first kept.0))
   by_scanned p r first (inr new) =
@@ -415,14 +415,14 @@ module _ (spec : RoomSpec) (limits : IsWithinLimits spec) (done : List ScheduleE
       })
 
   -- a collect ends now
-  ends_now : event ≡ steps i → (fields.mind i).line ≡ Snap → IsLastWord spec (own_of fields i) → (after.mind i).line ≡ Snap → after.step i (after.mind i).sweep ≡ current_round (after.mind i)
-      → EndsCollect spec (done ++ event ∷ []) i (after.mind i).sweep (current_round (after.mind i)) (after.mind i).collects (length done + 1)
+  ends_now : event ≡ steps i → (fields.mind i).line ≡ Snap → IsLastWord spec (own_of fields i) → (after.mind i).line ≡ Snap → after.step i (after.mind i).process ≡ current_round (after.mind i)
+      → EndsCollect spec (done ++ event ∷ []) i (after.mind i).process (current_round (after.mind i)) (after.mind i).collects (length done + 1)
   ends_now is stood whole stands count =
       let long = length-snoc done event in
       let at = at_end spec (done ++ event ∷ []) (length done + 1) (omega (arith, long)) ∙ leads' in
       let at' = at_before spec done event (length done) (omega arith) ∙ at_end spec done (length done) (omega arith) ∙ history.leads in
       record {
-        counted = ap (λ (f : Fields). f.step i (after.mind i).sweep) at ∙ count;
+        counted = ap (λ (f : Fields). f.step i (after.mind i).process) at ∙ count;
         last = length done;
         next = refl;
         event = take_all (length done + 1) (done ++ event ∷ []) (omega (arith, long)) ∙ ap (λ (e : ScheduleEvent). done ++ e ∷ []) is
@@ -431,7 +431,7 @@ module _ (spec : RoomSpec) (limits : IsWithinLimits spec) (done : List ScheduleE
         whole = ap (λ (f : Fields). (f.mind i).word + 1) at' ∙ whole;
         stands = ap (λ (f : Fields). (f.mind i).line) at ∙ stands;
         made = ap (λ (f : Fields). (f.mind i).collects) at;
-        process = ap (λ (f : Fields). (f.mind i).sweep) at;
+        process = ap (λ (f : Fields). (f.mind i).process) at;
         round = ap (λ (f : Fields). current_round (f.mind i)) at;
       }
 

@@ -24,7 +24,7 @@ HasShown (Seen saw) = ⊤
 HasShown Past = ⊤
 
 abbrev pub progress_at : MindOf StepMap → (ℕ → ℕ) → ℕ → ℕ → Progress
-progress_at mind step p r = progress_in (step p) r (eqb p mind.sweep) (line_progress mind.line)
+progress_at mind step p r = progress_in (step p) r (eqb p mind.process) (line_progress mind.line)
 
 abbrev pub progress_own : Own → ℕ → ℕ → Progress
 progress_own own p r = progress_at own.mind own.step p r
@@ -89,26 +89,26 @@ scanned_by step r here line is = by_order (cases_order step r)
 
 module _ (spec : RoomSpec) (fields : Fields) (own : Own) (p r : ℕ) where
   abbrev Kept : (ℕ → ℕ → StepMap) → Type 0
-  Kept view = (HasShown (progress_own own p r) × (view p r ≡ own.view p r)) ⊎ ((progress_own own p r ≡ Scanned) × (view p r ≡ with_shown spec (own.view p r) own.mind) × IsLastWord spec own × (p ≡ own.mind.sweep) × (r ≡ round_on own) × (own.mind.line ≡ Show) × (p < processes spec))
+  Kept view = (HasShown (progress_own own p r) × (view p r ≡ own.view p r)) ⊎ ((progress_own own p r ≡ Scanned) × (view p r ≡ with_shown spec (own.view p r) own.mind) × IsLastWord spec own × (p ≡ own.mind.process) × (r ≡ round_on own) × (own.mind.line ≡ Show) × (p < processes spec))
 
   quiet_shown : (mind : MindOf StepMap) → line_progress own.mind.line ≡ Past → line_progress mind.line ≡ Past → HasShown (progress_at mind own.step p r) → Kept own.view
   quiet_shown mind is is' shown =
-      inl (subst HasShown (resting (own.step p) r (eqb p mind.sweep) (eqb p own.mind.sweep) (line_progress mind.line) (line_progress own.mind.line) is' is) shown, refl)
+      inl (subst HasShown (resting (own.step p) r (eqb p mind.process) (eqb p own.mind.process) (line_progress mind.line) (line_progress own.mind.line) is' is) shown, refl)
 
-  next_shown : (line line' : Progress) → line_progress own.mind.line ≡ line → (HasShown line' → HasShown line) → HasShown (progress_in (own.step p) r (eqb p own.mind.sweep) line') → Kept own.view
+  next_shown : (line line' : Progress) → line_progress own.mind.line ≡ line → (HasShown line' → HasShown line) → HasShown (progress_in (own.step p) r (eqb p own.mind.process) line') → Kept own.view
   next_shown line line' is back shown =
-      inl (subst (λ (l : Progress). HasShown (progress_in (own.step p) r (eqb p own.mind.sweep) l)) (sym is) (shown_line (own.step p) r (eqb p own.mind.sweep) line line' back shown), refl)
+      inl (subst (λ (l : Progress). HasShown (progress_in (own.step p) r (eqb p own.mind.process) l)) (sym is) (shown_line (own.step p) r (eqb p own.mind.process) line line' back shown), refl)
 
-  raise_shown : line_progress own.mind.line ≡ Past → HasShown (progress_in (changed own.step (process_on own) (own.step (process_on own) + 1) p) r (eqb p own.mind.sweep) Fresh) → HasShown (progress_in (own.step p) r (eqb p own.mind.sweep) Past)
-  raise_shown is shown = dite (ℕ_discrete p own.mind.sweep)
-      (λ (e : p ≡ own.mind.sweep).
-      let here = eq-eqb p own.mind.sweep e in
+  raise_shown : line_progress own.mind.line ≡ Past → HasShown (progress_in (changed own.step (process_on own) (own.step (process_on own) + 1) p) r (eqb p own.mind.process) Fresh) → HasShown (progress_in (own.step p) r (eqb p own.mind.process) Past)
+  raise_shown is shown = dite (ℕ_discrete p own.mind.process)
+      (λ (e : p ≡ own.mind.process).
+      let here = eq-eqb p own.mind.process e in
       let step : changed own.step (process_on own) (own.step (process_on own) + 1) p ≡ own.step p + 1 = changed_here own.step (process_on own) (own.step (process_on own) + 1) p e ∙ ap (λ (q : ℕ). own.step q + 1) (sym e) in
       subst (λ (b : Bool). HasShown (progress_in (own.step p) r b Past)) (sym here)
       (shown_raised (own.step p) r
       (subst (λ (s : ℕ). HasShown (progress_in s r true Fresh)) step (subst (λ (b : Bool). HasShown (progress_in (changed own.step (process_on own) (own.step (process_on own) + 1) p) r b Fresh)) here shown))))
-      (λ (n : p ≢ own.mind.sweep).
-      let here = ne_eqb p own.mind.sweep n in
+      (λ (n : p ≢ own.mind.process).
+      let here = ne_eqb p own.mind.process n in
       subst (λ (b : Bool). HasShown (progress_in (own.step p) r b Past)) (sym here)
       (subst (λ (s : ℕ). HasShown (progress_in s r false Fresh)) (changed_else own.step (process_on own) (own.step (process_on own) + 1) p n)
       (subst (λ (b : Bool). HasShown (progress_in (changed own.step (process_on own) (own.step (process_on own) + 1) p) r b Fresh)) here shown)))
@@ -116,17 +116,17 @@ module _ (spec : RoomSpec) (fields : Fields) (own : Own) (p r : ℕ) where
   abbrev shown_new : ℕ → ℕ → StepMap
   shown_new = changed_pair own.view (process_on own) (round_on own) (with_shown spec (own.view (process_on own) (round_on own)) own.mind)
 
-  shown_elsewhere : (line : Progress) → own.step (process_on own) ≡ round_on own → (p ≡ process_on own → r ≡ round_on own → ⊥) → HasShown (progress_in (own.step p) r (eqb p own.mind.sweep) line) → Kept shown_new
+  shown_elsewhere : (line : Progress) → own.step (process_on own) ≡ round_on own → (p ≡ process_on own → r ≡ round_on own → ⊥) → HasShown (progress_in (own.step p) r (eqb p own.mind.process) line) → Kept shown_new
   shown_elsewhere line count other shown = inl (
     subst HasShown (progress_else own.step (process_on own) (round_on own) p r (line_progress own.mind.line) line count other) shown,
     pair_else own.view (process_on own) (round_on own) (with_shown spec (own.view (process_on own) (round_on own)) own.mind) p r other,
   )
 
-  at_turn : (line : Progress) → own.step (process_on own) ≡ round_on own → p ≡ process_on own → r ≡ round_on own → progress_in (own.step p) r (eqb p own.mind.sweep) line ≡ line
-  at_turn line count e e' = ap (λ (b : Bool). progress_in (own.step p) r b line) (eq-eqb p own.mind.sweep e) ∙ now (own.step p) r true line (ap own.step e ∙ count ∙ sym e')
+  at_turn : (line : Progress) → own.step (process_on own) ≡ round_on own → p ≡ process_on own → r ≡ round_on own → progress_in (own.step p) r (eqb p own.mind.process) line ≡ line
+  at_turn line count e e' = ap (λ (b : Bool). progress_in (own.step p) r b line) (eq-eqb p own.mind.process e) ∙ now (own.step p) r true line (ap own.step e ∙ count ∙ sym e')
 
   -- the turn proposes the last word of its snapshot
-  show_shown : IsTurn spec own Show → own.step (process_on own) ≡ round_on own → IsLastWord spec own → HasShown (progress_in (own.step p) r (eqb p own.mind.sweep) Shown) → Kept shown_new
+  show_shown : IsTurn spec own Show → own.step (process_on own) ≡ round_on own → IsLastWord spec own → HasShown (progress_in (own.step p) r (eqb p own.mind.process) Shown) → Kept shown_new
   show_shown turn count last shown = dite (ℕ_discrete p (process_on own))
       (λ (e : p ≡ process_on own). dite (ℕ_discrete r (round_on own))
       (λ (e' : r ≡ round_on own).
@@ -144,7 +144,7 @@ module _ (spec : RoomSpec) (fields : Fields) (own : Own) (p r : ℕ) where
       (λ (n : p ≢ process_on own). shown_elsewhere Shown count (λ e _. n e) shown)
 
   -- or another one
-  show_word_shown : line_progress own.mind.line ≡ Scanned → own.step (process_on own) ≡ round_on own → HasShown (progress_in (own.step p) r (eqb p own.mind.sweep) Scanned) → Kept shown_new
+  show_word_shown : line_progress own.mind.line ≡ Scanned → own.step (process_on own) ≡ round_on own → HasShown (progress_in (own.step p) r (eqb p own.mind.process) Scanned) → Kept shown_new
   show_word_shown is count shown = dite (ℕ_discrete p (process_on own))
       (λ (e : p ≡ process_on own). dite (ℕ_discrete r (round_on own))
       (λ (e' : r ≡ round_on own). absurd (subst HasShown (at_turn Scanned count e e') shown))
@@ -153,10 +153,10 @@ module _ (spec : RoomSpec) (fields : Fields) (own : Own) (p r : ℕ) where
 
   -- what was proposed stays, and what is proposed is the snapshot at hand
   pub own_shown : (after : Own) → Effect spec fields own after → HasShown (progress_own after p r)
-      → (HasShown (progress_own own p r) × (after.view p r ≡ own.view p r)) ⊎ ((progress_own own p r ≡ Scanned) × (after.view p r ≡ with_shown spec (own.view p r) own.mind) × IsLastWord spec own × (p ≡ own.mind.sweep) × (r ≡ round_on own) × (own.mind.line ≡ Show) × (p < processes spec))
+      → (HasShown (progress_own own p r) × (after.view p r ≡ own.view p r)) ⊎ ((progress_own own p r ≡ Scanned) × (after.view p r ≡ with_shown spec (own.view p r) own.mind) × IsLastWord spec own × (p ≡ own.mind.process) × (r ≡ round_on own) × (own.mind.line ≡ Show) × (p < processes spec))
   own_shown after (stores j k value rest goal count process first last) shown = quiet_shown after.mind (ap line_progress rest) refl shown
   own_shown after (raises turn whole begun count) shown =
-      inl (subst (λ (l : Progress). HasShown (progress_in (own.step p) r (eqb p own.mind.sweep) l)) (sym (ap line_progress turn.stands)) (raise_shown (ap line_progress turn.stands) shown), refl)
+      inl (subst (λ (l : Progress). HasShown (progress_in (own.step p) r (eqb p own.mind.process) l)) (sym (ap line_progress turn.stands)) (raise_shown (ap line_progress turn.stands) shown), refl)
   own_shown after (collects_word turn count none more) shown = next_shown Fresh Fresh (ap line_progress turn.stands) (λ s. s) shown
   own_shown after (collects_again turn count none last several goes) shown = next_shown Fresh Fresh (ap line_progress turn.stands) (λ s. s) shown
   own_shown after (scans collects turn count none last ends) shown = next_shown Fresh Scanned (ap line_progress turn.stands) (λ s. s) shown
@@ -174,24 +174,24 @@ module _ (spec : RoomSpec) (fields : Fields) (own : Own) (p r : ℕ) where
   own_shown after (decides decision turn count) shown = quiet_shown after.mind (ap line_progress turn.stands) refl shown
 
   not_scanned : (mind : MindOf StepMap) (step : ℕ → ℕ) (line : Progress) → line_progress mind.line ≡ line → line ≢ Scanned → progress_at mind step p r ≡ Scanned → ⊥
-  not_scanned mind step line is other scanned = other (sym is ∙ scanned_line (step p) r (eqb p mind.sweep) (line_progress mind.line) scanned)
+  not_scanned mind step line is other scanned = other (sym is ∙ scanned_line (step p) r (eqb p mind.process) (line_progress mind.line) scanned)
 
   past_not : ◌≢◌ {A = Progress} Past Scanned
   past_not e = cc
 
-  progress_scanned : line_progress own.mind.line ≡ Scanned → progress_in (own.step p) r (eqb p own.mind.sweep) Scanned ≡ Scanned → progress_own own p r ≡ Scanned
-  progress_scanned is scanned = ap (λ (l : Progress). progress_in (own.step p) r (eqb p own.mind.sweep) l) is ∙ scanned
+  progress_scanned : line_progress own.mind.line ≡ Scanned → progress_in (own.step p) r (eqb p own.mind.process) Scanned ≡ Scanned → progress_own own p r ≡ Scanned
+  progress_scanned is scanned = ap (λ (l : Progress). progress_in (own.step p) r (eqb p own.mind.process) l) is ∙ scanned
 
   -- a whole snapshot was there before; or the last word of it has just been loaded, and the simulator had counted the round
   pub own_scanned : (after : Own) → Effect spec fields own after → progress_own after p r ≡ Scanned
-      → ((progress_own own p r ≡ Scanned) × (after.mind.snapshot ≡ own.mind.snapshot)) ⊎ ((after.mind.snapshot ≡ (step_loaded spec fields own).snapshot) × (own.step p ≡ r) × (p ≡ own.mind.sweep) × (own.mind.line ≡ Snap) × IsLastWord spec own × (p < processes spec) × (own.step (process_on own) ≡ round_on own) × ScanEnds spec fields own after.mind.collects)
+      → ((progress_own own p r ≡ Scanned) × (after.mind.snapshot ≡ own.mind.snapshot)) ⊎ ((after.mind.snapshot ≡ (step_loaded spec fields own).snapshot) × (own.step p ≡ r) × (p ≡ own.mind.process) × (own.mind.line ≡ Snap) × IsLastWord spec own × (p < processes spec) × (own.step (process_on own) ≡ round_on own) × ScanEnds spec fields own after.mind.collects)
   own_scanned after (stores j k value rest goal count process first last) is = absurd (not_scanned after.mind after.step Past refl past_not is)
   own_scanned after (raises turn whole begun count) is = absurd (not_scanned after.mind after.step Fresh refl (λ e. cc) is)
   own_scanned after (collects_word turn count none more) is = absurd (not_scanned after.mind after.step Fresh refl (λ e. cc) is)
   own_scanned after (collects_again turn count none last several goes) is = absurd (not_scanned after.mind after.step Fresh refl (λ e. cc) is)
   own_scanned after (scans collects turn count none last ends) is =
-      let at = scanned_by (own.step p) r (eqb p own.mind.sweep) Scanned is in
-      let same : p ≡ own.mind.sweep = eqb-true p own.mind.sweep at.1 in
+      let at = scanned_by (own.step p) r (eqb p own.mind.process) Scanned is in
+      let same : p ≡ own.mind.process = eqb-true p own.mind.process at.1 in
       inr (refl, at.0, same, turn.stands, last, let below = turn.process in omega (arith, same, below), count, ends)
   own_scanned after (loads_word found turn less more) is = absurd (not_scanned after.mind after.step Past refl past_not is)
   own_scanned after (shows_word turn count none more) is = inl (progress_scanned (ap line_progress turn.stands) is, refl)
@@ -215,7 +215,7 @@ raised_most step j p = dite (ℕ_discrete p j)
 
 pub own_grows : (spec : RoomSpec) (fields : Fields) (own after : Own) (p : ℕ) → Effect spec fields own after → own.step p ≤ after.step p
 own_grows spec fields own after p (stores j k value rest goal count process first last) = omega arith
-own_grows spec fields own after p (raises turn whole begun count) = raised_most own.step own.mind.sweep p
+own_grows spec fields own after p (raises turn whole begun count) = raised_most own.step own.mind.process p
 own_grows spec fields own after p (collects_word turn count none more) = omega arith
 own_grows spec fields own after p (collects_again turn count none last several goes) = omega arith
 own_grows spec fields own after p (scans collects turn count none last ends) = omega arith

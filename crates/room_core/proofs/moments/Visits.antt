@@ -64,34 +64,34 @@ later_goal goals.Spent left two = tt
 
 module _ (spec : RoomSpec) (fields : Fields) (own : Own) (is_mind : IsMind spec (worded (sizes_in spec) own.mind)) (has : HasCounted (processes spec) own) where
   j : ℕ
-  j = own.mind.sweep
+  j = own.mind.process
 
   more : ℕ → ℕ
-  more = changed own.step own.mind.sweep (own.step own.mind.sweep + 1)
+  more = changed own.step own.mind.process (own.step own.mind.process + 1)
 
-  kept_more : (p : ℕ) → 1 ≤ own.step p → 1 ≤ changed own.step own.mind.sweep (own.step own.mind.sweep + 1) p
-  kept_more p one = dite (ℕ_discrete p own.mind.sweep)
-      (λ (e : p ≡ own.mind.sweep). let new = changed_here own.step own.mind.sweep (own.step own.mind.sweep + 1) p e in omega (arith, new))
-      (λ (n : p ≢ own.mind.sweep). let same = changed_else own.step own.mind.sweep (own.step own.mind.sweep + 1) p n in omega (arith, same, one))
+  kept_more : (p : ℕ) → 1 ≤ own.step p → 1 ≤ changed own.step own.mind.process (own.step own.mind.process + 1) p
+  kept_more p one = dite (ℕ_discrete p own.mind.process)
+      (λ (e : p ≡ own.mind.process). let new = changed_here own.step own.mind.process (own.step own.mind.process + 1) p e in omega (arith, new))
+      (λ (n : p ≢ own.mind.process). let same = changed_else own.step own.mind.process (own.step own.mind.process + 1) p n in omega (arith, same, one))
 
   -- it has come to its process again, so it has visited all
   all_counted : is_unfinished (current_goal own.mind) ≡ true → 2 ≤ current_round own.mind → (p : ℕ) → p < processes spec → 1 ≤ own.step p
   all_counted left two p below =
-      has.visited p below (all_visited own.mind.goals own.mind.sweep p (let long = is_mind.goals in let place = is_mind.sweep in omega (arith, long, place)) left (later_goal (current_goal own.mind) left two) is_mind.order)
+      has.visited p below (all_visited own.mind.goals own.mind.process p (let long = is_mind.goals in let place = is_mind.process in omega (arith, long, place)) left (later_goal (current_goal own.mind) left two) is_mind.order)
 
-  raised : IsTurn spec own Raise → own.step own.mind.sweep + 1 ≡ current_round own.mind → (after : Own) → after.mind.goals ≡ own.mind.goals → after.step ≡ changed own.step own.mind.sweep (own.step own.mind.sweep + 1) → HasCounted (processes spec) after
+  raised : IsTurn spec own Raise → own.step own.mind.process + 1 ≡ current_round own.mind → (after : Own) → after.mind.goals ≡ own.mind.goals → after.step ≡ changed own.step own.mind.process (own.step own.mind.process + 1) → HasCounted (processes spec) after
   raised turn count after goals_are steps_are = record {
     visited = λ p below is. subst (λ (step : ℕ → ℕ). 1 ≤ step p) (sym steps_are) (kept_more p (has.visited p below (subst (λ (list : List Goal). IsVisited (goal_at list p)) goals_are is)));
     twice = λ q p below two. subst (λ (step : ℕ → ℕ). 1 ≤ step p) (sym steps_are) (twice q p below (subst (λ (step : ℕ → ℕ). 2 ≤ step q) steps_are two));
   }
     where
-      twice : (q p : ℕ) → p < processes spec → 2 ≤ changed own.step own.mind.sweep (own.step own.mind.sweep + 1) q → 1 ≤ changed own.step own.mind.sweep (own.step own.mind.sweep + 1) p
-      twice q p below two = kept_more p (dite (ℕ_discrete q own.mind.sweep)
-          (λ (e : q ≡ own.mind.sweep).
-          let new = changed_here own.step own.mind.sweep (own.step own.mind.sweep + 1) q e in
+      twice : (q p : ℕ) → p < processes spec → 2 ≤ changed own.step own.mind.process (own.step own.mind.process + 1) q → 1 ≤ changed own.step own.mind.process (own.step own.mind.process + 1) p
+      twice q p below two = kept_more p (dite (ℕ_discrete q own.mind.process)
+          (λ (e : q ≡ own.mind.process).
+          let new = changed_here own.step own.mind.process (own.step own.mind.process + 1) q e in
           all_counted turn.left (omega (arith, new, two, count)) p below)
-          (λ (n : q ≢ own.mind.sweep).
-          let same = changed_else own.step own.mind.sweep (own.step own.mind.sweep + 1) q n in
+          (λ (n : q ≢ own.mind.process).
+          let same = changed_else own.step own.mind.process (own.step own.mind.process + 1) q n in
           has.twice q p below (omega (arith, same, two))))
 
   counts : (after : Own) → Effect spec fields own after → HasCounted (processes spec) after
@@ -106,19 +106,19 @@ module _ (spec : RoomSpec) (fields : Fields) (own : Own) (is_mind : IsMind spec 
   counts after (looks turn count one) = same_counted (processes spec) own _ refl refl has
   counts after (leaves saw_two turn count one) = same_counted (processes spec) own _ refl refl has
   counts after (asks_in_vain asking asks none) =
-      ended_counted (processes spec) own _ asking.goals asking.sweep (goals.Ask (current_round asking)) asks.goals refl refl (let c = asks.count in let f = asks.first in omega (arith, c, f)) has
+      ended_counted (processes spec) own _ asking.goals asking.process (goals.Ask (current_round asking)) asks.goals refl refl (let c = asks.count in let f = asks.first in omega (arith, c, f)) has
   counts after (finds asking chosen asks some) = same_counted (processes spec) own _ asks.goals refl has
   counts after (loads_word chosen turn below next) = same_counted (processes spec) own _ refl refl has
   counts after (gathers reading reads next) = same_counted (processes spec) own _ reads.goals refl has
   counts after (goes_to reading value reads all action) =
       let first = (open_round spec own.mind is_mind reads.left).0 in
       let count = reads.count in
-      let place = reads.sweep in
-      ended_counted (processes spec) own _ reading.goals reading.sweep (after_write spec.rounds (current_round reading) value) reads.goals refl refl (subst (λ (q : ℕ). 1 ≤ own.step q) (sym place) (omega (arith, count, first))) has
+      let place = reads.process in
+      ended_counted (processes spec) own _ reading.goals reading.process (after_write spec.rounds (current_round reading) value) reads.goals refl refl (subst (λ (q : ℕ). 1 ≤ own.step q) (sym place) (omega (arith, count, first))) has
   counts after (will_decide reading decision reads all action) = same_counted (processes spec) own _ reads.goals refl has
   counts after (decides decision turn count) =
       let first = turn.first in
-      ended_counted (processes spec) own _ own.mind.goals own.mind.sweep goals.Done refl refl refl (omega (arith, count, first)) has
+      ended_counted (processes spec) own _ own.mind.goals own.mind.process goals.Done refl refl refl (omega (arith, count, first)) has
 
 -- ---- along a run
 

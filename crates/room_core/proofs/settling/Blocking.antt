@@ -49,17 +49,17 @@ module _ (spec : RoomSpec) (fields : Fields) (quiet : ℕ) where
 
   on_gathered_all : (mind : MindOf StepMap) → Counting mind → CountsOn spec fields (gathered_all spec mind) quiet
   on_gathered_all mind counts =
-      let action = next_action spec.protocol (slice_index spec.inputs mind.sweep) mind.sweep (current_round mind) mind.entries in
+      let action = next_action spec.protocol (slice_index spec.inputs mind.process) mind.process (current_round mind) mind.entries in
       on_test (ltb (length mind.entries) (processes spec)) (goes_on Values mind) (acted spec action mind) counts (on_acted action mind counts)
 
   on_gathered : (row : ℕ → ℕ) (entries : List (Option ℕ)) (mind : MindOf StepMap) → Counting mind → CountsOn spec fields (gathered row spec entries mind) quiet
   on_gathered row entries mind counts = on_gathered_all (record mind { entries = padded row (processes spec) entries }) counts
 
-  on_asked : (mind : MindOf StepMap) → mind.sweep < length mind.goals → is_unfinished (current_goal mind) ≡ true → Counting mind → CountsOn spec fields (taken_on Ask spec fields mind.sweep (current_round mind) mind) quiet
-  on_asked mind place left counts = blocked_asked (unresolved spec fields) (chosen_at spec fields mind.sweep (current_round mind)) mind quiet (λ none. ap is_nothing none) place left counts
+  on_asked : (mind : MindOf StepMap) → mind.process < length mind.goals → is_unfinished (current_goal mind) ≡ true → Counting mind → CountsOn spec fields (taken_on Ask spec fields mind.process (current_round mind) mind) quiet
+  on_asked mind place left counts = blocked_asked (unresolved spec fields) (chosen_at spec fields mind.process (current_round mind)) mind quiet (λ none. ap is_nothing none) place left counts
 
   -- the first line of a turn
-  on_first_at : (goal : Goal) (j : ℕ) (mind : MindOf StepMap) → goal_at mind.goals j ≡ goal → next_process mind.goals mind.sweep ≡ Some j → j < length mind.goals → Counting mind → CountsOn spec fields (taken_first_at goal spec fields j mind) quiet
+  on_first_at : (goal : Goal) (j : ℕ) (mind : MindOf StepMap) → goal_at mind.goals j ≡ goal → next_process mind.goals mind.process ≡ Some j → j < length mind.goals → Counting mind → CountsOn spec fields (taken_first_at goal spec fields j mind) quiet
   on_first_at (goals.Write k value) j mind is found place counts =
       subst (λ (g : Goal). CountsOn spec fields (opened_at g None (begun j mind)) quiet) (sym is) (blocked_begun (unresolved spec fields) j mind quiet found counts)
   on_first_at (goals.Ask k) j mind is found place counts =
@@ -69,10 +69,10 @@ module _ (spec : RoomSpec) (fields : Fields) (quiet : ℕ) where
   on_first_at goals.Done j mind is found place counts = counts
   on_first_at goals.Spent j mind is found place counts = counts
 
-  on_first : (next : Option ℕ) (mind : MindOf StepMap) → next_process mind.goals mind.sweep ≡ next → mind.sweep ≤ length mind.goals → Counting mind → CountsOn spec fields (taken_first next spec fields mind) quiet
+  on_first : (next : Option ℕ) (mind : MindOf StepMap) → next_process mind.goals mind.process ≡ next → mind.process ≤ length mind.goals → Counting mind → CountsOn spec fields (taken_first next spec fields mind) quiet
   on_first None mind found within counts = counts
   on_first (Some j) mind found within counts =
-      let next = next_is_left mind.goals mind.sweep j within found in
+      let next = next_is_left mind.goals mind.process j within found in
       on_first_at (goal_at mind.goals j) j mind refl found next.below counts
 
   -- its store changes no level
@@ -106,38 +106,38 @@ no_ask_inside rounds goals.Done step round told is = cc
 no_ask_inside rounds goals.Spent step round told is = cc
 
 with_level : (spec : RoomSpec) (fields : Fields) (i k entry quiet : ℕ) (mind : MindOf StepMap) → ((round : ℕ) → current_goal mind ≢ goals.Ask round) → IsBlockedCount (unresolved spec fields) mind quiet
-    → IsBlockedCount (unresolved spec (record fields { level = changed_triple fields.level i mind.sweep k entry })) mind quiet
+    → IsBlockedCount (unresolved spec (record fields { level = changed_triple fields.level i mind.process k entry })) mind quiet
 with_level spec fields i k entry quiet mind other counts =
-    let after = record fields { level = changed_triple fields.level i mind.sweep k entry } in
-    subst (λ (l : List Goal). AreAsksAtTheEnd (unfinished_from l mind.sweep) quiet)
+    let after = record fields { level = changed_triple fields.level i mind.process k entry } in
+    subst (λ (l : List Goal). AreAsksAtTheEnd (unfinished_from l mind.process) quiet)
     (same_marks (unresolved spec fields) (unresolved spec after) 0 mind.goals (λ s round is.
-    level_else spec fields i mind.sweep k entry (0 + s) round (λ e. other round (ap (goal_at mind.goals) (sym e ∙ (let zero_is : 0 + s ≡ s = omega arith in zero_is)) ∙ is)))) counts
+    level_else spec fields i mind.process k entry (0 + s) round (λ e. other round (ap (goal_at mind.goals) (sym e ∙ (let zero_is : 0 + s ≡ s = omega arith in zero_is)) ∙ is)))) counts
 
 module _ (spec : RoomSpec) (fields : Fields) (i : ℕ) where
   abbrev Counted_ : Line → Type 0
   Counted_ line =
       let mind = fields.mind i in
-      CountsOn spec (stored_on line spec fields i mind.sweep (current_round mind) (counted mind)) (taken_on line spec fields mind.sweep (current_round mind) (counted mind)) (fields.quiet i)
+      CountsOn spec (stored_on line spec fields i mind.process (current_round mind) (counted mind)) (taken_on line spec fields mind.process (current_round mind) (counted mind)) (fields.quiet i)
 
   pub on_line : (line : Line) → StandsAt line spec fields i (fields.mind i) → IsBlockedCount (unresolved spec fields) (fields.mind i) (fields.quiet i) → Counted_ line
   on_line Rest at counts =
       let mind = counted (fields.mind i) in
-      let within : mind.sweep ≤ length mind.goals = let s = at.is_mind.sweep in let n = at.is_mind.goals in omega arith in
-      on_rest spec fields (fields.quiet i) (next_process mind.goals mind.sweep) i mind (on_first spec fields (fields.quiet i) (next_process mind.goals mind.sweep) mind refl within counts)
+      let within : mind.process ≤ length mind.goals = let s = at.is_mind.process in let n = at.is_mind.goals in omega arith in
+      on_rest spec fields (fields.quiet i) (next_process mind.goals mind.process) i mind (on_first spec fields (fields.quiet i) (next_process mind.goals mind.process) mind refl within counts)
   on_line Raise at counts = counts
   on_line Snap at counts =
       let into = with_loaded spec fields.step (counted (fields.mind i)) in
       snapped_by (λ (taken : TakenOf StepMap). CountsOn spec fields taken (fields.quiet i)) spec into (is_same_collect spec into) counts counts counts counts
-  on_line Show at counts = showed_by (λ (taken : TakenOf StepMap). CountsOn spec (stored_on Show spec fields i (fields.mind i).sweep (current_round (fields.mind i)) (counted (fields.mind i))) taken (fields.quiet i)) spec (counted (fields.mind i)) counts counts
+  on_line Show at counts = showed_by (λ (taken : TakenOf StepMap). CountsOn spec (stored_on Show spec fields i (fields.mind i).process (current_round (fields.mind i)) (counted (fields.mind i))) taken (fields.quiet i)) spec (counted (fields.mind i)) counts counts
   on_line Enter at counts =
-      with_level spec fields i (current_round (fields.mind i)) (fields.level i (fields.mind i).sweep (current_round (fields.mind i)) + 1) (fields.quiet i) (fields.mind i) (λ round. no_ask spec.rounds (current_goal (fields.mind i)) (fields.step i (fields.mind i).sweep) round at.own.counts) counts
+      with_level spec fields i (current_round (fields.mind i)) (fields.level i (fields.mind i).process (current_round (fields.mind i)) + 1) (fields.quiet i) (fields.mind i) (λ round. no_ask spec.rounds (current_goal (fields.mind i)) (fields.step i (fields.mind i).process) round at.own.counts) counts
   on_line Look at counts = counts
   on_line (Leave saw_two) at counts =
-      with_level spec fields i (current_round (fields.mind i)) (left_level saw_two) (fields.quiet i) (fields.mind i) (λ round. no_ask_inside spec.rounds (current_goal (fields.mind i)) (fields.step i (fields.mind i).sweep) round at.own.counts) counts
-  on_line Ask at counts = on_asked spec fields (fields.quiet i) (counted (fields.mind i)) (let s = at.is_mind.sweep in let n = at.is_mind.goals in omega arith) at.open_at counts
+      with_level spec fields i (current_round (fields.mind i)) (left_level saw_two) (fields.quiet i) (fields.mind i) (λ round. no_ask_inside spec.rounds (current_goal (fields.mind i)) (fields.step i (fields.mind i).process) round at.own.counts) counts
+  on_line Ask at counts = on_asked spec fields (fields.quiet i) (counted (fields.mind i)) (let s = at.is_mind.process in let n = at.is_mind.goals in omega arith) at.open_at counts
   on_line (GetView chosen) at counts =
       let mind = fields.mind i in
-      let into = with_loaded spec (fields.view chosen mind.sweep (current_round mind)) (counted mind) in
+      let into = with_loaded spec (fields.view chosen mind.process (current_round mind)) (counted mind) in
       got_view_by (λ (taken : TakenOf StepMap). CountsOn spec fields taken (fields.quiet i)) spec into (entry_of_steps spec into.snapshot) chosen counts (on_gathered spec fields (fields.quiet i) (entry_of_steps spec into.snapshot) [] (record into { word = 0 }) counts)
   on_line Values at counts =
       let mind = fields.mind i in

@@ -54,13 +54,13 @@ module _ (spec : RoomSpec) (fields : Fields) (own : Own) (p : ℕ) where
   own_stored after (enters turn count none) was = was
   own_stored after (looks turn count one) was = was
   own_stored after (leaves saw_two turn count one) was = was
-  own_stored after (asks_in_vain asking asks is) was = ended_stored asking.goals asking.sweep (goals.Ask (current_round asking)) asks.goals (λ e. cc) was
+  own_stored after (asks_in_vain asking asks is) was = ended_stored asking.goals asking.process (goals.Ask (current_round asking)) asks.goals (λ e. cc) was
   own_stored after (finds asking chosen asks is) was = same_stored asking.goals asks.goals was
   own_stored after (gathers reading reads more) was = same_stored reading.goals reads.goals was
   own_stored after (goes_to reading value reads all is) was =
-      ended_stored reading.goals reading.sweep (after_write spec.rounds (current_round reading) value) reads.goals (not_done_by (ltb (current_round reading) spec.rounds) (current_round reading + 1) value) was
+      ended_stored reading.goals reading.process (after_write spec.rounds (current_round reading) value) reads.goals (not_done_by (ltb (current_round reading) spec.rounds) (current_round reading + 1) value) was
   own_stored after (will_decide reading decision reads all is) was = same_stored reading.goals reads.goals was
-  own_stored after (decides decision turn count) was = decided_stored own.mind.sweep (decision + 1) (λ e. omega (arith, e)) was
+  own_stored after (decides decision turn count) was = decided_stored own.mind.process (decision + 1) (λ e. omega (arith, e)) was
 
 abbrev StoredAfter : RoomSpec → List ScheduleEvent → Fields → Type 0
 StoredAfter spec schedule fields = (i p : ℕ) → HasStored (own_of fields i) p

@@ -87,13 +87,13 @@ module _ (room : RoomState) (fields : Fields) (limits : IsWithinLimits room.spec
     tells p =
         let mind = fields.mind i in
         let told = (fields_stand room fields limits are).tracks.told i in
-        let own = subst (λ (line : Line). Tells room.spec.rounds (current_goal mind) (stage_of line) (fields.step i mind.sweep) (fields.level i mind.sweep)) (rest_line mind.line rest) (at_sweep room.spec.rounds mind (fields.step i) (fields.level i) told) in
-        each_at_rest room.spec.rounds mind.sweep mind.goals (fields.step i) (fields.level i) (beside room.spec.rounds mind (fields.step i) (fields.level i) told) own p
+        let own = subst (λ (line : Line). Tells room.spec.rounds (current_goal mind) (stage_of line) (fields.step i mind.process) (fields.level i mind.process)) (rest_line mind.line rest) (at_sweep room.spec.rounds mind (fields.step i) (fields.level i) told) in
+        each_at_rest room.spec.rounds mind.process mind.goals (fields.step i) (fields.level i) (beside room.spec.rounds mind (fields.step i) (fields.level i) told) own p
 
     left_here : (j k : ℕ) → fields.step i j ≡ k → phases_in fields j k i ≡ Left (fields.level i j k)
     left_here j k same =
         let mind = fields.mind i in
-        let here = eqb j mind.sweep in
+        let here = eqb j mind.process in
         ap (λ (p : Progress). phase_of p (fields.level i j k))
         (now (fields.step i j) k here (line_progress mind.line) same ∙ ap (λ (l : Line). cond here (line_progress l) Past) (rest_line mind.line rest) ∙ both_past here)
 

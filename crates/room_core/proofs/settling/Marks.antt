@@ -103,25 +103,25 @@ same_marks blocked other p (goal ∷ goals) same =
 -- ---- the quiet count of a mind whose last asks are blocked
 
 abbrev pub IsBlockedCount : {S : Type 0} → (ℕ → ℕ → Bool) → MindOf S → ℕ → Type 0
-IsBlockedCount blocked mind quiet = AreAsksAtTheEnd (unfinished_from (marks blocked 0 mind.goals) mind.sweep) quiet
+IsBlockedCount blocked mind quiet = AreAsksAtTheEnd (unfinished_from (marks blocked 0 mind.goals) mind.process) quiet
 
 module _ {S : Type 0} (blocked : ℕ → ℕ → Bool) where
   pub blocked_anew : (mind : MindOf S) → IsBlockedCount blocked mind 0
-  blocked_anew mind = no_asks (unfinished_from (marks blocked 0 mind.goals) mind.sweep)
+  blocked_anew mind = no_asks (unfinished_from (marks blocked 0 mind.goals) mind.process)
 
   pub blocked_ended : (goal : Goal) (mind : MindOf S) → IsBlockedCount blocked (ended Useful goal mind).mind 0
   blocked_ended goal mind = blocked_anew (ended Useful goal mind).mind
 
-  pub blocked_begun : (process : ℕ) (mind : MindOf S) (quiet : ℕ) → next_process mind.goals mind.sweep ≡ Some process → IsBlockedCount blocked mind quiet → IsBlockedCount blocked (begun process mind) quiet
+  pub blocked_begun : (process : ℕ) (mind : MindOf S) (quiet : ℕ) → next_process mind.goals mind.process ≡ Some process → IsBlockedCount blocked mind quiet → IsBlockedCount blocked (begun process mind) quiet
   blocked_begun process mind quiet found counts =
-      subst (λ (l : List Goal). AreAsksAtTheEnd l quiet) (sym (sets_out (marks blocked 0 mind.goals) mind.sweep process (same_next blocked mind.goals mind.sweep ∙ found))) counts
+      subst (λ (l : List Goal). AreAsksAtTheEnd l quiet) (sym (sets_out (marks blocked 0 mind.goals) mind.process process (same_next blocked mind.goals mind.process ∙ found))) counts
 
-  pub blocked_asked : (chosen : Option ℕ) (mind : MindOf S) (quiet : ℕ) → (chosen ≡ None → blocked mind.sweep (current_round mind) ≡ true) → mind.sweep < length mind.goals → is_unfinished (current_goal mind) ≡ true → IsBlockedCount blocked mind quiet
+  pub blocked_asked : (chosen : Option ℕ) (mind : MindOf S) (quiet : ℕ) → (chosen ≡ None → blocked mind.process (current_round mind) ≡ true) → mind.process < length mind.goals → is_unfinished (current_goal mind) ≡ true → IsBlockedCount blocked mind quiet
       → IsBlockedCount blocked (asked chosen mind).mind (quiet_after (asked chosen mind).turn quiet)
   blocked_asked (Some chosen) mind quiet is place left counts = counts
   blocked_asked None mind quiet is place left counts =
       let list = marks blocked 0 mind.goals in
-      let s = mind.sweep in
+      let s = mind.process in
       let round = current_round mind in
       let zero_is : 0 + s ≡ s = omega arith in
       let here : mark blocked (0 + s) (Ask round) ≡ Ask round = ap (λ (q : ℕ). mark blocked q (Ask round)) zero_is ∙ ap (λ (b : Bool). cond b (Ask round) (Write round 0)) (is refl) in
@@ -137,5 +137,5 @@ module _ {S : Type 0} (blocked : ℕ → ℕ → Bool) where
   pub all_blocked : (mind : MindOf S) (quiet process : ℕ) → unfinished_in mind.goals ≤ quiet → IsBlockedCount blocked mind quiet → HasNoWrite (mark blocked process (goal_at mind.goals process))
   all_blocked mind quiet process enough counts =
       let list = marks blocked 0 mind.goals in
-      let waits = all_asked list mind.sweep quiet process (omega (arith, same_count blocked 0 mind.goals, enough)) counts in
+      let waits = all_asked list mind.process quiet process (omega (arith, same_count blocked 0 mind.goals, enough)) counts in
       subst HasNoWrite (goal_marked blocked process 0 mind.goals ∙ ap (λ (q : ℕ). mark blocked q (goal_at mind.goals process)) (let e : 0 + process ≡ process = omega arith in e)) waits

@@ -73,7 +73,7 @@ module _ (room : RoomState) (fields : Fields) (i : ℕ) (limits : IsWithinLimits
   line_crashed : HasLine (configuration_of room) i → (a : ℕ) → (line room.spec fields i).crashed a ≡ fields.crashed a
   line_crashed may a =
       let mind = fields.mind i in
-      let store = is_store mind.line room.spec fields i mind.sweep (current_round mind) (counted mind) in
+      let store = is_store mind.line room.spec fields i mind.process (current_round mind) (counted mind) in
       ap (λ (f : Fields). f.crashed a) (line_is (configuration_of room) fields i (shapes (configuration_of room) limits are.run) (fields_stand room fields limits are) may) ∙ ap (λ (c : ℕ → Bool). c a) store.crashed
 
   level_else : HasLine (configuration_of room) i → (a j k : ℕ) → a ≢ i → (line room.spec fields i).level a j k ≡ fields.level a j k
@@ -115,10 +115,10 @@ module _ (room : RoomState) (fields : Fields) (i : ℕ) (limits : IsWithinLimits
       let shape = shapes (configuration_of room) limits are.run in
       let for = fields_stand room fields limits are in
       let mind = fields.mind i in
-      let stored_ = stored_on mind.line spec fields i mind.sweep (current_round mind) (counted mind) in
-      let taken = taken_on mind.line spec fields mind.sweep (current_round mind) (counted mind) in
+      let stored_ = stored_on mind.line spec fields i mind.process (current_round mind) (counted mind) in
+      let taken = taken_on mind.line spec fields mind.process (current_round mind) (counted mind) in
       let after = with_taken stored_ i taken in
-      let store = is_store mind.line spec fields i mind.sweep (current_round mind) (counted mind) in
+      let store = is_store mind.line spec fields i mind.process (current_round mind) (counted mind) in
       let on = on_line spec fields i mind.line (stands_at (configuration_of room) fields i shape for may) counts in
       let mind_is : after.mind i ≡ taken.mind = changed_here stored_.mind i taken.mind i refl in
       let quiet_is : after.quiet i ≡ quiet_after taken.turn (fields.quiet i) = changed_here stored_.quiet i (quiet_after taken.turn (stored_.quiet i)) i refl ∙ ap (λ (q : ℕ → ℕ). quiet_after taken.turn (q i)) store.quiet in

@@ -55,7 +55,7 @@ write_of rounds goals.Spent step counts = absurd counts
 -- ---- what a line makes of an open turn that reads
 
 module _ (spec : RoomSpec) (fields : Fields) (tracks : KeepsTrack spec fields) (small : HasSmallValues spec) (within : ViewsWithin spec fields) (known : IsKnown spec fields) (i : ℕ) (below : i < spec.simulators) where
-  chosen_new : (after : Own) (chosen : ℕ) → Effect spec fields (own_of fields i) after → after.mind.line ≡ GetView chosen → IsChosen spec fields after.mind.sweep (current_round after.mind) chosen
+  chosen_new : (after : Own) (chosen : ℕ) → Effect spec fields (own_of fields i) after → after.mind.line ≡ GetView chosen → IsChosen spec fields after.mind.process (current_round after.mind) chosen
   chosen_new after chosen (stores j k value rest goal count process first last) is = absurd cc
   chosen_new after chosen (raises turn whole begun count) is = absurd cc
   chosen_new after chosen (collects_word turn count none more) is = absurd cc
@@ -63,7 +63,7 @@ module _ (spec : RoomSpec) (fields : Fields) (tracks : KeepsTrack spec fields) (
   chosen_new after chosen (scans collects turn count none last ends) is = absurd cc
   chosen_new after chosen (loads_word found turn less more) is =
       let same : ◌≡◌ {A = ℕ} found chosen = cc in
-      subst (λ (c : ℕ). IsChosen spec fields (fields.mind i).sweep (current_round (fields.mind i)) c) same (known.chosen i found below turn.stands)
+      subst (λ (c : ℕ). IsChosen spec fields (fields.mind i).process (current_round (fields.mind i)) c) same (known.chosen i found below turn.stands)
   chosen_new after chosen (shows_word turn count none more) is = absurd cc
   chosen_new after chosen (shows turn count none last) is = absurd cc
   chosen_new after chosen (enters turn count none) is = absurd cc
@@ -72,7 +72,7 @@ module _ (spec : RoomSpec) (fields : Fields) (tracks : KeepsTrack spec fields) (
   chosen_new after chosen (asks_in_vain asking asks none) is = absurd cc
   chosen_new after chosen (finds asking found asks some) is =
       let same : ◌≡◌ {A = ℕ} found chosen = cc in
-      let j = asking.sweep in
+      let j = asking.process in
       let k = current_round asking in
       let clean = clean_from (levels_at spec fields j k) found (resolved_to (levels_at spec fields j k) found some) in
       record {
@@ -106,7 +106,7 @@ module _ (spec : RoomSpec) (fields : Fields) (tracks : KeepsTrack spec fields) (
   loading_new after chosen (will_decide reading decision reads all action) is = absurd cc
   loading_new after chosen (decides decision turn count) is = absurd cc
 
-  reading_new : (after : Own) → Effect spec fields (own_of fields i) after → after.mind.line ≡ Values → IsGathered spec fields after.mind.sweep (current_round after.mind) after.mind.snapshot after.mind.entries
+  reading_new : (after : Own) → Effect spec fields (own_of fields i) after → after.mind.line ≡ Values → IsGathered spec fields after.mind.process (current_round after.mind) after.mind.snapshot after.mind.entries
   reading_new after (stores j k value rest goal count process first last) is = absurd cc
   reading_new after (raises turn whole begun count) is = absurd cc
   reading_new after (collects_word turn count none more) is = absurd cc
@@ -125,7 +125,7 @@ module _ (spec : RoomSpec) (fields : Fields) (tracks : KeepsTrack spec fields) (
   reading_new after (will_decide reading decision reads all action) is = absurd cc
   reading_new after (decides decision turn count) is = absurd cc
 
-  deciding_new : (after : Own) (decision : ℕ) → Effect spec fields (own_of fields i) after → after.mind.line ≡ Out decision → IsDeciding spec fields after.mind.sweep (current_round after.mind) decision
+  deciding_new : (after : Own) (decision : ℕ) → Effect spec fields (own_of fields i) after → after.mind.line ≡ Out decision → IsDeciding spec fields after.mind.process (current_round after.mind) decision
   deciding_new after decision (stores j k value rest goal count process first last) is = absurd cc
   deciding_new after decision (raises turn whole begun count) is = absurd cc
   deciding_new after decision (collects_word turn count none more) is = absurd cc
@@ -160,7 +160,7 @@ module _ (spec : RoomSpec) (fields after : Fields) (i : ℕ) (tracks : KeepsTrac
   pub some_simulator : 0 < spec.simulators
   some_simulator = let b = effect.below in omega arith
 
-  view_of : (p k : ℕ) → fields.level i p k ≡ 2 → (HasShown (progress_own (own_of fields i) p k) × (after.view i p k ≡ fields.view i p k)) ⊎ ((progress_own (own_of fields i) p k ≡ Scanned) × (after.view i p k ≡ with_shown spec (fields.view i p k) (fields.mind i)) × IsLastWord spec (own_of fields i) × (p ≡ (fields.mind i).sweep) × (k ≡ current_round (fields.mind i)) × ((fields.mind i).line ≡ Show) × (p < processes spec)) → after.view i p k ≡ fields.view i p k
+  view_of : (p k : ℕ) → fields.level i p k ≡ 2 → (HasShown (progress_own (own_of fields i) p k) × (after.view i p k ≡ fields.view i p k)) ⊎ ((progress_own (own_of fields i) p k ≡ Scanned) × (after.view i p k ≡ with_shown spec (fields.view i p k) (fields.mind i)) × IsLastWord spec (own_of fields i) × (p ≡ (fields.mind i).process) × (k ≡ current_round (fields.mind i)) × ((fields.mind i).line ≡ Show) × (p < processes spec)) → after.view i p k ≡ fields.view i p k
   view_of p k two (inl kept) = kept.1
   view_of p k two (inr new) = absurd (scanned_level spec fields i p k tracks new.0 two)
 
@@ -178,23 +178,23 @@ module _ (spec : RoomSpec) (fields after : Fields) (i : ℕ) (tracks : KeepsTrac
       (λ (n : a ≢ i). let same : after.step a p ≡ fields.step a p = ap (λ (own : Own). own.step p) (effect.others a n) in omega (arith, same))
 
   -- the write that a turn at Raise is about to count
-  raise_write : (p r : ℕ) → (fields.mind i).line ≡ Raise → p ≡ (fields.mind i).sweep → r ≡ fields.step i p + 1 → (value : ℕ) × (fields.value i p r ≡ value) × (goal_at (fields.mind i).goals p ≡ goals.Write r value)
+  raise_write : (p r : ℕ) → (fields.mind i).line ≡ Raise → p ≡ (fields.mind i).process → r ≡ fields.step i p + 1 → (value : ℕ) × (fields.value i p r ≡ value) × (goal_at (fields.mind i).goals p ≡ goals.Write r value)
   raise_write p r is e new =
       let mind = fields.mind i in
-      let tells = subst (λ (l : Line). Tells spec.rounds (current_goal mind) (stage_of l) (fields.step i mind.sweep) (fields.level i mind.sweep)) is (at_sweep spec.rounds mind (fields.step i) (fields.level i) (tracks.told i)) in
-      let write = write_of spec.rounds (current_goal mind) (fields.step i mind.sweep) tells.counts in
-      let round : r ≡ current_round mind = new ∙ ap (λ (q : ℕ). fields.step i q + 1) e ∙ stored_round spec.rounds (current_goal mind) (fields.step i mind.sweep) tells.counts in (
+      let tells = subst (λ (l : Line). Tells spec.rounds (current_goal mind) (stage_of l) (fields.step i mind.process) (fields.level i mind.process)) is (at_sweep spec.rounds mind (fields.step i) (fields.level i) (tracks.told i)) in
+      let write = write_of spec.rounds (current_goal mind) (fields.step i mind.process) tells.counts in
+      let round : r ≡ current_round mind = new ∙ ap (λ (q : ℕ). fields.step i q + 1) e ∙ stored_round spec.rounds (current_goal mind) (fields.step i mind.process) tells.counts in (
         write.0,
-        ap (λ (q : ℕ). fields.value i q r) e ∙ ap (λ (k : ℕ). fields.value i mind.sweep k) round ∙ known.stored i (current_round mind) write.0 effect.below is write.1,
+        ap (λ (q : ℕ). fields.value i q r) e ∙ ap (λ (k : ℕ). fields.value i mind.process k) round ∙ known.stored i (current_round mind) write.0 effect.below is write.1,
         ap (λ (q : ℕ). goal_at mind.goals q) e ∙ write.1 ∙ ap (λ (k : ℕ). goals.Write k write.0) (sym round),
       )
 
-  raise_due : (p r : ℕ) → p < processes spec → (fields.mind i).line ≡ Raise → p ≡ (fields.mind i).sweep → r ≡ fields.step i p + 1 → IsDue spec fields p r (fields.value i p r)
+  raise_due : (p r : ℕ) → p < processes spec → (fields.mind i).line ≡ Raise → p ≡ (fields.mind i).process → r ≡ fields.step i p + 1 → IsDue spec fields p r (fields.value i p r)
   raise_due p r below' is e new =
       let at = raise_write p r is e new in
       subst (IsDue spec fields p r) (sym at.1) (known.writes i p r at.0 effect.below below' at.2)
 
-  own_due : (p r : ℕ) → p < processes spec → 1 ≤ r → (r ≤ fields.step i p) ⊎ (((fields.mind i).line ≡ Raise) × (p ≡ (fields.mind i).sweep) × (r ≡ fields.step i p + 1)) → IsDue spec fields p r (after.value i p r)
+  own_due : (p r : ℕ) → p < processes spec → 1 ≤ r → (r ≤ fields.step i p) ⊎ (((fields.mind i).line ≡ Raise) × (p ≡ (fields.mind i).process) × (r ≡ fields.step i p + 1)) → IsDue spec fields p r (after.value i p r)
   own_due p r below' first (inl counted) =
       subst (IsDue spec fields p r) (sym (own_values spec fields (own_of fields i) p (own_of after i) r effect.own (inl counted))) (known.values i p r effect.below below' first counted)
   own_due p r below' first (inr new) =
@@ -214,7 +214,7 @@ module _ (spec : RoomSpec) (fields after : Fields) (i : ℕ) (tracks : KeepsTrac
   by_write p k value below' (inl old) = known.writes i p k value effect.below below' old
   by_write p k value below' (inr next) = next_due spec fields tracks small within known i effect.below p k value next
 
-  by_decided : (p decision : ℕ) → p < processes spec → ((fields.out i p ≡ decision + 1) × (after.step i p ≡ fields.step i p)) ⊎ (((fields.mind i).line ≡ Out decision) × (p ≡ (fields.mind i).sweep) × (after.step i p ≡ current_round (fields.mind i))) → IsDeciding spec fields p (after.step i p) decision
+  by_decided : (p decision : ℕ) → p < processes spec → ((fields.out i p ≡ decision + 1) × (after.step i p ≡ fields.step i p)) ⊎ (((fields.mind i).line ≡ Out decision) × (p ≡ (fields.mind i).process) × (after.step i p ≡ current_round (fields.mind i))) → IsDeciding spec fields p (after.step i p) decision
   by_decided p decision below' (inl old) = subst (λ (k : ℕ). IsDeciding spec fields p k decision) (sym old.1) (known.outs i p decision effect.below below' old.0)
   by_decided p decision below' (inr new) =
       subst (λ (k : ℕ). IsDeciding spec fields p k decision) (sym new.2) (subst (λ (q : ℕ). IsDeciding spec fields q (current_round (fields.mind i)) decision) (sym new.1) (known.deciding i decision effect.below new.0))
@@ -233,12 +233,12 @@ module _ (spec : RoomSpec) (fields after : Fields) (i : ℕ) (tracks : KeepsTrac
       let same = effect.others a n in
       subst (λ (own : Own). (value : ℕ) × IsDue spec fields p (own.step p + 1) value) (sym same) (known.spent a p below below' (ap (λ (own : Own). goal_at own.mind.goals p) (sym same) ∙ is)))
 
-  raise_low : (p r : ℕ) → p < processes spec → (fields.mind i).line ≡ Raise → p ≡ (fields.mind i).sweep → r ≡ fields.step i p + 1 → fields.value i p r ≤ greatest
+  raise_low : (p r : ℕ) → p < processes spec → (fields.mind i).line ≡ Raise → p ≡ (fields.mind i).process → r ≡ fields.step i p + 1 → fields.value i p r ≤ greatest
   raise_low p r below' is e new =
       let at = raise_write p r is e new in
       subst (λ (v : ℕ). v ≤ greatest) (sym at.1) (known.low_writes i p r at.0 effect.below below' at.2)
 
-  own_low : (p r : ℕ) → p < processes spec → 1 ≤ r → (r ≤ fields.step i p) ⊎ (((fields.mind i).line ≡ Raise) × (p ≡ (fields.mind i).sweep) × (r ≡ fields.step i p + 1)) → after.value i p r ≤ greatest
+  own_low : (p r : ℕ) → p < processes spec → 1 ≤ r → (r ≤ fields.step i p) ⊎ (((fields.mind i).line ≡ Raise) × (p ≡ (fields.mind i).process) × (r ≡ fields.step i p + 1)) → after.value i p r ≤ greatest
   own_low p r below' first (inl counted) =
       subst (λ (v : ℕ). v ≤ greatest) (sym (own_values spec fields (own_of fields i) p (own_of after i) r effect.own (inl counted))) (known.low_values i p r effect.below below' first counted)
   own_low p r below' first (inr new) =
@@ -256,10 +256,10 @@ module _ (spec : RoomSpec) (fields after : Fields) (i : ℕ) (tracks : KeepsTrac
       let reading = next.reading in
       let at = loaded spec fields within known i effect.below reading next.reads in
       let long = full spec fields within known i effect.below reading next.reads next.all in
-      let round : current_round reading ≡ current_round (fields.mind i) = ap (λ (l : List Goal). round_of (goal_at l reading.sweep)) next.reads.goals ∙ ap (λ (q : ℕ). round_of (goal_at (fields.mind i).goals q)) next.reads.sweep in
+      let round : current_round reading ≡ current_round (fields.mind i) = ap (λ (l : List Goal). round_of (goal_at l reading.process)) next.reads.goals ∙ ap (λ (q : ℕ). round_of (goal_at (fields.mind i).goals q)) next.reads.process in
       let last = next.reads.last in
-      let process : reading.sweep < processes spec = let e = next.process in omega arith in
-      small.next reading.sweep (current_round reading) value reading.entries process (omega arith) long at.small next.action
+      let process : reading.process < processes spec = let e = next.process in omega arith in
+      small.next reading.process (current_round reading) value reading.entries process (omega arith) long at.small next.action
 
   write_low : (p k value : ℕ) → p < processes spec → (goal_at (fields.mind i).goals p ≡ goals.Write k value) ⊎ IsNext spec fields (own_of fields i) p k value → value ≤ greatest
   write_low p k value below' (inl old) = known.low_writes i p k value effect.below below' old
@@ -277,43 +277,43 @@ module _ (spec : RoomSpec) (fields after : Fields) (i : ℕ) (tracks : KeepsTrac
         (λ (n : a ≢ i). known.writes a p k value below below' (ap (λ (own : Own). goal_at own.mind.goals p) (sym (effect.others a n)) ∙ is)));
     stored = λ a k value below is at. dite (ℕ_discrete a i)
         (λ (e : a ≡ i).
-        subst (λ (b : ℕ). after.value b (after.mind b).sweep k ≡ value) (sym e)
+        subst (λ (b : ℕ). after.value b (after.mind b).process k ≡ value) (sym e)
         (own_stored spec fields (own_of fields i) 0 (own_of after i) k value effect.own (ap (λ (b : ℕ). (after.mind b).line) (sym e) ∙ is) (ap (λ (b : ℕ). current_goal (after.mind b)) (sym e) ∙ at)))
         (λ (n : a ≢ i).
         let same = effect.others a n in
-        ap (λ (own : Own). own.value own.mind.sweep k) same ∙ known.stored a k value below (ap (λ (own : Own). own.mind.line) (sym same) ∙ is) (ap (λ (own : Own). current_goal own.mind) (sym same) ∙ at));
-    chosen = λ a chosen below is. chosen_kept spec fields after some_simulator stay within known views most due_after (after.mind a).sweep (current_round (after.mind a)) chosen (dite (ℕ_discrete a i)
+        ap (λ (own : Own). own.value own.mind.process k) same ∙ known.stored a k value below (ap (λ (own : Own). own.mind.line) (sym same) ∙ is) (ap (λ (own : Own). current_goal own.mind) (sym same) ∙ at));
+    chosen = λ a chosen below is. chosen_kept spec fields after some_simulator stay within known views most due_after (after.mind a).process (current_round (after.mind a)) chosen (dite (ℕ_discrete a i)
         (λ (e : a ≡ i).
-        subst (λ (b : ℕ). IsChosen spec fields (after.mind b).sweep (current_round (after.mind b)) chosen) (sym e)
+        subst (λ (b : ℕ). IsChosen spec fields (after.mind b).process (current_round (after.mind b)) chosen) (sym e)
         (chosen_new spec fields tracks small within known i effect.below (own_of after i) chosen effect.own (ap (λ (b : ℕ). (after.mind b).line) (sym e) ∙ is)))
         (λ (n : a ≢ i).
         let same = effect.others a n in
-        subst (λ (own : Own). IsChosen spec fields own.mind.sweep (current_round own.mind) chosen) (sym same) (known.chosen a chosen below (ap (λ (own : Own). own.mind.line) (sym same) ∙ is))));
+        subst (λ (own : Own). IsChosen spec fields own.mind.process (current_round own.mind) chosen) (sym same) (known.chosen a chosen below (ap (λ (own : Own). own.mind.line) (sym same) ∙ is))));
     loading = λ a chosen below is.
         let pair = dite (ℕ_discrete a i)
         (λ (e : a ≡ i).
         let is' = ap (λ (b : ℕ). (after.mind b).line) (sym e) ∙ is in
-        subst (λ (b : ℕ). IsChosen spec fields (after.mind b).sweep (current_round (after.mind b)) chosen × IsLoaded spec fields (own_of after b) chosen) (sym e)
+        subst (λ (b : ℕ). IsChosen spec fields (after.mind b).process (current_round (after.mind b)) chosen × IsLoaded spec fields (own_of after b) chosen) (sym e)
         (chosen_new spec fields tracks small within known i effect.below (own_of after i) chosen effect.own is', loading_new spec fields tracks small within known i effect.below (own_of after i) chosen effect.own is'))
         (λ (n : a ≢ i).
         let same = effect.others a n in
         let is' = ap (λ (own : Own). own.mind.line) (sym same) ∙ is in
-        subst (λ (own : Own). IsChosen spec fields own.mind.sweep (current_round own.mind) chosen × IsLoaded spec fields own chosen) (sym same) (known.chosen a chosen below is', known.loading a chosen below is')) in
+        subst (λ (own : Own). IsChosen spec fields own.mind.process (current_round own.mind) chosen × IsLoaded spec fields own chosen) (sym same) (known.chosen a chosen below is', known.loading a chosen below is')) in
         loaded_kept spec fields after some_simulator stay within known views most due_after (own_of after a) chosen pair.0 pair.1;
-    reading = λ a below is. gathered_kept spec fields after some_simulator stay within known views most due_after (after.mind a).sweep (current_round (after.mind a)) (after.mind a).snapshot (after.mind a).entries (dite (ℕ_discrete a i)
+    reading = λ a below is. gathered_kept spec fields after some_simulator stay within known views most due_after (after.mind a).process (current_round (after.mind a)) (after.mind a).snapshot (after.mind a).entries (dite (ℕ_discrete a i)
         (λ (e : a ≡ i).
-        subst (λ (b : ℕ). IsGathered spec fields (after.mind b).sweep (current_round (after.mind b)) (after.mind b).snapshot (after.mind b).entries) (sym e)
+        subst (λ (b : ℕ). IsGathered spec fields (after.mind b).process (current_round (after.mind b)) (after.mind b).snapshot (after.mind b).entries) (sym e)
         (reading_new spec fields tracks small within known i effect.below (own_of after i) effect.own (ap (λ (b : ℕ). (after.mind b).line) (sym e) ∙ is)))
         (λ (n : a ≢ i).
         let same = effect.others a n in
-        subst (λ (own : Own). IsGathered spec fields own.mind.sweep (current_round own.mind) own.mind.snapshot own.mind.entries) (sym same) (known.reading a below (ap (λ (own : Own). own.mind.line) (sym same) ∙ is))));
-    deciding = λ a decision below is. deciding_kept spec fields after some_simulator stay within known views most due_after (after.mind a).sweep (current_round (after.mind a)) decision (dite (ℕ_discrete a i)
+        subst (λ (own : Own). IsGathered spec fields own.mind.process (current_round own.mind) own.mind.snapshot own.mind.entries) (sym same) (known.reading a below (ap (λ (own : Own). own.mind.line) (sym same) ∙ is))));
+    deciding = λ a decision below is. deciding_kept spec fields after some_simulator stay within known views most due_after (after.mind a).process (current_round (after.mind a)) decision (dite (ℕ_discrete a i)
         (λ (e : a ≡ i).
-        subst (λ (b : ℕ). IsDeciding spec fields (after.mind b).sweep (current_round (after.mind b)) decision) (sym e)
+        subst (λ (b : ℕ). IsDeciding spec fields (after.mind b).process (current_round (after.mind b)) decision) (sym e)
         (deciding_new spec fields tracks small within known i effect.below (own_of after i) decision effect.own (ap (λ (b : ℕ). (after.mind b).line) (sym e) ∙ is)))
         (λ (n : a ≢ i).
         let same = effect.others a n in
-        subst (λ (own : Own). IsDeciding spec fields own.mind.sweep (current_round own.mind) decision) (sym same) (known.deciding a decision below (ap (λ (own : Own). own.mind.line) (sym same) ∙ is))));
+        subst (λ (own : Own). IsDeciding spec fields own.mind.process (current_round own.mind) decision) (sym same) (known.deciding a decision below (ap (λ (own : Own). own.mind.line) (sym same) ∙ is))));
     outs = λ a p decision below below' out. deciding_kept spec fields after some_simulator stay within known views most due_after p (after.step a p) decision (dite (ℕ_discrete a i)
         (λ (e : a ≡ i).
         subst (λ (b : ℕ). IsDeciding spec fields p (after.step b p) decision) (sym e)
@@ -338,10 +338,10 @@ known_other spec fields quiet crashed some tracks within known =
       low_values = known.low_values;
       low_writes = known.low_writes;
       stored = known.stored;
-      chosen = λ a chosen below is. chosen_kept spec fields after some stay within known views most known.values (fields.mind a).sweep (current_round (fields.mind a)) chosen (known.chosen a chosen below is);
+      chosen = λ a chosen below is. chosen_kept spec fields after some stay within known views most known.values (fields.mind a).process (current_round (fields.mind a)) chosen (known.chosen a chosen below is);
       loading = known.loading;
-      reading = λ a below is. gathered_kept spec fields after some stay within known views most known.values (fields.mind a).sweep (current_round (fields.mind a)) (fields.mind a).snapshot (fields.mind a).entries (known.reading a below is);
-      deciding = λ a decision below is. deciding_kept spec fields after some stay within known views most known.values (fields.mind a).sweep (current_round (fields.mind a)) decision (known.deciding a decision below is);
+      reading = λ a below is. gathered_kept spec fields after some stay within known views most known.values (fields.mind a).process (current_round (fields.mind a)) (fields.mind a).snapshot (fields.mind a).entries (known.reading a below is);
+      deciding = λ a decision below is. deciding_kept spec fields after some stay within known views most known.values (fields.mind a).process (current_round (fields.mind a)) decision (known.deciding a decision below is);
       outs = λ a p decision below below' out. deciding_kept spec fields after some stay within known views most known.values p (fields.step a p) decision (known.outs a p decision below below' out);
       spent = λ a p below below' is. let was = known.spent a p below below' is in (was.0, due_kept spec fields after some stay within known views most known.values p (fields.step a p + 1) was.0 was.1);
     }

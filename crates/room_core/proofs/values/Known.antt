@@ -57,11 +57,11 @@ pub record IsKnown (spec : RoomSpec) (fields : Fields) : Type 0 where
   pub low_values : ValuesLow spec fields
   pub low_writes : (i p k value : ℕ) → i < spec.simulators → p < processes spec → goal_at (fields.mind i).goals p ≡ goals.Write k value → value ≤ greatest
   pub writes : (i p k value : ℕ) → i < spec.simulators → p < processes spec → goal_at (fields.mind i).goals p ≡ goals.Write k value → IsDue spec fields p k value
-  pub stored : (i k value : ℕ) → i < spec.simulators → (fields.mind i).line ≡ Raise → current_goal (fields.mind i) ≡ goals.Write k value → fields.value i (fields.mind i).sweep k ≡ value
-  pub chosen : (i chosen : ℕ) → i < spec.simulators → (fields.mind i).line ≡ GetView chosen → IsChosen spec fields (fields.mind i).sweep (current_round (fields.mind i)) chosen
+  pub stored : (i k value : ℕ) → i < spec.simulators → (fields.mind i).line ≡ Raise → current_goal (fields.mind i) ≡ goals.Write k value → fields.value i (fields.mind i).process k ≡ value
+  pub chosen : (i chosen : ℕ) → i < spec.simulators → (fields.mind i).line ≡ GetView chosen → IsChosen spec fields (fields.mind i).process (current_round (fields.mind i)) chosen
   pub loading : (i chosen : ℕ) → i < spec.simulators → (fields.mind i).line ≡ GetView chosen → IsLoaded spec fields (own_of fields i) chosen
-  pub reading : (i : ℕ) → i < spec.simulators → (fields.mind i).line ≡ Values → IsGathered spec fields (fields.mind i).sweep (current_round (fields.mind i)) (fields.mind i).snapshot (fields.mind i).entries
-  pub deciding : (i decision : ℕ) → i < spec.simulators → (fields.mind i).line ≡ Out decision → IsDeciding spec fields (fields.mind i).sweep (current_round (fields.mind i)) decision
+  pub reading : (i : ℕ) → i < spec.simulators → (fields.mind i).line ≡ Values → IsGathered spec fields (fields.mind i).process (current_round (fields.mind i)) (fields.mind i).snapshot (fields.mind i).entries
+  pub deciding : (i decision : ℕ) → i < spec.simulators → (fields.mind i).line ≡ Out decision → IsDeciding spec fields (fields.mind i).process (current_round (fields.mind i)) decision
   pub outs : (i p decision : ℕ) → i < spec.simulators → p < processes spec → fields.out i p ≡ decision + 1 → IsDeciding spec fields p (fields.step i p) decision
   pub spent : (i p : ℕ) → i < spec.simulators → p < processes spec → goal_at (fields.mind i).goals p ≡ goals.Spent → (value : ℕ) × IsDue spec fields p (fields.step i p + 1) value
 
@@ -84,19 +84,19 @@ min_low value = omega arith
 -- ---- inside one moment: what a turn has just read
 
 module _ (spec : RoomSpec) (fields : Fields) (within : ViewsWithin spec fields) (known : IsKnown spec fields) (i : ℕ) (below : i < spec.simulators) where
-  pub word_loaded : (chosen a q : ℕ) → (fields.mind i).line ≡ GetView chosen → a < spec.simulators → q < processes spec → word_of (sizes_in spec) a q < (fields.mind i).word + 1 → (view_loaded spec fields (own_of fields i) chosen).snapshot a q ≡ fields.view chosen (fields.mind i).sweep (current_round (fields.mind i)) a q
+  pub word_loaded : (chosen a q : ℕ) → (fields.mind i).line ≡ GetView chosen → a < spec.simulators → q < processes spec → word_of (sizes_in spec) a q < (fields.mind i).word + 1 → (view_loaded spec fields (own_of fields i) chosen).snapshot a q ≡ fields.view chosen (fields.mind i).process (current_round (fields.mind i)) a q
   word_loaded chosen a q stands less less' early =
       let mind = fields.mind i in
-      let view = fields.view chosen mind.sweep (current_round mind) in
+      let view = fields.view chosen mind.process (current_round mind) in
       dite (ℕ_discrete (word_of (sizes_in spec) a q) mind.word)
       (λ (e : word_of (sizes_in spec) a q ≡ mind.word). with_here (sizes_in spec) mind.word view mind.snapshot a q e)
       (λ (n : word_of (sizes_in spec) a q ≢ mind.word). with_else (sizes_in spec) mind.word view mind.snapshot a q n ∙ known.loading i chosen below stands a q less less' (omega arith))
 
-  loaded_by : (reading : MindOf StepMap) → Loads spec fields (own_of fields i) reading → IsGathered spec fields reading.sweep (current_round reading) reading.snapshot reading.entries
+  loaded_by : (reading : MindOf StepMap) → Loads spec fields (own_of fields i) reading → IsGathered spec fields reading.process (current_round reading) reading.snapshot reading.entries
   loaded_by reading (loads_view chosen turn less last words) =
       let mind = fields.mind i in
       let at = known.chosen i chosen below turn.stands in
-      let chosen_view = fields.view chosen mind.sweep (current_round mind) in
+      let chosen_view = fields.view chosen mind.process (current_round mind) in
       let view = (view_loaded spec fields (own_of fields i) chosen).snapshot in
       let all = shown_by_map spec fields view in
       let long : length all ≡ processes spec = length_of_shown spec fields view in
@@ -104,7 +104,7 @@ module _ (spec : RoomSpec) (fields : Fields) (within : ViewsWithin spec fields) 
         fixed = at.fixed;
         first = at.first;
         view = λ a q less' less''.
-            word_loaded chosen a q turn.stands less' less'' (let w = words a q less' less'' in omega (arith, w, last)) ∙ sym (ap (λ (o : Option ℕ). fields.view (or_zero o) mind.sweep (current_round mind) a q) at.is);
+            word_loaded chosen a q turn.stands less' less'' (let w = words a q less' less'' in omega (arith, w, last)) ∙ sym (ap (λ (o : Option ℕ). fields.view (or_zero o) mind.process (current_round mind) a q) at.is);
         so_far = padded_first (entry_of_steps spec view) all (processes spec - 0) [] (omega (arith, long)) (λ p less' none. shown_none spec fields view p (omega (arith, long, less')) none) refl;
         small = padded_small (entry_of_steps spec view) (processes spec - 0) [] tt;
       }
@@ -116,7 +116,7 @@ module _ (spec : RoomSpec) (fields : Fields) (within : ViewsWithin spec fields) 
       let entry : Option ℕ = Some (min (shown_value spec fields mind.snapshot p) greatest) in
       let long : length all ≡ processes spec = length_of_shown spec fields mind.snapshot in
       let long' : length (mind.entries ++ entry ∷ []) ≡ p + 1 = length-append mind.entries (entry ∷ []) in
-      let most : AreAtMost spec.simulators (processes spec) mind.snapshot fields.step = λ a q less' less''. let e = at.view a q less' less'' in let b = view_within spec fields within mind.sweep (current_round mind) at.first at.fixed a q less' less'' in omega (arith, e, b) in
+      let most : AreAtMost spec.simulators (processes spec) mind.snapshot fields.step = λ a q less' less''. let e = at.view a q less' less'' in let b = view_within spec fields within mind.process (current_round mind) at.first at.fixed a q less' less'' in omega (arith, e, b) in
       let is : get_or all p None ≡ entry = shown_at spec fields mind.snapshot p less ∙ sym (shown_value_is spec fields mind.snapshot p known.low_values known.values (omega arith) less (λ a less'. most a p less' less) row) in
       record {
         fixed = at.fixed;
@@ -127,7 +127,7 @@ module _ (spec : RoomSpec) (fields : Fields) (within : ViewsWithin spec fields) 
         small = padded_small (entry_of_steps spec mind.snapshot) (processes spec - length (mind.entries ++ entry ∷ [])) (mind.entries ++ entry ∷ []) (small_more mind.entries entry at.small (min_low (shown_value spec fields mind.snapshot p)));
       }
 
-  pub loaded : (reading : MindOf StepMap) → IsReading spec fields (own_of fields i) reading → IsGathered spec fields reading.sweep (current_round reading) reading.snapshot reading.entries
+  pub loaded : (reading : MindOf StepMap) → IsReading spec fields (own_of fields i) reading → IsGathered spec fields reading.process (current_round reading) reading.snapshot reading.entries
   loaded reading reads = loaded_by reading reads.loads
 
   pub full : (reading : MindOf StepMap) → IsReading spec fields (own_of fields i) reading → processes spec ≤ length reading.entries → length reading.entries ≡ processes spec
@@ -137,13 +137,13 @@ module _ (spec : RoomSpec) (fields : Fields) (within : ViewsWithin spec fields) 
       ap length (at.so_far ∙ take_all (length reading.entries) (shown_by_map spec fields reading.snapshot) (omega (arith, long, all))) ∙ long
 
   -- all entries gathered are those that the process sees
-  pub acts : (reading : MindOf StepMap) → IsReading spec fields (own_of fields i) reading → processes spec ≤ length reading.entries → action_of spec reading ≡ asks spec fields reading.sweep (current_round reading)
+  pub acts : (reading : MindOf StepMap) → IsReading spec fields (own_of fields i) reading → processes spec ≤ length reading.entries → action_of spec reading ≡ asks spec fields reading.process (current_round reading)
   acts reading reads all =
       let at = loaded reading reads in
       let long = length_of_shown spec fields reading.snapshot in
-      let entries : reading.entries ≡ shown_by_map spec fields (view_at spec fields reading.sweep (current_round reading)) =
-      at.so_far ∙ take_all (length reading.entries) (shown_by_map spec fields reading.snapshot) (omega (arith, long, all)) ∙ ap (λ (row : List ℕ). agreements.shown_by spec fields row) (row_same spec.simulators (processes spec) reading.snapshot (view_at spec fields reading.sweep (current_round reading)) at.view) in
-      ap (λ (view : List (Option ℕ)). next_action spec.protocol (slice_index spec.inputs reading.sweep) reading.sweep (current_round reading) view) entries
+      let entries : reading.entries ≡ shown_by_map spec fields (view_at spec fields reading.process (current_round reading)) =
+      at.so_far ∙ take_all (length reading.entries) (shown_by_map spec fields reading.snapshot) (omega (arith, long, all)) ∙ ap (λ (row : List ℕ). agreements.shown_by spec fields row) (row_same spec.simulators (processes spec) reading.snapshot (view_at spec fields reading.process (current_round reading)) at.view) in
+      ap (λ (view : List (Option ℕ)). next_action spec.protocol (slice_index spec.inputs reading.process) reading.process (current_round reading) view) entries
 
 -- ---- from one moment to the next
 

@@ -28,7 +28,7 @@ pub record IsNext (spec : RoomSpec) (fields : Fields) (own : Own) (p k value : �
   pub reads : IsReading spec fields own reading
   pub all : processes spec ≤ length reading.entries
   pub action : action_of spec reading ≡ actions.Write value
-  pub process : p ≡ reading.sweep
+  pub process : p ≡ reading.process
   pub round : k ≡ current_round reading + 1
 
 same_write : (k k' value value' : ℕ) → goals.Write k value ≡ goals.Write k' value' → (k ≡ k') × (value ≡ value')
@@ -64,11 +64,11 @@ module _ (spec : RoomSpec) (fields : Fields) (own : Own) (p : ℕ) where
   own_writes after k value (looks turn count one) is = inl is
   own_writes after k value (leaves saw_two turn count one) is = inl is
   own_writes after k value (asks_in_vain asking asks none) is =
-      elim (set_goal asking.goals asking.sweep (goals.Ask (current_round asking)) k value asks.goals (let l = asks.long in let b = asks.process in omega arith) is) [ inl old ↦ inl old | inr new ↦ absurd (no_ask k (current_round asking) value new.1) ]
+      elim (set_goal asking.goals asking.process (goals.Ask (current_round asking)) k value asks.goals (let l = asks.long in let b = asks.process in omega arith) is) [ inl old ↦ inl old | inr new ↦ absurd (no_ask k (current_round asking) value new.1) ]
   own_writes after k value (finds asking chosen asks some) is = inl (ap (λ (l : List Goal). goal_at l p) (sym asks.goals) ∙ is)
   own_writes after k value (gathers reading reads more) is = inl (ap (λ (l : List Goal). goal_at l p) (sym reads.goals) ∙ is)
   own_writes after k value (goes_to reading given reads all action) is =
-      elim (set_goal reading.goals reading.sweep (after_write spec.rounds (current_round reading) given) k value reads.goals (let l = ap length reads.goals in let l' = reads.long in let b = reads.process in let s = reads.sweep in omega arith) is) [
+      elim (set_goal reading.goals reading.process (after_write spec.rounds (current_round reading) given) k value reads.goals (let l = ap length reads.goals in let l' = reads.long in let b = reads.process in let s = reads.process in omega arith) is) [
         | inl old ↦ inl old
         | inr new ↦
             (let next = next_goal (ltb (current_round reading) spec.rounds) (current_round reading) given k value new.1 in
@@ -76,17 +76,17 @@ module _ (spec : RoomSpec) (fields : Fields) (own : Own) (p : ℕ) where
       ]
   own_writes after k value (will_decide reading decision reads all action) is = inl (ap (λ (l : List Goal). goal_at l p) (sym reads.goals) ∙ is)
   own_writes after k value (decides decision turn count) is =
-      elim (set_goal own.mind.goals own.mind.sweep goals.Done k value refl (let l = turn.long in let b = turn.process in omega arith) is) [ inl old ↦ inl old | inr new ↦ absurd (no_done k value new.1) ]
+      elim (set_goal own.mind.goals own.mind.process goals.Done k value refl (let l = turn.long in let b = turn.process in omega arith) is) [ inl old ↦ inl old | inr new ↦ absurd (no_done k value new.1) ]
 
   -- a value of a round that is counted stays; a new round is that of a turn at Raise
-  raised_value : (r : ℕ) → own.mind.line ≡ Raise → r ≤ changed own.step (process_on own) (own.step (process_on own) + 1) p → (r ≤ own.step p) ⊎ ((own.mind.line ≡ Raise) × (p ≡ own.mind.sweep) × (r ≡ own.step p + 1))
-  raised_value r is most = dite (ℕ_discrete p own.mind.sweep)
-      (λ (e : p ≡ own.mind.sweep).
+  raised_value : (r : ℕ) → own.mind.line ≡ Raise → r ≤ changed own.step (process_on own) (own.step (process_on own) + 1) p → (r ≤ own.step p) ⊎ ((own.mind.line ≡ Raise) × (p ≡ own.mind.process) × (r ≡ own.step p + 1))
+  raised_value r is most = dite (ℕ_discrete p own.mind.process)
+      (λ (e : p ≡ own.mind.process).
       let step : changed own.step (process_on own) (own.step (process_on own) + 1) p ≡ own.step p + 1 = changed_here own.step (process_on own) (own.step (process_on own) + 1) p e ∙ ap (λ (q : ℕ). own.step q + 1) (sym e) in
       dite (ℕ_discrete r (own.step p + 1)) (λ (e' : r ≡ own.step p + 1). inr (is, e, e')) (λ (n : r ≢ own.step p + 1). inl (omega arith)))
-      (λ (n : p ≢ own.mind.sweep). inl (let step : changed own.step (process_on own) (own.step (process_on own) + 1) p ≡ own.step p = changed_else own.step (process_on own) (own.step (process_on own) + 1) p n in omega arith))
+      (λ (n : p ≢ own.mind.process). inl (let step : changed own.step (process_on own) (own.step (process_on own) + 1) p ≡ own.step p = changed_else own.step (process_on own) (own.step (process_on own) + 1) p n in omega arith))
 
-  pub own_counts : (after : Own) (r : ℕ) → Effect spec fields own after → r ≤ after.step p → (r ≤ own.step p) ⊎ ((own.mind.line ≡ Raise) × (p ≡ own.mind.sweep) × (r ≡ own.step p + 1))
+  pub own_counts : (after : Own) (r : ℕ) → Effect spec fields own after → r ≤ after.step p → (r ≤ own.step p) ⊎ ((own.mind.line ≡ Raise) × (p ≡ own.mind.process) × (r ≡ own.step p + 1))
   own_counts after r (stores j k value rest goal count process first last) most = inl most
   own_counts after r (raises turn whole begun count) most = raised_value r turn.stands most
   own_counts after r (collects_word turn count none more) most = inl most
@@ -130,7 +130,7 @@ module _ (spec : RoomSpec) (fields : Fields) (own : Own) (p : ℕ) where
   own_values after r (decides decision turn count) kept = refl
 
   -- what stands at Raise has stored the write of its goal
-  pub own_stored : (after : Own) (k value : ℕ) → Effect spec fields own after → after.mind.line ≡ Raise → current_goal after.mind ≡ goals.Write k value → after.value after.mind.sweep k ≡ value
+  pub own_stored : (after : Own) (k value : ℕ) → Effect spec fields own after → after.mind.line ≡ Raise → current_goal after.mind ≡ goals.Write k value → after.value after.mind.process k ≡ value
   own_stored after k value (stores j k' value' rest goal count process first last) is at =
       let same = same_write k' k value' value (sym goal ∙ at) in
       ap (λ (q : ℕ). changed_pair own.value j k' value' j q) (sym same.0) ∙ pair_here own.value j k' value' ∙ same.1
@@ -153,20 +153,20 @@ module _ (spec : RoomSpec) (fields : Fields) (own : Own) (p : ℕ) where
 
   -- a decision that is stored stays, with the rounds that were counted
   raised_else : (d : ℕ) → is_unfinished (current_goal own.mind) ≡ true → HasDecided own p → own.out p ≡ d + 1 → changed own.step (process_on own) (own.step (process_on own) + 1) p ≡ own.step p
-  raised_else d left was out = dite (ℕ_discrete p own.mind.sweep)
-      (λ (e : p ≡ own.mind.sweep). absurd (not_done (current_goal own.mind) left (ap (λ (q : ℕ). goal_at own.mind.goals q) (sym e) ∙ was (λ none. omega arith))))
-      (λ (n : p ≢ own.mind.sweep). changed_else own.step (process_on own) (own.step (process_on own) + 1) p n)
+  raised_else d left was out = dite (ℕ_discrete p own.mind.process)
+      (λ (e : p ≡ own.mind.process). absurd (not_done (current_goal own.mind) left (ap (λ (q : ℕ). goal_at own.mind.goals q) (sym e) ∙ was (λ none. omega arith))))
+      (λ (n : p ≢ own.mind.process). changed_else own.step (process_on own) (own.step (process_on own) + 1) p n)
 
   decided_new : (d given : ℕ) → own.mind.line ≡ Out given → own.step (process_on own) ≡ round_on own → changed own.out (process_on own) (given + 1) p ≡ d + 1
-      → ((own.out p ≡ d + 1) × (own.step p ≡ own.step p)) ⊎ ((own.mind.line ≡ Out d) × (p ≡ own.mind.sweep) × (own.step p ≡ round_on own))
-  decided_new d given is count out = dite (ℕ_discrete p own.mind.sweep)
-      (λ (e : p ≡ own.mind.sweep).
+      → ((own.out p ≡ d + 1) × (own.step p ≡ own.step p)) ⊎ ((own.mind.line ≡ Out d) × (p ≡ own.mind.process) × (own.step p ≡ round_on own))
+  decided_new d given is count out = dite (ℕ_discrete p own.mind.process)
+      (λ (e : p ≡ own.mind.process).
       let entry : given + 1 ≡ d + 1 = sym (changed_here own.out (process_on own) (given + 1) p e) ∙ out in
       let same : given ≡ d = omega arith in
       inr (is ∙ ap (λ (x : ℕ). Out x) same, e, ap own.step e ∙ count))
-      (λ (n : p ≢ own.mind.sweep). inl (sym (changed_else own.out (process_on own) (given + 1) p n) ∙ out, refl))
+      (λ (n : p ≢ own.mind.process). inl (sym (changed_else own.out (process_on own) (given + 1) p n) ∙ out, refl))
 
-  pub own_decided : (after : Own) (d : ℕ) → Effect spec fields own after → HasDecided own p → after.out p ≡ d + 1 → ((own.out p ≡ d + 1) × (after.step p ≡ own.step p)) ⊎ ((own.mind.line ≡ Out d) × (p ≡ own.mind.sweep) × (after.step p ≡ round_on own))
+  pub own_decided : (after : Own) (d : ℕ) → Effect spec fields own after → HasDecided own p → after.out p ≡ d + 1 → ((own.out p ≡ d + 1) × (after.step p ≡ own.step p)) ⊎ ((own.mind.line ≡ Out d) × (p ≡ own.mind.process) × (after.step p ≡ round_on own))
   own_decided after d (stores j k value rest goal count process first last) was out = inl (out, refl)
   own_decided after d (raises turn whole begun count) was out = inl (out, raised_else d turn.left was out)
   own_decided after d (collects_word turn count none more) was out = inl (out, refl)
@@ -187,9 +187,9 @@ module _ (spec : RoomSpec) (fields : Fields) (own : Own) (p : ℕ) where
 
   -- and a process that is spent stays so
   raised_spent : is_unfinished (current_goal own.mind) ≡ true → goal_at own.mind.goals p ≡ goals.Spent → changed own.step (process_on own) (own.step (process_on own) + 1) p ≡ own.step p
-  raised_spent left is = dite (ℕ_discrete p own.mind.sweep)
-      (λ (e : p ≡ own.mind.sweep). absurd (not_spent (current_goal own.mind) left (ap (λ (q : ℕ). goal_at own.mind.goals q) (sym e) ∙ is)))
-      (λ (n : p ≢ own.mind.sweep). changed_else own.step (process_on own) (own.step (process_on own) + 1) p n)
+  raised_spent left is = dite (ℕ_discrete p own.mind.process)
+      (λ (e : p ≡ own.mind.process). absurd (not_spent (current_goal own.mind) left (ap (λ (q : ℕ). goal_at own.mind.goals q) (sym e) ∙ is)))
+      (λ (n : p ≢ own.mind.process). changed_else own.step (process_on own) (own.step (process_on own) + 1) p n)
 
   set_spent : (list : List Goal) (j : ℕ) (goal : Goal) → list ≡ own.mind.goals → j < length list → goal_at (set list j goal) p ≡ goals.Spent → (goal_at own.mind.goals p ≡ goals.Spent) ⊎ ((p ≡ j) × (goal ≡ goals.Spent))
   set_spent list j goal same below is = dite (ℕ_discrete p j)
@@ -215,16 +215,16 @@ module _ (spec : RoomSpec) (fields : Fields) (own : Own) (p : ℕ) where
   own_spent after (looks turn count one) is = inl (is, refl)
   own_spent after (leaves saw_two turn count one) is = inl (is, refl)
   own_spent after (asks_in_vain asking asks none) is =
-      elim (set_spent asking.goals asking.sweep (goals.Ask (current_round asking)) asks.goals (let l = asks.long in let b = asks.process in omega arith) is) [ inl old ↦ inl (old, refl) | inr new ↦ absurd (ask_spent (current_round asking) new.1) ]
+      elim (set_spent asking.goals asking.process (goals.Ask (current_round asking)) asks.goals (let l = asks.long in let b = asks.process in omega arith) is) [ inl old ↦ inl (old, refl) | inr new ↦ absurd (ask_spent (current_round asking) new.1) ]
   own_spent after (finds asking chosen asks some) is = inl (ap (λ (l : List Goal). goal_at l p) (sym asks.goals) ∙ is, refl)
   own_spent after (gathers reading reads more) is = inl (ap (λ (l : List Goal). goal_at l p) (sym reads.goals) ∙ is, refl)
   own_spent after (goes_to reading given reads all action) is =
-      elim (set_spent reading.goals reading.sweep (after_write spec.rounds (current_round reading) given) reads.goals (let l = ap length reads.goals in let l' = reads.long in let b = reads.process in let s = reads.sweep in omega arith) is) [
+      elim (set_spent reading.goals reading.process (after_write spec.rounds (current_round reading) given) reads.goals (let l = ap length reads.goals in let l' = reads.long in let b = reads.process in let s = reads.process in omega arith) is) [
         | inl old ↦ inl (old, refl)
         | inr new ↦
-            (let round : current_round reading ≡ round_on own = ap (λ (l : List Goal). round_of (goal_at l reading.sweep)) reads.goals ∙ ap (λ (q : ℕ). round_of (goal_at own.mind.goals q)) reads.sweep in
-            inr (given, refl, record { reading = reading; reads = reads; all = all; action = action; process = new.0; round = ap (λ (x : ℕ). x + 1) (ap own.step (new.0 ∙ reads.sweep) ∙ reads.count ∙ sym round) }))
+            (let round : current_round reading ≡ round_on own = ap (λ (l : List Goal). round_of (goal_at l reading.process)) reads.goals ∙ ap (λ (q : ℕ). round_of (goal_at own.mind.goals q)) reads.process in
+            inr (given, refl, record { reading = reading; reads = reads; all = all; action = action; process = new.0; round = ap (λ (x : ℕ). x + 1) (ap own.step (new.0 ∙ reads.process) ∙ reads.count ∙ sym round) }))
       ]
   own_spent after (will_decide reading decision reads all action) is = inl (ap (λ (l : List Goal). goal_at l p) (sym reads.goals) ∙ is, refl)
   own_spent after (decides decision turn count) is =
-      elim (set_spent own.mind.goals own.mind.sweep goals.Done refl (let l = turn.long in let b = turn.process in omega arith) is) [ inl old ↦ inl (old, refl) | inr new ↦ absurd (done_spent new.1) ]
+      elim (set_spent own.mind.goals own.mind.process goals.Done refl (let l = turn.long in let b = turn.process in omega arith) is) [ inl old ↦ inl (old, refl) | inr new ↦ absurd (done_spent new.1) ]
