@@ -131,13 +131,14 @@ pair_parts sizes row less =
     let some : 0 < sizes.n = pos_of_product row sizes.m sizes.n less in
     (div_below row sizes.n sizes.m some less, mod_below row sizes.n some, div-add-mod' row sizes.n)
 
-in_levels : (sizes : Sizes) (at : ℕ) → at < sizes.n * sizes.rounds → (place : Place) × IsPlaceAt sizes place (levels_from sizes + at)
+pub in_levels : (sizes : Sizes) (at : ℕ) → at < sizes.n * sizes.rounds → IsPlaceAt sizes (Levels (at / sizes.rounds) (at % sizes.rounds + 1)) (levels_from sizes + at)
 unfolding index_of
 in_levels sizes at less =
     let parts = row_round at sizes.n sizes.rounds less in
-    (Levels (at / sizes.rounds) (at % sizes.rounds + 1), record { in_range = (parts.0, (parts.1, parts.2)); index = omega arith })
+    record { in_range = (parts.0, (parts.1, parts.2)); index = omega arith }
 
-in_views : (sizes : Sizes) (at : ℕ) → at < views sizes * memory_words sizes → (place : Place) × IsPlaceAt sizes place (views_from sizes + at)
+pub in_views : (sizes : Sizes) (at : ℕ) → at < views sizes * memory_words sizes
+    → IsPlaceAt sizes (View (at / memory_words sizes / sizes.rounds / sizes.n) (at / memory_words sizes / sizes.rounds % sizes.n) (at / memory_words sizes % sizes.rounds + 1) (at % memory_words sizes)) (views_from sizes + at)
 unfolding index_of
 in_views sizes at less =
     let some : 0 < memory_words sizes = pos_of_product at (views sizes) (memory_words sizes) less in
@@ -147,26 +148,29 @@ in_views sizes at less =
     let numbers = pair_parts sizes row parts.0 in
     let joined : (row / sizes.n * sizes.n + row % sizes.n) * sizes.rounds + (view % sizes.rounds + 1 - 1) ≡ view = ap (λ r. r * sizes.rounds + (view % sizes.rounds + 1 - 1)) numbers.2 ∙ parts.3 in
     let all : ((row / sizes.n * sizes.n + row % sizes.n) * sizes.rounds + (view % sizes.rounds + 1 - 1)) * memory_words sizes + at % memory_words sizes ≡ at = ap (λ v. v * memory_words sizes + at % memory_words sizes) joined ∙ div-add-mod' at (memory_words sizes) in
-    (View (row / sizes.n) (row % sizes.n) (view % sizes.rounds + 1) (at % memory_words sizes), record { in_range = (numbers.0, numbers.1, (parts.1, parts.2), mod_below at (memory_words sizes) some); index = omega (arith, all) })
+    record { in_range = (numbers.0, numbers.1, (parts.1, parts.2), mod_below at (memory_words sizes) some); index = omega (arith, all) }
 
-in_values : (sizes : Sizes) (at : ℕ) → at < pairs sizes * sizes.rounds → (place : Place) × IsPlaceAt sizes place (values_from sizes + at)
+pub in_values : (sizes : Sizes) (at : ℕ) → at < views sizes → IsPlaceAt sizes (Value (at / sizes.rounds / sizes.n) (at / sizes.rounds % sizes.n) (at % sizes.rounds + 1)) (values_from sizes + at)
 unfolding index_of
 in_values sizes at less =
     let parts = row_round at (pairs sizes) sizes.rounds less in
     let row = at / sizes.rounds in
     let numbers = pair_parts sizes row parts.0 in
     let joined : (row / sizes.n * sizes.n + row % sizes.n) * sizes.rounds + (at % sizes.rounds + 1 - 1) ≡ at = ap (λ r. r * sizes.rounds + (at % sizes.rounds + 1 - 1)) numbers.2 ∙ parts.3 in
-    (Value (row / sizes.n) (row % sizes.n) (at % sizes.rounds + 1), record { in_range = (numbers.0, numbers.1, (parts.1, parts.2)); index = omega arith })
+    record { in_range = (numbers.0, numbers.1, (parts.1, parts.2)); index = omega arith }
 
-in_outs : (sizes : Sizes) (at : ℕ) → at < pairs sizes → (place : Place) × IsPlaceAt sizes place (outs_from sizes + at)
+pub in_outs : (sizes : Sizes) (at : ℕ) → at < pairs sizes → IsPlaceAt sizes (Out (at / sizes.n) (at % sizes.n)) (outs_from sizes + at)
 unfolding index_of
 in_outs sizes at less =
     let numbers = pair_parts sizes at less in
-    (Out (at / sizes.n) (at % sizes.n), record { in_range = (numbers.0, numbers.1); index = omega arith })
+    record { in_range = (numbers.0, numbers.1); index = omega arith }
 
 -- the number of a word is that of a kind's first word and a number more
-moved : (sizes : Sizes) (start at : ℕ) → start ≤ at → ((place : Place) × IsPlaceAt sizes place (start + (at - start))) → (place : Place) × IsPlaceAt sizes place at
-moved sizes start at le found = (found.0, record { in_range = found.1.in_range; index = omega (arith, found.1.index) })
+pub moved_to : (sizes : Sizes) (place : Place) (start at : ℕ) → start ≤ at → IsPlaceAt sizes place (start + (at - start)) → IsPlaceAt sizes place at
+moved_to sizes place start at le is = record { in_range = is.in_range; index = omega (arith, is.index) }
+
+some_from : (sizes : Sizes) (place : Place) (start at : ℕ) → start ≤ at → IsPlaceAt sizes place (start + (at - start)) → (place : Place) × IsPlaceAt sizes place at
+some_from sizes place start at le is = (place, moved_to sizes place start at le is)
 
 pub some_place : (sizes : Sizes) (at : ℕ) → at < words_of sizes → (place : Place) × IsPlaceAt sizes place at
 unfolding index_of words_of
@@ -174,12 +178,12 @@ some_place sizes at less =
     elim (cases_lt at (memory_words sizes)) [
       | inl steps ↦ (Memory at, record { in_range = steps; index = refl })
       | inr later ↦ elim (cases_lt at (views_from sizes)) [
-        | inl levels ↦ moved sizes (memory_words sizes) at later (in_levels sizes (at - memory_words sizes) (omega arith))
+        | inl levels ↦ some_from sizes _ (memory_words sizes) at later (in_levels sizes (at - memory_words sizes) (omega arith))
         | inr later ↦ elim (cases_lt at (values_from sizes)) [
-          | inl views ↦ moved sizes (views_from sizes) at later (in_views sizes (at - views_from sizes) (omega arith))
+          | inl views ↦ some_from sizes _ (views_from sizes) at later (in_views sizes (at - views_from sizes) (omega arith))
           | inr later ↦ elim (cases_lt at (outs_from sizes)) [
-            | inl values ↦ moved sizes (values_from sizes) at later (in_values sizes (at - values_from sizes) (omega arith))
-            | inr later ↦ moved sizes (outs_from sizes) at later (in_outs sizes (at - outs_from sizes) (omega arith))
+            | inl values ↦ some_from sizes _ (values_from sizes) at later (in_values sizes (at - values_from sizes) (omega arith))
+            | inr later ↦ some_from sizes _ (outs_from sizes) at later (in_outs sizes (at - outs_from sizes) (omega arith))
           ]
         ]
       ]

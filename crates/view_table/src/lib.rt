@@ -1,7 +1,9 @@
 //! The places of a room's shared memory, and where each stands among the memory's words.
 #![tactic(auto)]
 
+mod inverse;
 pub mod laws;
 mod place;
 
+pub use inverse::place_at;
 pub use place::{MAX_WORDS, Place, index, words};

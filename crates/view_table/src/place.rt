@@ -110,7 +110,7 @@ fn in_words(shape: &Shape, view: usize, word: usize) -> usize
     view * shape.memory_words() + word
 }
 
-fn pairs(shape: &Shape) -> usize
+pub(crate) fn pairs(shape: &Shape) -> usize
     ensures value { result ≡ pairs (sizes_of shape.now) }
     ensures few { result ≤ 128 }
 {
@@ -125,21 +125,21 @@ fn views(shape: &Shape) -> usize
     pairs(shape) * shape.rounds
 }
 
-fn views_from(shape: &Shape) -> usize
+pub(crate) fn views_from(shape: &Shape) -> usize
     ensures value { result ≡ views_from (sizes_of shape.now) }
     ensures few { result ≤ 244 }
 {
     shape.memory_words() + shape.n * shape.rounds
 }
 
-fn values_from(shape: &Shape) -> usize
+pub(crate) fn values_from(shape: &Shape) -> usize
     ensures value { result ≡ values_from (sizes_of shape.now) }
     ensures few { result ≤ 7924 }
 {
     views_from(shape) + views(shape) * shape.memory_words()
 }
 
-fn outs_from(shape: &Shape) -> usize
+pub(crate) fn outs_from(shape: &Shape) -> usize
     ensures value { result ≡ outs_from (sizes_of shape.now) }
     ensures few { result ≤ 9844 }
 {
