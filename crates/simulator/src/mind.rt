@@ -113,6 +113,13 @@ impl Mind {
         u64::from(self.turns)
     }
 
+    /// Whether the room gives it one turn more.
+    pub(crate) fn has_turn_left(&self, spec: &Spec) -> bool
+        ensures { result ≡ nat_lt self.now.turns spec.now.turns }
+    {
+        self.turns_taken() < spec.turns()
+    }
+
     /// How many whole collects the scan of its open turn has made; 0 where no turn is open, and where
     /// the room's memory is one word.
     pub fn collects(&self) -> u32

@@ -49,7 +49,7 @@ impl Mind {
         let Some(process) = next_process(self.goals.as_slice(), self.process()) else {
             return Move::Finished;
         };
-        if self.turns_taken() >= spec.turns() {
+        if !self.has_turn_left(spec) {
             return Move::OutOfTurns;
         }
         first_move_at(spec, self.number(), process, self.goals[process])

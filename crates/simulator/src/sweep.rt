@@ -64,7 +64,7 @@ impl Sweep {
         if !self.mind.more_unfinished(self.quiet) {
             return Ready::Idle;
         }
-        if self.mind.turns_taken() < spec.turns() {
+        if self.mind.has_turn_left(spec) {
             Ready::Step
         } else {
             Ready::OutOfTurns
