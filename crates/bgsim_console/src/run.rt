@@ -20,9 +20,13 @@ use std::sync::Wait;
 use std::thread;
 use std::thread::Threads;
 
-/// The most rooms that run at the same time. While it runs a room takes some 4 KB, however short its
-/// block is.
+/// How many rooms run at the same time at least, where there are as many. While it runs a room takes
+/// some 4 KB, however short its block is.
 const ROOMS_AT_ONCE: usize = 128;
+
+/// A file of many rooms runs in so many equal parts: threads are started for each part, so however many
+/// rooms there are, no more threads are started.
+const PARTS: usize = 64;
 
 /// Runs the rooms of an input's blocks, and puts their reports behind the lines of the refused blocks.
 pub fn run_blocks<H: Threads + Wait + Sync, G: Gate + Sync>(
@@ -44,8 +48,8 @@ pub fn run_blocks<H: Threads + Wait + Sync, G: Gate + Sync>(
     Ok(Answer { output, outcome })
 }
 
-/// Runs the rooms of these specs, at most [`ROOMS_AT_ONCE`] at a time, and puts their reports behind the text. Those of one part
-/// are written while the next runs.
+/// Runs the rooms of these specs part by part, and puts their reports behind the text. Those of one part are written while the
+/// next runs.
 fn run_in_parts<H: Threads + Wait + Sync, G: Gate + Sync>(
     rt: &H,
     alloc: Global,
@@ -58,11 +62,12 @@ fn run_in_parts<H: Threads + Wait + Sync, G: Gate + Sync>(
     ensures workers { OnOk result (AreWorkers workers) }
     ensures err { IfErr result (MayEndRun workers) }
 {
-    let part = next_part(alloc, &mut left)?;
+    let rooms = ROOMS_AT_ONCE.max(left.len() / PARTS);
+    let part = next_part(alloc, &mut left, rooms)?;
     let mut done = run_rooms(rt, alloc, part, workers, gate)?;
     let mut output = text;
     while left.len() > 0 {
-        let part = next_part(alloc, &mut left)?;
+        let part = next_part(alloc, &mut left, rooms)?;
         let (results, longer) = run_part(rt, alloc, part, workers, gate, done, output)?;
         done = results;
         output = longer;
@@ -70,8 +75,12 @@ fn run_in_parts<H: Threads + Wait + Sync, G: Gate + Sync>(
     Ok(with_reports(output, done)?)
 }
 
-/// Takes the specs of the rooms that run next off the front: all that are left where they are few.
-fn next_part(alloc: Global, left: &mut IntoValues<Name, Spec>) -> Result<Vec<Spec>, AllocError>
+/// Takes the specs of the `rooms` rooms that run next off the front: all that are left where they are fewer.
+fn next_part(
+    alloc: Global,
+    left: &mut IntoValues<Name, Spec>,
+    rooms: usize,
+) -> Result<Vec<Spec>, AllocError>
     ensures part { IfOk result (λ part. left.old ≡ part.items ++ left.new) }
     // Where some are left, some were taken.
     ensures fewer { OnOk result (0 < length left.new → length left.new < length left.old) }
@@ -79,7 +88,7 @@ fn next_part(alloc: Global, left: &mut IntoValues<Name, Spec>) -> Result<Vec<Spe
     let mut part = Vec::new(alloc);
     while let Some(spec) = left.next() {
         part.push(spec)?;
-        if part.len() == ROOMS_AT_ONCE {
+        if part.len() == rooms {
             return Ok(part);
         }
     }
