@@ -48,7 +48,7 @@ module _ (spec : RoomSpec) (fields : Fields) (own : Own) (p : ℕ) where
   own_outs after (finds asking chosen asks is) was = λ out. ap (λ (l : List Goal). goal_at l p) asks.goals ∙ was out
   own_outs after (gathers reading reads more) was = λ out. ap (λ (l : List Goal). goal_at l p) reads.goals ∙ was out
   own_outs after (goes_to reading value reads all is) was =
-      let left : is_unfinished (goal_at reading.goals reading.process) ≡ true = ap (λ (l : List Goal). is_unfinished (goal_at l reading.process)) reads.goals ∙ ap (λ (q : ℕ). is_unfinished (goal_at own.mind.goals q)) reads.process ∙ reads.left in
+      let left : is_unfinished (goal_at reading.goals reading.process) ≡ true = ap (λ (l : List Goal). is_unfinished (goal_at l reading.process)) reads.goals ∙ ap (λ (q : ℕ). is_unfinished (goal_at own.mind.goals q)) reads.same ∙ reads.left in
       ended_outs reading.goals reading.process _ reads.goals left was
   own_outs after (will_decide reading decision reads all is) was = λ out. ap (λ (l : List Goal). goal_at l p) reads.goals ∙ was out
   own_outs after (decides decision turn count) was = decided_outs own.mind.process (decision + 1) (let l = turn.long in let b = turn.process in omega arith) was

@@ -164,13 +164,13 @@ module _ (spec : RoomSpec) (fields : Fields) (own : Own) (p : ℕ) where
       inl (ended_effect Quiet (goals.Ask (current_round asking)) asking asks.goals (let l = asks.long in let b = asks.process in omega arith)
       (λ e. sym (asking_is asking asks e)) (λ n. unread_at own.mind.line (eqb p own.mind.process) asks.unread))
   own_resolves after (finds asking chosen asks is) = found_effect asking after.mind chosen asks is refl refl refl
-  own_resolves after (gathers reading reads more) = inl (still_effect after.mind reads.goals reads.process reads.reads refl)
+  own_resolves after (gathers reading reads more) = inl (still_effect after.mind reads.goals reads.same reads.reads refl)
   own_resolves after (goes_to reading value reads all is) =
-      let round : current_round reading ≡ round_on own = ap (λ (l : List Goal). round_of (goal_at l reading.process)) reads.goals ∙ ap (λ (q : ℕ). round_of (goal_at own.mind.goals q)) reads.process in
-      inl (ended_effect Useful (after_write spec.rounds (current_round reading) value) reading reads.goals (let l = ap length reads.goals in let l' = reads.long in let b = reads.process in let s = reads.process in omega arith)
-      (λ e. next_by (ltb (current_round reading) spec.rounds) (current_round reading) value (own.step p) (ap own.step (e ∙ reads.process) ∙ reads.count ∙ sym round) ∙ round ∙ sym (reading_is reads.reads reads.left (e ∙ reads.process)))
-      (λ n. reading_else reads.reads (λ e. n (e ∙ sym reads.process))))
-  own_resolves after (will_decide reading decision reads all is) = inl (still_effect after.mind reads.goals reads.process reads.reads refl)
+      let round : current_round reading ≡ round_on own = ap (λ (l : List Goal). round_of (goal_at l reading.process)) reads.goals ∙ ap (λ (q : ℕ). round_of (goal_at own.mind.goals q)) reads.same in
+      inl (ended_effect Useful (after_write spec.rounds (current_round reading) value) reading reads.goals (let l = ap length reads.goals in let l' = reads.long in let b = reads.process in let s = reads.same in omega arith)
+      (λ e. next_by (ltb (current_round reading) spec.rounds) (current_round reading) value (own.step p) (ap own.step (e ∙ reads.same) ∙ reads.count ∙ sym round) ∙ round ∙ sym (reading_is reads.reads reads.left (e ∙ reads.same)))
+      (λ n. reading_else reads.reads (λ e. n (e ∙ sym reads.same))))
+  own_resolves after (will_decide reading decision reads all is) = inl (still_effect after.mind reads.goals reads.same reads.reads refl)
   own_resolves after (decides decision turn count) =
       inl (ended_effect Useful goals.Done own.mind refl (let l = turn.long in let b = turn.process in omega arith)
       (λ e. ap own.step e ∙ count ∙ sym (reading_is (ap is_reading turn.stands) turn.left e)) (λ n. reading_else (ap is_reading turn.stands) n))

@@ -104,7 +104,7 @@ pub data Loads (spec : RoomSpec) (fields : Fields) (own : Own) : MindOf StepMap 
 
 pub record IsReading (spec : RoomSpec) (fields : Fields) (own : Own) (reading : MindOf StepMap) : Type 0 where
   pub goals : reading.goals ≡ own.mind.goals
-  pub process : reading.process ≡ own.mind.process
+  pub same : reading.process ≡ own.mind.process
   pub past : line_progress own.mind.line ≡ Past
   pub reads : is_reading own.mind.line ≡ true
   pub left : is_unfinished (current_goal own.mind) ≡ true
@@ -239,7 +239,7 @@ module _ (spec : RoomSpec) (fields : Fields) (i : ℕ) where
       → Loads spec fields (own_of fields i) reading → IsReading spec fields (own_of fields i) reading
   reads_at line reading is at past reads same same' left count loads = record {
     goals = same;
-    process = same';
+    same = same';
     past = ap line_progress is ∙ past;
     reads = ap is_reading is ∙ reads;
     left = left;

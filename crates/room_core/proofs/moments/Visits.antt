@@ -113,7 +113,7 @@ module _ (spec : RoomSpec) (fields : Fields) (own : Own) (is_mind : IsMind spec 
   counts after (goes_to reading value reads all action) =
       let first = (open_round spec own.mind is_mind reads.left).0 in
       let count = reads.count in
-      let place = reads.process in
+      let place = reads.same in
       ended_counted (processes spec) own _ reading.goals reading.process (after_write spec.rounds (current_round reading) value) reads.goals refl refl (subst (λ (q : ℕ). 1 ≤ own.step q) (sym place) (omega (arith, count, first))) has
   counts after (will_decide reading decision reads all action) = same_counted (processes spec) own _ reads.goals refl has
   counts after (decides decision turn count) =

@@ -256,7 +256,7 @@ module _ (spec : RoomSpec) (fields after : Fields) (i : ℕ) (tracks : KeepsTrac
       let reading = next.reading in
       let at = loaded spec fields within known i effect.below reading next.reads in
       let long = full spec fields within known i effect.below reading next.reads next.all in
-      let round : current_round reading ≡ current_round (fields.mind i) = ap (λ (l : List Goal). round_of (goal_at l reading.process)) next.reads.goals ∙ ap (λ (q : ℕ). round_of (goal_at (fields.mind i).goals q)) next.reads.process in
+      let round : current_round reading ≡ current_round (fields.mind i) = ap (λ (l : List Goal). round_of (goal_at l reading.process)) next.reads.goals ∙ ap (λ (q : ℕ). round_of (goal_at (fields.mind i).goals q)) next.reads.same in
       let last = next.reads.last in
       let process : reading.process < processes spec = let e = next.process in omega arith in
       small.next reading.process (current_round reading) value reading.entries process (omega arith) long at.small next.action

@@ -68,7 +68,7 @@ module _ (spec : RoomSpec) (fields : Fields) (own : Own) (p : ℕ) where
   own_writes after k value (finds asking chosen asks some) is = inl (ap (λ (l : List Goal). goal_at l p) (sym asks.goals) ∙ is)
   own_writes after k value (gathers reading reads more) is = inl (ap (λ (l : List Goal). goal_at l p) (sym reads.goals) ∙ is)
   own_writes after k value (goes_to reading given reads all action) is =
-      elim (set_goal reading.goals reading.process (after_write spec.rounds (current_round reading) given) k value reads.goals (let l = ap length reads.goals in let l' = reads.long in let b = reads.process in let s = reads.process in omega arith) is) [
+      elim (set_goal reading.goals reading.process (after_write spec.rounds (current_round reading) given) k value reads.goals (let l = ap length reads.goals in let l' = reads.long in let b = reads.process in let s = reads.same in omega arith) is) [
         | inl old ↦ inl old
         | inr new ↦
             (let next = next_goal (ltb (current_round reading) spec.rounds) (current_round reading) given k value new.1 in
@@ -219,11 +219,11 @@ module _ (spec : RoomSpec) (fields : Fields) (own : Own) (p : ℕ) where
   own_spent after (finds asking chosen asks some) is = inl (ap (λ (l : List Goal). goal_at l p) (sym asks.goals) ∙ is, refl)
   own_spent after (gathers reading reads more) is = inl (ap (λ (l : List Goal). goal_at l p) (sym reads.goals) ∙ is, refl)
   own_spent after (goes_to reading given reads all action) is =
-      elim (set_spent reading.goals reading.process (after_write spec.rounds (current_round reading) given) reads.goals (let l = ap length reads.goals in let l' = reads.long in let b = reads.process in let s = reads.process in omega arith) is) [
+      elim (set_spent reading.goals reading.process (after_write spec.rounds (current_round reading) given) reads.goals (let l = ap length reads.goals in let l' = reads.long in let b = reads.process in let s = reads.same in omega arith) is) [
         | inl old ↦ inl (old, refl)
         | inr new ↦
-            (let round : current_round reading ≡ round_on own = ap (λ (l : List Goal). round_of (goal_at l reading.process)) reads.goals ∙ ap (λ (q : ℕ). round_of (goal_at own.mind.goals q)) reads.process in
-            inr (given, refl, record { reading = reading; reads = reads; all = all; action = action; process = new.0; round = ap (λ (x : ℕ). x + 1) (ap own.step (new.0 ∙ reads.process) ∙ reads.count ∙ sym round) }))
+            (let round : current_round reading ≡ round_on own = ap (λ (l : List Goal). round_of (goal_at l reading.process)) reads.goals ∙ ap (λ (q : ℕ). round_of (goal_at own.mind.goals q)) reads.same in
+            inr (given, refl, record { reading = reading; reads = reads; all = all; action = action; process = new.0; round = ap (λ (x : ℕ). x + 1) (ap own.step (new.0 ∙ reads.same) ∙ reads.count ∙ sym round) }))
       ]
   own_spent after (will_decide reading decision reads all action) is = inl (ap (λ (l : List Goal). goal_at l p) (sym reads.goals) ∙ is, refl)
   own_spent after (decides decision turn count) is =
