@@ -6,11 +6,9 @@ mod Naming
 mod Subcommands
 mod Numbering
 mod Taken
-mod Numerals
 mod ReplyTexts
 mod Scripts
 mod Playing
-mod Streams
 mod Feeding
 mod RunTexts
 mod SpecLists

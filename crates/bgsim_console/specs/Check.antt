@@ -16,7 +16,7 @@ use Rattle.history_checker.specs.declared.verdict.TaskVerdict.{TaskVerdict}
 use Rattle.history_checker.specs.declared.verdict.TaskVerdict.TheVariants as tasks
 use Rattle.bgsim_console.specs.Blocks.{Setup, after_block, no_blocks, outcome_if, pass_lines}
 use Rattle.bgsim_console.specs.Lines.{text_lines}
-use Rattle.bgsim_console.specs.Reading.{most_bytes}
+use Rattle.io_text.specs.Reading.{most_bytes}
 use Rattle.bgsim_console.specs.declared.fault.Outcome.{Outcome}
 use Rattle.bgsim_console.specs.declared.fault.IoFault.{IoFault}
 use Rattle.bgsim_console.specs.declared.fault.IoFault.TheVariants.{Read, Write, TooLong, BadInput, Run as RunFailed, Memory}

@@ -6,6 +6,8 @@ use Rattle.clap.specs.declared.error.kind.ErrorKind.{ErrorKind}
 use Rattle.clap.specs.declared.error.kind.ErrorKind.TheVariants.{DisplayHelp, DisplayVersion, OutOfMemory}
 use Rattle.scheduler.specs.declared.rooms.RunFault.{RunFault}
 use Rattle.scheduler.specs.declared.rooms.RunFault.TheVariants as run
+use Rattle.io_text.specs.declared.fault.DeviceFault.{DeviceFault}
+use Rattle.io_text.specs.declared.fault.DeviceFault.TheVariants as devices
 use Rattle.bgsim_console.specs.declared.fault.Outcome.{Outcome}
 use Rattle.bgsim_console.specs.declared.fault.Outcome.TheVariants.{AllWell, SomeRefused}
 use Rattle.bgsim_console.specs.declared.fault.IoFault.{IoFault}
@@ -44,6 +46,13 @@ words_status DisplayHelp is_printed = if is_printed then 0 else 2
 words_status DisplayVersion is_printed = if is_printed then 0 else 2
 words_status OutOfMemory is_printed = 3
 words_status _ is_printed = 2
+
+-- a device's fault ends an engine
+abbrev pub device_fault : DeviceFault → IoFault
+device_fault devices.Read = Read
+device_fault devices.Write = Write
+device_fault devices.TooLong = TooLong
+device_fault devices.Memory = Memory
 
 -- reading ended the run
 abbrev pub is_read_failed : {A : Type 0} → Result A IoFault → Bool

@@ -7,8 +7,6 @@ pub mod LineNumbers
 pub mod Lines
 pub mod Modes
 pub mod Play
-pub mod Reading
 pub mod ReplyTexts
 pub mod Run
 pub mod Script
-pub mod Writing

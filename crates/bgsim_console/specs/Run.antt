@@ -7,7 +7,7 @@ use Rattle.scheduler.specs.declared.rooms.RoomResult.{RoomResult}
 use Rattle.scheduler.specs.declared.rooms.RunFault.{RunFault}
 use Rattle.scheduler.specs.declared.rooms.RunFault.TheVariants.{Workers, Spawn, OutOfMemory}
 use Rattle.bgsim_console.specs.Blocks.{Setup, after_block, no_blocks, outcome_if}
-use Rattle.bgsim_console.specs.Reading.{most_bytes}
+use Rattle.io_text.specs.Reading.{most_bytes}
 use Rattle.bgsim_console.specs.ReplyTexts.{report_text}
 use Rattle.bgsim_console.specs.Script.{block_extent}
 use Rattle.bgsim_console.specs.declared.fault.Outcome.{Outcome}

@@ -8,8 +8,8 @@ ghost use Rattle.bgsim_console.specs.Blocks.{no_blocks, refuse, open_room, after
 use crate::fault::IoFault;
 use crate::lines::count_lines;
 use crate::report::{write_refused, write_refused_code};
-use crate::text::Text;
 use history_checker::{AddFault, Rooms};
+use io_text::Text;
 use protocol_lang::ParseFault;
 use room_spec::{Block, Protocols, Spec, SpecFault, read_block};
 use std::alloc::{AllocError, Global};

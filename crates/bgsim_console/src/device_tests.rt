@@ -2,10 +2,10 @@
 ghost use Rattle.std.specs.Prelude.{◌≡◌, false};
 
 use crate::command_line::Mode;
-use crate::device::Device;
 use crate::engine::{check_io, play_io, run_io};
 use crate::fault::{IoFault, Outcome};
 use crate::tests::{Flaky, Trickle};
+use io_text::Device;
 use scheduler::FreeGate;
 use std::alloc::Global;
 use std::io;

@@ -7,13 +7,11 @@ ghost use Rattle.bgsim_console.specs.Run.{IsRan};
 ghost use Rattle.bgsim_console.specs.Devices.{HasRead, HasWritten};
 ghost use Rattle.bgsim_console.specs.Ends.{failed_writes};
 
-use crate::device::Device;
 use crate::fault::{IoFault, Outcome};
-use crate::input::read_input;
 use crate::judge::judge;
-use crate::output::write_output;
 use crate::play::play;
 use crate::run::run_blocks;
+use io_text::{Device, read_input, write_output};
 use scheduler::Gate;
 use std::alloc::Global;
 use std::io::{Read, Write};

@@ -2,9 +2,9 @@
 ghost use Rattle.std.specs.Prelude.{◌≡◌};
 ghost use Rattle.bgsim_console.specs.declared.fault.IoFault.TheVariants.{BadInput, Memory, Run};
 ghost use Rattle.bgsim_console.specs.Blocks.{outcome_if};
-ghost use Rattle.bgsim_console.specs.Ends.{outcome_status, fault_status};
+ghost use Rattle.bgsim_console.specs.Ends.{device_fault, outcome_status, fault_status};
 
-use crate::text::Text;
+use io_text::{DeviceFault, Text};
 use scheduler::RunFault;
 use std::alloc::AllocError;
 use thiserror::Error;
@@ -88,6 +88,19 @@ pub fn bad_input(line: u64, code: u16) -> IoFault
     ensures { result ≡ BadInput line code }
 {
     IoFault::BadInput { line, code }
+}
+
+impl From<DeviceFault> for IoFault {
+    ghost from_gives = { λ device fault. fault ≡ device_fault device };
+
+    fn from(fault: DeviceFault) -> IoFault {
+        match fault {
+            DeviceFault::Read => IoFault::Read,
+            DeviceFault::Write => IoFault::Write,
+            DeviceFault::TooLong => IoFault::TooLong,
+            DeviceFault::Memory => IoFault::Memory,
+        }
+    }
 }
 
 impl From<AllocError> for IoFault {

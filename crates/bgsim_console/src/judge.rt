@@ -3,15 +3,15 @@ ghost use Rattle.std.specs.Prelude.{◌≡◌, ◌≤◌, List, Ok, IfOk, IfErr,
 ghost use Rattle.history_checker.specs.Verdicts.{FedEvent, HasProcessed, specs_of};
 ghost use Rattle.bgsim_console.specs.Blocks.{IsFaultOr};
 ghost use Rattle.bgsim_console.specs.Check.{MayLackMemory, IsOutput, IsOutputFor, input_says, is_well};
-ghost use Rattle.bgsim_console.specs.Reading.{most_bytes};
+ghost use Rattle.io_text.specs.Reading.{most_bytes};
 
 use crate::blocks::Setup;
 use crate::events::feed_events;
 use crate::fault::{Answer, IoFault, outcome_if};
 use crate::report::{write_task, write_verdict};
 use crate::setup::read_blocks;
-use crate::text::Text;
 use history_checker::{Rooms, TaskVerdict, Verdict};
+use io_text::Text;
 use std::alloc::{AllocError, Global};
 
 /// Judges an input.

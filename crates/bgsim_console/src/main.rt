@@ -9,17 +9,14 @@ ghost use Rattle.bgsim_console.specs.Modes.{IsAnswerIn};
 
 mod blocks;
 mod command_line;
-mod device;
 #[cfg(test)]
 mod device_tests;
 mod engine;
 mod events;
 mod fault;
-mod input;
 mod judge;
 mod laws;
 mod lines;
-mod output;
 mod play;
 #[cfg(test)]
 mod protocol_tests;
@@ -36,14 +33,13 @@ mod steps;
 mod task_tests;
 #[cfg(test)]
 mod tests;
-mod text;
 #[cfg(test)]
 mod text_tests;
 
 use clap::error::ErrorKind;
 use command_line::{Line, Mode, line};
-use device::Device;
 use fault::{IoFault, Outcome};
+use io_text::Device;
 use scheduler::FreeGate;
 use std::fs::File;
 use std::io;

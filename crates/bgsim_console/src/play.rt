@@ -10,7 +10,7 @@ ghost use Rattle.bgsim_console.specs.Blocks.{IsFaultOr, fault_text, refused_line
 ghost use Rattle.bgsim_console.specs.Play.{AreDone, Done, HasPlayed, IsDone, IsPlayFor, PlaysOn, Replied, ending_with, is_refusal};
 ghost use Rattle.bgsim_console.specs.ReplyTexts.{reply_text, sim_in};
 ghost use Rattle.bgsim_console.specs.Script.{Entry, Open, command_in, entry_at, is_open, script_from, script_says};
-ghost use Rattle.bgsim_console.specs.Reading.{most_bytes};
+ghost use Rattle.io_text.specs.Reading.{most_bytes};
 
 use crate::blocks::read_room;
 use crate::fault::{IoFault, Outcome, bad_input};
@@ -19,7 +19,7 @@ use crate::reply::{write_reply, write_steps};
 use crate::report::{write_refused, write_refused_code};
 use crate::script::{is_open, next_entry, read_command};
 use crate::steps::read_steps;
-use crate::text::Text;
+use io_text::Text;
 use room_spec::{Name, SpecFault};
 use service_core::{Command, Refusal, Reply, Service};
 use std::alloc::{AllocError, Global};

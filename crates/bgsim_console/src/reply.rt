@@ -6,7 +6,7 @@ ghost use Rattle.service_core.specs.Replies.{refusal_code};
 ghost use Rattle.transcript.specs.Grammar.{entry_text, event_line};
 ghost use Rattle.bgsim_console.specs.ReplyTexts.{crash_word, event_lines, numbers_text, process_line, process_lines, reply_text, report_text, state_text, step_word};
 
-use crate::text::{Numeral, Text};
+use io_text::{Numeral, Text};
 use room_core::{CrashReply, StepReply};
 use service_core::{Refusal, Reply};
 use std::alloc::AllocError;

@@ -5,8 +5,8 @@ ghost use Rattle.protocol_lang.specs.FirstFaults.{place_of};
 ghost use Rattle.bgsim_console.specs.Blocks.{fault_text, numbers_behind, protocol_text, refused_line};
 ghost use Rattle.bgsim_console.specs.Check.{task_line, verdict_line};
 
-use crate::text::Text;
 use history_checker::{TaskVerdict, Verdict};
+use io_text::Text;
 use protocol_lang::ParseFault;
 use room_spec::{Name, SpecFault};
 use std::alloc::AllocError;

@@ -5,14 +5,14 @@ ghost use Rattle.bgsim_console.specs.ReplyTexts.{report_text};
 ghost use Rattle.scheduler.specs.Results.{AreRoomRuns};
 ghost use Rattle.scheduler.specs.declared.rooms.RunFault.TheVariants.{Workers};
 ghost use Rattle.bgsim_console.specs.Run.{AddsReports, AreWorkers, IsRunFor, MayEndRun};
-ghost use Rattle.bgsim_console.specs.Reading.{most_bytes};
+ghost use Rattle.io_text.specs.Reading.{most_bytes};
 
 use crate::blocks::Setup;
 use crate::fault::{Answer, IoFault, outcome_if};
 use crate::reply::write_report;
 use crate::setup::read_all_blocks;
-use crate::text::Text;
 use indexmap::map::IntoValues;
+use io_text::Text;
 use room_spec::{Name, Spec};
 use scheduler::{Gate, RoomResult, RunFault, run_rooms};
 use std::alloc::{AllocError, Global};

@@ -1,8 +1,8 @@
 //! Files of rooms that workers run.
-use crate::device::Device;
 use crate::engine::run_io;
 use crate::fault::{IoFault, Outcome};
 use crate::tests::{ONE, Trickle};
+use io_text::Device;
 use scheduler::{FreeGate, Gate, RunFault};
 use std::alloc::Global;
 use std::fmt::Write;

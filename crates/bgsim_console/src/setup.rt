@@ -4,7 +4,7 @@ ghost use Rattle.bgsim_console.specs.declared.fault.IoFault.TheVariants.{Memory}
 ghost use Rattle.bgsim_console.specs.Run.{all_blocks};
 ghost use Rattle.bgsim_console.specs.Blocks.{IsFaultOr};
 ghost use Rattle.bgsim_console.specs.Check.{blocks_in, BeginsWithBlock};
-ghost use Rattle.bgsim_console.specs.Reading.{most_bytes};
+ghost use Rattle.io_text.specs.Reading.{most_bytes};
 
 use crate::blocks::Setup;
 use crate::fault::{IoFault, bad_input};

@@ -1,5 +1,5 @@
 use super::*;
-use crate::device::DeviceFailed;
+use io_text::DeviceFailed;
 use scheduler::RunFault;
 use std::alloc::{AllocError, Global};
 use std::io::Write;

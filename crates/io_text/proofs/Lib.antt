@@ -1,0 +1,2 @@
+mod Numerals
+mod Streams

@@ -1,0 +1,196 @@
+//! Text that grows at its end.
+ghost use Rattle.std.specs.Prelude.{◌≡◌, ◌+◌, ◌<◌, ◌≤◌, ◌^◌, ◌==◌, [], ◌∷◌, ◌++◌, OnOk, decimal, length, slice_range, take};
+
+use itoa::write_digits;
+use std::alloc::{AllocError, Global};
+use std::marker::Model;
+
+/// How much room a text takes beyond what it needs, where it has to take more.
+const SPARE: usize = 1024;
+
+/// A number and the space before it have at most so many bytes.
+const WIDTH: usize = 24;
+
+/// A number's text, to be put often once it is made.
+#[derive(Clone, Copy)]
+pub struct Numeral {
+    pub value: u64,
+    start: usize,
+    bytes: [u8; 48],
+    /// A space and the number stand in these bytes from `start` to the 24th.
+    ghost right: { slice_range bytes start 24 ≡ 32 ∷ decimal value },
+    ghost within: { start ≤ 24 },
+}
+
+impl Numeral {
+    /// This number's text.
+    #[inline]
+    pub fn of(value: u64) -> Numeral
+        ensures { result.value ≡ value }
+    {
+        let mut bytes = [0; 48];
+        let first = write_digits(value, &mut bytes, WIDTH);
+        bytes[first - 1] = b' ';
+        Numeral {
+            value,
+            start: first - 1,
+            bytes,
+        }
+    }
+
+    /// Makes it this number's.
+    #[inline(always)]
+    pub fn set(&mut self, value: u64)
+        ensures { self.new.value ≡ value }
+    {
+        if self.value != value {
+            *self = Numeral::of(value);
+        }
+    }
+}
+
+/// A text, and room behind it.
+#[derive(Drop)]
+pub struct Text {
+    bytes: Vec<u8>,
+    len: usize,
+}
+
+impl Model for Text {
+    ghost use Rattle.std.specs.Prelude.{◌≡◌, ◌≤◌, ℕ, List, length, take};
+
+    ghost Value = { List ℕ };
+
+    ghost view = { λ text. take text.len text.bytes.items };
+
+    ghost invariant = { λ text. text.len ≤ length text.bytes.items };
+}
+
+impl Text {
+    /// An empty text.
+    pub fn new(alloc: Global) -> Text
+        ensures { result ≡ [] }
+    {
+        Text {
+            bytes: Vec::new(alloc),
+            len: 0,
+        }
+    }
+
+    /// Whether nothing was put yet.
+    #[inline]
+    pub fn is_empty(&self) -> bool
+        ensures { result ≡ (length self.now == 0) }
+    {
+        self.len == 0
+    }
+
+    /// All bytes that were put.
+    #[inline]
+    pub fn as_bytes(&self) -> &[u8]
+        ensures { result.now ≡ self.now }
+    {
+        &self.bytes[..self.len]
+    }
+
+    /// Puts more behind the text.
+    #[inline(always)]
+    pub fn put(&mut self, more: &[u8]) -> Result<(), AllocError>
+        ensures { OnOk result (self.new ≡ self.old ++ more.now) }
+    {
+        make_room(&mut self.bytes, self.len, more.len())?;
+        self.len = place(&mut self.bytes, self.len, more);
+        Ok(())
+    }
+
+    /// Puts two pieces behind the text.
+    #[inline(always)]
+    pub fn put_two(&mut self, first: &[u8], second: &[u8]) -> Result<(), AllocError>
+        ensures { OnOk result (self.new ≡ self.old ++ (first.now ++ second.now)) }
+    {
+        self.put(first)?;
+        self.put(second)
+    }
+
+    /// Puts a space and a number behind the text.
+    #[inline]
+    pub fn put_number(&mut self, value: u64) -> Result<(), AllocError>
+        ensures { OnOk result (self.new ≡ self.old ++ 32 ∷ decimal value) }
+    {
+        if value < 10 {
+            return self.put(&[b' ', b'0' + value as u8]);
+        }
+        self.put_long_number(value)
+    }
+
+    /// Does the same for a number of any length.
+    #[inline(never)]
+    fn put_long_number(&mut self, value: u64) -> Result<(), AllocError>
+        ensures { OnOk result (self.new ≡ self.old ++ 32 ∷ decimal value) }
+    {
+        self.put_numeral(&Numeral::of(value))
+    }
+
+    /// Puts a space and a number, whose text is there, behind the text.
+    #[inline(always)]
+    pub fn put_numeral(&mut self, numeral: &Numeral) -> Result<(), AllocError>
+        ensures { OnOk result (self.new ≡ self.old ++ 32 ∷ decimal numeral.now.value) }
+    {
+        make_room(&mut self.bytes, self.len, WIDTH)?;
+        self.len = place_numeral(&mut self.bytes, self.len, numeral);
+        Ok(())
+    }
+}
+
+/// Sees to it that there is room for so many bytes behind the first `len`.
+#[inline(always)]
+fn make_room(bytes: &mut Vec<u8>, len: usize, count: usize) -> Result<(), AllocError>
+    requires within { len ≤ length bytes.old.items }
+    requires count { count < 2 ^ 63 }
+    ensures text { take len bytes.new.items ≡ take len bytes.old.items }
+    ensures within { len ≤ length bytes.new.items }
+    ensures room { OnOk result (len + count ≤ length bytes.new.items) }
+{
+    if count <= bytes.len() - len {
+        return Ok(());
+    }
+    grow(bytes, len + count)
+}
+
+/// Adds bytes, so that there are so many and some to spare.
+#[cold]
+#[inline(never)]
+fn grow(bytes: &mut Vec<u8>, len: usize) -> Result<(), AllocError>
+    requires { length bytes.old.items ≤ len }
+    ensures text { take (length bytes.old.items) bytes.new.items ≡ bytes.old.items }
+    ensures room { OnOk result (len ≤ length bytes.new.items) }
+{
+    bytes.resize(len.saturating_add(SPARE), 0)
+}
+
+/// Puts bytes at this place. Gives the place behind them.
+#[inline(always)]
+fn place(bytes: &mut [u8], at: usize, more: &[u8]) -> usize
+    requires { at + length more.now ≤ length bytes.old }
+    ensures end { result ≡ at + length more.now }
+    ensures len { length bytes.new ≡ length bytes.old }
+    ensures text { take result bytes.new ≡ take at bytes.old ++ more.now }
+{
+    let end = at + more.len();
+    bytes[at..end].copy_from_slice(more);
+    end
+}
+
+/// Puts a space and a number at this place. Gives the place behind them.
+#[inline(always)]
+fn place_numeral(bytes: &mut [u8], at: usize, numeral: &Numeral) -> usize
+    requires { at + 24 ≤ length bytes.old }
+    ensures end { result ≤ length bytes.new }
+    ensures len { length bytes.new ≡ length bytes.old }
+    ensures text { take result bytes.new ≡ take at bytes.old ++ 32 ∷ decimal numeral.now.value }
+{
+    // As many bytes for each number are copied faster; those behind it count as room.
+    let start = numeral.start;
+    let end = place(bytes, at, &numeral.bytes[start..start + WIDTH]);
+    end - start
+}
