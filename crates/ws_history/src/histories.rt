@@ -73,7 +73,7 @@ fn read_history(alloc: Global, room: &RoomCore) -> Result<Vec<Event>, AllocError
         room,
         shown.as_slice(),
         greatest.as_slice(),
-        view.as_slice(),
+        &mut view,
     )?;
     Ok(events)
 }
@@ -122,7 +122,7 @@ fn push_block(
     ensures view { OnOk result (view.new.items ≡ shown_by room.now.spec (read_of room.now) shown.new.items) }
 {
     let row = row_in(room, snapshot);
-    *view = push_writes(events, room, shown.as_slice(), row, view.as_slice())?;
+    push_writes(events, room, shown.as_slice(), row, view)?;
     *shown = with_row(shown.as_slice(), row);
     let seen = view_of(room, row, shown.as_slice(), view.as_slice());
     push_snap(events, room, snapshot.process, seen)?;
@@ -209,27 +209,29 @@ fn push_decision(
     Ok(())
 }
 
-/// The writes of each process after the first `from` of it, up to `upto`. Of the values of the former
-/// it makes those of all.
+/// The writes of each process after the first `from` of it, up to `upto`. `view` has the values of
+/// the former, and then of all.
 fn push_writes(
     events: &mut Vec<Event>,
     room: &RoomCore,
     from: &[u8],
     upto: &[u8],
-    view: &[Option<u32>],
-) -> Result<View, AllocError>
+    view: &mut View,
+) -> Result<(), AllocError>
     requires from { length from.now ≡ processes room.now.spec }
     requires upto { length upto.now ≡ processes room.now.spec }
     requires range { (p : ℕ) → slice_index upto.now p ≤ room.now.spec.rounds }
-    requires view { view.now ≡ shown_by room.now.spec (read_of room.now) from.now }
+    requires view { view.old.items ≡ shown_by room.now.spec (read_of room.now) from.now }
     ensures events { OnOk result (events.new.items ≡ events.old.items ++ writes_between room.now from.now upto.now) }
-    ensures view { IfOk result (λ view. view.items ≡ shown_by room.now.spec (read_of room.now) (shown_with from.now upto.now)) }
+    ensures view { OnOk result (view.new.items ≡ shown_by room.now.spec (read_of room.now) (shown_with from.now upto.now)) }
 {
     let mut all = View::new();
+    let before = view.as_slice();
     for p in 0..process_count(room) {
-        all.push(push_writes_of(events, room, p, from[p], upto[p], view[p])?);
+        all.push(push_writes_of(events, room, p, from[p], upto[p], before[p])?);
     }
-    Ok(all)
+    *view = all;
+    Ok(())
 }
 
 /// The same of one process, and of its last value.

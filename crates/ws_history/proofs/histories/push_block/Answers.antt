@@ -25,7 +25,7 @@ returns-clause-events c =
     let writes = by_process (λ (p : ℕ). new_writes src p (get_or shown p 0) (get_or all p 0)) n in
     let snap : List Event = Snap s.process (record { items = shown_by room.spec F all }) ∷ [] in
     let end = decided s.process (decision_after room.spec F s.process s.round) in
-    let one = c.in_ok-view.ensures.events
+    let one = c.in_ok-push_writes.ensures.events
     ∙ ap (λ (l : List ℕ). old ++ by_process (λ (p : ℕ). new_writes src p (get_or l p 0) (get_or c.row_in-row.result.now p 0)) n) c.as_slice.ensures.value
     ∙ ap (λ (l : List ℕ). old ++ by_process (λ (p : ℕ). new_writes src p (get_or shown p 0) (get_or l p 0)) n) row in
     let two = c.in_ok-push_snap.ensures
@@ -41,15 +41,15 @@ returns-clause-shown c =
     let s = c.args.snapshot.now in
     let row = c.row_in-row.ensures.value in
     c.with_row.ensures
-    ∙ ap (λ (l : List ℕ). shown_with l c.row_in-row.result.now) c.as_slice-3.ensures.value
+    ∙ ap (λ (l : List ℕ). shown_with l c.row_in-row.result.now) c.as_slice-2.ensures.value
     ∙ ap (λ (l : List ℕ). shown_with c.args.shown.now.items l) row
 
 pub returns-clause-view : goal.returns-clause-view
 returns-clause-view c =
     let room = c.args.room.now in
-    let all = ap (λ (l : List ℕ). shown_with l c.row_in-row.result.now) (c.as_slice.ensures.value ∙ sym c.as_slice-3.ensures.value)
+    let all = ap (λ (l : List ℕ). shown_with l c.row_in-row.result.now) (c.as_slice.ensures.value ∙ sym c.as_slice-2.ensures.value)
     ∙ sym c.with_row.ensures in
-    c.in_ok-view.ensures.view ∙ ap (shown_by room.spec (read_of room)) all
+    c.in_ok-push_writes.ensures.view ∙ ap (shown_by room.spec (read_of room)) all
 
 pub bounds-greatest-snapshot : goal.bounds-greatest-snapshot
 bounds-greatest-snapshot c =
@@ -61,10 +61,10 @@ bounds-greatest-snapshot c =
 pub view_of-seen-requires-clause-view : goal.view_of-seen-requires-clause-view
 view_of-seen-requires-clause-view c =
     let room = c.args.room.now in
-    let all = ap (λ (l : List ℕ). shown_with l c.row_in-row.result.now) (c.as_slice.ensures.value ∙ sym c.as_slice-3.ensures.value)
+    let all = ap (λ (l : List ℕ). shown_with l c.row_in-row.result.now) (c.as_slice.ensures.value ∙ sym c.as_slice-2.ensures.value)
     ∙ sym c.with_row.ensures
-    ∙ sym c.as_slice-4.ensures.value in
-    c.as_slice-5.ensures.value ∙ c.in_ok-view.ensures.view ∙ ap (shown_by room.spec (read_of room)) all
+    ∙ sym c.as_slice-3.ensures.value in
+    c.as_slice-4.ensures.value ∙ c.in_ok-push_writes.ensures.view ∙ ap (shown_by room.spec (read_of room)) all
 
 pub push_decision-requires-clause-greatest : goal.push_decision-requires-clause-greatest
 push_decision-requires-clause-greatest c =

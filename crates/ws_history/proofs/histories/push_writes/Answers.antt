@@ -13,18 +13,18 @@ use Rattle.ws_history.specs.Sources.{source_of}
 use Rattle.ws_history.proofs.Walking.{map_same}
 use Rattle.ws_history.proofs.histories.push_writes.Goals as goal
 
-pub bounds-view-p : goal.bounds-view-p
-bounds-view-p c =
+pub bounds-before-p : goal.bounds-before-p
+bounds-before-p c =
     let room = c.args.room.now in
     let long = length-map-range_with_len (λ (q : ℕ). shown room.spec (read_of room) q (get_or c.args.from.now q 0)) 0 (processes room.spec) in
-    let same = ap length c.requires.view in
+    let same = ap length (c.as_slice-before.ensures.value ∙ c.requires.view) in
     omega (arith, long, same)
 
 pub push_writes_of-requires-clause-value : goal.push_writes_of-requires-clause-value
 push_writes_of-requires-clause-value c =
     let room = c.args.room.now in
     let p = c.loop-p.p in
-    ap (λ (l : List (Option ℕ)). get_or l p None) c.requires.view
+    ap (λ (l : List (Option ℕ)). get_or l p None) (c.as_slice-before.ensures.value ∙ c.requires.view)
     ∙ get_or-map-range_with_len (λ (q : ℕ). shown room.spec (read_of room) q (get_or c.args.from.now q 0)) 0 (processes room.spec) p p None (omega arith) (omega arith)
 
 pub loop-p-preserved : goal.loop-p-preserved

@@ -78,7 +78,7 @@ loop-snapshot-preserved c =
 pub push_writes-requires-clause-view : goal.push_writes-requires-clause-view
 push_writes-requires-clause-view c =
     let room = c.args.room.now in
-    c.as_slice-6.ensures.value ∙ c.loop-snapshot.invariant.view ∙ ap (shown_by room.spec (read_of room)) (sym c.as_slice-4.ensures.value)
+    c.loop-snapshot.invariant.view ∙ ap (shown_by room.spec (read_of room)) (sym c.as_slice-4.ensures.value)
 
 pub returns : goal.returns
 returns c =
