@@ -158,13 +158,13 @@ fn lowest_steps(shape: &Shape, word: u64) -> [u8; MAX_PROCESSES]
     ensures own { (p : ℕ) → p < shape.now.n → slice_index result p ≡ min (word / 2 ^ (p * shape.now.bits) % 2 ^ shape.now.bits) shape.now.rounds }
     ensures behind { (p : ℕ) → shape.now.n ≤ p → p < MAX_PROCESSES → slice_index result p ≡ 0 }
 {
-    u8x16::from_array(lowest_fields(shape, word))
+    lowest_fields(shape, word)
         .simd_min(u8x16::splat(shape.rounds as u8))
         .to_array()
 }
 
 /// The lowest fields of a word, one for each process, and then 0.
-fn lowest_fields(shape: &Shape, word: u64) -> [u8; MAX_PROCESSES]
+fn lowest_fields(shape: &Shape, word: u64) -> u8x16
     ensures own { (p : ℕ) → p < shape.now.n → slice_index result p ≡ word / 2 ^ (p * shape.now.bits) % 2 ^ shape.now.bits }
     ensures behind { (p : ℕ) → shape.now.n ≤ p → p < MAX_PROCESSES → slice_index result p ≡ 0 }
 {
@@ -177,11 +177,11 @@ fn lowest_fields(shape: &Shape, word: u64) -> [u8; MAX_PROCESSES]
 }
 
 /// The bytes of two words, the lowest first.
-fn bytes_of(low: u64, high: u64) -> [u8; MAX_PROCESSES]
+fn bytes_of(low: u64, high: u64) -> u8x16
     ensures low { (p : ℕ) → p < 8 → slice_index result p ≡ low / 2 ^ (p * 8) % 2 ^ 8 }
     ensures high { (p : ℕ) → p < 8 → slice_index result (8 + p) ≡ high / 2 ^ (p * 8) % 2 ^ 8 }
 {
-    u64x2::from_array([low, high]).to_le_bytes().to_array()
+    u64x2::from_array([low, high]).to_le_bytes()
 }
 
 /// The word with each of its eight fields in a byte of its own. It has no other bits.
