@@ -211,6 +211,7 @@ fn push_decision(
 
 /// The writes of each process after the first `from` of it, up to `upto`. `view` has the values of
 /// the former, and then of all.
+#[inline(always)]
 fn push_writes(
     events: &mut Vec<Event>,
     room: &RoomCore,
