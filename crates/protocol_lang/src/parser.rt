@@ -1,5 +1,5 @@
 //! The grammar, read from left to right.
-ghost use Rattle.std.specs.Prelude.{◌≡◌, ◌≤◌, ◌<◌, length, Option, Some, None, Result, Ok, Err, OnOk, IfOk, IfErr, IfSome};
+ghost use Rattle.std.specs.Prelude.{◌≡◌, ◌≤◌, ◌<◌, ◌∷◌, ◌++◌, [], length, Option, Some, None, Result, Ok, Err, OnOk, IfOk, IfErr, IfSome};
 ghost use Rattle.protocol_lang.specs.Formulas.{trees, after};
 ghost use Rattle.protocol_lang.specs.Tokens.{operator_of, kind_of};
 ghost use Rattle.protocol_lang.specs.Reading.{Ends, Takes, one_token, IsReading, cleared, opening, step, operand, word_operand, opened, call_opened, behind, closed, in_outermost, first_ended, left_ended, right_ended, action_rule_ended, last_ended, begun, rule, last, ending, with_waiting, with_operand, behind_operand, with_infix, value_read, compared_with, is_first, last_kind, tree_read};
@@ -9,12 +9,12 @@ use crate::draft::{Draft, Instruction};
 use crate::fault::ParseFault;
 use crate::formula::Formula;
 use crate::lexer::next_token;
-use crate::rules::{ActionRule, Conditions, Rule, Rules, Tree};
+use crate::rules::{ActionRule, Rule, Tree};
 use crate::stack::Stack;
 use crate::state::{Expected, Level, Opener, Part, Refusal};
 use crate::token::{Symbol, Token, Word};
 use crate::tree::{Call, Comparator, Kind, Name, Operator};
-use std::alloc::Global;
+use std::alloc::{AllocError, Global};
 use std::marker::Model;
 use std::mem;
 
@@ -40,8 +40,8 @@ pub struct Parser {
     outer: Stack<Level, MAX_OPEN>,
     draft: Draft,
     left: Formula,
-    conditions: Conditions,
-    rules: Rules,
+    conditions: Vec<Comparison>,
+    rules: Vec<Rule>,
     first: Formula,
 }
 
@@ -62,8 +62,8 @@ impl Model for Parser {
       outer = p.outer;
       stack = p.draft;
       left = p.left;
-      conditions = p.conditions;
-      rules = p.rules;
+      conditions = p.conditions.items;
+      rules = p.rules.items;
       first = p.first;
     } };
 }
@@ -80,8 +80,8 @@ impl Parser {
             outer: Stack::new(),
             draft: Draft::new(alloc),
             left: Draft::new(alloc).finish(),
-            conditions: Conditions::new(alloc),
-            rules: Rules::new(alloc),
+            conditions: Vec::new(alloc),
+            rules: Vec::new(alloc),
             first: Draft::new(alloc).finish(),
         }
     }
@@ -293,8 +293,10 @@ impl Parser {
     {
         let right = self.take_value()?;
         let left = mem::replace(&mut self.left, Draft::new(self.alloc).finish());
-        self.conditions
-            .push(Comparison::new(left, comparator, right))?;
+        append(
+            &mut self.conditions,
+            Comparison::new(left, comparator, right),
+        )?;
         self.part = part;
         self.expected = Expected::Operand;
         Ok(())
@@ -307,11 +309,15 @@ impl Parser {
             return Err(Refusal::Unexpected);
         };
         let value = self.take_value()?;
-        let conditions = mem::replace(&mut self.conditions, Conditions::new(self.alloc));
-        self.rules.push(Rule {
-            conditions,
-            action_rule: ActionRule { kind, value },
-        })?;
+        let conditions = mem::replace(&mut self.conditions, Vec::new(self.alloc));
+        let action_rule = ActionRule { kind, value };
+        append(
+            &mut self.rules,
+            Rule {
+                conditions,
+                action_rule,
+            },
+        )?;
         self.expected = Expected::Rule;
         Ok(())
     }
@@ -418,4 +424,11 @@ pub(crate) fn read(alloc: Global, text: &[u8]) -> Result<Tree, ParseFault>
         Ok(tree) => Ok(tree),
         Err(refusal) => Err(refusal.at(from)),
     }
+}
+
+fn append<T: Drop>(items: &mut Vec<T>, item: T) -> Result<(), AllocError>
+    ensures { OnOk result (items.new.items ≡ items.old.items ++ item ∷ []) }
+{
+    items.push(item)?;
+    Ok(())
 }

@@ -13,4 +13,4 @@ pub returns-in-None : goal.returns-in-None
 returns-in-None c =
     let s = c.args.environment.now in
     let P : Tree → Type 0 = λ tree. c.action_of.result ≡ action_in tree s in
-    subst P c.tree.view_is (c.action_of.ensures ∙ sym (no_rule s c.tree.inside.last (find (applies s) c.tree.inside.rules) (sym c.in-None.is ∙ c.action_by.ensures ∙ ap (λ rules. option_map (λ rule. action_of s rule.action_rule) (find (applies s) rules)) c.as_slice.ensures)))
+    subst P c.tree.view_is (c.action_of.ensures ∙ sym (no_rule s c.tree.inside.last (find (applies s) c.tree.inside.rules.items) (sym c.in-None.is ∙ c.action_by.ensures ∙ ap (λ rules. option_map (λ rule. action_of s rule.action_rule) (find (applies s) rules)) c.as_slice.ensures.value)))

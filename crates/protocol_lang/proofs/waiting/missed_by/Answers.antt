@@ -12,5 +12,5 @@ returns c =
     let missed : (f : ℕ) → (c.missed_in.result ≡ Some f) ↔ (c.comparison-item.result ≡ sees_all_but f) =
     subst (λ (item : ComparisonOf Expression). (f : ℕ) → (c.missed_in.result ≡ Some f) ↔ (item ≡ sees_all_but f)) c.test.ensures c.missed_in.ensures in
     subst (λ (rule : RuleOf Expression). (f : ℕ) → (c.missed_in.result ≡ Some f) ↔ (rule ≡ record { conditions = sees_all_but f ∷ []; action_rule = decides_least })) c.rule.view_is
-    (subst (λ (conditions : List (ComparisonOf Expression)). (f : ℕ) → (c.missed_in.result ≡ Some f) ↔ (◌≡◌ {A = RuleOf Expression} (record { conditions = conditions; action_rule = inside.action_rule }) (record { conditions = sees_all_but f ∷ []; action_rule = decides_least }))) c.as_slice.ensures
+    (subst (λ (conditions : List (ComparisonOf Expression)). (f : ℕ) → (c.missed_in.result ≡ Some f) ↔ (◌≡◌ {A = RuleOf Expression} (record { conditions = conditions; action_rule = inside.action_rule }) (record { conditions = sees_all_but f ∷ []; action_rule = decides_least }))) c.as_slice.ensures.value
     (one_condition slice inside.action_rule c.comparison-item.result c.missed_in.result c.in-len1.len_at_least c.in-len1.len_below c.comparison-item.is action missed))

@@ -11,5 +11,5 @@ returns c =
     let first = c.is_input.ensures.0 c.if-not-is_input.false in
     let last = c.is_write_of_own.ensures.0 c.if-not-is_write_of_own.false in
     subst (λ (tree : Tree). (f : ℕ) → (c.missed_by.result ≡ Some f) ↔ (tree ≡ waits_for_all_but f)) (c.tree.view_is ∙ c.protocol.view_is)
-    (subst (λ (rules : List (RuleOf Expression)). (f : ℕ) → (c.missed_by.result ≡ Some f) ↔ (◌≡◌ {A = Tree} (record { first = inside.first; rules = rules; last = inside.last }) (waits_for_all_but f))) c.as_slice.ensures
+    (subst (λ (rules : List (RuleOf Expression)). (f : ℕ) → (c.missed_by.result ≡ Some f) ↔ (◌≡◌ {A = Tree} (record { first = inside.first; rules = rules; last = inside.last }) (waits_for_all_but f))) c.as_slice.ensures.value
     (one_rule inside.first slice inside.last c.rule-item.result c.missed_by.result c.in-len1.len_at_least c.in-len1.len_below c.rule-item.is first last c.missed_by.ensures))
