@@ -29,11 +29,10 @@ impl Numeral {
         ensures { result.value ≡ value }
     {
         let mut bytes = [0; 48];
-        let first = write_digits(value, &mut bytes, WIDTH);
-        bytes[first - 1] = b' ';
+        let start = write_spaced(value, &mut bytes);
         Numeral {
             value,
-            start: first - 1,
+            start,
             bytes,
         }
     }
@@ -120,6 +119,9 @@ impl Text {
         if value < 10 {
             return self.put(&[b' ', b'0' + value as u8]);
         }
+        if value < 100 {
+            return self.put(&[b' ', b'0' + (value / 10) as u8, b'0' + (value % 10) as u8]);
+        }
         self.put_long_number(value)
     }
 
@@ -128,7 +130,9 @@ impl Text {
     fn put_long_number(&mut self, value: u64) -> Result<(), AllocError>
         ensures { OnOk result (self.new ≡ self.old ++ 32 ∷ decimal value) }
     {
-        self.put_numeral(&Numeral::of(value))
+        let mut bytes = [0; 48];
+        let start = write_spaced(value, &mut bytes);
+        self.put_spaced(&bytes, start)
     }
 
     /// Puts a space and a number, whose text is there, behind the text.
@@ -136,10 +140,30 @@ impl Text {
     pub fn put_numeral(&mut self, numeral: &Numeral) -> Result<(), AllocError>
         ensures { OnOk result (self.new ≡ self.old ++ 32 ∷ decimal numeral.now.value) }
     {
+        self.put_spaced(&numeral.bytes, numeral.start)
+    }
+
+    /// Puts what stands in these bytes from `start` to the 24th behind the text.
+    #[inline(always)]
+    fn put_spaced(&mut self, number: &[u8; 48], start: usize) -> Result<(), AllocError>
+        requires { start ≤ 24 }
+        ensures { OnOk result (self.new ≡ self.old ++ slice_range number.now start 24) }
+    {
         make_room(&mut self.bytes, self.len, WIDTH)?;
-        self.len = place_numeral(&mut self.bytes, self.len, numeral);
+        self.len = place_spaced(&mut self.bytes, self.len, number, start);
         Ok(())
     }
+}
+
+/// Writes a space and a number so that they end with the 24th byte. Gives where they start.
+#[inline(always)]
+fn write_spaced(value: u64, bytes: &mut [u8; 48]) -> usize
+    ensures within { result ≤ 24 }
+    ensures right { slice_range bytes.new result 24 ≡ 32 ∷ decimal value }
+{
+    let first = write_digits(value, bytes, WIDTH);
+    bytes[first - 1] = b' ';
+    first - 1
 }
 
 /// Sees to it that there is room for so many bytes behind the first `len`.
@@ -181,16 +205,16 @@ fn place(bytes: &mut [u8], at: usize, more: &[u8]) -> usize
     end
 }
 
-/// Puts a space and a number at this place. Gives the place behind them.
+/// Puts what stands in the number's bytes from `start` to the 24th at this place. Gives the place behind it.
 #[inline(always)]
-fn place_numeral(bytes: &mut [u8], at: usize, numeral: &Numeral) -> usize
-    requires { at + 24 ≤ length bytes.old }
+fn place_spaced(bytes: &mut [u8], at: usize, number: &[u8; 48], start: usize) -> usize
+    requires within { start ≤ 24 }
+    requires room { at + 24 ≤ length bytes.old }
     ensures end { result ≤ length bytes.new }
     ensures len { length bytes.new ≡ length bytes.old }
-    ensures text { take result bytes.new ≡ take at bytes.old ++ 32 ∷ decimal numeral.now.value }
+    ensures text { take result bytes.new ≡ take at bytes.old ++ slice_range number.now start 24 }
 {
     // As many bytes for each number are copied faster; those behind it count as room.
-    let start = numeral.start;
-    let end = place(bytes, at, &numeral.bytes[start..start + WIDTH]);
+    let end = place(bytes, at, &number[start..start + WIDTH]);
     end - start
 }
