@@ -1,17 +1,8 @@
-mod BlockSteps
-mod BlockEnds
-mod Commands
-mod LineLists
 mod Naming
 mod Subcommands
-mod Numbering
 mod Taken
 mod ReplyTexts
-mod Scripts
 mod Playing
-mod Feeding
 mod RunTexts
-mod SpecLists
 mod Verdicts
 mod Worked
-mod WorkedInputs

@@ -1,24 +1,22 @@
 -- What has come of a script's entries, one by one.
-use Rattle.std.proofs.Common.{◌≡◌, ◌∙◌, ℕ, ◌||◌, Bool, true, false, List, [], ◌∷◌, ◌++◌, Result, Ok, Err, refl, sym, ap, ap₂, subst}
-use Rattle.std.specs.Prelude.{IsOk}
+use Rattle.std.proofs.Common.{◌≡◌, ◌∙◌, ℕ, ◌||◌, Bool, true, false, cond, List, [], ◌∷◌, ◌++◌, Option, Some, None, Result, Ok, Err, refl, sym, ap, ap₂, subst}
 use Rattle.std.specs.Result.{OnOk}
 use Rattle.std.specs.List.{flat_map, list_any}
 use Rattle.std.proofs.lemmas.Grind.{flat_map-append}
 use Rattle.std.proofs.lemmas.List.{append-nil}
+use Rattle.room_spec.specs.Names.{is_name}
 use Rattle.service_core.specs.declared.command.Command.{Command}
+use Rattle.service_core.specs.declared.command.Command.TheVariants.{Step}
 use Rattle.service_core.specs.declared.reply.Reply.{Reply}
 use Rattle.service_core.specs.Rooms.{Applies, Entries}
 use Rattle.service_core.specs.Runs.{is_want}
 use Rattle.service_core.proofs.CallerLemmas.{Ran, begins, goes_on}
-use Rattle.bgsim_console.specs.Blocks.{IsFaultOr}
+use Rattle.room_files.specs.Script.{Entry, Ask, asked, steps_for}
+use Rattle.room_files.specs.declared.outcome.Outcome.{Outcome}
+use Rattle.room_files.specs.declared.outcome.Outcome.TheVariants.{AllWell}
 use Rattle.bgsim_console.specs.ReplyTexts.{reply_to_command}
-use Rattle.bgsim_console.specs.Script.{Entry}
-use Rattle.bgsim_console.specs.declared.fault.Outcome.{Outcome}
-use Rattle.bgsim_console.specs.declared.fault.Outcome.TheVariants.{AllWell}
 use Rattle.bgsim_console.specs.declared.fault.IoFault.{IoFault}
-use Rattle.bgsim_console.specs.declared.fault.IoFault.TheVariants.{Read, Write, TooLong, BadInput, Run, Memory}
-use Rattle.bgsim_console.proofs.Scripts.{behind}
-use Rattle.bgsim_console.specs.Play.{AreDone, Done, Replied, HasPlayed, HasRun, IsDone, commands_of, replies_in, commands_in, reply_of, done_text, ending_if, ending_of, ending_with, is_lacking, is_refusal, is_refused}
+use Rattle.bgsim_console.specs.Play.{AreDone, Done, Replied, HasPlayed, HasRun, IsDone, PlaysOn, commands_of, replies_in, commands_in, reply_of, done_text, ending_if, ending_of, ending_with, is_lacking, is_refusal, is_refused}
 
 -- ---- the service
 
@@ -113,16 +111,20 @@ pub both_ok : {X E : Type 0} (r : Result X E) (P Q : Type 0) → OnOk r P → On
 both_ok (Ok x) P Q one other = (one, other)
 both_ok (Err e) P Q one other = tt
 
--- what ends the lines that are left ends the script
-pub fault_behind : (before : List Entry) (read whole : Result (List Entry) (ℕ × ℕ)) (fault : IoFault) → whole ≡ behind before read → IsFaultOr (IsOk read) read fault → IsFaultOr (IsOk whole) whole fault
-fault_behind before read whole fault is says = subst (λ (w : Result (List Entry) (ℕ × ℕ)). IsFaultOr (IsOk w) w fault) (sym is) (by read fault says)
+-- ---- what stands first
+
+-- a line that asks for something is a command
+pub found_command : (number : ℕ) (found : Option Command) (entry : Entry) → asked number found ≡ Ok entry → (command : Command) × (found ≡ Some command) × (entry ≡ Ask command)
+found_command number None entry is = absurd cc
+found_command number (Some command) entry is = (command, refl, cc)
+
+pub steps_asked : (name : List ℕ) (sim count : ℕ) (command : Command) → steps_for name sim count ≡ Some command → (is_name name ≡ true) × (command ≡ Step name sim count)
+steps_asked name sim count command e = by (is_name name) e
   where
-    by : (read : Result (List Entry) (ℕ × ℕ)) (fault : IoFault) → IsFaultOr (IsOk read) read fault → IsFaultOr (IsOk (behind before read)) (behind before read) fault
-    by (Ok later) (BadInput line code) says = absurd cc
-    by (Err first) (BadInput line code) says = says
-    by (Ok later) Memory says = refl
-    by (Err first) Memory says = absurd cc
-    by read Read says = absurd says
-    by read Write says = absurd says
-    by read TooLong says = absurd says
-    by read (Run fault) says = absurd says
+    by : (b : Bool) → cond b (Some (Step name sim count)) None ≡ Some command → (b ≡ true) × (command ≡ Step name sim count)
+    by true is = (refl, cc)
+    by false is = absurd cc
+
+pub command_played : (entry : Entry) (command : Command) (reply : Reply) (service : Entries) (output : List ℕ) (ending : Result Outcome IoFault) (all : List Done) → entry ≡ Ask command
+    → HasPlayed (all ++ Replied command reply ∷ []) service output ending → PlaysOn entry service output ending all
+command_played entry command reply service output ending all is played = subst (λ (e : Entry). PlaysOn e service output ending all) (sym is) (Replied command reply, refl, played)

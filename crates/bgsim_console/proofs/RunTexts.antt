@@ -11,8 +11,9 @@ use Rattle.scheduler.specs.Results.{AreRoomRuns, IsRoomRun}
 use Rattle.scheduler.specs.declared.rooms.RoomResult.{RoomResult}
 use Rattle.scheduler.specs.declared.rooms.RunFault.{RunFault}
 use Rattle.scheduler.specs.declared.rooms.RunFault.TheVariants.{Workers}
-use Rattle.bgsim_console.specs.Blocks.{Setup, outcome_if}
-use Rattle.bgsim_console.specs.declared.fault.Outcome.{Outcome}
+use Rattle.room_files.specs.Blocks.{Setup}
+use Rattle.room_files.specs.Verdicts.{outcome_if}
+use Rattle.room_files.specs.declared.outcome.Outcome.{Outcome}
 use Rattle.bgsim_console.specs.ReplyTexts.{report_text}
 use Rattle.bgsim_console.specs.Run.{AddsReports, AreWorkers, IsRunText, report_texts}
 

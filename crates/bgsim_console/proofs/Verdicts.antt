@@ -1,5 +1,5 @@
 -- Verdicts put behind one another.
-use Rattle.std.proofs.Common.{◌≡◌, ◌∙◌, ℕ, suc, ◌+◌, ◌<◌, ◌≤◌, Bool, true, false, ◌&&◌, ◌==◌, inl, inr, List, [], ◌∷◌, ◌++◌, length, map, take, Option, Some, None, refl, sym, ap, subst, arith}
+use Rattle.std.proofs.Common.{◌≡◌, ◌∙◌, ℕ, suc, ◌+◌, ◌<◌, ◌≤◌, Bool, true, false, ◌&&◌, ◌==◌, inl, inr, List, [], ◌∷◌, ◌++◌, length, map, take, Option, Some, None, Ok, refl, sym, ap, subst, arith}
 use Rattle.std.specs.Prelude.{slice_get, MatchOption, IsSomeAnd}
 use Rattle.std.specs.List.{All, flat_map, list_all}
 use Rattle.std.proofs.lemmas.Grind.{flat_map-append}
@@ -13,9 +13,13 @@ use Rattle.room_spec.specs.Rooms.{RoomSpec}
 use Rattle.history_checker.specs.Verdicts.{FedEvent, IsTaskAnswer, IsVerdict, fed_to, names_of}
 use Rattle.history_checker.specs.declared.verdict.Verdict.{Verdict}
 use Rattle.history_checker.specs.declared.verdict.TaskVerdict.{TaskVerdict}
-use Rattle.bgsim_console.specs.declared.fault.Outcome.{Outcome}
-use Rattle.bgsim_console.specs.Blocks.{outcome_if}
-use Rattle.bgsim_console.specs.Check.{Judged, IsJustified, IsOutput, judged_line, is_well}
+use Rattle.room_files.specs.declared.outcome.Outcome.{Outcome}
+use Rattle.room_files.specs.Blocks.{Setup}
+use Rattle.room_files.specs.Inputs.{blocks_in, fed_from}
+use Rattle.room_files.specs.Lines.{text_lines}
+use Rattle.room_files.specs.Verdicts.{Judged, IsJustified, IsOutput, judged_line, is_well, outcome_if}
+use Rattle.room_files.proofs.CallerLemmas.{said}
+use Rattle.bgsim_console.specs.Check.{IsOutputFor}
 
 -- the verdicts on the first rooms stand behind the lines of the refused blocks
 abbrev pub SoFar : List RoomSpec → List ℕ → List FedEvent → ℕ → List ℕ → Bool → Type 0
@@ -106,3 +110,15 @@ never_nameless rooms index within none = room_within rooms index within (nameles
 pub name_there : (rooms : List RoomSpec) (index : ℕ) (room : RoomSpec) (name : List ℕ) → slice_get rooms index ≡ Some room → Some name ≡ slice_get (names_of rooms) index → name ≡ room.name
 name_there rooms index room name there name_is =
     let same : Some name ≡ Some room.name = name_is ∙ slice_get-map (λ (r : RoomSpec). r.name) rooms index ∙ ap (option_map (λ (r : RoomSpec). r.name)) there in cc
+
+-- ---- the whole answer
+
+pub judged : (input transcript : List ℕ) (rooms after : List RoomSpec) (refused : List ℕ) (line : ℕ) (setup : Setup) (fed : List FedEvent) (outcome : Outcome) (output : List ℕ) → record { rooms = rooms; refused = refused; line = line } ≡ setup
+    → blocks_in input ≡ Ok (setup, transcript) → fed_from rooms [] line (text_lines transcript) ≡ Ok fed → after ≡ rooms → IsOutput after refused fed outcome output → IsOutputFor input outcome output
+judged input transcript rooms after refused line setup fed outcome output view_is read told same is =
+    let whole : Setup = record { rooms = rooms; refused = refused; line = line } in (
+      whole,
+      fed,
+      said input whole transcript fed (read ∙ ap (λ (s : Setup). Ok (s, transcript)) (sym view_is)) told,
+      subst (λ (rs : List RoomSpec). IsOutput rs refused fed outcome output) same is,
+    )

@@ -1,10 +1,10 @@
 -- What a call leaves of the reader and the writer that it was given.
-use Rattle.std.specs.Prelude.{◌≡◌, ℕ, ◌+◌, ◌≤◌, Bool, true, false, List, length, Option, IfSome, Result, OnOk}
+use Rattle.std.specs.Prelude.{◌≡◌, ℕ, ◌+◌, ◌≤◌, true, false, List, length, Option, IfSome, Result, OnOk}
 use Rattle.io_text.specs.declared.device.Device.{Device}
-use Rattle.bgsim_console.specs.declared.fault.Outcome.{Outcome}
+use Rattle.room_files.specs.declared.outcome.Outcome.{Outcome}
+use Rattle.io_text.specs.Reading.{most_bytes}
 use Rattle.bgsim_console.specs.declared.fault.IoFault.{IoFault}
 use Rattle.bgsim_console.specs.Ends.{is_read_failed, is_write_failed}
-use Rattle.io_text.specs.Reading.{most_bytes}
 
 -- The reader failed exactly where reading ended the call. Of what it had to give each read but the last gave a byte at least, and
 -- once it had said that nothing is left it was not asked again.

@@ -8,14 +8,12 @@ use Rattle.scheduler.specs.declared.rooms.RunFault.{RunFault}
 use Rattle.scheduler.specs.declared.rooms.RunFault.TheVariants as run
 use Rattle.io_text.specs.declared.fault.DeviceFault.{DeviceFault}
 use Rattle.io_text.specs.declared.fault.DeviceFault.TheVariants as devices
-use Rattle.bgsim_console.specs.declared.fault.Outcome.{Outcome}
-use Rattle.bgsim_console.specs.declared.fault.Outcome.TheVariants.{AllWell, SomeRefused}
+use Rattle.room_files.specs.declared.outcome.Outcome.{Outcome}
+use Rattle.room_files.specs.declared.fault.InputFault.{InputFault}
+use Rattle.room_files.specs.declared.fault.InputFault.TheVariants as inputs
+use Rattle.room_files.specs.Verdicts.{outcome_status}
 use Rattle.bgsim_console.specs.declared.fault.IoFault.{IoFault}
 use Rattle.bgsim_console.specs.declared.fault.IoFault.TheVariants.{Read, Write, TooLong, BadInput, Run, Memory}
-
-abbrev pub outcome_status : Outcome → ℕ
-outcome_status AllWell = 0
-outcome_status SomeRefused = 1
 
 -- want of memory ends the run of rooms as it ends an engine
 abbrev pub run_status : RunFault → ℕ
@@ -53,6 +51,11 @@ device_fault devices.Read = Read
 device_fault devices.Write = Write
 device_fault devices.TooLong = TooLong
 device_fault devices.Memory = Memory
+
+-- an input's fault ends an engine
+abbrev pub input_fault : InputFault → IoFault
+input_fault (inputs.BadInput line code) = BadInput line code
+input_fault inputs.Memory = Memory
 
 -- reading ended the run
 abbrev pub is_read_failed : {A : Type 0} → Result A IoFault → Bool

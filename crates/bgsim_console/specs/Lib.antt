@@ -1,12 +1,8 @@
-pub mod Blocks
 pub mod Check
 pub mod CommandLine
 pub mod Devices
 pub mod Ends
-pub mod LineNumbers
-pub mod Lines
 pub mod Modes
 pub mod Play
 pub mod ReplyTexts
 pub mod Run
-pub mod Script

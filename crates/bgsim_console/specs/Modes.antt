@@ -1,11 +1,11 @@
 -- What each mode of the program answers.
 use Rattle.std.specs.Prelude.{ℕ, List, Result}
+use Rattle.room_files.specs.declared.outcome.Outcome.{Outcome}
 use Rattle.bgsim_console.specs.Check.{IsAnswer}
 use Rattle.bgsim_console.specs.Play.{IsPlayed}
 use Rattle.bgsim_console.specs.Run.{IsRan}
 use Rattle.bgsim_console.specs.declared.command_line.words.Mode.{Mode}
 use Rattle.bgsim_console.specs.declared.command_line.words.Mode.TheVariants.{Check, Play, Run}
-use Rattle.bgsim_console.specs.declared.fault.Outcome.{Outcome}
 use Rattle.bgsim_console.specs.declared.fault.IoFault.{IoFault}
 
 -- the mode's answer to an input, and what it writes; `run` has so many workers

@@ -11,12 +11,13 @@ use Rattle.service_core.specs.declared.reply.Reply.TheVariants.{Refused}
 use Rattle.service_core.specs.Replies.{part, replies_from, room_after_all}
 use Rattle.service_core.specs.Rooms.{Entries, IsStateOf, room_at}
 use Rattle.service_core.specs.Runs.{AreTrueReports, AreWants, granted, is_want, replies_of, without_wants}
-use Rattle.bgsim_console.specs.Blocks.{fault_text, outcome_if, refused_line}
+use Rattle.room_files.specs.Blocks.{fault_text, refused_line}
+use Rattle.room_files.specs.Verdicts.{outcome_if}
 use Rattle.io_text.specs.Reading.{most_bytes}
-use Rattle.bgsim_console.specs.Script.{Entry, Ask, Open, script_says}
+use Rattle.room_files.specs.Script.{Entry, Ask, Open, script_says}
+use Rattle.room_files.specs.declared.outcome.Outcome.{Outcome}
+use Rattle.room_files.specs.declared.outcome.Outcome.TheVariants.{SomeRefused}
 use Rattle.bgsim_console.specs.ReplyTexts.{reply_to_command}
-use Rattle.bgsim_console.specs.declared.fault.Outcome.{Outcome}
-use Rattle.bgsim_console.specs.declared.fault.Outcome.TheVariants.{SomeRefused}
 use Rattle.bgsim_console.specs.declared.fault.IoFault.{IoFault}
 use Rattle.bgsim_console.specs.declared.fault.IoFault.TheVariants.{Read, Write, TooLong, BadInput, Run, Memory}
 

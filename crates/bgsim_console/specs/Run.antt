@@ -1,42 +1,18 @@
 -- What `run` answers for a file of rooms.
-use Rattle.std.specs.Prelude.{◌≡◌, ◌⊎◌, ℕ, suc, zero, ◌≤◌, ◌<◌, ◌==◌, List, [], ◌∷◌, ◌++◌, length, map, take, drop, Result, Ok, Err}
+use Rattle.std.specs.Prelude.{◌≡◌, ◌⊎◌, ℕ, ◌≤◌, ◌<◌, ◌==◌, List, [], ◌∷◌, ◌++◌, length, Result, Ok, Err}
 use Rattle.room_spec.specs.Rooms.{RoomSpec}
-use Rattle.history_checker.specs.Verdicts.{names_of}
 use Rattle.scheduler.specs.Results.{AreRoomRuns}
 use Rattle.scheduler.specs.declared.rooms.RoomResult.{RoomResult}
 use Rattle.scheduler.specs.declared.rooms.RunFault.{RunFault}
 use Rattle.scheduler.specs.declared.rooms.RunFault.TheVariants.{Workers, Spawn, OutOfMemory}
-use Rattle.bgsim_console.specs.Blocks.{Setup, after_block, no_blocks, outcome_if}
+use Rattle.room_files.specs.Blocks.{Setup}
+use Rattle.room_files.specs.Inputs.{all_blocks}
+use Rattle.room_files.specs.Verdicts.{outcome_if}
 use Rattle.io_text.specs.Reading.{most_bytes}
+use Rattle.room_files.specs.declared.outcome.Outcome.{Outcome}
 use Rattle.bgsim_console.specs.ReplyTexts.{report_text}
-use Rattle.bgsim_console.specs.Script.{block_extent}
-use Rattle.bgsim_console.specs.declared.fault.Outcome.{Outcome}
 use Rattle.bgsim_console.specs.declared.fault.IoFault.{IoFault}
 use Rattle.bgsim_console.specs.declared.fault.IoFault.TheVariants.{Read, Write, TooLong, BadInput, Run, Memory}
-
--- ---- the blocks
-
--- what the blocks of a text say behind those before it, at most so many; where it has no line `end`, all of it is a block
-unfoldable pub all_blocks_from : ℕ → Setup → List ℕ → Setup
-all_blocks_from zero setup text = setup
-all_blocks_from (suc most) setup [] = setup
-all_blocks_from (suc most) setup (byte ∷ bytes) =
-    let text = byte ∷ bytes in
-    all_blocks_from most (after_block setup (take (block_extent text) text)) (drop (block_extent text) text)
-
--- an input has no more blocks than bytes
-abbrev pub all_blocks : List ℕ → Setup
-all_blocks input = all_blocks_from (length input) no_blocks input
-
--- ---- the rooms
-
--- the specs of a map from names, in its order
-abbrev pub specs_in : List (List ℕ × RoomSpec) → List RoomSpec
-specs_in entries = map (λ entry. entry.1) entries
-
--- each stands under its own name
-abbrev pub AreNamed : List (List ℕ × RoomSpec) → Type 0
-AreNamed entries = map (λ entry. entry.0) entries ≡ names_of (specs_in entries)
 
 -- ---- the text
 

@@ -3,9 +3,10 @@ ghost use Rattle.std.specs.Prelude.{◌≡◌, false};
 
 use crate::command_line::Mode;
 use crate::engine::{check_io, play_io, run_io};
-use crate::fault::{IoFault, Outcome};
+use crate::fault::IoFault;
 use crate::tests::{Flaky, Trickle};
 use io_text::Device;
+use room_files::Outcome;
 use scheduler::FreeGate;
 use std::alloc::Global;
 use std::io;

@@ -7,11 +7,12 @@ ghost use Rattle.bgsim_console.specs.Run.{IsRan};
 ghost use Rattle.bgsim_console.specs.Devices.{HasRead, HasWritten};
 ghost use Rattle.bgsim_console.specs.Ends.{failed_writes};
 
-use crate::fault::{IoFault, Outcome};
+use crate::fault::IoFault;
 use crate::judge::judge;
 use crate::play::play;
 use crate::run::run_blocks;
 use io_text::{Device, read_input, write_output};
+use room_files::Outcome;
 use scheduler::Gate;
 use std::alloc::Global;
 use std::io::{Read, Write};

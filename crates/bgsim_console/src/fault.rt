@@ -1,52 +1,13 @@
-//! How an engine ends.
+//! Why an engine ends early.
 ghost use Rattle.std.specs.Prelude.{◌≡◌};
-ghost use Rattle.bgsim_console.specs.declared.fault.IoFault.TheVariants.{BadInput, Memory, Run};
-ghost use Rattle.bgsim_console.specs.Blocks.{outcome_if};
-ghost use Rattle.bgsim_console.specs.Ends.{device_fault, outcome_status, fault_status};
+ghost use Rattle.bgsim_console.specs.declared.fault.IoFault.TheVariants.{Memory, Run};
+ghost use Rattle.bgsim_console.specs.Ends.{device_fault, fault_status, input_fault};
 
-use io_text::{DeviceFault, Text};
+use io_text::DeviceFault;
+use room_files::InputFault;
 use scheduler::RunFault;
 use std::alloc::AllocError;
 use thiserror::Error;
-
-/// How an engine ended that read good input and wrote its output.
-#[derive(Clone, Copy, Debug, PartialEq, Eq)]
-pub enum Outcome {
-    /// Nothing was refused, and each room's events are a run.
-    AllWell,
-    /// A block was refused, or a room's events aren't a run.
-    SomeRefused,
-}
-
-impl Outcome {
-    /// The program's exit status.
-    pub fn status(self) -> u8
-        ensures { result ≡ outcome_status self }
-    {
-        match self {
-            Outcome::AllWell => 0,
-            Outcome::SomeRefused => 1,
-        }
-    }
-}
-
-/// The outcome where nothing was refused, each room's events are a run and no task is broken, or not.
-pub fn outcome_if(all_well: bool) -> Outcome
-    ensures { result ≡ outcome_if all_well }
-{
-    if all_well {
-        Outcome::AllWell
-    } else {
-        Outcome::SomeRefused
-    }
-}
-
-/// An output, and the outcome that goes with it.
-#[derive(Drop)]
-pub struct Answer {
-    pub output: Text,
-    pub outcome: Outcome,
-}
 
 /// Why an engine ended early.
 #[derive(Clone, Copy, Debug, PartialEq, Eq, Error)]
@@ -83,13 +44,6 @@ impl IoFault {
     }
 }
 
-/// The fault of an input that has one of this code on this line.
-pub fn bad_input(line: u64, code: u16) -> IoFault
-    ensures { result ≡ BadInput line code }
-{
-    IoFault::BadInput { line, code }
-}
-
 impl From<DeviceFault> for IoFault {
     ghost from_gives = { λ device fault. fault ≡ device_fault device };
 
@@ -99,6 +53,17 @@ impl From<DeviceFault> for IoFault {
             DeviceFault::Write => IoFault::Write,
             DeviceFault::TooLong => IoFault::TooLong,
             DeviceFault::Memory => IoFault::Memory,
+        }
+    }
+}
+
+impl From<InputFault> for IoFault {
+    ghost from_gives = { λ input fault. fault ≡ input_fault input };
+
+    fn from(fault: InputFault) -> IoFault {
+        match fault {
+            InputFault::BadInput { line, code } => IoFault::BadInput { line, code },
+            InputFault::Memory => IoFault::Memory,
         }
     }
 }

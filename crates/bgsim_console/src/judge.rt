@@ -1,26 +1,28 @@
 //! The answer to a whole input.
 ghost use Rattle.std.specs.Prelude.{◌≡◌, ◌≤◌, List, Ok, IfOk, IfErr, length};
 ghost use Rattle.history_checker.specs.Verdicts.{FedEvent, HasProcessed, specs_of};
-ghost use Rattle.bgsim_console.specs.Blocks.{IsFaultOr};
-ghost use Rattle.bgsim_console.specs.Check.{MayLackMemory, IsOutput, IsOutputFor, input_says, is_well};
+ghost use Rattle.room_files.specs.Blocks.{IsFaultOr};
+ghost use Rattle.room_files.specs.Inputs.{MayLackMemory, input_says};
+ghost use Rattle.room_files.specs.Verdicts.{IsOutput};
 ghost use Rattle.io_text.specs.Reading.{most_bytes};
+ghost use Rattle.bgsim_console.specs.Check.{IsOutputFor};
 
-use crate::blocks::Setup;
-use crate::events::feed_events;
-use crate::fault::{Answer, IoFault, outcome_if};
-use crate::report::{write_task, write_verdict};
-use crate::setup::read_blocks;
-use history_checker::{Rooms, TaskVerdict, Verdict};
+use history_checker::Rooms;
 use io_text::Text;
+use room_files::{
+    Answer, InputFault, Setup, feed_events, is_well, outcome_if, read_blocks, write_task,
+    write_verdict,
+};
 use std::alloc::{AllocError, Global};
 
 /// Judges an input.
-pub fn judge(alloc: Global, input: &[u8]) -> Result<Answer, IoFault>
+pub fn judge(alloc: Global, input: &[u8]) -> Result<Answer, InputFault>
     requires { length input.now ≤ most_bytes }
     ensures output { IfOk result (λ answer. IsOutputFor input.now answer.outcome answer.output) }
     ensures err { IfErr result (IsFaultOr (MayLackMemory input.now) (input_says input.now)) }
 {
-    let (setup, transcript) = read_blocks(alloc, input)?;
+    let no_blocks = Setup::new(Rooms::new(alloc), Text::new(alloc));
+    let (setup, transcript) = read_blocks(alloc, no_blocks, input)?;
     let Setup {
         mut rooms,
         refused,
@@ -51,15 +53,4 @@ fn answer_of(rooms: &Rooms, refused: Text) -> Result<Answer, AllocError>
         output,
         outcome: outcome_if(all_well),
     })
-}
-
-/// Whether a room's events are a run that doesn't break its task.
-fn is_well(verdict: Verdict, task: Option<TaskVerdict>) -> bool
-    ensures { result ≡ is_well verdict task }
-{
-    match (verdict, task) {
-        (Verdict::Broken(_), _) => false,
-        (Verdict::Run, Some(TaskVerdict::Broken(_))) => false,
-        (Verdict::Run, _) => true,
-    }
 }

@@ -7,28 +7,19 @@ ghost use Rattle.clap.specs.Values.{kind_of};
 ghost use Rattle.bgsim_console.specs.Ends.{ending_status, fault_status, unread_status, words_status};
 ghost use Rattle.bgsim_console.specs.Modes.{IsAnswerIn};
 
-mod blocks;
 mod command_line;
 #[cfg(test)]
 mod device_tests;
 mod engine;
-mod events;
 mod fault;
 mod judge;
-mod laws;
-mod lines;
 mod play;
 #[cfg(test)]
 mod protocol_tests;
 mod reply;
-mod report;
 mod run;
 #[cfg(test)]
 mod run_tests;
-mod script;
-mod setup;
-mod spec_list;
-mod steps;
 #[cfg(test)]
 mod task_tests;
 #[cfg(test)]
@@ -38,8 +29,9 @@ mod text_tests;
 
 use clap::error::ErrorKind;
 use command_line::{Line, Mode, line};
-use fault::{IoFault, Outcome};
+use fault::IoFault;
 use io_text::Device;
+use room_files::Outcome;
 use scheduler::FreeGate;
 use std::fs::File;
 use std::io;

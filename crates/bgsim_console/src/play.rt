@@ -6,20 +6,20 @@ ghost use Rattle.service_core.specs.declared.reply.Reply.{Reply as ReplyData};
 ghost use Rattle.service_core.specs.declared.reply.Reply.TheVariants.{Refused};
 ghost use Rattle.service_core.specs.Runs.{is_want};
 ghost use Rattle.room_spec.specs.Names.{is_name};
-ghost use Rattle.bgsim_console.specs.Blocks.{IsFaultOr, fault_text, refused_line};
+ghost use Rattle.room_files.specs.Blocks.{IsFaultOr, fault_text, refused_line};
+ghost use Rattle.room_files.specs.declared.fault.InputFault.TheVariants.{BadInput};
+ghost use Rattle.room_files.specs.Script.{Entry as Asked, Open, asks_at, command_in, is_asking, script_from, script_says};
+ghost use Rattle.io_text.specs.Reading.{most_bytes};
 ghost use Rattle.bgsim_console.specs.Play.{AreDone, Done, HasPlayed, IsDone, IsPlayFor, PlaysOn, Replied, ending_with, is_refusal};
 ghost use Rattle.bgsim_console.specs.ReplyTexts.{reply_text, sim_in};
-ghost use Rattle.bgsim_console.specs.Script.{Entry, Open, command_in, entry_at, is_open, script_from, script_says};
-ghost use Rattle.io_text.specs.Reading.{most_bytes};
 
-use crate::blocks::read_room;
-use crate::fault::{IoFault, Outcome, bad_input};
-use crate::lines::count_lines;
+use crate::fault::IoFault;
 use crate::reply::{write_reply, write_steps};
-use crate::report::{write_refused, write_refused_code};
-use crate::script::{is_open, next_entry, read_command};
-use crate::steps::read_steps;
 use io_text::Text;
+use room_files::{
+    Entry, InputFault, Outcome, next_entry, read_command, read_room, read_steps, write_refused,
+    write_refused_code,
+};
 use room_spec::{Name, SpecFault};
 use service_core::{Command, Refusal, Reply, Service};
 use std::alloc::{AllocError, Global};
@@ -35,7 +35,7 @@ pub struct Played {
 }
 
 /// Judges a script, and does what it asks for where it has no fault.
-pub fn play(alloc: Global, script: &[u8]) -> Result<Played, IoFault>
+pub fn play(alloc: Global, script: &[u8]) -> Result<Played, InputFault>
     requires { length script.now ≤ most_bytes }
     ensures text { IfOk result (λ played. IsPlayFor script.now played.ending played.output) }
     // Want of memory hides no bad line.
@@ -66,25 +66,22 @@ impl Player {
         }
     }
 
-    /// Does what the line of this number asks for, with the block behind it. Gives whether it asks for
+    /// Does what stands first asks for, where its first line has this number. Gives whether it asks for
     /// something.
-    fn take(
-        &mut self,
-        alloc: Global,
-        number: u64,
-        line: &[u8],
-        block: &[u8],
-    ) -> Result<bool, AllocError>
+    fn take(&mut self, alloc: Global, number: u64, entry: &Entry<'_>) -> Result<bool, AllocError>
         requires { number + 1 < 2 ^ 64 }
-        ensures good { IfOk result (λ good. good ≡ (is_open line.now || is_some (command_in line.now))) }
-        ensures plays { OnOk result ((entry : Entry) → entry_at number line.now block.now ≡ Ok entry → (all : List Done) →
+        ensures good { IfOk result (λ good. good ≡ is_asking entry.now) }
+        ensures plays { OnOk result ((asked : Asked) → asks_at number entry.now ≡ Ok asked → (all : List Done) →
             HasPlayed all self.old.service self.old.output self.old.ending →
-            PlaysOn entry self.new.service self.new.output self.new.ending all) }
+            PlaysOn asked self.new.service self.new.output self.new.ending all) }
     {
-        if is_open(line) {
-            self.open(alloc, number + 1, block)?;
-            return Ok(true);
-        }
+        let line = match entry {
+            Entry::Block(block) => {
+                self.open(alloc, number + 1, block)?;
+                return Ok(true);
+            }
+            Entry::Line(line) => line,
+        };
         if let Some((name, sim, count)) = read_steps(line) {
             return self.step(name, sim, count);
         }
@@ -229,9 +226,9 @@ fn ending_with(reply: &Reply, ending: Result<Outcome, IoFault>) -> Result<Outcom
 }
 
 /// Does what a script asks for, up to its first bad line.
-fn play_script(alloc: Global, script: &[u8]) -> Result<Player, IoFault>
+fn play_script(alloc: Global, script: &[u8]) -> Result<Player, InputFault>
     requires { length script.now ≤ most_bytes }
-    ensures played { IfOk result (λ player. (entries : List Entry) × (all : List Done) ×
+    ensures played { IfOk result (λ player. (entries : List Asked) × (all : List Done) ×
         (script_says script.now ≡ Ok entries) × AreDone entries all ×
         HasPlayed all player.service player.output player.ending) }
     ensures err { IfErr result (IsFaultOr (IsOk (script_says script.now)) (script_says script.now)) }
@@ -239,14 +236,14 @@ fn play_script(alloc: Global, script: &[u8]) -> Result<Player, IoFault>
     let mut player = Player::new(alloc);
     let mut rest = script;
     let mut number = 1;
-    while let Some((line, block, later)) = next_entry(rest) {
-        let Ok(good) = player.take(alloc, number, line, block) else {
+    while let Some((entry, later)) = next_entry(rest) {
+        let Ok(good) = player.take(alloc, number, &entry) else {
             return Err(judge_unplayed(rest, number));
         };
         if !good {
-            return Err(bad_input(number, BAD_COMMAND));
+            return Err(bad_command(number));
         }
-        number += 1 + count_lines(block);
+        number += entry.lines();
         rest = later;
     }
     Ok(player)
@@ -254,24 +251,38 @@ fn play_script(alloc: Global, script: &[u8]) -> Result<Player, IoFault>
 
 /// How a script ends for whose last lines, of which the first has this number, there was no memory: with
 /// the first bad one among these, or else with the want of memory.
-fn judge_unplayed(text: &[u8], first: u64) -> IoFault
+fn judge_unplayed(text: &[u8], first: u64) -> InputFault
     requires { first + length text.now ≤ most_bytes + 1 }
     ensures { (most : ℕ) → length text.now ≤ most → IsFaultOr (IsOk (script_from most first text.now)) (script_from most first text.now) result }
 {
     let mut rest = text;
     let mut number = first;
-    while let Some((line, block, later)) = next_entry(rest) {
-        if !is_good(line) {
-            return bad_input(number, BAD_COMMAND);
+    while let Some((entry, later)) = next_entry(rest) {
+        if !is_good(&entry) {
+            return bad_command(number);
         }
-        number += 1 + count_lines(block);
+        number += entry.lines();
         rest = later;
     }
-    IoFault::Memory
+    InputFault::Memory
 }
 
-fn is_good(line: &[u8]) -> bool
-    ensures { result ≡ (is_open line.now || is_some (command_in line.now)) }
+/// Whether it asks for something.
+fn is_good(entry: &Entry<'_>) -> bool
+    ensures { result ≡ is_asking entry.now }
 {
-    is_open(line) || read_command(line).is_some()
+    match entry {
+        Entry::Block(_) => true,
+        Entry::Line(line) => read_command(line).is_some(),
+    }
+}
+
+/// The fault of a script whose line of this number asks for nothing.
+fn bad_command(line: u64) -> InputFault
+    ensures { result ≡ BadInput line 60 }
+{
+    InputFault::BadInput {
+        line,
+        code: BAD_COMMAND,
+    }
 }

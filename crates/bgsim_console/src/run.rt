@@ -1,18 +1,17 @@
 //! Rooms that workers run, and their reports.
 ghost use Rattle.std.specs.Prelude.{◌≡◌, ◌↔◌, ◌⊎◌, ◌<◌, ◌≤◌, ◌++◌, Err, IfErr, IfOk, OnOk, length};
 ghost use Rattle.std.specs.List.{flat_map};
-ghost use Rattle.bgsim_console.specs.ReplyTexts.{report_text};
 ghost use Rattle.scheduler.specs.Results.{AreRoomRuns};
 ghost use Rattle.scheduler.specs.declared.rooms.RunFault.TheVariants.{Workers};
-ghost use Rattle.bgsim_console.specs.Run.{AddsReports, AreWorkers, IsRunFor, MayEndRun};
 ghost use Rattle.io_text.specs.Reading.{most_bytes};
+ghost use Rattle.bgsim_console.specs.ReplyTexts.{report_text};
+ghost use Rattle.bgsim_console.specs.Run.{AddsReports, AreWorkers, IsRunFor, MayEndRun};
 
-use crate::blocks::Setup;
-use crate::fault::{Answer, IoFault, outcome_if};
+use crate::fault::IoFault;
 use crate::reply::write_report;
-use crate::setup::read_all_blocks;
 use indexmap::map::IntoValues;
 use io_text::Text;
+use room_files::{Answer, Setup, SpecList, outcome_if, read_all_blocks};
 use room_spec::{Name, Spec};
 use scheduler::{Gate, RoomResult, RunFault, run_rooms};
 use std::alloc::{AllocError, Global};
@@ -40,7 +39,8 @@ pub fn run_blocks<H: Threads + Wait + Sync, G: Gate + Sync>(
     ensures output { IfOk result (λ answer. IsRunFor workers input.items answer.outcome answer.output) }
     ensures err { IfErr result (MayEndRun workers) }
 {
-    let Setup { rooms, refused, .. } = read_all_blocks(alloc, &input)?;
+    let no_blocks = Setup::new(SpecList::new(alloc), Text::new(alloc));
+    let Setup { rooms, refused, .. } = read_all_blocks(alloc, no_blocks, &input)?;
     drop(input);
     let specs = rooms.into_values();
     let outcome = outcome_if(refused.is_empty());

@@ -1,8 +1,9 @@
 //! Files of rooms that workers run.
 use crate::engine::run_io;
-use crate::fault::{IoFault, Outcome};
+use crate::fault::IoFault;
 use crate::tests::{ONE, Trickle};
 use io_text::Device;
+use room_files::Outcome;
 use scheduler::{FreeGate, Gate, RunFault};
 use std::alloc::Global;
 use std::fmt::Write;

@@ -1,14 +1,14 @@
 use Rattle.std.proofs.Common.{◌≡◌, ◌+◌, ◌≤◌, ℕ, List, length}
+use Rattle.room_files.specs.Script.{Entry, script_from, script_says}
+use Rattle.room_files.proofs.CallerLemmas.{behind}
 use Rattle.bgsim_console.specs.Play.{AreDone, Done, HasPlayed}
-use Rattle.bgsim_console.specs.Script.{Entry, script_from, script_says}
-use Rattle.bgsim_console.proofs.Scripts.{behind}
 use Rattle.bgsim_console.proofs.play.play_script.Given as goal
 
 -- what is left asks for the rest, and what came of the entries before it is played
-abbrev pub invariant-loop-line : goal.invariant-loop-line
-invariant-loop-line l =
+abbrev pub invariant-loop-entry : goal.invariant-loop-entry
+invariant-loop-entry l =
     (most : ℕ) × (before : List Entry) × (all : List Done) × (length l.rest ≤ most) × (script_says l.script ≡ behind before (script_from most l.number l.rest)) × (l.number + length l.rest ≤ length l.script + 1)
     × AreDone before all × HasPlayed all l.player.service l.player.output l.player.ending
 
-abbrev pub decreases-loop-line : goal.decreases-loop-line
-decreases-loop-line l = length l.rest
+abbrev pub decreases-loop-entry : goal.decreases-loop-entry
+decreases-loop-entry l = length l.rest

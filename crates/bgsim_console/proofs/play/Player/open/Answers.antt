@@ -1,6 +1,6 @@
 use Rattle.std.proofs.Common.{◌∙◌, ◌++◌, refl, sym, ap, arith}
 use Rattle.std.proofs.lemmas.Fmt.{decimal_digit}
-use Rattle.bgsim_console.specs.Blocks.{refused_line}
+use Rattle.room_files.specs.Blocks.{refused_line}
 use Rattle.bgsim_console.specs.Play.{Faulty, Unread}
 use Rattle.bgsim_console.proofs.Playing.{refused_one, where_ok}
 use Rattle.bgsim_console.proofs.play.Player.open.Goals as goal

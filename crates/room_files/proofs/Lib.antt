@@ -1,0 +1,10 @@
+mod BlockSteps
+mod BlockEnds
+pub mod CallerLemmas
+mod LineLists
+mod Numbering
+mod Feeding
+mod SpecLists
+mod WorkedInputs
+mod Commands
+mod Scripts

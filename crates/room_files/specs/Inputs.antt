@@ -1,0 +1,83 @@
+-- What an input says: blocks, and where it is a transcript the events behind them.
+use Rattle.std.specs.Prelude.{◌≡◌, ◌⊎◌, ℕ, ◌+◌, false, List, [], ◌∷◌, ◌++◌, length, suc, zero, take, drop, Option, Some, None, IsSome, Result, Ok, Err, IsOk, if◌then◌else◌, codes}
+use Rattle.std.specs.Str.{bytes_eq}
+use Rattle.room_spec.specs.Rooms.{RoomSpec}
+use Rattle.room_spec.specs.Texts.{first_line, later_lines}
+use Rattle.room_spec.specs.Blocks.{block_len}
+use Rattle.transcript.specs.Faults.{code_of as line_code}
+use Rattle.transcript.specs.Lines.{line_in}
+use Rattle.transcript.specs.declared.event.Event.{Event}
+use Rattle.transcript.specs.declared.fault.LineFault.{LineFault}
+use Rattle.history_checker.specs.Verdicts.{FedEvent, has_room}
+use Rattle.room_files.specs.Blocks.{Setup, after_block, block_extent, no_blocks, pass_lines}
+use Rattle.room_files.specs.Lines.{text_lines}
+
+-- ---- the blocks
+
+-- what ends the input early, with the number after the last line
+abbrev pub ended_early : Setup → List ℕ → Result (Setup × List ℕ) (ℕ × ℕ)
+ended_early setup rest = Err (setup.line + length (text_lines rest), 61)
+
+abbrev pub next_block : (Setup → List ℕ → Result (Setup × List ℕ) (ℕ × ℕ)) → Setup → List ℕ → Option ℕ → Result (Setup × List ℕ) (ℕ × ℕ)
+next_block later setup rest None = ended_early setup rest
+next_block later setup rest (Some len) = later (after_block setup (take len rest)) (drop len rest)
+
+-- the blocks up to the line `events`, at most so many, and the text behind it
+unfoldable pub blocks_from : ℕ → Setup → List ℕ → Result (Setup × List ℕ) (ℕ × ℕ)
+blocks_from zero setup rest = ended_early setup rest
+blocks_from (suc most) setup rest =
+    if bytes_eq (first_line rest) (codes "events") then Ok (pass_lines 1 setup, later_lines rest)
+    else next_block (blocks_from most) setup rest (block_len rest)
+
+-- an input has fewer blocks than bytes
+abbrev pub blocks_in : List ℕ → Result (Setup × List ℕ) (ℕ × ℕ)
+blocks_in input = blocks_from (suc (length input)) no_blocks input
+
+-- the input begins with a block, which takes memory
+abbrev pub BeginsWithBlock : List ℕ → Type 0
+BeginsWithBlock input = (bytes_eq (first_line input) (codes "events") ≡ false) × IsSome (block_len input)
+
+-- ---- the events
+
+abbrev pub of_known_room : List RoomSpec → ℕ → Result (List ℕ × Event) LineFault → Result FedEvent (ℕ × ℕ)
+of_known_room rooms line (Err fault) = Err (line, line_code fault)
+of_known_room rooms line (Ok read) = if has_room read.0 rooms then Ok (record { name = read.0; event = read.1; line = line }) else Err (line, 40)
+
+abbrev pub then_fed : (List FedEvent → Result (List FedEvent) (ℕ × ℕ)) → List FedEvent → Result FedEvent (ℕ × ℕ) → Result (List FedEvent) (ℕ × ℕ)
+then_fed later fed (Ok one) = later (fed ++ one ∷ [])
+then_fed later fed (Err fault) = Err fault
+
+-- what was fed so far, and what these lines tell, the first of which has this number
+unfoldable pub fed_from : List RoomSpec → List FedEvent → ℕ → List (List ℕ) → Result (List FedEvent) (ℕ × ℕ)
+fed_from rooms fed line [] = Ok fed
+fed_from rooms fed line (text ∷ texts) = then_fed (λ so_far. fed_from rooms so_far (line + 1) texts) fed (of_known_room rooms line (line_in text))
+
+abbrev pub with_fed : Setup → Result (List FedEvent) (ℕ × ℕ) → Result (Setup × List FedEvent) (ℕ × ℕ)
+with_fed setup (Ok fed) = Ok (setup, fed)
+with_fed setup (Err fault) = Err fault
+
+abbrev pub events_behind : Result (Setup × List ℕ) (ℕ × ℕ) → Result (Setup × List FedEvent) (ℕ × ℕ)
+events_behind (Ok read) = with_fed read.0 (fed_from read.0.rooms [] read.0.line (text_lines read.1))
+events_behind (Err fault) = Err fault
+
+-- what an input says: its blocks and its events, or the line and the code of its first fault
+abbrev pub input_says : List ℕ → Result (Setup × List FedEvent) (ℕ × ℕ)
+input_says input = events_behind (blocks_in input)
+
+-- memory may be refused to a block, and to the output for an input that has no fault
+abbrev pub MayLackMemory : List ℕ → Type 0
+MayLackMemory input = BeginsWithBlock input ⊎ IsOk (input_says input)
+
+-- ---- an input that has blocks alone
+
+-- what the blocks of a text say behind those before it, at most so many; where it has no line `end`, all of it is a block
+unfoldable pub all_blocks_from : ℕ → Setup → List ℕ → Setup
+all_blocks_from zero setup text = setup
+all_blocks_from (suc most) setup [] = setup
+all_blocks_from (suc most) setup (byte ∷ bytes) =
+    let text = byte ∷ bytes in
+    all_blocks_from most (after_block setup (take (block_extent text) text)) (drop (block_extent text) text)
+
+-- an input has no more blocks than bytes
+abbrev pub all_blocks : List ℕ → Setup
+all_blocks input = all_blocks_from (length input) no_blocks input

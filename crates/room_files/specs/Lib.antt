@@ -1,0 +1,8 @@
+pub mod Blocks
+pub mod Inputs
+pub mod LineNumbers
+pub mod Lines
+pub mod Reports
+pub mod Script
+pub mod SpecLists
+pub mod Verdicts

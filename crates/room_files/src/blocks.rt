@@ -1,0 +1,217 @@
+//! What the blocks of an input say, one after the other.
+ghost use Rattle.std.specs.Prelude.{◌≡◌, ◌+◌, ◌<◌, ◌^◌, ◌≤◌, [], IfOk, IfErr, IsOk, OnOk, length};
+ghost use Rattle.room_spec.specs.Blocks.{IsHeadRight, block_in, block_len};
+ghost use Rattle.room_files.specs.Lines.{text_lines};
+ghost use Rattle.room_files.specs.Blocks.{no_blocks, refuse, open_room, after_block, pass_lines, why_text, IsWhy, ReadsBlock};
+
+use crate::fault::BlockFault;
+use crate::lines::count_lines;
+use crate::report::{write_refused, write_refused_code};
+use history_checker::{AddFault, Rooms};
+use io_text::Text;
+use protocol_lang::ParseFault;
+use room_spec::{Block, Protocols, Spec, SpecFault, read_block};
+use std::alloc::{AllocError, Global};
+use std::marker::Model;
+
+/// Rooms that are opened one by one.
+pub trait Opens: Drop {
+    ghost use Rattle.std.specs.Prelude.{◌≡◌, ◌↔◌, ◌∷◌, ◌++◌, [], List, IsTrue, IsErrOf, OnOk, OnErr};
+    ghost use Rattle.room_spec.specs.Rooms.{RoomSpec};
+    ghost use Rattle.history_checker.specs.Verdicts.{has_room};
+
+    // The specs of those that are open, in order.
+    ghost specs: { Self → List RoomSpec };
+
+    // None of them has an event.
+    ghost is_unfed: { Self → Type 0 };
+
+    /// Opens one more. An `Err` drops the spec and changes nothing. It is `NameTaken` wherever a room has this name already, and
+    /// `OutOfMemory` only for a new name.
+    fn open(&mut self, alloc: Global, spec: Spec) -> Result<(), AddFault>
+        ensures taken { IsErrOf result AddFault.NameTaken ↔ IsTrue (has_room spec.name (specs self.old)) }
+        ensures opened { OnOk result (specs self.new ≡ specs self.old ++ spec ∷ []) }
+        ensures unfed { OnOk result (is_unfed self.old → is_unfed self.new) }
+        ensures err { OnErr result (self.new ≡ self.old) };
+}
+
+impl Opens for Rooms {
+    ghost use Rattle.std.specs.Prelude.{[]};
+    ghost use Rattle.history_checker.specs.Verdicts.{HasProcessed, specs_of};
+
+    ghost specs = { specs_of };
+
+    ghost is_unfed = { λ rooms. HasProcessed rooms [] };
+
+    fn open(&mut self, alloc: Global, spec: Spec) -> Result<(), AddFault> {
+        self.add(alloc, spec)
+    }
+}
+
+/// What becomes of the blocks that open no room.
+pub trait Refuses: Drop {
+    ghost use Rattle.std.specs.Prelude.{◌≡◌, ◌++◌, ℕ, List, OnOk};
+    ghost use Rattle.room_files.specs.Blocks.{refused_line, why_text, IsWhy};
+
+    // The lines that tell of those so far.
+    ghost lines: { Self → List ℕ };
+
+    /// Refuses a block of these bytes, whose first line has this number.
+    fn refuse(&mut self, line: u64, fault: BlockFault, block: &[u8]) -> Result<(), AllocError>
+        requires { IsWhy block.now fault }
+        ensures { OnOk result (lines self.new ≡ lines self.old ++ refused_line line (why_text fault)) };
+}
+
+/// A text takes the lines alone.
+impl Refuses for Text {
+    ghost lines = { λ text. text };
+
+    fn refuse(&mut self, line: u64, fault: BlockFault, _block: &[u8]) -> Result<(), AllocError> {
+        match fault {
+            BlockFault::Spec(fault) => write_refused(self, line, fault),
+            BlockFault::NameTaken => write_refused_code(self, line, AddFault::NameTaken.code()),
+        }
+    }
+}
+
+/// What the blocks so far say.
+#[derive(Drop)]
+pub struct Setup<R: Opens, T: Refuses> {
+    /// The rooms that they open, which have no events yet.
+    pub rooms: R,
+    /// What became of the others.
+    pub refused: T,
+    /// The number of the next line.
+    pub line: u64,
+}
+
+impl<R: Opens, T: Refuses> Model for Setup<R, T> {
+    ghost use Rattle.std.specs.Coded.{codes};
+    ghost use Rattle.protocol_lang.specs.Codes.{expression_code};
+    ghost use Rattle.room_files.specs.Blocks.{Setup as SetupSpec};
+
+    ghost Value = { SetupSpec };
+
+    ghost coded = { Prim.hlevel (codes, expression_code) };
+
+    ghost view = { λ setup. record { rooms = R.specs setup.rooms; refused = T.lines setup.refused; line = setup.line } };
+
+    ghost invariant = { λ setup. R.is_unfed setup.rooms };
+}
+
+impl<R: Opens, T: Refuses> Setup<R, T> {
+    /// Before the first block no room is open, and none was refused.
+    pub fn new(rooms: R, refused: T) -> Setup<R, T>
+        requires none { R.specs rooms ≡ [] }
+        requires unfed { R.is_unfed rooms }
+        requires unrefused { T.lines refused ≡ [] }
+        ensures { result ≡ no_blocks }
+    {
+        Setup {
+            rooms,
+            refused,
+            line: 1,
+        }
+    }
+
+    /// Takes the next block. `Err` is want of memory.
+    pub(crate) fn take<'a>(
+        &mut self,
+        alloc: Global,
+        block: &Block<'a>,
+        protocols: &mut Protocols<'a>,
+    ) -> Result<(), AllocError>
+        requires { self.old.line + length block.now < 2 ^ 64 }
+        ensures block { OnOk result (self.new ≡ after_block self.old block.now) }
+        ensures line { OnOk result (self.new.line ≤ self.old.line + length block.now) }
+    {
+        match read_lines(alloc, block, protocols)? {
+            Ok(spec) => self.open_room(alloc, spec, block.text())?,
+            Err(fault) => self.refuse(BlockFault::Spec(fault), block.text())?,
+        }
+        self.pass_lines(lines_of(block));
+        Ok(())
+    }
+
+    /// Refuses what is left of an input, which has no line `end`. `Err` is want of memory.
+    pub(crate) fn refuse_rest(&mut self, rest: &[u8]) -> Result<(), AllocError>
+        requires fits { self.old.line + length rest.now < 2 ^ 64 }
+        requires ends { block_len rest.now ≡ None }
+        ensures { OnOk result (self.new ≡ after_block self.old rest.now) }
+    {
+        self.refuse(BlockFault::Spec(SpecFault::Truncated), rest)?;
+        self.pass_lines(count_lines(rest));
+        Ok(())
+    }
+
+    /// Opens the room that a block of these bytes says, unless its name is taken.
+    fn open_room(&mut self, alloc: Global, spec: Spec, block: &[u8]) -> Result<(), AllocError>
+        requires { IsOk (block_in block.now) }
+        ensures room { OnOk result (self.new ≡ open_room self.old spec) }
+        ensures line { OnOk result (self.new.line ≡ self.old.line) }
+    {
+        match self.rooms.open(alloc, spec) {
+            Ok(()) => Ok(()),
+            Err(AddFault::OutOfMemory) => Err(AllocError),
+            Err(AddFault::NameTaken) => self.refuse(BlockFault::NameTaken, block),
+        }
+    }
+
+    /// Refuses a block of these bytes.
+    fn refuse(&mut self, fault: BlockFault, block: &[u8]) -> Result<(), AllocError>
+        requires { IsWhy block.now fault }
+        ensures refused { OnOk result (self.new ≡ refuse self.old (why_text fault)) }
+        ensures line { OnOk result (self.new.line ≡ self.old.line) }
+    {
+        self.refused.refuse(self.line, fault, block)
+    }
+
+    /// Passes so many lines that are no block's.
+    pub(crate) fn pass_lines(&mut self, count: u64)
+        requires { self.old.line + count < 2 ^ 64 }
+        ensures { self.new ≡ pass_lines count self.old }
+    {
+        self.line += count;
+    }
+}
+
+/// How many lines a block has.
+#[inline]
+fn lines_of(block: &Block<'_>) -> u64
+    ensures value { result ≡ length (text_lines block.now) }
+    ensures within { result ≤ length block.now }
+{
+    block.lines() as u64
+}
+
+/// What a block says, and how long it is, or its first fault. `Err` is want of memory for its protocol.
+pub fn read_room(
+    alloc: Global,
+    block: &[u8],
+) -> Result<Result<(Spec, usize), SpecFault>, AllocError>
+    ensures read { IfOk result (λ read. read ≡ block_in block.now) }
+    // Want of memory hides no fault of a line before the protocol's text, nor that this text is too long.
+    ensures head { IfErr result (λ _. IsHeadRight (block_in block.now)) }
+{
+    match read_block(alloc, block) {
+        Err(SpecFault::BadProtocol(ParseFault::OutOfMemory)) => Err(AllocError),
+        read => Ok(read),
+    }
+}
+
+/// The same for one of several blocks, which share protocols.
+#[inline]
+fn read_lines<'a>(
+    alloc: Global,
+    block: &Block<'a>,
+    protocols: &mut Protocols<'a>,
+) -> Result<Result<Spec, SpecFault>, AllocError>
+    ensures read { IfOk result (λ read. ReadsBlock block.now read) }
+    // Want of memory hides no fault of a line before the protocol's text, nor that this text is too long.
+    ensures head { IfErr result (λ _. IsHeadRight (block_in block.now)) }
+{
+    match block.read(alloc, protocols) {
+        Err(SpecFault::BadProtocol(ParseFault::OutOfMemory)) => Err(AllocError),
+        read => Ok(read),
+    }
+}

@@ -1,0 +1,35 @@
+//! A text's lines, of which the last may lack its line end.
+ghost use Rattle.std.specs.Prelude.{◌≡◌, ◌<◌, ◌≤◌, ◌∷◌, [], MatchOption, IfSome, length};
+ghost use Rattle.room_files.specs.Lines.{text_lines};
+
+use room_spec::cut;
+
+/// The first line, without its line end, and what stands behind it. `None` where the text is empty.
+#[inline]
+pub fn next_line(text: &[u8]) -> Option<(&[u8], &[u8])>
+    ensures lines { MatchOption result (text_lines text.now ≡ []) (λ r. text_lines text.now ≡ r.0.now ∷ text_lines r.1.now) }
+    ensures shorter { IfSome result (λ r. length r.1.now < length text.now) }
+{
+    if text.is_empty() {
+        return None;
+    }
+    let (line, later) = cut(text, b'\n');
+    let Some(rest) = later else {
+        return Some((line, &[]));
+    };
+    Some((line, rest))
+}
+
+/// How many lines the text has.
+pub fn count_lines(text: &[u8]) -> u64
+    ensures value { result ≡ length (text_lines text.now) }
+    ensures within { result ≤ length text.now }
+{
+    let mut rest = text;
+    let mut count = 0;
+    while let Some((_, later)) = next_line(rest) {
+        count += 1;
+        rest = later;
+    }
+    count
+}

@@ -1,0 +1,72 @@
+//! The blocks of an input with events, and of one that has nothing else.
+ghost use Rattle.std.specs.Prelude.{◌≡◌, ◌+◌, ◌<◌, ◌^◌, ◌≤◌, Ok, IfOk, IfErr, length};
+ghost use Rattle.room_files.specs.Blocks.{no_blocks, IsFaultOr};
+ghost use Rattle.room_files.specs.Inputs.{all_blocks, blocks_in, BeginsWithBlock};
+ghost use Rattle.io_text.specs.Reading.{most_bytes};
+
+use crate::blocks::{Opens, Refuses, Setup};
+use crate::fault::{InputFault, bad_input};
+use crate::lines::count_lines;
+use room_spec::{Block, Protocols, cut};
+use std::alloc::{AllocError, Global};
+
+/// The code of an input that ends before the line `events`.
+const ENDED_EARLY: u16 = 61;
+
+/// Takes the blocks of a transcript, up to the line `events`: what they say, and the text behind that line.
+///
+/// # Errors
+///
+/// An input that ends before that line, or want of memory.
+#[tactic(auto, unfolding(crate::specs::Inputs::blocks_from))]
+pub fn read_blocks<R: Opens, T: Refuses>(
+    alloc: Global,
+    mut setup: Setup<R, T>,
+    input: &[u8],
+) -> Result<(Setup<R, T>, &[u8]), InputFault>
+    requires new { setup ≡ no_blocks }
+    requires short { length input.now ≤ most_bytes }
+    ensures read { IfOk result (λ read. blocks_in input.now ≡ Ok (read.0, read.1.now)) }
+    ensures fits { IfOk result (λ read. read.0.line + length read.1.now < 2 ^ 64) }
+    ensures err { IfErr result (IsFaultOr (BeginsWithBlock input.now) (blocks_in input.now)) }
+{
+    let mut protocols = Protocols::new(alloc);
+    let mut rest = input;
+    loop {
+        let (first, later) = cut(rest, b'\n');
+        if first == b"events".as_slice() {
+            setup.pass_lines(1);
+            return Ok((setup, later.unwrap_or(&[])));
+        }
+        let Some(block) = Block::at_front(rest) else {
+            return Err(bad_input(setup.line + count_lines(rest), ENDED_EARLY));
+        };
+        setup.take(alloc, &block, &mut protocols)?;
+        rest = &rest[block.text().len()..];
+    }
+}
+
+/// Takes all blocks of an input that has nothing else: what they say. Where the last has no line `end`
+/// it is cut off, and refused. `Err` is want of memory.
+#[tactic(auto, unfolding(crate::specs::Inputs::all_blocks_from))]
+pub fn read_all_blocks<R: Opens, T: Refuses>(
+    alloc: Global,
+    mut setup: Setup<R, T>,
+    input: &[u8],
+) -> Result<Setup<R, T>, AllocError>
+    requires new { setup ≡ no_blocks }
+    requires short { length input.now ≤ most_bytes }
+    ensures { IfOk result (λ setup. setup ≡ all_blocks input.now) }
+{
+    let mut protocols = Protocols::new(alloc);
+    let mut rest = input;
+    while let Some(block) = Block::at_front(rest) {
+        setup.take(alloc, &block, &mut protocols)?;
+        rest = &rest[block.text().len()..];
+    }
+    if rest.is_empty() {
+        return Ok(setup);
+    }
+    setup.refuse_rest(rest)?;
+    Ok(setup)
+}
