@@ -3,11 +3,13 @@ ghost use Rattle.std.specs.Prelude.{◌≡◌, ◌≤◌, ◌++◌, ◌∷◌, O
 ghost use Rattle.std.specs.List.{flat_map};
 ghost use Rattle.service_core.specs.declared.reply.Reply.TheVariants.{Steps};
 ghost use Rattle.service_core.specs.Replies.{refusal_code};
+ghost use Rattle.protocol_lang.specs.declared.meaning.TheConstants.{MAX_PROCESSES};
 ghost use Rattle.transcript.specs.Grammar.{entry_text, event_line};
 ghost use Rattle.bgsim_console.specs.ReplyTexts.{crash_word, event_lines, numbers_text, process_line, process_lines, reply_text, report_text, state_text, step_word};
 
 use io_text::{Numeral, Text};
 use room_core::{CrashReply, StepReply};
+use room_spec::MAX_PROCESSES;
 use service_core::{Refusal, Reply};
 use std::alloc::AllocError;
 use transcript::Event;
@@ -172,15 +174,12 @@ fn write_count(output: &mut Text, name: &[u8], count: usize) -> Result<(), Alloc
     write_end(output, b" history", count as u64)
 }
 
-/// The most entries of a snapshot.
-const MAX_ENTRIES: usize = 16;
-
 /// Writes the events' lines. Most entries of a snapshot show what they did in the one before, so the
 /// number that was shown last at each place of a row is kept as text.
 fn write_events(output: &mut Text, name: &[u8], events: &[Event]) -> Result<(), AllocError>
     ensures { OnOk result (output.new ≡ output.old ++ event_lines name.now events.now) }
 {
-    let mut shown = [Numeral::of(0); MAX_ENTRIES];
+    let mut shown = [Numeral::of(0); MAX_PROCESSES];
     for event in events {
         write_event(output, name, &mut shown, event)?;
     }
@@ -190,7 +189,7 @@ fn write_events(output: &mut Text, name: &[u8], events: &[Event]) -> Result<(), 
 fn write_event(
     output: &mut Text,
     name: &[u8],
-    shown: &mut [Numeral; MAX_ENTRIES],
+    shown: &mut [Numeral; MAX_PROCESSES],
     event: &Event,
 ) -> Result<(), AllocError>
     ensures { OnOk result (output.new ≡ output.old ++ (event_line name.now event.now ++ codes "\n")) }
@@ -214,11 +213,11 @@ fn write_value(output: &mut Text, p: u8, deed: &[u8], v: u32) -> Result<(), Allo
 /// Writes the end of a line: a process, and the snapshot that it took.
 fn write_snapshot(
     output: &mut Text,
-    shown: &mut [Numeral; MAX_ENTRIES],
+    shown: &mut [Numeral; MAX_PROCESSES],
     p: u8,
     entries: &[Option<u32>],
 ) -> Result<(), AllocError>
-    requires { length entries.now ≤ 16 }
+    requires { length entries.now ≤ MAX_PROCESSES }
     ensures { OnOk result (output.new ≡ output.old ++ (32 ∷ decimal p ++
         (codes " snap" ++ (flat_map (λ entry. 32 ∷ entry_text entry) entries.now ++ codes "\n")))) }
 {
@@ -231,10 +230,10 @@ fn write_snapshot(
 /// Writes each entry of a snapshot behind a space.
 fn write_entries(
     output: &mut Text,
-    shown: &mut [Numeral; MAX_ENTRIES],
+    shown: &mut [Numeral; MAX_PROCESSES],
     entries: &[Option<u32>],
 ) -> Result<(), AllocError>
-    requires { length entries.now ≤ 16 }
+    requires { length entries.now ≤ MAX_PROCESSES }
     ensures { OnOk result (output.new ≡ output.old ++ flat_map (λ entry. 32 ∷ entry_text entry) entries.now) }
 {
     for place in 0..entries.len() {

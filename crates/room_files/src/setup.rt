@@ -7,7 +7,7 @@ ghost use Rattle.io_text.specs.Reading.{most_bytes};
 use crate::blocks::{Opens, Refuses, Setup};
 use crate::fault::{InputFault, bad_input};
 use crate::lines::count_lines;
-use room_spec::{Block, Protocols, cut};
+use room_spec::{Block, Protocols, cut_near};
 use std::alloc::{AllocError, Global};
 
 /// The code of an input that ends before the line `events`.
@@ -33,7 +33,7 @@ pub fn read_blocks<R: Opens, T: Refuses>(
     let mut protocols = Protocols::new(alloc);
     let mut rest = input;
     loop {
-        let (first, later) = cut(rest, b'\n');
+        let (first, later) = cut_near(rest, b'\n');
         if first == b"events".as_slice() {
             setup.pass_lines(1);
             return Ok((setup, later.unwrap_or(&[])));

@@ -2,7 +2,7 @@ use Rattle.std.proofs.Common.{◌≡◌, ◌∙◌, ℕ, List, Option, ap, sym, 
 use Rattle.clap.specs.Words.{found_of, subcommand_rows_of}
 use Rattle.bgsim_console.specs.CommandLine.{IsWorkers, workers_among}
 use Rattle.bgsim_console.specs.declared.command_line.words.Mode.TheVariants.{Run}
-use Rattle.bgsim_console.proofs.Naming.{file_found, workers_found}
+use Rattle.bgsim_console.proofs.FileWords.{file_found, workers_found}
 use Rattle.bgsim_console.proofs.command_line.line_in.Goals as goal
 
 pub returns-in-Some-clause-file : goal.returns-in-Some-clause-file

@@ -24,7 +24,7 @@ loop-rest-preserved g c =
     let inv = c.loop-rest.invariant in
     let some = positive_len rest len front.0 in
     let within = within_text rest len (sym front.0) in
-    let other = subst (λ line. bytes_eq line (codes "events") ≡ false) c.cut.ensures.before (search rules) in
+    let other = subst (λ line. bytes_eq line (codes "events") ≡ false) c.cut_near.ensures.before (search rules) in
     let taken = c.in_ok-take.ensures.block ∙ ap (after_block c.loop-rest.setup) front.1 in
     let passed = subst (λ (bytes : List ℕ). c.take.new.self.line ≤ c.loop-rest.setup.line + length bytes) front.1 c.in_ok-take.ensures.line in
     let next = step_blocks inv.0 c.loop-rest.setup c.take.new.self rest _ len inv.1 some within other front.0 taken (behind rest len _ refl) in (
@@ -38,7 +38,7 @@ loop-rest-preserved g c =
 pub returns-in_err-take-clause-err : goal.returns-in_err-take-clause-err
 returns-in_err-take-clause-err g c =
     let rest = c.loop-rest.rest.now in
-    let other = subst (λ line. bytes_eq line (codes "events") ≡ false) c.cut.ensures.before (search rules) in
+    let other = subst (λ line. bytes_eq line (codes "events") ≡ false) c.cut_near.ensures.before (search rules) in
     let p = err_from_is_err_and c.from_residual.result c.from_residual.ensures.1 in
     rw (p.1, p.2) (begins c.args.input.now rest (length c.in-Some.block) c.loop-rest.invariant.4 other c.in-Some.ensures.block.0)
 
