@@ -1,25 +1,14 @@
 -- What the program's command makes of the words.
-use Rattle.std.proofs.Common.{inl, inr, arith, ap₂, ◌&&◌, ◌+◌, take, drop, option_map, ◌==◌, ◌≡◌, ◌∙◌, ◌||◌, ℕ, Bool, cond, codes, true, false, suc, refl, sym, ap, subst, List, [], ◌∷◌, ◌++◌, length, map, Option, Some, None, IfSome, is_some}
-use Rattle.std.specs.Prelude.{◌⊎◌, find, fold, option_and_then, slice_get}
-use Rattle.std.specs.List.{before_first}
-use Rattle.std.specs.Option.{option_map_or}
-use Rattle.std.specs.Str.{bytes_eq, chars}
-use Rattle.std.proofs.lemmas.Bool.{cases_Bool}
-use Rattle.std.proofs.lemmas.Bool.Decides.{nat_tests}
-use Rattle.std.proofs.lemmas.List.{append-nil, append_assoc, take-append-drop}
+use Rattle.std.proofs.Common.{[], ◌+◌, ◌==◌, ◌≡◌, ◌∙◌, ◌||◌, Bool, cond, codes, true, false, refl, sym, ap, subst, List, ◌∷◌, ◌++◌, length, map, Option, Some, None, IfSome, is_some}
+use Rattle.std.specs.Prelude.{fold}
+use Rattle.std.specs.Str.{bytes_eq}
+use Rattle.std.proofs.lemmas.List.{append-nil, append_assoc}
 use Rattle.std.proofs.lemmas.Slice.Eq.{bytes_eq-Decides}
-use Rattle.clap.specs.Lexer.{long_of, long_of_rest, name_and_value, short_of, strip_byte}
-use Rattle.clap.specs.Matches.{first_value}
-use Rattle.clap.specs.declared.parser.matches.Found.{Found}
-use Rattle.clap.specs.Walk.{Held, Names, plain, option, Row, Rule, Text, Waiting, Walk, at_row, attached_value, has_row, is_pending, more_values, plain_word, settled_rows, used, values_or_missing, with_default, without, after_flag, bundle_step, idle, value, arg_by_index, arg_by_long, arg_by_short, finished, first_of, long_or_other, nothing_held, rows_after, rows_of, settled, short_or_plain, takes_values, to_positional, subcommand_met, walk, walked, bundle_met}
-use Rattle.clap.specs.Simple.{Shape, built, built_leaf, entered, filled, help_rule, inherited, marked_built, new_rule, on_top, subcommand_of, version_rule, with_index}
-use Rattle.clap.specs.Kinds.{Kinds, or_else}
-use Rattle.clap.specs.Faults.{bundle_fault, bundle_step_fault, entered_fault, fault_of, flag_word_fault, flags_fault, level_fault, long_fault, option_fault, check_fault, settle_fault, react_fault, short_fault, stray_fault, word_fault, turn_fault, use_fault, walk_fault, defaults_fault}
-use Rattle.clap.specs.declared.error.kind.ErrorKind.{ErrorKind}
-use Rattle.clap.specs.declared.error.kind.ErrorKind.TheVariants.{InvalidSubcommand, TooManyValues, UnknownArgument}
-use Rattle.clap.specs.declared.parser.matches.ValueSource.TheVariants.{CommandLine}
-use Rattle.clap.proofs.WalkLemmas.{first_value-rows}
-use Rattle.bgsim_console.specs.CommandLine.{IsAsked, behind_workers, bgsim_app, file_among, file_app, file_named, file_words, mode_among, mode_of, run_app, word_of, workers_among, workers_rule}
+use Rattle.clap.specs.Walk.{Names, Row, Rule, Text, Walk, without, idle, finished, first_of, nothing_held, rows_after, settled, subcommand_met, walk, walked}
+use Rattle.clap.specs.Simple.{Shape, built, entered, subcommand_of}
+use Rattle.clap.specs.Kinds.{or_else}
+use Rattle.clap.specs.Faults.{entered_fault, fault_of, level_fault, check_fault, settle_fault, turn_fault, walk_fault, defaults_fault}
+use Rattle.bgsim_console.specs.CommandLine.{IsAsked, bgsim_app, file_among, file_named, file_words, mode_among, mode_of, word_of}
 use Rattle.bgsim_console.specs.declared.command_line.words.Mode.{Mode}
 use Rattle.bgsim_console.specs.declared.command_line.words.Mode.TheVariants.{Check, Play, Run}
 use Rattle.bgsim_console.proofs.FileWords.{first_none, then_none, Asks, OnlyAsk, held, word_is_value, at, step_dashes, stray_trailing, flag_none, stray_value, help, version, leaf, help_asks, version_asks, file_is}
