@@ -1,0 +1,22 @@
+-- What the matches of a subcommand give.
+use Rattle.std.proofs.Common.{◌≡◌, ◌∙◌, ℕ, List, [], Option, Some, None, ap}
+use Rattle.std.specs.Prelude.{codes, unwrap_or}
+use Rattle.std.specs.Option.{option_map}
+use Rattle.clap.specs.Words.{Row, all_of, first_of, first_value, matched_of, raw_values}
+use Rattle.clap.specs.Walk.{rows_of}
+use Rattle.clap.specs.declared.parser.matches.Found.{Found}
+use Rattle.clap.proofs.WalkLemmas.{first_value-rows, raw_values-rows}
+use Rattle.bgview.specs.CommandLine.{codes_among, file_among}
+
+pub file_found : (found : Option (List ℕ × List Row)) (f : Found) (file : Option (List ℕ)) → file ≡ first_value f (codes "FILE") → Some (rows_of f) ≡ option_map (λ sub. sub.1) found → file ≡ file_among found
+file_found None f file is there = absurd cc
+file_found (Some sub) f file is there =
+    let rows : rows_of f ≡ sub.1 = cc in
+    is ∙ first_value-rows f (codes "FILE") ∙ ap (first_of (codes "FILE")) rows
+
+pub codes_found : (found : Option (List ℕ × List Row)) (f : Found) (texts : Option (List (List ℕ))) → texts ≡ option_map raw_values (matched_of f (codes "CODE")) → Some (rows_of f) ≡ option_map (λ sub. sub.1) found
+    → unwrap_or texts [] ≡ codes_among found
+codes_found None f texts is there = absurd cc
+codes_found (Some sub) f texts is there =
+    let rows : rows_of f ≡ sub.1 = cc in
+    ap (λ (t : Option (List (List ℕ))). unwrap_or t []) (is ∙ raw_values-rows f (codes "CODE") ∙ ap (all_of (codes "CODE")) rows)

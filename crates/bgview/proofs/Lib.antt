@@ -1,0 +1,9 @@
+mod Behind
+mod Breaking
+mod Explaining
+mod Finding
+mod Hearing
+mod Reasoning
+mod RoomLists
+mod Subcommands
+mod Telling

@@ -1,0 +1,35 @@
+use Rattle.std.proofs.Common.{◌≡◌, ◌∙◌, ◌++◌, List, ℕ, ap, refl, sym, subst}
+use Rattle.std.specs.List.{flat_map}
+use Rattle.std.proofs.lemmas.List.{append_assoc}
+use Rattle.history_checker.specs.Verdicts.{IsVerdict}
+use Rattle.history_checker.specs.declared.verdict.Verdict.{Verdict}
+use Rattle.room_files.specs.Reports.{task_line, verdict_line}
+use Rattle.bgview.specs.Told.{ToldRoom}
+use Rattle.bgview.specs.Why.{IsReasonFor, indented}
+use Rattle.bgview.proofs.Explaining.{is_verdict, told_is}
+use Rattle.bgview.proofs.answer.write_room.Goals as goal
+
+pub returns : goal.returns
+returns c = λ fed is.
+    let told = c.args.told.now in
+    let reason = c.why-reason.result in
+    let verdict = c.verdict_of-verdict.result in
+    let task = c.task_verdict-task.result in
+    let name : c.name-name.result.now ≡ told.spec.name = c.name-name.ensures ∙ ap (λ (room : ToldRoom). room.spec.name) c.told.view_is in
+    let because = c.in_ok-write_because.ensures in
+    let P : Verdict → Type 0 = λ v. IsVerdict told.spec fed v in
+    let Q : ToldRoom → Type 0 = λ room. IsReasonFor room verdict because.0 in
+    let own : IsReasonFor told verdict because.0 = subst (λ (v : Verdict). IsReasonFor told v because.0) (sym c.verdict_of-verdict.ensures) because.1 in
+    let line = λ (n : List ℕ). verdict_line n verdict ++ task_line n verdict task in
+    record {
+      one = record { judged = record { room = told.spec; verdict = verdict; task = task }; notes = because.0 };
+      room = refl;
+      verdict = subst P (sym c.verdict_of-verdict.ensures) (is_verdict told fed reason is c.why-reason.ensures.run.0 (λ broken breaks. (c.why-reason.ensures.first broken).0 breaks));
+      task = c.task_verdict-task.ensures fed is;
+      because = subst Q (told_is told fed is) own;
+      written =
+          because.2 ∙ ap (λ t. t ++ flat_map indented because.0) (c.in_ok-write_task.ensures ∙ ap (λ t. t ++ task_line c.name-name.result.now verdict task) c.in_ok-write_verdict.ensures
+          ∙ append_assoc c.args.output.now (verdict_line c.name-name.result.now verdict) (task_line c.name-name.result.now verdict task) ∙ ap (λ n. c.args.output.now ++ line n) name)
+          ∙ append_assoc c.args.output.now (line told.spec.name) (flat_map indented because.0);
+      well_is = c.is_well.ensures;
+    }

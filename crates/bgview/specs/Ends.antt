@@ -1,0 +1,63 @@
+-- How the program ends.
+use Rattle.std.specs.Prelude.{ℕ, Bool, true, false, Result, Ok, Err, if◌then◌else◌}
+use Rattle.std.specs.declared.io.ErrorKind.{ErrorKind as WordsFault}
+use Rattle.std.specs.declared.io.ErrorKind.TheVariants as words
+use Rattle.clap.specs.declared.error.kind.ErrorKind.{ErrorKind}
+use Rattle.clap.specs.declared.error.kind.ErrorKind.TheVariants.{DisplayHelp, DisplayVersion, OutOfMemory}
+use Rattle.io_text.specs.declared.fault.DeviceFault.TheVariants.{Read, Write, TooLong, Memory}
+use Rattle.room_files.specs.declared.fault.InputFault.{InputFault}
+use Rattle.room_files.specs.declared.fault.InputFault.TheVariants as inputs
+use Rattle.room_files.specs.Verdicts.{outcome_status}
+use Rattle.room_files.specs.declared.outcome.Outcome.{Outcome}
+use Rattle.bgview.specs.declared.fault.ViewFault.{ViewFault}
+use Rattle.bgview.specs.declared.fault.ViewFault.TheVariants.{Device, BadInput}
+
+abbrev pub fault_status : ViewFault → ℕ
+fault_status (Device Memory) = 3
+fault_status (Device Read) = 2
+fault_status (Device Write) = 2
+fault_status (Device TooLong) = 2
+fault_status (BadInput line code) = 2
+
+abbrev pub ending_status : Result Outcome ViewFault → ℕ
+ending_status (Ok outcome) = outcome_status outcome
+ending_status (Err fault) = fault_status fault
+
+-- where the words couldn't be taken over: one is no text, unless memory was refused
+abbrev pub unread_status : WordsFault → ℕ
+unread_status words.OutOfMemory = 3
+unread_status _ = 2
+
+-- where the words gave no line: help and the version are no mistake, if their text was written
+abbrev pub words_status : ErrorKind → Bool → ℕ
+words_status DisplayHelp is_printed = if is_printed then 0 else 2
+words_status DisplayVersion is_printed = if is_printed then 0 else 2
+words_status OutOfMemory is_printed = 3
+words_status _ is_printed = 2
+
+-- the fault of an input ends the program
+abbrev pub input_fault : InputFault → ViewFault
+input_fault (inputs.BadInput line code) = BadInput line code
+input_fault inputs.Memory = Device Memory
+
+-- reading ended the answer
+abbrev pub is_read_failed : {A : Type 0} → Result A ViewFault → Bool
+is_read_failed (Ok value) = false
+is_read_failed (Err (Device Read)) = true
+is_read_failed (Err (Device Write)) = false
+is_read_failed (Err (Device TooLong)) = false
+is_read_failed (Err (Device Memory)) = false
+is_read_failed (Err (BadInput line code)) = false
+
+-- writing ended the answer
+abbrev pub is_write_failed : {A : Type 0} → Result A ViewFault → Bool
+is_write_failed (Ok value) = false
+is_write_failed (Err (Device Read)) = false
+is_write_failed (Err (Device Write)) = true
+is_write_failed (Err (Device TooLong)) = false
+is_write_failed (Err (Device Memory)) = false
+is_write_failed (Err (BadInput line code)) = false
+
+-- how many writes failed
+abbrev pub failed_writes : {A : Type 0} → Result A ViewFault → ℕ
+failed_writes result = if is_write_failed result then 1 else 0

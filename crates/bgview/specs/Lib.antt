@@ -1,0 +1,7 @@
+pub mod CommandLine
+pub mod Devices
+pub mod Ends
+pub mod Faults
+pub mod Told
+pub mod Why
+pub mod Words

@@ -1,0 +1,61 @@
+-- What a transcript tells of rooms, and the line that breaks a room's run.
+use Rattle.std.specs.Prelude.{◌≡◌, ℕ, List, map, Option, Some, None, slice_get}
+use Rattle.std.specs.List.{All}
+use Rattle.room_spec.specs.Rooms.{RoomSpec}
+use Rattle.transcript.specs.declared.event.Event.{Event}
+use Rattle.history_checker.specs.Verdicts.{FedEvent, events_of, fed_to, names_of}
+use Rattle.history_checker.specs.Reasons.{IsBreak}
+use Rattle.history_checker.specs.declared.reason.Reason.{Reason}
+use Rattle.history_checker.specs.declared.reason.Reason.TheVariants.{NoProcess, OtherLength, OutOfTurn, OtherAction, WrongEntry, TooManyWrites}
+use Rattle.bgview.specs.declared.told.LineBreak.{LineBreak}
+
+-- a room, the events that are told of it, and the line of each
+pub record ToldRoom : Type 0 where
+  pub spec : RoomSpec
+  pub events : List Event
+  pub lines : List ℕ
+
+-- the line of the write that a reason rests on, if it rests on one
+abbrev pub line_behind : List ℕ → Reason → Option ℕ
+line_behind lines NoProcess = None
+line_behind lines OtherLength = None
+line_behind lines (OutOfTurn next) = None
+line_behind lines (OtherAction asked) = None
+line_behind lines (WrongEntry q None) = None
+line_behind lines (WrongEntry q (Some last)) = slice_get lines last.at
+line_behind lines TooManyWrites = None
+
+-- the event of this line is the first that may not follow those before it, for this reason, which rests on that line
+pub record IsLineBreak (told : ToldRoom) (broken : LineBreak) : Type 0 where
+  pub first : IsBreak told.spec told.events (record { at = broken.at; reason = broken.reason })
+  pub line : slice_get told.lines broken.at ≡ Some broken.line
+  pub earlier : line_behind told.lines broken.reason ≡ broken.earlier
+
+-- ---- what is told of each of many rooms
+
+abbrev pub lines_of : List FedEvent → List ℕ
+lines_of fed = map (λ one. one.line) fed
+
+-- these are the events of the room, each with its line
+abbrev pub IsTold : List FedEvent → ToldRoom → Type 0
+IsTold fed told = (told.events ≡ events_of fed) × (told.lines ≡ lines_of fed)
+
+-- the same after all that a transcript tells, of which the other rooms' part is passed over
+abbrev pub IsToldOwn : List FedEvent → ToldRoom → Type 0
+IsToldOwn fed told = IsTold (fed_to told.spec.name fed) told
+
+-- the same of every room
+abbrev pub AreTold : List ToldRoom → List FedEvent → Type 0
+AreTold rooms fed = All (IsToldOwn fed) rooms
+
+-- the rooms, in order
+abbrev pub specs_of : List ToldRoom → List RoomSpec
+specs_of rooms = map (λ told. told.spec) rooms
+
+-- the rooms of a map from their names, in its order
+abbrev pub rooms_in : List (List ℕ × ToldRoom) → List ToldRoom
+rooms_in entries = map (λ entry. entry.1) entries
+
+-- each room stands under its own name
+abbrev pub IsKeyed : List (List ℕ × ToldRoom) → Type 0
+IsKeyed entries = map (λ entry. entry.0) entries ≡ names_of (specs_of (rooms_in entries))

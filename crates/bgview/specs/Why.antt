@@ -1,0 +1,103 @@
+-- What is said of rooms that are no run, and what `bgview why` answers.
+use Rattle.std.specs.Prelude.{◌≡◌, ℕ, ◌≤◌, ◌<◌, Bool, List, [], ◌∷◌, ◌++◌, length, map, Some, Result, Ok, Err, codes, slice_get}
+use Rattle.std.specs.List.{All, flat_map}
+use Rattle.io_text.specs.Reading.{most_bytes}
+use Rattle.io_text.specs.declared.fault.DeviceFault.TheVariants.{Read, Write, TooLong, Memory}
+use Rattle.room_spec.specs.Rooms.{RoomSpec}
+use Rattle.transcript.specs.Grammar.{event_line}
+use Rattle.transcript.specs.declared.event.Event.{Event}
+use Rattle.history_checker.specs.Verdicts.{FedEvent, IsTaskAnswer, IsVerdict, events_of, fed_to}
+use Rattle.history_checker.specs.declared.verdict.Verdict.{Verdict}
+use Rattle.history_checker.specs.declared.verdict.Verdict.TheVariants.{Run, Broken}
+use Rattle.room_files.specs.Blocks.{Setup}
+use Rattle.room_files.specs.Inputs.{input_says}
+use Rattle.room_files.specs.Verdicts.{Judged, IsJustified, IsOutput, judged_line, is_well}
+use Rattle.room_files.specs.declared.outcome.Outcome.{Outcome}
+use Rattle.bgview.specs.Told.{ToldRoom, IsLineBreak, lines_of}
+use Rattle.bgview.specs.Words.{reason_words}
+use Rattle.bgview.specs.declared.fault.ViewFault.{ViewFault}
+use Rattle.bgview.specs.declared.fault.ViewFault.TheVariants.{Device, BadInput}
+use Rattle.bgview.specs.declared.told.LineBreak.{LineBreak}
+
+-- ---- the reason
+
+-- a line behind another, for people
+abbrev pub indented : List ℕ → List ℕ
+indented text = codes "    " ++ (text ++ codes "\n")
+
+-- an event's line, and why it may not come
+abbrev pub notes_on : List ℕ → Event → LineBreak → List (List ℕ)
+notes_on name event broken = event_line name event ∷ reason_words event broken.reason broken.earlier ∷ []
+
+-- the line that breaks the run of a room, and the reason
+pub record IsBecause (told : ToldRoom) (line : ℕ) (notes : List (List ℕ)) : Type 0 where
+  pub broken : LineBreak
+  pub breaks : IsLineBreak told broken
+  pub line_is : broken.line ≡ line
+  pub event : Event
+  pub there : slice_get told.events broken.at ≡ Some event
+  pub notes_are : notes ≡ notes_on told.spec.name event broken
+
+-- of a run there is nothing to say
+abbrev pub IsReasonFor : ToldRoom → Verdict → List (List ℕ) → Type 0
+IsReasonFor told Run notes = notes ≡ []
+IsReasonFor told (Broken line) notes = IsBecause told line notes
+
+-- the verdict on a room whose run breaks there, or nowhere
+abbrev pub verdict_of : Result (Unit {0}) LineBreak → Verdict
+verdict_of (Ok run) = Run
+verdict_of (Err broken) = Broken broken.line
+
+-- ---- the answer
+
+pub record Explained : Type 0 where
+  pub judged : Judged
+  -- why the room is no run
+  pub notes : List (List ℕ)
+
+-- what a transcript tells of a room
+abbrev pub told_of : RoomSpec → List FedEvent → ToldRoom
+told_of room fed = record { spec = room; events = events_of (fed_to room.name fed); lines = lines_of (fed_to room.name fed) }
+
+-- what `check` answers on the room, and why it is no run
+abbrev pub IsExplained : List FedEvent → Explained → Type 0
+IsExplained fed one = IsJustified fed one.judged × IsReasonFor (told_of one.judged.room fed) one.judged.verdict one.notes
+
+abbrev pub explained_lines : Explained → List ℕ
+explained_lines one = judged_line one.judged ++ flat_map indented one.notes
+
+-- what is written of a room behind a text, and whether all is well with it
+pub record IsRoomSaid (spec : RoomSpec) (fed : List FedEvent) (old new : List ℕ) (well : Bool) : Type 0 where
+  pub one : Explained
+  pub room : one.judged.room ≡ spec
+  pub verdict : IsVerdict spec fed one.judged.verdict
+  pub task : IsTaskAnswer spec fed one.judged.task
+  pub because : IsReasonFor (record { spec = spec; events = events_of fed; lines = lines_of fed }) one.judged.verdict one.notes
+  pub written : new ≡ old ++ explained_lines one
+  pub well_is : well ≡ is_well one.judged.verdict one.judged.task
+
+-- what `check` answers on each room, in order, each with the reason behind it
+pub record IsExplanation (rooms : List RoomSpec) (refused : List ℕ) (fed : List FedEvent) (outcome : Outcome) (output : List ℕ) : Type 0 where
+  pub all : List Explained
+  pub each_room : map (λ one. one.judged.room) all ≡ rooms
+  pub explained : All (IsExplained fed) all
+  pub output_is : output ≡ refused ++ flat_map explained_lines all
+  -- without the indented lines it is what `check` writes, with its outcome
+  pub checked : IsOutput rooms refused fed outcome (refused ++ flat_map judged_line (map (λ one. one.judged) all))
+
+abbrev pub IsExplanationFor : List ℕ → Outcome → List ℕ → Type 0
+IsExplanationFor input outcome output =
+    (setup : Setup) × (fed : List FedEvent) × (input_says input ≡ Ok (setup, fed)) × IsExplanation setup.rooms setup.refused fed outcome output
+
+-- a beginning of it
+abbrev pub IsPartFor : List ℕ → List ℕ → Type 0
+IsPartFor input part = (outcome : Outcome) × (rest : List ℕ) × IsExplanationFor input outcome (part ++ rest)
+
+-- the answer to a whole input is an outcome, with its output, or a fault, with none; where writing failed a beginning of the output is there
+abbrev pub IsWhyAnswer : List ℕ → Result Outcome ViewFault → List ℕ → Type 0
+IsWhyAnswer input (Ok outcome) output = (length input ≤ most_bytes) × IsExplanationFor input outcome output
+IsWhyAnswer input (Err (BadInput line code)) output = (length input ≤ most_bytes) × (input_says input ≡ Err (line, code)) × (output ≡ [])
+IsWhyAnswer input (Err (Device TooLong)) output = (most_bytes < length input) × (output ≡ [])
+IsWhyAnswer input (Err (Device Memory)) output = output ≡ []
+IsWhyAnswer input (Err (Device Read)) output = output ≡ []
+IsWhyAnswer input (Err (Device Write)) output = (length input ≤ most_bytes) × IsPartFor input output

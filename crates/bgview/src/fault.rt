@@ -1,0 +1,60 @@
+//! How the program ends early.
+ghost use Rattle.std.specs.Prelude.{◌≡◌};
+ghost use Rattle.bgview.specs.Ends.{fault_status, input_fault};
+ghost use Rattle.bgview.specs.declared.fault.ViewFault.TheVariants.{Device};
+ghost use Rattle.io_text.specs.declared.fault.DeviceFault.TheVariants.{Memory};
+
+use io_text::DeviceFault;
+use room_files::InputFault;
+use std::alloc::AllocError;
+use thiserror::Error;
+
+/// Why an answer was not written whole.
+#[derive(Clone, Copy, Debug, PartialEq, Eq, Error)]
+pub enum ViewFault {
+    /// Reading or writing failed, or memory was refused.
+    #[error("{0}")]
+    Device(DeviceFault),
+    /// The input has a fault of this code on this line, counted from 1.
+    #[error("line {line}: fault {code}")]
+    BadInput { line: u64, code: u16 },
+}
+
+impl ViewFault {
+    /// The program's exit status.
+    pub fn status(self) -> u8
+        ensures { result ≡ fault_status self }
+    {
+        match self {
+            ViewFault::Device(DeviceFault::Memory) => 3,
+            _ => 2,
+        }
+    }
+}
+
+impl From<DeviceFault> for ViewFault {
+    ghost from_gives = { λ device fault. fault ≡ Device device };
+
+    fn from(fault: DeviceFault) -> ViewFault {
+        ViewFault::Device(fault)
+    }
+}
+
+impl From<AllocError> for ViewFault {
+    ghost from_gives = { λ _ fault. fault ≡ Device Memory };
+
+    fn from(_: AllocError) -> ViewFault {
+        ViewFault::Device(DeviceFault::Memory)
+    }
+}
+
+impl From<InputFault> for ViewFault {
+    ghost from_gives = { λ input fault. fault ≡ input_fault input };
+
+    fn from(fault: InputFault) -> ViewFault {
+        match fault {
+            InputFault::BadInput { line, code } => ViewFault::BadInput { line, code },
+            InputFault::Memory => ViewFault::Device(DeviceFault::Memory),
+        }
+    }
+}

@@ -1,0 +1,146 @@
+//! Explains what bgsim answers: why a transcript is no run, and what the numbers of faults mean.
+#![tactic(auto)]
+
+ghost use Rattle.std.specs.Prelude.{◌≡◌, ◌≤◌, Bool, IfSome, List, ℕ, false};
+ghost use Rattle.std.specs.IoError.{error_kind};
+ghost use Rattle.std.specs.Io.KnownBytes.{Appends};
+ghost use Rattle.clap.specs.Values.{kind_of};
+ghost use Rattle.clap.specs.Words.{subcommand_rows_of};
+ghost use Rattle.bgview.specs.CommandLine.{codes_among};
+ghost use Rattle.bgview.specs.Ends.{ending_status, fault_status, unread_status, words_status};
+ghost use Rattle.bgview.specs.Faults.{AreFaultsSaid};
+ghost use Rattle.bgview.specs.Why.{IsWhyAnswer};
+
+mod answer;
+mod command_line;
+mod engine;
+mod fault;
+mod faults;
+mod reasons;
+mod rooms;
+mod told;
+
+use clap::ArgMatches;
+use clap::error::ErrorKind;
+use command_line::{Mode, line_in, read_words};
+use engine::{fault_io, why_io};
+use fault::ViewFault;
+use io_text::{Device, DeviceFault};
+use room_files::Outcome;
+use std::alloc::Global;
+use std::fs::File;
+use std::io;
+use std::io::{Read, Write};
+use std::process::ExitCode;
+
+fn main(rt: HostRuntime) -> ExitCode {
+    ExitCode::from(status(&rt))
+}
+
+fn status(rt: &HostRuntime) -> u8
+    ensures { result ≤ 3 }
+{
+    let words = match words(rt) {
+        Ok(words) => words,
+        Err(error) => return unread_status(rt, &error),
+    };
+    match read_words(rt.alloc(), words.as_slice()) {
+        Ok(matches) => ending_status(rt, ending(rt, &matches)),
+        Err(error) => words_status(rt, &error),
+    }
+}
+
+/// The words after the program's name. One that is not UTF-8 is an error.
+fn words(rt: &HostRuntime) -> io::Result<Vec<String>> {
+    Ok(std::env::args(rt)?.skip(1).collect(rt.alloc())?)
+}
+
+/// How the program ends that does what the words ask for.
+fn ending(rt: &HostRuntime, matches: &ArgMatches<'_>) -> Result<Outcome, ViewFault> {
+    let line = line_in(matches);
+    match line.command {
+        Mode::Fault => say_faults(rt.alloc(), matches, &mut Device::new(rt.stdout())),
+        Mode::Why => explained(rt, line.file),
+    }
+}
+
+/// Says in words the faults whose numbers stand behind the word `fault`.
+fn say_faults<W: Write>(
+    alloc: Global,
+    matches: &ArgMatches<'_>,
+    writer: &mut Device<W>,
+) -> Result<Outcome, ViewFault>
+    requires { writer.old.failed ≡ false }
+    ensures { (output : List ℕ) × AreFaultsSaid (codes_among (subcommand_rows_of matches.now)) result output
+        × Appends (W.contents writer.old.inner) (W.contents writer.new.inner) output }
+{
+    let Some((_, inner)) = matches.subcommand() else {
+        return fault_io(alloc, writer, &[]);
+    };
+    let Some(codes) = inner.get_strs("CODE") else {
+        return fault_io(alloc, writer, &[]);
+    };
+    fault_io(alloc, writer, codes)
+}
+
+/// How the program ends that explains this file, or standard input.
+fn explained(rt: &HostRuntime, file: Option<&str>) -> Result<Outcome, ViewFault> {
+    match file {
+        None => why(rt, rt.stdin()),
+        Some(path) => match File::open(rt, path) {
+            Ok(input) => why(rt, input),
+            Err(_) => Err(ViewFault::Device(DeviceFault::Read)),
+        },
+    }
+}
+
+/// The answer to an input, whose text goes to standard output.
+fn why<R: Read + Drop>(rt: &HostRuntime, input: R) -> Result<Outcome, ViewFault>
+    ensures { IfSome (R.remaining input) (λ bytes. (output : List ℕ) × IsWhyAnswer bytes result output) }
+{
+    let mut reader = Device::new(input);
+    let mut writer = Device::new(rt.stdout());
+    why_io(rt.alloc(), &mut reader, &mut writer)
+}
+
+fn ending_status(rt: &HostRuntime, ending: Result<Outcome, ViewFault>) -> u8
+    ensures { result ≡ ending_status ending }
+{
+    match ending {
+        Ok(outcome) => outcome.status(),
+        Err(fault) => fault_status(rt, fault),
+    }
+}
+
+/// The status where this fault ended the answer, once it is told on standard error.
+fn fault_status(rt: &HostRuntime, fault: ViewFault) -> u8
+    ensures { result ≡ fault_status fault }
+{
+    let _ = eprintln!(rt; "bgview: {fault}");
+    fault.status()
+}
+
+/// The status where the words could not be taken over, once that is told on standard error.
+fn unread_status(rt: &HostRuntime, error: &io::Error) -> u8
+    ensures { result ≡ unread_status (error_kind error.now) }
+{
+    if error.kind() == io::ErrorKind::OutOfMemory {
+        return fault_status(rt, ViewFault::Device(DeviceFault::Memory));
+    }
+    let _ = eprintln!(rt; "bgview: a word of the command line is not UTF-8");
+    2
+}
+
+/// The status where the words gave no line, once `clap`'s text is printed.
+fn words_status(rt: &HostRuntime, error: &clap::Error) -> u8
+    ensures { (is_printed : Bool) × (result ≡ words_status (kind_of error.now) is_printed) }
+{
+    if error.kind() == ErrorKind::OutOfMemory {
+        return fault_status(rt, ViewFault::Device(DeviceFault::Memory));
+    }
+    let is_printed = error.print(rt).is_ok();
+    if error.use_stderr() || is_printed {
+        return error.exit_code() as u8;
+    }
+    fault_status(rt, ViewFault::Device(DeviceFault::Write))
+}
