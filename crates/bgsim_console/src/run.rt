@@ -23,8 +23,8 @@ use std::thread::Threads;
 /// some 4 KB, however short its block is.
 const ROOMS_AT_ONCE: usize = 128;
 
-/// A file of many rooms runs in so many equal parts: threads are started for each part, so however many
-/// rooms there are, no more threads are started.
+/// How many equal parts a file of many rooms runs in. Threads are started for each part, so their number
+/// doesn't grow with the file.
 const PARTS: usize = 64;
 
 /// Runs the rooms of an input's blocks, and puts their reports behind the lines of the refused blocks.

@@ -8,7 +8,7 @@ use std::marker::Model;
 /// How much room a text takes beyond what it needs, where it has to take more.
 const SPARE: usize = 1024;
 
-/// A number and the space before it have at most so many bytes.
+/// The most bytes of a number and the space before it, and some to spare.
 const WIDTH: usize = 24;
 
 /// A number's text, to be put often once it is made.
@@ -166,7 +166,7 @@ fn write_spaced(value: u64, bytes: &mut [u8; 48]) -> usize
     first - 1
 }
 
-/// Sees to it that there is room for so many bytes behind the first `len`.
+/// Makes room for `count` bytes behind the first `len`.
 #[inline(always)]
 fn make_room(bytes: &mut Vec<u8>, len: usize, count: usize) -> Result<(), AllocError>
     requires within { len ≤ length bytes.old.items }
@@ -181,7 +181,7 @@ fn make_room(bytes: &mut Vec<u8>, len: usize, count: usize) -> Result<(), AllocE
     grow(bytes, len + count)
 }
 
-/// Adds bytes, so that there are so many and some to spare.
+/// Adds bytes, up to `len` of them and [`SPARE`] more.
 #[cold]
 #[inline(never)]
 fn grow(bytes: &mut Vec<u8>, len: usize) -> Result<(), AllocError>

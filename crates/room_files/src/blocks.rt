@@ -166,7 +166,7 @@ impl<R: Opens, T: Refuses> Setup<R, T> {
         self.refused.refuse(self.line, fault, block)
     }
 
-    /// Passes so many lines that are no block's.
+    /// Passes `count` lines that are no block's.
     pub(crate) fn pass_lines(&mut self, count: u64)
         requires { self.old.line + count < 2 ^ 64 }
         ensures { self.new ≡ pass_lines count self.old }
