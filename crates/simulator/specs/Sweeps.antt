@@ -1,5 +1,5 @@
 -- A simulator's mind and, beside it, how often in a row its turns were quiet.
-use Rattle.std.specs.Prelude.{ℕ, ◌+◌, Bool, true, false, min, nat_lt, nat_le, if◌then◌else◌}
+use Rattle.std.specs.Prelude.{ℕ, ◌+◌, Bool, true, false, Option, Some, min, nat_lt, nat_le, if◌then◌else◌}
 use Rattle.room_spec.specs.Rooms.{RoomSpec}
 use Rattle.simulator.specs.declared.line.Line.{Line}
 use Rattle.simulator.specs.declared.line.Line.TheVariants.{Rest}
@@ -7,7 +7,7 @@ use Rattle.simulator.specs.declared.turn.Turn.{Turn}
 use Rattle.simulator.specs.declared.turn.Turn.TheVariants.{Still, Useful, Quiet}
 use Rattle.simulator.specs.declared.sweep.Ready.{Ready}
 use Rattle.simulator.specs.declared.sweep.Ready.TheVariants.{Step, Idle, OutOfTurns}
-use Rattle.simulator.specs.Minds.{MindOf, MindState, unfinished_in, opening_mind}
+use Rattle.simulator.specs.Minds.{MindOf, MindState, next_process, unfinished_in, opening_mind}
 
 pub record SweepState : Type 0 where
   pub mind : MindState
@@ -24,6 +24,10 @@ with_mind sweep mind = record { mind = mind; quiet = sweep.quiet }
 abbrev pub is_resting : Line → Bool
 is_resting Rest = true
 is_resting line = false
+
+-- the process on which its next step works: that of its open turn, or of the turn that would begin
+abbrev pub works_on : {S : Type 0} → MindOf S → Option ℕ
+works_on mind = if is_resting mind.line then next_process mind.goals mind.process else Some mind.process
 
 -- between two turns: idle where the quiet turns have reached the unfinished processes, and else out of turns where all turns are used up
 abbrev pub ready_between : {S : Type 0} → RoomSpec → MindOf S → ℕ → Ready

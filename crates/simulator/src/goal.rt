@@ -36,7 +36,7 @@ impl Goal {
     }
 
     /// The round of the next write or of the snapshot that is asked for; 0 where nothing is left.
-    pub(crate) fn round(self) -> u8
+    pub fn round(self) -> u8
         ensures { result ≡ round_of self }
     {
         match self {

@@ -2,12 +2,12 @@
 ghost use Rattle.std.specs.Prelude.{◌≡◌, ◌<◌, nat_lt};
 ghost use Rattle.room_spec.specs.Sizes.{sizes_in};
 ghost use Rattle.view_table.specs.Places.{words_of};
-ghost use Rattle.simulator.specs.Minds.{opening_mind, unfinished_in};
+ghost use Rattle.simulator.specs.Minds.{goal_at, opening_mind, unfinished_in};
 ghost use Rattle.simulator.specs.Moves.{IsWithin, move_of};
 ghost use Rattle.simulator.specs.Ranges.{IsMind};
-ghost use Rattle.simulator.specs.Sweeps.{is_resting};
+ghost use Rattle.simulator.specs.Sweeps.{is_resting, works_on};
 
-use crate::goal::{Goal, first_goals, more_unfinished, unfinished_in};
+use crate::goal::{Goal, first_goals, more_unfinished, next_process, unfinished_in};
 use crate::line::Line;
 use crate::operation::Move;
 use crate::snapshot::Snapshot;
@@ -133,6 +133,36 @@ impl Mind {
         ensures { result ≡ self.now.turn_steps }
     {
         u64::from(self.turn_steps)
+    }
+
+    /// The line of its open turn at which it stands, or `Rest` between two turns.
+    pub fn line(&self) -> Line
+        ensures { result ≡ self.now.line }
+    {
+        self.line
+    }
+
+    /// What is left to do for a process; nothing, for one that the room hasn't.
+    pub fn goal(&self, process: usize) -> Goal
+        ensures { result ≡ goal_at self.now.goals process }
+    {
+        match self.goals.as_slice().get(process) {
+            Some(goal) => *goal,
+            None => Goal::Done,
+        }
+    }
+
+    /// The process on which its next atomic step works: that of its open turn, or between two turns that of the
+    /// turn which would begin. `None` where no process is unfinished then.
+    pub fn works_on(&self, spec: &Spec) -> Option<usize>
+        requires { IsMind spec.now self.now }
+        ensures { result ≡ works_on self.now }
+    {
+        if self.resting() {
+            next_process(self.goals.as_slice(), self.process())
+        } else {
+            Some(self.process())
+        }
     }
 
     /// Which simulator it is.
