@@ -1,0 +1,6 @@
+//! Single atomic steps of a room: which operation a simulator did on which word, for which process, and what the word was.
+#![tactic(auto)]
+
+mod step;
+
+pub use step::{AtomicStep, take_step};
