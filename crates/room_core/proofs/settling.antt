@@ -9,3 +9,4 @@ pub mod InOrder
 pub mod Ending
 pub mod Certified
 pub mod Unbounded
+pub mod Watched

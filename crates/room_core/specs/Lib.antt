@@ -9,4 +9,5 @@ pub mod Moments
 pub mod Settled
 pub mod Contents
 pub mod Settles
+pub mod Watching
 pub mod Lengths

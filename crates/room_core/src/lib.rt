@@ -11,6 +11,8 @@ mod reply;
 mod room;
 mod room_words;
 mod settle;
+mod watch;
 
 pub use reply::{CrashReply, StepReply};
 pub use room::{RoomCore, nobody};
+pub use watch::{Unwatched, Watch};

@@ -6,12 +6,14 @@ ghost use Rattle.room_core.specs.Fields.{Fields, fields_after_settle};
 ghost use Rattle.room_core.specs.Agreements.{AgreementsStay};
 ghost use Rattle.room_core.specs.Reading.{AreFieldsOf};
 ghost use Rattle.room_core.specs.Calls.{configuration_of, room_after_settle, room_kind};
+ghost use Rattle.room_core.specs.Watching.{AreSeen, IsWatched, steps_of_settling, traced_kind};
 ghost use Rattle.room_core.specs.Settled.{HasTurnLeft, IsDecidedOrHeld, IsSettledFor};
 ghost use Rattle.room_core.specs.Settles.{Settles};
 ghost use Rattle.room_core.specs.Settling.{each_in_order, ran_alone, turn_ended};
 
 use crate::reply::StepReply;
 use crate::room::RoomCore;
+use crate::watch::{Unwatched, Watch};
 
 impl RoomCore {
     /// Ends the open turn of each simulator that hasn't crashed, in order of number; then lets each of
@@ -36,49 +38,61 @@ impl RoomCore {
             HasTurnLeft self.old.spec (fields_after_settle self.old.spec fields) → (j : ℕ) → j < processes self.old.spec →
             IsDecidedOrHeld self.old.spec (fields_after_settle self.old.spec fields) j }
     {
-        self.finish_turns();
-        self.run_each();
+        let _ = &self.spec; // for the proof: what the type of a room says
+        self.settle_watched(&mut Unwatched);
     }
 
-    fn finish_turns(&mut self)
-        ensures ended { self.new ≡ each_in_order room_kind (turn_ended room_kind) self.old }
-        ensures is_room { IsRoom (configuration_of self.old) }
+    /// Does what [`settle`](RoomCore::settle) does, and has each atomic step taken by somebody who looks on.
+    pub fn settle_watched<W: Watch>(&mut self, watch: &mut W)
+        ensures room { self.new ≡ room_after_settle self.old }
+        // The steps that were taken were seen, and no others, in their order.
+        ensures seen { AreSeen W.sees watch.old (steps_of_settling self.old) watch.new }
+        // In its fields it is one call of the replay.
+        ensures fields { (fields : Fields) → AreFieldsOf self.old fields → AreFieldsOf self.new (fields_after_settle self.old.spec fields) }
+    {
+        let _ = &self.spec; // for the proof: what the type of a room says
+        self.finish_turns(watch);
+        self.run_each(watch);
+    }
+
+    fn finish_turns<W: Watch>(&mut self, watch: &mut W)
+        ensures { IsWatched W.sees (each_in_order traced_kind (turn_ended traced_kind)) self.old watch.old self.new watch.new }
     {
         for i in 0..self.spec.m() {
-            self.finish_turn(i);
+            self.finish_turn(i, watch);
         }
     }
 
-    fn run_each(&mut self)
-        ensures { self.new ≡ each_in_order room_kind (ran_alone room_kind) self.old }
+    fn run_each<W: Watch>(&mut self, watch: &mut W)
+        ensures { IsWatched W.sees (each_in_order traced_kind (ran_alone traced_kind)) self.old watch.old self.new watch.new }
     {
         for i in 0..self.spec.m() {
-            self.run_alone(i);
+            self.run_alone(i, watch);
         }
     }
 
     /// Lets simulator `i` end its open turn, if it has one and hasn't crashed.
-    fn finish_turn(&mut self, i: usize)
+    fn finish_turn<W: Watch>(&mut self, i: usize, watch: &mut W)
         requires { i < self.old.spec.simulators }
-        ensures { self.new ≡ turn_ended room_kind self.old i }
+        ensures { IsWatched W.sees (λ traced. turn_ended traced_kind traced i) self.old watch.old self.new watch.new }
     {
         if self.crashed[i] {
             return;
         }
         while !self.mind(i).resting() {
-            self.step(i);
+            watch.step(self, i);
         }
     }
 
     /// Lets simulator `i` run until it is idle or out of turns, if it hasn't crashed.
-    fn run_alone(&mut self, i: usize)
+    fn run_alone<W: Watch>(&mut self, i: usize, watch: &mut W)
         requires { i < self.old.spec.simulators }
-        ensures { self.new ≡ ran_alone room_kind self.old i }
+        ensures { IsWatched W.sees (λ traced. ran_alone traced_kind traced i) self.old watch.old self.new watch.new }
     {
         if self.crashed[i] {
             return;
         }
         self.wake(i); // Others may have come further since it asked.
-        while self.step(i) == StepReply::Stepped {}
+        while watch.step(self, i) == StepReply::Stepped {}
     }
 }

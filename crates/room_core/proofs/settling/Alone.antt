@@ -16,7 +16,7 @@ use Rattle.room_core.specs.Rooms.{IsOneInterleaving, IsShaped, steps}
 use Rattle.room_core.specs.Calls.{RoomState, configuration_of, has_crashed, is_step, moved, ready_at, reply_when, room_after_step, room_kind, step_reply, sweep_after, sweep_at, taken_by, with_sweep, woken}
 use Rattle.room_core.specs.Calls as calls
 use Rattle.room_core.specs.declared.reply.StepReply.TheVariants.{Stepped}
-use Rattle.room_core.specs.Settling.{in_order, steps_while, turn_ended, ran_alone}
+use Rattle.room_core.specs.Settling.{steps_while, turn_ended, ran_alone}
 use Rattle.room_core.proofs.fields.Replays.{shape_after, shapes}
 use Rattle.room_core.proofs.fields.States.{has_line, mind_ok, moved_data, operation_at, sweep_count, woken_data}
 use Rattle.room_core.proofs.fields.FieldCalls.{ready_step, same_spec_step}
@@ -108,51 +108,6 @@ module _ (test : RoomState → ℕ → Bool) (i : ℕ) (means : Means test i) wh
   abbrev pub Ran : ℕ → RoomState → RoomState
   Ran most room = steps_while room_after_step test most room i
 
-  more_by : (b : Bool) (one two room : RoomState) → (b ≡ true → one ≡ two) → cond b one room ≡ cond b two room
-  more_by true one two room same = same refl
-  more_by false one two room same = refl
-
-  -- more than enough changes nothing
-  enough : (most : ℕ) (room : RoomState) → IsUp room i → calls.step_bound room.spec ≤ most + steps_of room i → Ran most room ≡ Ran (suc most) room
-  enough zero room up within = end_by (test room i) refl
-    where
-      end_by : (b : Bool) → test room i ≡ b → room ≡ cond b (room_after_step room i) room
-      end_by true is = absurd (let next = step_up room i up (means room is) in omega (arith, next.more, next.within, within))
-      end_by false is = refl
-  enough (suc most) room up within = more_by (test room i) _ _ room (λ is.
-      let next = step_up room i up (means room is) in
-      subst (λ (r : RoomState). Ran most r ≡ Ran (suc most) r) (sym next.is) (enough most (moved room i) next.up (omega (arith, next.more, within))))
-
-  goes_on : (room : RoomState) → IsUp room i → test room i ≡ true → Ran (calls.step_bound room.spec) room ≡ Ran (calls.step_bound room.spec) (moved room i)
-  goes_on room up is =
-      let most = calls.step_bound room.spec in
-      let next = step_up room i up (means room is) in
-      enough most room up (omega arith)
-      ∙ ap (λ (b : Bool). cond b (Ran most (room_after_step room i)) room) is
-      ∙ ap (Ran most) next.is
-
-  stops : (most : ℕ) (room : RoomState) → test room i ≡ false → Ran most room ≡ room
-  stops zero room is = refl
-  stops (suc most) room is = ap (λ (b : Bool). cond b (Ran most (room_after_step room i)) room) is
-
-  -- on the way from one room, with the same end
-  pub record IsRunning (start room : RoomState) : Type 0 where
-    pub up : IsUp room i
-    pub same : room.spec ≡ start.spec
-    pub ends : Ran (calls.step_bound room.spec) room ≡ Ran (calls.step_bound start.spec) start
-
-  pub starts : (room : RoomState) → IsUp room i → IsRunning room room
-  starts room up = record { up = up; same = refl; ends = refl }
-
-  pub runs : (start room after : RoomState) → IsRunning start room → test room i ≡ true → after ≡ room_after_step room i → IsRunning start after × (left after i < left room i)
-  runs start room after on is to =
-      let next = step_up room i on.up (means room is) in
-      subst (λ (r : RoomState). IsRunning start r × (left r i < left room i)) (sym (to ∙ next.is))
-      (record { up = next.up; same = on.same; ends = sym (goes_on room on.up is) ∙ on.ends }, omega (arith, next.more, next.within))
-
-  pub ended : (start room : RoomState) → IsRunning start room → test room i ≡ false → Ran (calls.step_bound start.spec) start ≡ room
-  ended start room on is = sym on.ends ∙ stops (calls.step_bound room.spec) room is
-
 -- ---- it comes to an end
 
 not_true : (b : Bool) → (b ≡ true → ⊥) → b ≡ false
@@ -210,31 +165,16 @@ other_by ready.OutOfTurns other = refl
 replied : (room : RoomState) (i : ℕ) → IsUp room i → reply_when (ready_at room i) ≡ step_reply room i
 replied room i up = let to = ready_step room i (ready_at room i) up.below up.alive refl in to.replied
 
+pub takes_one : (room : RoomState) (i : ℕ) → IsUp room i → ready_at room i ≡ ready.Step → step_reply room i ≡ Stepped
+takes_one room i up is = sym (replied room i up) ∙ ap reply_when is
+
 pub took_one : (room : RoomState) (i : ℕ) → IsUp room i → step_reply room i ≡ Stepped → has_step room i ≡ true
 took_one room i up is = stepped_by (ready_at room i) (replied room i up ∙ is)
 
 pub took_none : (room : RoomState) (i : ℕ) → IsUp room i → step_reply room i ≢ Stepped → has_step room i ≡ false
 took_none room i up other = other_by (ready_at room i) (λ is. other (sym (replied room i up) ∙ is))
 
-pub alone_is : (room start end after : RoomState) (i : ℕ) → has_crashed room i ≡ false → start ≡ with_sweep room i (woken (sweep_at room i)) → IsRunning has_step i (has_step_means i) start end → has_step end i ≡ false → after ≡ room_after_step end i → after ≡ ran_alone room_kind room i
-alone_is room start end after i alive is on stopped to =
-    let ran = ended has_step i (has_step_means i) start end on stopped in
-    to ∙ ap (λ (r : RoomState). room_after_step r i) (sym ran ∙ ap (λ (r : RoomState). steps_while room_after_step has_step (calls.step_bound r.spec) r i) is)
-    ∙ sym (ap (λ (b : Bool). cond b room (room_after_step (steps_while room_after_step has_step (calls.step_bound room.spec) (with_sweep room i (woken (sweep_at room i))) i) i)) alive)
-
 -- ---- one simulator after the other
-
-pub record IsInOrder (change : RoomState → ℕ → RoomState) (count : ℕ) (start room : RoomState) : Type 0 where
-  pub so_far : room ≡ in_order change count start
-  pub same : room.spec ≡ start.spec
-
-pub one_more : (change : RoomState → ℕ → RoomState) → ((r : RoomState) (i : ℕ) → (change r i).spec ≡ r.spec) → (count : ℕ) (start room after : RoomState) → room ≡ in_order change count start → room.spec ≡ start.spec → after ≡ change room count → IsInOrder change (count + 1) start after
-one_more change keeps count start room after so_far same is =
-    let more : suc count ≡ count + 1 = omega arith in
-    record {
-      so_far = is ∙ ap (λ (r : RoomState). change r count) so_far ∙ ap (λ (c : ℕ). in_order change c start) more;
-      same = ap (λ (r : RoomState). r.spec) is ∙ keeps room count ∙ same;
-    }
 
 pub same_spec_ended : (room : RoomState) (i : ℕ) → (turn_ended room_kind room i).spec ≡ room.spec
 same_spec_ended room i = ended_keeps room_kind (λ r. r.spec ≡ room.spec) (λ a r is. same_spec_step r a ∙ is) (λ a r is. is) i room refl

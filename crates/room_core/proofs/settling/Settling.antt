@@ -33,14 +33,14 @@ order_alike Related change change' m (suc count) r q keeps few are =
     keeps count (in_order change count r) (in_order change' count q) (omega arith) (order_alike Related change change' m count r q keeps (omega arith) are)
 
 module _ {R Q : Type 0} (one : KindOf R) (other : KindOf Q) (m : ℕ) (Related : R → Q → Type 0) (alike : AreAlike one other m Related) where
-  ended_alike : (i : ℕ) (r : R) (q : Q) → i < m → Related r q → Related (turn_ended one r i) (turn_ended other q i)
+  pub ended_alike : (i : ℕ) (r : R) (q : Q) → i < m → Related r q → Related (turn_ended one r i) (turn_ended other q i)
   ended_alike i r q below are =
       let same = alike.most r q are in
       by_tests Related (one.has_crashed r i) (other.has_crashed q i) r (steps_while one.step one.in_turn (one.most r) r i) q (steps_while other.step other.in_turn (other.most q) q i) (alike.crashed r q i below are) are
       (subst (λ (most : ℕ). Related (steps_while one.step one.in_turn (one.most r) r i) (steps_while other.step other.in_turn most q i)) same
       (while_alike Related one.step other.step one.in_turn other.in_turn i (one.most r) r q (λ s t. alike.in_turn s t i below) (λ s t. alike.step s t i below) are))
 
-  alone_alike : (i : ℕ) (r : R) (q : Q) → i < m → Related r q → Related (ran_alone one r i) (ran_alone other q i)
+  pub alone_alike : (i : ℕ) (r : R) (q : Q) → i < m → Related r q → Related (ran_alone one r i) (ran_alone other q i)
   alone_alike i r q below are =
       let woken = alike.wake r q i below are in
       let awake = one.wake r i in

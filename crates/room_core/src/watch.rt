@@ -1,0 +1,38 @@
+//! Somebody who looks on while a room takes its steps.
+ghost use Rattle.std.specs.Prelude.{◌≡◌, ◌≢◌};
+
+use crate::reply::StepReply;
+use crate::room::RoomCore;
+
+/// Who has the simulators of a room take their steps: nobody who looks on ([`Unwatched`]), or somebody who does.
+pub trait Watch {
+    ghost use Rattle.std.specs.Prelude.{◌≡◌, ◌≢◌, ℕ};
+    ghost use Rattle.room_core.specs.Calls.{RoomState, room_after_step, step_reply};
+    ghost use Rattle.room_core.specs.declared.reply.StepReply.TheVariants.{Stepped};
+
+    // What it may become by a step of this simulator that a room, as it was before, took.
+    ghost sees: { Self → RoomState → ℕ → Self → Type 0 };
+
+    /// Lets simulator `i` take one atomic step, if it has one to take, as [`RoomCore::step`] does.
+    fn step(&mut self, room: &mut RoomCore, i: usize) -> StepReply
+        ensures reply { result ≡ step_reply room.old i }
+        ensures room { room.new ≡ room_after_step room.old i }
+        ensures seen { result ≡ Stepped → sees self.old room.old i self.new }
+        // Where no step was taken there was nothing to see.
+        ensures blind { result ≢ Stepped → self.new ≡ self.old };
+}
+
+/// Nobody looks on.
+#[derive(Clone, Copy, Debug)]
+pub struct Unwatched;
+
+impl Watch for Unwatched {
+    ghost use Rattle.std.specs.Prelude.{⊤};
+
+    ghost sees = { λ old room i new. ⊤ };
+
+    #[inline(always)]
+    fn step(&mut self, room: &mut RoomCore, i: usize) -> StepReply {
+        room.step(i)
+    }
+}
