@@ -227,15 +227,20 @@ module _ {W : Type 0} (sees : W → RoomState → ℕ → W → Type 0) where
 
   -- ---- all of settling
 
-  pub record IsSettled (room : RoomState) (old : W) (after : RoomState) (new : W) : Type 0 where
-    pub is : after ≡ room_after_settle room
-    pub seen : AreSeen sees old (steps_of_settling room) new
+  abbrev Ended : RoomState → W → RoomState → W → Type 0
+  Ended = IsWatched sees (each_in_order traced_kind (turn_ended traced_kind))
 
-  pub settled_watched : (room between after : RoomState) (old middle new : W) → IsWatched sees (each_in_order traced_kind (turn_ended traced_kind)) room old between middle
-      → IsWatched sees (each_in_order traced_kind (ran_alone traced_kind)) between middle after new → IsSettled room old after new
-  settled_watched room between after old middle new first second =
-      let both = two_watched sees (each_in_order traced_kind (turn_ended traced_kind)) (each_in_order traced_kind (ran_alone traced_kind)) room between after old middle new first second in
-      record {
-        is = sym (room_of sees (settled traced_kind) room after old new both) ∙ room_of_settled (record { room = room; taken = [] });
-        seen = steps_seen sees (settled traced_kind) room after old new both;
-      }
+  abbrev Ran : RoomState → W → RoomState → W → Type 0
+  Ran = IsWatched sees (each_in_order traced_kind (ran_alone traced_kind))
+
+  both : (room between after : RoomState) (old middle new : W) → Ended room old between middle → Ran between middle after new → IsWatched sees (settled traced_kind) room old after new
+  both room between after old middle new first second =
+      two_watched sees (each_in_order traced_kind (turn_ended traced_kind)) (each_in_order traced_kind (ran_alone traced_kind)) room between after old middle new first second
+
+  pub settled_is : (room between after : RoomState) (old middle new : W) → Ended room old between middle → Ran between middle after new → after ≡ room_after_settle room
+  settled_is room between after old middle new first second =
+      sym (room_of sees (settled traced_kind) room after old new (both room between after old middle new first second)) ∙ room_of_settled (record { room = room; taken = [] })
+
+  pub settled_seen : (room between after : RoomState) (old middle new : W) → Ended room old between middle → Ran between middle after new → AreSeen sees old (steps_of_settling room) new
+  settled_seen room between after old middle new first second =
+      steps_seen sees (settled traced_kind) room after old new (both room between after old middle new first second)
