@@ -168,7 +168,7 @@ impl Opens for ToldRooms {
 
     ghost is_unfed = { λ rooms. AreTold rooms [] };
 
-    fn open(&mut self, alloc: Global, spec: Spec) -> Result<(), AddFault> {
+    fn open(&mut self, alloc: Global, spec: Spec, _block: &[u8]) -> Result<(), AddFault> {
         if self.has(spec.name()) {
             return Err(AddFault::NameTaken);
         }

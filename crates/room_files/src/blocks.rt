@@ -16,7 +16,8 @@ use std::marker::Model;
 
 /// Rooms that are opened one by one.
 pub trait Opens: Drop {
-    ghost use Rattle.std.specs.Prelude.{◌≡◌, ◌↔◌, ◌∷◌, ◌++◌, [], List, IsTrue, IsErrOf, OnOk, OnErr};
+    ghost use Rattle.std.specs.Prelude.{◌≡◌, ◌↔◌, ◌∷◌, ◌++◌, [], List, IsTrue, IsErrOf, Ok, OnOk, OnErr, length};
+    ghost use Rattle.room_spec.specs.Blocks.{block_in};
     ghost use Rattle.room_spec.specs.Rooms.{RoomSpec};
     ghost use Rattle.history_checker.specs.Verdicts.{has_room};
 
@@ -26,9 +27,10 @@ pub trait Opens: Drop {
     // None of them has an event.
     ghost is_unfed: { Self → Type 0 };
 
-    /// Opens one more. An `Err` drops the spec and changes nothing. It is `NameTaken` wherever a room has this name already, and
-    /// `OutOfMemory` only for a new name.
-    fn open(&mut self, alloc: Global, spec: Spec) -> Result<(), AddFault>
+    /// Opens one more, which a block of these bytes says. An `Err` drops the spec and changes nothing. It is `NameTaken` wherever
+    /// a room has this name already, and `OutOfMemory` only for a new name.
+    fn open(&mut self, alloc: Global, spec: Spec, block: &[u8]) -> Result<(), AddFault>
+        requires { block_in block.now ≡ Ok (spec, length block.now) }
         ensures taken { IsErrOf result AddFault.NameTaken ↔ IsTrue (has_room spec.name (specs self.old)) }
         ensures opened { OnOk result (specs self.new ≡ specs self.old ++ spec ∷ []) }
         ensures unfed { OnOk result (is_unfed self.old → is_unfed self.new) }
@@ -43,7 +45,7 @@ impl Opens for Rooms {
 
     ghost is_unfed = { λ rooms. HasProcessed rooms [] };
 
-    fn open(&mut self, alloc: Global, spec: Spec) -> Result<(), AddFault> {
+    fn open(&mut self, alloc: Global, spec: Spec, _block: &[u8]) -> Result<(), AddFault> {
         self.add(alloc, spec)
     }
 }
@@ -146,11 +148,11 @@ impl<R: Opens, T: Refuses> Setup<R, T> {
 
     /// Opens the room that a block of these bytes says, unless its name is taken.
     fn open_room(&mut self, alloc: Global, spec: Spec, block: &[u8]) -> Result<(), AllocError>
-        requires { IsOk (block_in block.now) }
+        requires { block_in block.now ≡ Ok (spec, length block.now) }
         ensures room { OnOk result (self.new ≡ open_room self.old spec) }
         ensures line { OnOk result (self.new.line ≡ self.old.line) }
     {
-        match self.rooms.open(alloc, spec) {
+        match self.rooms.open(alloc, spec, block) {
             Ok(()) => Ok(()),
             Err(AddFault::OutOfMemory) => Err(AllocError),
             Err(AddFault::NameTaken) => self.refuse(BlockFault::NameTaken, block),

@@ -73,7 +73,7 @@ impl Opens for SpecList {
 
     ghost is_unfed = { λ list. Unit {0} };
 
-    fn open(&mut self, _alloc: Global, spec: Spec) -> Result<(), AddFault> {
+    fn open(&mut self, _alloc: Global, spec: Spec, _block: &[u8]) -> Result<(), AddFault> {
         if self.has(spec.name()) {
             return Err(AddFault::NameTaken);
         }

@@ -7,7 +7,7 @@ use std::marker::Model;
 use transcript::Event;
 
 /// Where a process stands.
-#[derive(Clone, Copy, Debug, PartialEq, Eq)]
+#[derive(Clone, Copy, Debug, PartialEq, Eq, Hash)]
 pub enum ProcessState {
     /// It has decided this value.
     Decided(u32),
