@@ -93,10 +93,12 @@ module _ (name : List ℕ) (command : Command) (reply : Reply) (before after : E
   }
 
 name_for : (name : List ℕ) (what : Act) → name_in (command_for name what) ≡ name
+name_for name (acts.Step sim count) = refl
 name_for name (acts.Crash sim) = refl
 name_for name acts.Settle = refl
 
 open_after : (name : List ℕ) (what : Act) (room : OpenRoom) → room_after_open room (command_for name what) ≡ Some (room_in room (command_for name what))
+open_after name (acts.Step sim count) room = refl
 open_after name (acts.Crash sim) room = refl
 open_after name acts.Settle room = refl
 

@@ -1,12 +1,22 @@
 -- What a simulator has done that was let take steps.
-use Rattle.std.proofs.Common.{◌≡◌, ℕ, zero, suc, ◌+◌, ◌-◌, ◌<◌, ◌≤◌, Bool, false, cond, sym, ap, ◌∙◌, arith}
-use Rattle.room_spec.specs.Rooms.{RoomSpec}
+use Rattle.std.proofs.Common.{◌≡◌, ◌≢◌, ℕ, zero, suc, ◌+◌, ◌-◌, ◌<◌, ◌≤◌, Bool, true, false, cond, List, [], ◌∷◌, refl, sym, ap, ◌∙◌, subst, arith}
+use Rattle.room_spec.specs.Rooms.{RoomSpec, IsWithinLimits}
 use Rattle.room_core.specs.declared.reply.StepReply.{StepReply}
 use Rattle.room_core.specs.declared.reply.StepReply.TheVariants as steps
-use Rattle.room_core.specs.Calls.{RoomState}
+use Rattle.room_core.specs.Calls.{RoomState, Step, room_after_step, step_reply}
 use Rattle.room_core.specs.Fields.{Fields, step_reply_in, fields_after_step, fields_after_steps}
 use Rattle.room_core.specs.Reading.{AreFieldsOf}
-use Rattle.service_core.specs.Replies.{Stepping, is_stepped, one_more, stepping}
+use Rattle.room_core.specs.Watching.{AreSeen, TakenStep, is_stepped, steps_of_steps}
+use Rattle.room_core.proofs.CallerLemmas.{same_spec, step_in_fields}
+use Rattle.service_core.specs.Replies.{Stepping, one_more, stepping}
+use Rattle.service_core.specs.Rooms.{IsSteppedTo}
+
+pub not_stepped : (reply : StepReply) → reply ≢ steps.Stepped → is_stepped reply ≡ false
+not_stepped steps.Stepped other = absurd (other refl)
+not_stepped steps.Idle other = refl
+not_stepped steps.OutOfTurns other = refl
+not_stepped steps.Crashed other = refl
+not_stepped steps.NoSimulator other = refl
 
 -- so many steps more
 abbrev pub more_by : ℕ → Stepping → Stepping
@@ -59,3 +69,94 @@ pub ends : (spec : RoomSpec) (fields : Fields) (i count : ℕ) (room : RoomState
 ends spec fields i count room so_far =
     let none : count - count ≡ 0 = omega arith in
     so_far.is ∙ ap (λ (n : ℕ). more_by count (stepping spec so_far.now i n)) none ∙ (let e : count + 0 ≡ count = omega arith in λ p. record { taken = e p; last = steps.Stepped; fields = so_far.now })
+
+-- ---- one step after the other, each seen
+
+-- the next was taken
+takes : (spec : RoomSpec) (fields : Fields) (i count taken : ℕ) (room after : RoomState) → taken < count → (so_far : HasTaken spec fields i count taken room)
+    → is_stepped (step_reply_in spec so_far.now i) ≡ true → AreFieldsOf after (fields_after_step spec so_far.now i) → HasTaken spec fields i count (taken + 1) after
+takes spec fields i count taken room after less so_far stepped are =
+    let now = so_far.now in
+    let next = fields_after_step spec now i in
+    let rest = stepping spec next i (count - (taken + 1)) in
+    let stop : Stepping = record { taken = 0; last = step_reply_in spec now i; fields = next } in
+    record {
+      now = next;
+      are = are;
+      is = so_far.is ∙ ap (more_by taken) (left_one spec now i count taken less ∙ ap (λ (b : Bool). cond b (one_more rest) stop) stepped)
+          ∙ (let e : taken + suc rest.taken ≡ (taken + 1) + rest.taken = omega arith in λ p. record { taken = e p; last = rest.last; fields = rest.fields });
+    }
+
+-- the next call's reply, and the fields after it, of the spec with which the room began
+replied : (spec : RoomSpec) (room : RoomState) (fields : Fields) (i : ℕ) → IsWithinLimits spec → room.spec ≡ spec → AreFieldsOf room fields
+    → (step_reply_in spec fields i ≡ step_reply room i) × AreFieldsOf (room_after_step room i) (fields_after_step spec fields i)
+replied spec room fields i limits same are =
+    subst (λ (s : RoomSpec). IsWithinLimits s → (step_reply_in s fields i ≡ step_reply room i) × AreFieldsOf (room_after_step room i) (fields_after_step s fields i)) same
+    (λ within. step_in_fields room fields i within are) limits
+
+module _ {W : Type 0} (sees : W → RoomState → ℕ → W → Type 0) (i count : ℕ) (start : RoomState) (old : W) where
+  -- `taken` steps of `count` have led here; what sees the others has seen them all
+  pub record IsOnTheWay (taken : ℕ) (room : RoomState) (now : W) : Type 0 where
+    pub same : room.spec ≡ start.spec
+    pub stands : (fields : Fields) → AreFieldsOf start fields → HasTaken start.spec fields i count taken room
+    pub seen : (new : W) → AreSeen sees now (steps_of_steps room i (count - taken)) new → AreSeen sees old (steps_of_steps start i count) new
+
+  -- how it ends: so many were taken, with this last answer
+  pub record IsOver (reply : ℕ × StepReply) (room : RoomState) (now : W) : Type 0 where
+    pub same : room.spec ≡ start.spec
+    pub fields : (fields : Fields) → AreFieldsOf start fields → IsSteppedTo (stepping start.spec fields i count) reply room
+    pub seen : AreSeen sees old (steps_of_steps start i count) now
+
+  abbrev left : ℕ → RoomState → List TakenStep
+  left taken room = steps_of_steps room i (count - taken)
+
+  left_more : (taken : ℕ) (room : RoomState) (b : Bool) → taken < count → is_stepped (step_reply room i) ≡ b
+      → left taken room ≡ cond b ((record { room = room; simulator = i }) ∷ left (taken + 1) (room_after_step room i)) []
+  left_more taken room b less is =
+      let e : count - taken ≡ suc (count - (taken + 1)) = omega arith in
+      ap (λ (n : ℕ). steps_of_steps room i n) e ∙ ap (λ (c : Bool). cond c ((record { room = room; simulator = i }) ∷ left (taken + 1) (room_after_step room i)) []) is
+
+module _ {W : Type 0} (sees : W → RoomState → ℕ → W → Type 0) (i count : ℕ) (start : RoomState) (old : W) where
+  pub sets_out : IsOnTheWay sees i count start old 0 start old
+  sets_out = record {
+    same = refl;
+    stands = λ fields are. record { now = fields; are = are; is = all_taken start.spec fields i count 0 (omega arith) (λ k none. absurd (omega (arith, none))) };
+    seen = λ new are. let e : count - 0 ≡ count = omega arith in subst (λ (n : ℕ). AreSeen sees old (steps_of_steps start i n) new) e are;
+  }
+
+  pub goes_on : (taken : ℕ) (room after : RoomState) (now next : W) → IsWithinLimits start.spec → taken < count → IsOnTheWay sees i count start old taken room now → step_reply room i ≡ steps.Stepped → after ≡ room_after_step room i → sees now room i next
+      → IsOnTheWay sees i count start old (taken + 1) after next
+  goes_on taken room after now next limits less on stepped to saw =
+      subst (λ (r : RoomState). IsOnTheWay sees i count start old (taken + 1) r next) (sym to)
+      (record {
+        same = same_spec room (Step i) ∙ on.same;
+        stands = λ fields are.
+            let so_far = on.stands fields are in
+            let both = replied start.spec room so_far.now i limits on.same so_far.are in
+            takes start.spec fields i count taken room (room_after_step room i) less so_far (ap is_stepped (both.0 ∙ stepped)) both.1;
+        seen = λ new are. on.seen new (subst (λ (steps : List TakenStep). AreSeen sees now steps new) (sym (left_more sees i count start old taken room true less (ap is_stepped stepped))) (next, saw, are));
+      })
+
+  pub all_done : (room : RoomState) (now : W) → IsOnTheWay sees i count start old count room now → IsOver sees i count start old (count, steps.Stepped) room now
+  all_done room now on = record {
+    same = on.same;
+    fields = λ fields are.
+        let so_far = on.stands fields are in
+        subst (λ (all : Stepping). IsSteppedTo all (count, steps.Stepped) room) (sym (ends start.spec fields i count room so_far)) (record { taken = refl; last = refl; fields = so_far.are });
+    seen = let e : 0 ≡ count - count = omega arith in on.seen now (subst (λ (n : ℕ). AreSeen sees now (steps_of_steps room i n) now) e refl);
+  }
+
+  pub stops_at : (taken : ℕ) (room after : RoomState) (now last : W) (reply : StepReply) → IsWithinLimits start.spec → taken < count → IsOnTheWay sees i count start old taken room now → reply ≡ step_reply room i → reply ≢ steps.Stepped
+      → after ≡ room_after_step room i → last ≡ now → IsOver sees i count start old (taken, reply) after last
+  stops_at taken room after now last reply limits less on is other to blind =
+      let none = not_stepped reply other in
+      subst (λ (r : RoomState). IsOver sees i count start old (taken, reply) r last) (sym to)
+      (record {
+        same = same_spec room (Step i) ∙ on.same;
+        fields = λ fields are.
+            let so_far = on.stands fields are in
+            let both = replied start.spec room so_far.now i limits on.same so_far.are in
+            subst (λ (all : Stepping). IsSteppedTo all (taken, reply) (room_after_step room i)) (sym (stops start.spec fields i count taken room reply less so_far (is ∙ sym both.0) none))
+            (record { taken = refl; last = refl; fields = both.1 });
+        seen = on.seen last (subst (λ (steps : List TakenStep). AreSeen sees now steps last) (sym (left_more sees i count start old taken room false less (ap is_stepped (sym is) ∙ none))) (sym blind));
+      })

@@ -1,12 +1,13 @@
 -- The replies to the commands of one name, written over one room's fields: which other rooms there are, and what they are
 -- asked, has no place in it.
-use Rattle.std.specs.Prelude.{ℕ, zero, suc, Bool, true, false, List, [], ◌∷◌, Option, Some, None, Result, Ok, Err, nat_lt, if◌then◌else◌}
+use Rattle.std.specs.Prelude.{ℕ, zero, suc, List, [], ◌∷◌, Option, Some, None, Result, Ok, Err, nat_lt, if◌then◌else◌}
 use Rattle.std.specs.List.{filter}
 use Rattle.std.specs.Str.{bytes_eq}
 use Rattle.room_spec.specs.Rooms.{RoomSpec}
 use Rattle.room_core.specs.declared.reply.StepReply.{StepReply}
 use Rattle.room_core.specs.declared.reply.StepReply.TheVariants as steps
 use Rattle.room_core.specs.Fields.{Fields, opening_fields, step_reply_in, fields_after_step, crash_reply_in, fields_after_crash, fields_after_settle}
+use Rattle.room_core.specs.Watching.{is_stepped}
 use Rattle.ws_history.specs.Reports.{report_of}
 use Rattle.service_core.specs.declared.command.Command.{Command}
 use Rattle.service_core.specs.declared.command.Command.TheVariants as commands
@@ -29,10 +30,6 @@ pub record Stepping : Type 0 where
   pub taken : ℕ
   pub last : StepReply
   pub fields : Fields
-
-abbrev pub is_stepped : StepReply → Bool
-is_stepped steps.Stepped = true
-is_stepped reply = false
 
 abbrev pub one_more : Stepping → Stepping
 one_more stepping = record { taken = suc stepping.taken; last = stepping.last; fields = stepping.fields }

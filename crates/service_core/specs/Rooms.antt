@@ -1,10 +1,11 @@
 -- The rooms that a service keeps, and what they stand for.
-use Rattle.std.specs.Prelude.{◌≡◌, ◌≢◌, ℕ, false, List, Option, Some, None, ⊤}
+use Rattle.std.specs.Prelude.{◌≡◌, ◌≢◌, ℕ, false, List, [], Option, Some, None, ⊤}
 use Rattle.std.specs.Str.{bytes_eq}
 use Rattle.std.specs.Map.{lookup}
 use Rattle.room_core.specs.declared.reply.StepReply.{StepReply}
 use Rattle.room_core.specs.Calls.{RoomState}
 use Rattle.room_core.specs.Reading.{AreFieldsOf}
+use Rattle.room_core.specs.Watching.{TakenStep, steps_of_settling, steps_of_steps}
 use Rattle.ws_history.specs.Reports.{IsTrueReport}
 use Rattle.ws_history.specs.declared.states.Report.{Report}
 use Rattle.service_core.specs.declared.command.Command.{Command}
@@ -69,10 +70,17 @@ pub record Applies (before : Entries) (command : Command) (reply : Reply) (after
   pub want : reply ≡ Refused OutOfMemory → IsWant (room_at before (name_in command)) command
   pub refused : IsRefusal reply → (name : List ℕ) → room_at after name ≡ room_at before name
 
+-- the atomic steps that a command takes in the room of its name, in their order
+abbrev pub steps_of : Option RoomState → Command → List TakenStep
+steps_of (Some room) (commands.Step name sim count) = steps_of_steps room sim count
+steps_of (Some room) (commands.Settle name) = steps_of_settling room
+steps_of room command = []
+
 -- ---- inside the crate
 
--- what a command other than for steps does to an open room, as a command
+-- what a command does to an open room, as a command
 abbrev pub command_for : List ℕ → Act → Command
+command_for name (acts.Step sim count) = commands.Step name sim count
 command_for name (acts.Crash sim) = commands.Crash name sim
 command_for name acts.Settle = commands.Settle name
 

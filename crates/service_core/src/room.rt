@@ -1,23 +1,25 @@
 //! What a command does to one open room.
-ghost use Rattle.std.specs.Prelude.{◌≡◌, ◌≢◌, ℕ, List, nat_lt};
+ghost use Rattle.std.specs.Prelude.{◌≡◌, ◌≢◌, ℕ, List, Some, nat_lt};
 ghost use Rattle.service_core.specs.declared.command.Command.TheVariants.{Crash, Report, Step};
 ghost use Rattle.room_core.specs.Fields.{Fields};
 ghost use Rattle.room_core.specs.Reading.{AreFieldsOf};
+ghost use Rattle.room_core.specs.Watching.{AreSeen, steps_of_steps};
 ghost use Rattle.service_core.specs.Replies.{OpenRoom, reply_to_steps, stepping};
 ghost use Rattle.ws_history.specs.declared.states.Report.{Report as ReportData};
-ghost use Rattle.service_core.specs.Rooms.{Answers, IsOpenAs, IsRefusal, IsSteppedTo, command_for};
+ghost use Rattle.service_core.specs.Rooms.{Answers, IsOpenAs, IsRefusal, IsSteppedTo, command_for, steps_of};
 ghost use Rattle.ws_history.specs.Reports.{IsTrueReport};
 ghost use Rattle.service_core.specs.declared.reply.Reply.TheVariants.{Refused, Report as ReportReply};
 ghost use Rattle.service_core.specs.declared.reply.Refusal.TheVariants.{OutOfMemory};
 
 use crate::reply::{Refusal, Reply};
-use room_core::{RoomCore, StepReply};
+use room_core::{RoomCore, StepReply, Watch};
 use std::alloc::Global;
 use ws_history::report;
 
-/// What a command does to a room that stays open, other than to let it take steps.
+/// What a command does to a room that stays open.
 #[derive(Clone, Copy)]
 pub(crate) enum Act {
+    Step { sim: u8, count: u16 },
     Crash(u8),
     Settle,
 }
@@ -35,21 +37,33 @@ pub(crate) fn answer_report(alloc: Global, room: &RoomCore) -> Reply
     }
 }
 
-/// Does what the command asks, and answers it. It takes no memory.
-pub(crate) fn answer(room: &mut RoomCore, what: Act) -> Reply
+/// Does what the command asks, and answers it; each atomic step is taken by who looks on. It takes no memory.
+pub(crate) fn answer<W: Watch>(room: &mut RoomCore, what: Act, watch: &mut W) -> Reply
     // What it does rests on the room alone.
     ensures reply { (name : List ℕ) (state : OpenRoom) → IsOpenAs room.old state → Answers state (command_for name what) result room.new }
     ensures granted { result ≢ Refused OutOfMemory }
     ensures no_report { (report : ReportData) → result ≢ ReportReply report }
     ensures refused { IsRefusal result → room.new ≡ room.old }
     ensures spec { room.new.spec ≡ room.old.spec }
+    ensures seen { (name : List ℕ) → AreSeen W.sees watch.old (steps_of (Some room.old) (command_for name what)) watch.new }
 {
     match what {
+        Act::Step { sim, count } => reply_to_steps(step_watched(room, sim, count, watch)),
         Act::Crash(sim) => crash(room, sim),
         Act::Settle => {
-            room.settle();
+            room.settle_watched(watch);
             Reply::Settled
         }
+    }
+}
+
+/// The reply to a command for steps.
+pub(crate) fn reply_to_steps(stepped: Result<(u16, StepReply), Refusal>) -> Reply
+    ensures { result ≡ reply_to_steps stepped }
+{
+    match stepped {
+        Ok((taken, last)) => Reply::Steps { taken, last },
+        Err(refusal) => Reply::Refused(refusal),
     }
 }
 
@@ -72,6 +86,26 @@ pub(crate) fn step(room: &mut RoomCore, sim: u8, count: u16) -> Result<(u16, Ste
         return Err(Refusal::NoSimulator);
     }
     Ok(steps(room, usize::from(sim), count))
+}
+
+/// Lets a simulator take steps, each by who looks on. It takes no memory.
+fn step_watched<W: Watch>(
+    room: &mut RoomCore,
+    sim: u8,
+    count: u16,
+    watch: &mut W,
+) -> Result<(u16, StepReply), Refusal>
+    ensures reply { (name : List ℕ) (state : OpenRoom) → IsOpenAs room.old state → Answers state (Step name sim count) (reply_to_steps result) room.new }
+    ensures granted { reply_to_steps result ≢ Refused OutOfMemory }
+    ensures no_report { (report : ReportData) → reply_to_steps result ≢ ReportReply report }
+    ensures refused { IsRefusal (reply_to_steps result) → room.new ≡ room.old }
+    ensures spec { room.new.spec ≡ room.old.spec }
+    ensures seen { AreSeen W.sees watch.old (steps_of_steps room.old sim count) watch.new }
+{
+    if !has_simulator(room, sim) {
+        return Err(Refusal::NoSimulator);
+    }
+    Ok(steps_watched(room, usize::from(sim), count, watch))
 }
 
 fn crash(room: &mut RoomCore, sim: u8) -> Reply
@@ -98,4 +132,25 @@ fn steps(room: &mut RoomCore, i: usize, count: u16) -> (u16, StepReply)
         return (count, StepReply::Stepped);
     }
     (taken, room.step(i))
+}
+
+/// Does what [`steps`] does, one step after the other, each by who looks on.
+fn steps_watched<W: Watch>(
+    room: &mut RoomCore,
+    i: usize,
+    count: u16,
+    watch: &mut W,
+) -> (u16, StepReply)
+    ensures fields { (fields : Fields) → AreFieldsOf room.old fields → IsSteppedTo (stepping room.old.spec fields i count) result room.new }
+    ensures spec { room.new.spec ≡ room.old.spec }
+    ensures seen { AreSeen W.sees watch.old (steps_of_steps room.old i count) watch.new }
+{
+    let _shape = room.spec().shape(); // for the proof: a spec is within its limits
+    for taken in 0..count {
+        match watch.step(room, i) {
+            StepReply::Stepped => {}
+            last => return (taken, last),
+        }
+    }
+    (count, StepReply::Stepped)
 }

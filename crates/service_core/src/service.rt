@@ -4,11 +4,12 @@ ghost use Rattle.std.specs.Vec.{vec_capacity, vec_len};
 ghost use Rattle.std.specs.Str.{bytes_eq};
 ghost use Rattle.indexmap.specs.IndexMap.{get};
 ghost use Rattle.room_core.specs.Calls.{opening_state};
+ghost use Rattle.room_core.specs.Watching.{AreSeen};
 ghost use Rattle.ws_history.specs.declared.states.Report.{Report as ReportData};
 ghost use Rattle.service_core.specs.declared.command.Command.TheVariants.{Begin, Close, Report, Step};
 ghost use Rattle.service_core.specs.declared.reply.Reply.TheVariants.{Report as ReportReply};
 ghost use Rattle.service_core.specs.Replies.{OpenRoom, name_in, part, replies_from, reply_to, reply_to_steps, room_after};
-ghost use Rattle.service_core.specs.Rooms.{Applies, HasOwnNames, IsRefusal, IsReportOf, IsStateOf, IsWant, command_for, room_at};
+ghost use Rattle.service_core.specs.Rooms.{Applies, HasOwnNames, IsRefusal, IsReportOf, IsStateOf, IsWant, command_for, room_at, steps_of};
 ghost use Rattle.service_core.specs.Runs.{AreTrueReports, AreWants, HasNoWant, granted, replies_of, without_wants};
 ghost use Rattle.service_core.specs.declared.reply.Reply.TheVariants.{Refused};
 ghost use Rattle.service_core.specs.declared.reply.Refusal.TheVariants.{NoRoom, OutOfMemory};
@@ -16,9 +17,9 @@ ghost use Rattle.room_spec.specs.Names.{is_name};
 
 use crate::command::Command;
 use crate::reply::{Refusal, Reply};
-use crate::room::{Act, answer, answer_report, step};
+use crate::room::{Act, answer, answer_report, reply_to_steps, step};
 use indexmap::IndexMap;
-use room_core::{RoomCore, StepReply};
+use room_core::{RoomCore, StepReply, Unwatched, Watch};
 use room_spec::{Name, Spec, Spelled};
 use std::alloc::{AllocError, Global};
 use std::marker::Model;
@@ -69,12 +70,29 @@ impl Service {
         ensures refused { IsRefusal result → (name : List ℕ) → room_at self.new name ≡ room_at self.old name }
     {
         match command {
-            Command::Begin(spec) => self.begin(alloc, spec),
             Command::Step { name, sim, count } => {
                 reply_to_steps(self.step(name.as_str().as_bytes(), sim, count))
             }
-            Command::Crash { name, sim } => self.ask(&name, Act::Crash(sim)),
-            Command::Settle(name) => self.ask(&name, Act::Settle),
+            other => self.apply_watched(alloc, other, &mut Unwatched),
+        }
+    }
+
+    /// Does what [`apply`](Service::apply) does, and has each atomic step taken by somebody who looks on.
+    pub fn apply_watched<W: Watch>(
+        &mut self,
+        alloc: Global,
+        command: Command,
+        watch: &mut W,
+    ) -> Reply
+        ensures applies { Applies self.old command result self.new }
+        // The steps that the command took in its room were seen, and no others, in their order.
+        ensures seen { AreSeen W.sees watch.old (steps_of (room_at self.old (name_in command)) command) watch.new }
+    {
+        match command {
+            Command::Begin(spec) => self.begin(alloc, spec),
+            Command::Step { name, sim, count } => self.ask(&name, Act::Step { sim, count }, watch),
+            Command::Crash { name, sim } => self.ask(&name, Act::Crash(sim), watch),
+            Command::Settle(name) => self.ask(&name, Act::Settle, watch),
             Command::Report(name) => self.report(alloc, &name),
             Command::Close(name) => self.close(&name),
         }
@@ -169,8 +187,9 @@ impl Service {
     }
 
     /// Asks the room of this name for something, if there is one. It takes no memory.
-    fn ask(&mut self, name: &Name, what: Act) -> Reply
-        ensures { Applies self.old (command_for name.now what) result self.new }
+    fn ask<W: Watch>(&mut self, name: &Name, what: Act, watch: &mut W) -> Reply
+        ensures applies { Applies self.old (command_for name.now what) result self.new }
+        ensures seen { AreSeen W.sees watch.old (steps_of (room_at self.old name.now) (command_for name.now what)) watch.new }
     {
         let Some(index) = self.rooms.get_index_of(name) else {
             return Reply::Refused(Refusal::NoRoom);
@@ -178,7 +197,7 @@ impl Service {
         let Some(room) = self.rooms.get_index_mut(index) else {
             unreachable!() // the index was found just now
         };
-        answer(room, what)
+        answer(room, what, watch)
     }
 
     /// Closes the room of this name, if there is one.
@@ -189,16 +208,6 @@ impl Service {
             Some(_) => Reply::Closed,
             None => Reply::Refused(Refusal::NoRoom),
         }
-    }
-}
-
-/// The reply to a command for steps.
-fn reply_to_steps(stepped: Result<(u16, StepReply), Refusal>) -> Reply
-    ensures { result ≡ reply_to_steps stepped }
-{
-    match stepped {
-        Ok((taken, last)) => Reply::Steps { taken, last },
-        Err(refusal) => Reply::Refused(refusal),
     }
 }
 

@@ -2,20 +2,27 @@ use Rattle.std.proofs.Common.{◌∙◌, ap, sym, subst}
 use Rattle.room_core.specs.Calls.{RoomState, Settle}
 use Rattle.room_core.proofs.CallerLemmas.{same_spec}
 use Rattle.service_core.specs.declared.command.Command.{Command}
+use Rattle.service_core.specs.declared.command.Command.TheVariants as commands
+use Rattle.service_core.specs.declared.reply.Reply.{Reply}
 use Rattle.service_core.specs.declared.reply.Reply.TheVariants as replies
 use Rattle.service_core.specs.Rooms.{Answers, command_for}
 use Rattle.service_core.proofs.Answering.{settle_answers}
 use Rattle.service_core.proofs.room.answer.Goals as goal
 
+pub returns-in-Step-clause-reply : goal.returns-in-Step-clause-reply
+returns-in-Step-clause-reply g c = λ name state is.
+    subst (λ (command : Command). Answers state command c.reply_to_steps.result c.step_watched.new.room) (ap (command_for name) (sym c.in-Step.is))
+    (subst (λ (reply : Reply). Answers state (commands.Step name c.in-Step.sim c.in-Step.count) reply c.step_watched.new.room) (sym c.reply_to_steps.ensures) (c.step_watched.ensures.reply name state is))
+
 pub returns-in-Crash-clause-reply : goal.returns-in-Crash-clause-reply
-returns-in-Crash-clause-reply c = λ name state is.
+returns-in-Crash-clause-reply g c = λ name state is.
     subst (λ (command : Command). Answers state command c.crash.result c.crash.new.room) (ap (command_for name) (sym c.in-Crash.is)) (c.crash.ensures.reply name state is)
 
 pub returns-in-Settle-clause-reply : goal.returns-in-Settle-clause-reply
-returns-in-Settle-clause-reply c = λ name state is.
-    let same = ap (λ (r : RoomState). r.spec) c.settle.ensures.room ∙ same_spec c.args.room.now Settle in
-    subst (λ (command : Command). Answers state command replies.Settled c.settle.new.self) (ap (command_for name) (sym c.in-Settle.is))
-    (settle_answers c.args.room.now c.settle.new.self state name is same (c.settle.ensures.fields state.fields is.fields))
+returns-in-Settle-clause-reply g c = λ name state is.
+    let same = ap (λ (r : RoomState). r.spec) c.settle_watched.ensures.room ∙ same_spec c.args.room.now Settle in
+    subst (λ (command : Command). Answers state command replies.Settled c.settle_watched.new.self) (ap (command_for name) (sym c.in-Settle.is))
+    (settle_answers c.args.room.now c.settle_watched.new.self state name is same (c.settle_watched.ensures.fields state.fields is.fields))
 
 pub returns-in-Settle-clause-spec : goal.returns-in-Settle-clause-spec
-returns-in-Settle-clause-spec c = ap (λ (r : RoomState). r.spec) c.settle.ensures.room ∙ same_spec c.args.room.now Settle
+returns-in-Settle-clause-spec g c = ap (λ (r : RoomState). r.spec) c.settle_watched.ensures.room ∙ same_spec c.args.room.now Settle

@@ -1,4 +1,4 @@
-use Rattle.std.proofs.Common.{◌≡◌, ◌≢◌, ◌∙◌, ℕ, ◌<◌, ◌≤◌, false, refl, sym, ap, subst, arith}
+use Rattle.std.proofs.Common.{◌≡◌, ◌∙◌, ℕ, ◌<◌, ◌≤◌, refl, sym, ap, subst, arith}
 use Rattle.room_spec.specs.Rooms.{RoomSpec}
 use Rattle.room_core.specs.declared.reply.StepReply.{StepReply}
 use Rattle.room_core.specs.declared.reply.StepReply.TheVariants as steps
@@ -6,17 +6,9 @@ use Rattle.room_core.specs.Calls.{RoomState, Step}
 use Rattle.room_core.specs.Fields.{Fields, step_reply_in, fields_after_step, fields_after_steps}
 use Rattle.room_core.specs.Reading.{AreFieldsOf}
 use Rattle.room_core.proofs.CallerLemmas.{same_spec, same_spec_steps}
-use Rattle.service_core.specs.Replies.{is_stepped}
 use Rattle.service_core.specs.Rooms.{IsSteppedTo}
-use Rattle.service_core.proofs.Stepping.{HasTaken, all_taken, stops, ends}
+use Rattle.service_core.proofs.Stepping.{HasTaken, all_taken, ends, not_stepped, stops}
 use Rattle.service_core.proofs.room.steps.Goals as goal
-
-not_stepped : (reply : StepReply) → reply ≢ steps.Stepped → is_stepped reply ≡ false
-not_stepped steps.Stepped other = absurd (other refl)
-not_stepped steps.Idle other = refl
-not_stepped steps.OutOfTurns other = refl
-not_stepped steps.Crashed other = refl
-not_stepped steps.NoSimulator other = refl
 
 -- what a step says, of the spec with which the room began
 stepped_as : (spec : RoomSpec) (room after : RoomState) (reply : StepReply) (i : ℕ) → room.spec ≡ spec
