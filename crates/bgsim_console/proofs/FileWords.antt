@@ -6,8 +6,8 @@ use Rattle.std.specs.Str.{bytes_eq, chars}
 use Rattle.clap.specs.Lexer.{long_of, short_of}
 use Rattle.clap.specs.Matches.{first_value}
 use Rattle.clap.specs.declared.parser.matches.Found.{Found}
-use Rattle.clap.specs.Walk.{Held, Names, plain, Row, Rule, Text, Waiting, Walk, plain_word, without, after_flag, bundle_step, idle, value, arg_by_index, arg_by_long, arg_by_short, finished, first_of, long_or_other, nothing_held, rows_after, rows_of, short_or_plain, takes_values, to_positional, subcommand_met, walked, bundle_met}
-use Rattle.clap.specs.Simple.{Shape, built, built_leaf, filled, help_rule, inherited, marked_built, new_rule, on_top, version_rule, with_index}
+use Rattle.clap.specs.Walk.{Held, Names, plain, Row, Rule, Text, Waiting, Walk, plain_word, after_flag, bundle_step, idle, value, arg_by_index, arg_by_long, arg_by_short, finished, first_of, long_or_other, nothing_held, rows_after, rows_of, short_or_plain, takes_values, to_positional, subcommand_met, walked, bundle_met}
+use Rattle.clap.specs.Simple.{Shape, built_leaf, filled, help_rule, inherited, marked_built, new_rule, on_top, version_rule, with_index}
 use Rattle.clap.specs.Kinds.{Kinds, or_else}
 use Rattle.clap.specs.Faults.{bundle_fault, bundle_step_fault, flag_word_fault, flags_fault, long_fault, react_fault, short_fault, stray_fault, word_fault, turn_fault, use_fault, walk_fault}
 use Rattle.clap.specs.declared.error.kind.ErrorKind.{ErrorKind}

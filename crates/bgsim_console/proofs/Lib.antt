@@ -3,8 +3,6 @@ mod Naming
 mod RunWords
 mod Subcommands
 mod Taken
-mod ReplyTexts
-mod Playing
 mod RunTexts
 mod Verdicts
 mod Worked

@@ -1,17 +1,17 @@
 -- What the program's command makes of the words.
-use Rattle.std.proofs.Common.{[], ◌+◌, ◌==◌, ◌≡◌, ◌∙◌, ◌||◌, Bool, cond, codes, true, false, refl, sym, ap, subst, List, ◌∷◌, ◌++◌, length, map, Option, Some, None, IfSome, is_some}
+use Rattle.std.proofs.Common.{[], ◌==◌, ◌≡◌, ◌∙◌, ◌||◌, Bool, cond, codes, true, false, refl, sym, ap, subst, List, ◌∷◌, ◌++◌, length, map, Option, Some, None, IfSome, is_some}
 use Rattle.std.specs.Prelude.{fold}
 use Rattle.std.specs.Str.{bytes_eq}
 use Rattle.std.proofs.lemmas.List.{append-nil, append_assoc}
 use Rattle.std.proofs.lemmas.Slice.Eq.{bytes_eq-Decides}
-use Rattle.clap.specs.Walk.{Names, Row, Rule, Text, Walk, without, idle, finished, first_of, nothing_held, rows_after, settled, subcommand_met, walk, walked}
+use Rattle.clap.specs.Walk.{Names, Row, Rule, Text, Walk, idle, finished, first_of, nothing_held, rows_after, settled, subcommand_met, walk, walked}
 use Rattle.clap.specs.Simple.{Shape, built, entered, subcommand_of}
 use Rattle.clap.specs.Kinds.{or_else}
 use Rattle.clap.specs.Faults.{entered_fault, fault_of, level_fault, check_fault, settle_fault, turn_fault, walk_fault, defaults_fault}
 use Rattle.bgsim_console.specs.CommandLine.{IsAsked, bgsim_app, file_among, file_named, file_words, mode_among, mode_of, word_of}
 use Rattle.bgsim_console.specs.declared.command_line.words.Mode.{Mode}
 use Rattle.bgsim_console.specs.declared.command_line.words.Mode.TheVariants.{Check, Play, Run}
-use Rattle.bgsim_console.proofs.FileWords.{first_none, then_none, Asks, OnlyAsk, held, word_is_value, at, step_dashes, stray_trailing, flag_none, stray_value, help, version, leaf, help_asks, version_asks, file_is}
+use Rattle.bgsim_console.proofs.FileWords.{first_none, then_none, Asks, OnlyAsk, word_is_value, at, step_dashes, stray_trailing, flag_none, stray_value, help, version, leaf, help_asks, version_asks, file_is}
 use Rattle.bgsim_console.proofs.RunWords.{run_leaf, run_file}
 
 -- ---- the first word

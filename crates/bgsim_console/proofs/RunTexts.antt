@@ -14,7 +14,7 @@ use Rattle.scheduler.specs.declared.rooms.RunFault.TheVariants.{Workers}
 use Rattle.room_files.specs.Blocks.{Setup}
 use Rattle.room_files.specs.Verdicts.{outcome_if}
 use Rattle.room_files.specs.declared.outcome.Outcome.{Outcome}
-use Rattle.bgsim_console.specs.ReplyTexts.{report_text}
+use Rattle.script_play.specs.ReplyTexts.{report_text}
 use Rattle.bgsim_console.specs.Run.{AddsReports, AreWorkers, IsRunText, report_texts}
 
 -- what was run is a room of the spec

@@ -8,7 +8,7 @@ use Rattle.std.proofs.lemmas.Bool.Decides.{nat_tests}
 use Rattle.std.proofs.lemmas.List.{take-append-drop}
 use Rattle.std.proofs.lemmas.Slice.Eq.{bytes_eq-Decides}
 use Rattle.clap.specs.Lexer.{long_of, long_of_rest, name_and_value, short_of, strip_byte}
-use Rattle.clap.specs.Walk.{Held, option, Row, Rule, Text, Walk, at_row, attached_value, has_row, is_pending, more_values, plain_word, settled_rows, used, values_or_missing, with_default, without, idle, value, arg_by_long, arg_by_short, finished, first_of, long_or_other, nothing_held, rows_after, settled, takes_values, to_positional, walked}
+use Rattle.clap.specs.Walk.{Held, option, Row, Rule, Text, Walk, at_row, attached_value, has_row, is_pending, more_values, plain_word, settled_rows, used, values_or_missing, with_default, without, idle, value, arg_by_long, arg_by_short, finished, first_of, long_or_other, nothing_held, rows_after, takes_values, to_positional, walked}
 use Rattle.clap.specs.Simple.{Shape, built_leaf, filled, inherited, marked_built, on_top}
 use Rattle.clap.specs.Kinds.{Kinds}
 use Rattle.clap.specs.Faults.{flag_word_fault, long_fault, option_fault, settle_fault, react_fault, short_fault, word_fault, turn_fault, walk_fault}

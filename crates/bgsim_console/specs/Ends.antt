@@ -76,7 +76,3 @@ is_write_failed (Err TooLong) = false
 is_write_failed (Err (BadInput line code)) = false
 is_write_failed (Err (Run fault)) = false
 is_write_failed (Err Memory) = false
-
--- how many writes failed
-abbrev pub failed_writes : {A : Type 0} → Result A IoFault → ℕ
-failed_writes result = if is_write_failed result then 1 else 0

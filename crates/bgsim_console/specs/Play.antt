@@ -1,122 +1,16 @@
 -- What `play` answers for a script.
-use Rattle.std.specs.Prelude.{◌≡◌, ◌⊎◌, ⊤, ℕ, ◌<◌, ◌≤◌, Bool, true, false, not, List, [], ◌∷◌, ◌++◌, length, None, Result, Ok, Err, if◌then◌else◌, codes}
-use Rattle.std.specs.List.{flat_map, list_any}
-use Rattle.room_spec.specs.Rooms.{RoomSpec}
-use Rattle.room_spec.specs.Blocks.{IsHeadRight, block_in}
-use Rattle.room_spec.specs.declared.fault.SpecFault.{SpecFault}
-use Rattle.service_core.specs.declared.command.Command.{Command}
-use Rattle.service_core.specs.declared.command.Command.TheVariants.{Begin}
-use Rattle.service_core.specs.declared.reply.Reply.{Reply}
-use Rattle.service_core.specs.declared.reply.Reply.TheVariants.{Refused}
-use Rattle.service_core.specs.Replies.{part, replies_from, room_after_all}
-use Rattle.service_core.specs.Rooms.{Entries, IsStateOf, room_at}
-use Rattle.service_core.specs.Runs.{AreTrueReports, AreWants, granted, is_want, replies_of, without_wants}
-use Rattle.room_files.specs.Blocks.{fault_text, refused_line}
-use Rattle.room_files.specs.Verdicts.{outcome_if}
+use Rattle.std.specs.Prelude.{◌≡◌, ◌⊎◌, ℕ, ◌<◌, ◌≤◌, List, [], ◌++◌, length, Result, Ok, Err, alloc_error}
+use Rattle.std.specs.declared.alloc.AllocError.{AllocError}
 use Rattle.io_text.specs.Reading.{most_bytes}
-use Rattle.room_files.specs.Script.{Entry, Ask, Open, script_says}
+use Rattle.room_files.specs.Script.{script_says}
 use Rattle.room_files.specs.declared.outcome.Outcome.{Outcome}
-use Rattle.room_files.specs.declared.outcome.Outcome.TheVariants.{SomeRefused}
-use Rattle.bgsim_console.specs.ReplyTexts.{reply_to_command}
+use Rattle.script_play.specs.Play.{IsPlayFor}
 use Rattle.bgsim_console.specs.declared.fault.IoFault.{IoFault}
 use Rattle.bgsim_console.specs.declared.fault.IoFault.TheVariants.{Read, Write, TooLong, BadInput, Run, Memory}
 
--- ---- replies to commands
-
--- Each name's replies rest on its own commands alone. Those that were refused memory are as if they had not been; they begin
--- a room under a free name, or ask for an open one's report. Each report is a true one.
-pub record AreReplies (commands : List Command) (replies : List Reply) : Type 0 where
-  pub count : length replies ≡ length commands
-  pub alone : (name : List ℕ) → without_wants (replies_of name commands replies) ≡ replies_from None (part name (granted commands replies))
-  pub wants : AreWants commands replies
-  pub reports : AreTrueReports commands replies
-
--- ---- what comes of a script
-
--- what came of an entry: the reply to a command; or a block was refused, whose first line has this number, for a fault or
--- for want of memory
-pub data Done : Type 0 where
-  Replied : Command → Reply → Done
-  Faulty : ℕ → SpecFault → Done
-  Unread : ℕ → Done
-
-abbrev pub IsDone : Entry → Done → Type 0
-IsDone (Ask command) (Replied asked reply) = asked ≡ command
-IsDone (Ask command) (Faulty line fault) = ⊥
-IsDone (Ask command) (Unread line) = ⊥
-IsDone (Open number block) (Replied asked reply) = (spec : RoomSpec) × (len : ℕ) × (block_in block ≡ Ok (spec, len)) × (asked ≡ Begin spec)
-IsDone (Open number block) (Faulty line fault) = (line ≡ number) × (block_in block ≡ Err fault)
-IsDone (Open number block) (Unread line) = (line ≡ number) × IsHeadRight (block_in block)
-
--- what came of each entry, in order
-abbrev pub AreDone : List Entry → List Done → Type 0
-AreDone [] [] = ⊤
-AreDone (entry ∷ entries) (done ∷ all) = IsDone entry done × AreDone entries all
-AreDone [] (done ∷ all) = ⊥
-AreDone (entry ∷ entries) [] = ⊥
-
-abbrev pub commands_in : Done → List Command
-commands_in (Replied command reply) = command ∷ []
-commands_in (Faulty line fault) = []
-commands_in (Unread line) = []
-
-abbrev pub reply_of : Done → List Reply
-reply_of (Replied command reply) = reply ∷ []
-reply_of (Faulty line fault) = []
-reply_of (Unread line) = []
-
-abbrev pub commands_of : List Done → List Command
-commands_of all = flat_map commands_in all
-
-abbrev pub replies_in : List Done → List Reply
-replies_in all = flat_map reply_of all
-
--- ---- the text
-
-abbrev pub done_text : Done → List ℕ
-done_text (Replied command reply) = reply_to_command command reply
-done_text (Faulty line fault) = refused_line line (fault_text fault)
-done_text (Unread line) = refused_line line (codes "8")
-
-abbrev pub is_refusal : Reply → Bool
-is_refusal (Refused refusal) = true
-is_refusal reply = false
-
-abbrev pub is_refused : Done → Bool
-is_refused (Replied command reply) = is_refusal reply
-is_refused (Faulty line fault) = true
-is_refused (Unread line) = true
-
--- for want of memory
-abbrev pub is_lacking : Done → Bool
-is_lacking (Replied command reply) = is_want reply
-is_lacking (Faulty line fault) = false
-is_lacking (Unread line) = true
-
--- the end where nothing more went wrong: a refusal for want of memory comes before all others
-abbrev pub ending_if : Bool → Bool → Result Outcome IoFault
-ending_if lacking refused = if lacking then Err Memory else Ok (outcome_if (not refused))
-
-abbrev pub ending_of : List Done → Result Outcome IoFault
-ending_of all = ending_if (list_any is_lacking all) (list_any is_refused all)
-
--- The text that a script's entries lead to, line by line, and the end that goes with it.
-pub record IsPlayText (entries : List Entry) (ending : Result Outcome IoFault) (output : List ℕ) : Type 0 where
-  pub all : List Done
-  pub each_entry : AreDone entries all
-  pub replies : AreReplies (commands_of all) (replies_in all)
-  pub output_is : output ≡ flat_map done_text all
-  pub ending_is : ending ≡ ending_of all
-
--- ---- the answer
-
--- the text for an input that has no fault
-abbrev pub IsPlayFor : List ℕ → Result Outcome IoFault → List ℕ → Type 0
-IsPlayFor input ending output = (entries : List Entry) × (script_says input ≡ Ok entries) × IsPlayText entries ending output
-
 -- a beginning of it
 abbrev pub IsPlayPart : List ℕ → List ℕ → Type 0
-IsPlayPart input part = (ending : Result Outcome IoFault) × (rest : List ℕ) × IsPlayFor input ending (part ++ rest)
+IsPlayPart input part = (ending : Result Outcome AllocError) × (rest : List ℕ) × IsPlayFor input ending (part ++ rest)
 
 -- The answer to a whole script is an outcome, with its text, or a fault. Want of memory leaves the whole text, with the
 -- refusals in it, or none; where writing failed a beginning of it is there; at each other fault there is none.
@@ -124,33 +18,7 @@ abbrev pub IsPlayed : List ℕ → Result Outcome IoFault → List ℕ → Type 
 IsPlayed input (Ok outcome) output = (length input ≤ most_bytes) × IsPlayFor input (Ok outcome) output
 IsPlayed input (Err TooLong) output = (most_bytes < length input) × (output ≡ [])
 IsPlayed input (Err (BadInput line code)) output = (length input ≤ most_bytes) × (script_says input ≡ Err (line, code)) × (output ≡ [])
-IsPlayed input (Err Memory) output = (output ≡ []) ⊎ ((length input ≤ most_bytes) × IsPlayFor input (Err Memory) output)
+IsPlayed input (Err Memory) output = (output ≡ []) ⊎ ((length input ≤ most_bytes) × IsPlayFor input (Err alloc_error) output)
 IsPlayed input (Err Read) output = output ≡ []
 IsPlayed input (Err (Run fault)) output = ⊥
 IsPlayed input (Err Write) output = (length input ≤ most_bytes) × IsPlayPart input output
-
--- ---- while it runs
-
--- what a service that has been given these commands has become
-pub record HasRun (commands : List Command) (replies : List Reply) (entries : Entries) : Type 0 where
-  pub answers : AreReplies commands replies
-  pub rooms : (name : List ℕ) → IsStateOf (room_at entries name) (room_after_all None (part name (granted commands replies)))
-
--- and what has come of a script's entries so far
-pub record HasPlayed (all : List Done) (service : Entries) (output : List ℕ) (ending : Result Outcome IoFault) : Type 0 where
-  pub ran : HasRun (commands_of all) (replies_in all) service
-  pub output_is : output ≡ flat_map done_text all
-  pub ending_is : ending ≡ ending_of all
-
--- one entry more, of which this came
-abbrev pub PlaysOn : Entry → Entries → List ℕ → Result Outcome IoFault → List Done → Type 0
-PlaysOn entry service output ending all = (done : Done) × IsDone entry done × HasPlayed (all ++ done ∷ []) service output ending
-
--- the end with one refusal more, which isn't for want of memory
-abbrev pub ending_at_refusal : Result Outcome IoFault → Result Outcome IoFault
-ending_at_refusal (Ok outcome) = Ok SomeRefused
-ending_at_refusal (Err fault) = Err fault
-
--- the end with one entry more, which was refused or not, for want of memory or not
-abbrev pub ending_with : Bool → Bool → Result Outcome IoFault → Result Outcome IoFault
-ending_with lacking refused ending = if lacking then Err Memory else if refused then ending_at_refusal ending else ending

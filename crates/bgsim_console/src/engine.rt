@@ -1,19 +1,19 @@
 //! From bytes to bytes.
 ghost use Rattle.std.specs.Prelude.{◌≡◌, ◌+◌, ◌≤◌, List, ℕ, false, length, IfSome};
 ghost use Rattle.std.specs.Io.KnownBytes.{Appends};
+ghost use Rattle.io_text.specs.Devices.{HasRead, HasWritten, failed_writes};
 ghost use Rattle.bgsim_console.specs.Check.{IsAnswer};
 ghost use Rattle.bgsim_console.specs.Play.{IsPlayed};
 ghost use Rattle.bgsim_console.specs.Run.{IsRan};
-ghost use Rattle.bgsim_console.specs.Devices.{HasRead, HasWritten};
-ghost use Rattle.bgsim_console.specs.Ends.{failed_writes};
+ghost use Rattle.bgsim_console.specs.Ends.{is_read_failed, is_write_failed};
 
 use crate::fault::IoFault;
 use crate::judge::judge;
-use crate::play::play;
 use crate::run::run_blocks;
 use io_text::{Device, read_input, write_output};
 use room_files::Outcome;
 use scheduler::Gate;
+use script_play::play;
 use std::alloc::Global;
 use std::io::{Read, Write};
 use std::sync::Wait;
@@ -35,9 +35,9 @@ pub fn check_io<R: Read, W: Write>(
     // What is written is the output for what was read, and the answer goes with it. No write is of nothing.
     ensures text { IfSome (R.remaining reader.old.inner) (λ input. (output : List ℕ) × IsAnswer input result output
         × Appends (W.contents writer.old.inner) (W.contents writer.new.inner) output
-        × (writer.new.calls ≤ writer.old.calls + length output + failed_writes result)) }
-    ensures reader { HasRead reader.old reader.new (R.remaining reader.old.inner) result }
-    ensures writer { HasWritten writer.old writer.new result }
+        × (writer.new.calls ≤ writer.old.calls + length output + failed_writes (is_write_failed result))) }
+    ensures reader { HasRead reader.old reader.new (R.remaining reader.old.inner) (is_read_failed result) }
+    ensures writer { HasWritten writer.old writer.new result (is_write_failed result) }
 {
     let input = read_input(alloc, reader)?;
     let answer = judge(alloc, &input)?;
@@ -62,14 +62,14 @@ pub fn play_io<R: Read, W: Write>(
     // What is written is the text for what was read, and the answer goes with it. No write is of nothing.
     ensures text { IfSome (R.remaining reader.old.inner) (λ input. (output : List ℕ) × IsPlayed input result output
         × Appends (W.contents writer.old.inner) (W.contents writer.new.inner) output
-        × (writer.new.calls ≤ writer.old.calls + length output + failed_writes result)) }
-    ensures reader { HasRead reader.old reader.new (R.remaining reader.old.inner) result }
-    ensures writer { HasWritten writer.old writer.new result }
+        × (writer.new.calls ≤ writer.old.calls + length output + failed_writes (is_write_failed result))) }
+    ensures reader { HasRead reader.old reader.new (R.remaining reader.old.inner) (is_read_failed result) }
+    ensures writer { HasWritten writer.old writer.new result (is_write_failed result) }
 {
     let script = read_input(alloc, reader)?;
     let played = play(alloc, &script)?;
     write_output(writer, played.output.as_bytes())?;
-    played.ending
+    Ok(played.ending?)
 }
 
 /// Runs the rooms of the blocks that the reader gives, by workers on threads of their own, and writes
@@ -93,9 +93,9 @@ pub fn run_io<H: Threads + Wait + Sync, R: Read, W: Write, G: Gate + Sync>(
     // What is written is a text for what was read, and the answer goes with it. No write is of nothing.
     ensures text { IfSome (R.remaining reader.old.inner) (λ input. (output : List ℕ) × IsRan workers input result output
         × Appends (W.contents writer.old.inner) (W.contents writer.new.inner) output
-        × (writer.new.calls ≤ writer.old.calls + length output + failed_writes result)) }
-    ensures reader { HasRead reader.old reader.new (R.remaining reader.old.inner) result }
-    ensures writer { HasWritten writer.old writer.new result }
+        × (writer.new.calls ≤ writer.old.calls + length output + failed_writes (is_write_failed result))) }
+    ensures reader { HasRead reader.old reader.new (R.remaining reader.old.inner) (is_read_failed result) }
+    ensures writer { HasWritten writer.old writer.new result (is_write_failed result) }
 {
     let input = read_input(alloc, reader)?;
     let ran = run_blocks(rt, alloc, input, workers, gate)?;

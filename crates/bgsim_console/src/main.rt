@@ -13,10 +13,8 @@ mod device_tests;
 mod engine;
 mod fault;
 mod judge;
-mod play;
 #[cfg(test)]
 mod protocol_tests;
-mod reply;
 mod run;
 #[cfg(test)]
 mod run_tests;

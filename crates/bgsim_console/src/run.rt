@@ -4,16 +4,16 @@ ghost use Rattle.std.specs.List.{flat_map};
 ghost use Rattle.scheduler.specs.Results.{AreRoomRuns};
 ghost use Rattle.scheduler.specs.declared.rooms.RunFault.TheVariants.{Workers};
 ghost use Rattle.io_text.specs.Reading.{most_bytes};
-ghost use Rattle.bgsim_console.specs.ReplyTexts.{report_text};
+ghost use Rattle.script_play.specs.ReplyTexts.{report_text};
 ghost use Rattle.bgsim_console.specs.Run.{AddsReports, AreWorkers, IsRunFor, MayEndRun};
 
 use crate::fault::IoFault;
-use crate::reply::write_report;
 use indexmap::map::IntoValues;
 use io_text::Text;
 use room_files::{Answer, Setup, SpecList, outcome_if, read_all_blocks};
 use room_spec::{Name, Spec};
 use scheduler::{Gate, RoomResult, RunFault, run_rooms};
+use script_play::write_report;
 use std::alloc::{AllocError, Global};
 use std::sync::Wait;
 use std::thread;

@@ -57,7 +57,3 @@ is_write_failed (Err (Device Write)) = true
 is_write_failed (Err (Device TooLong)) = false
 is_write_failed (Err (Device Memory)) = false
 is_write_failed (Err (BadInput line code)) = false
-
--- how many writes failed
-abbrev pub failed_writes : {A : Type 0} → Result A ViewFault → ℕ
-failed_writes result = if is_write_failed result then 1 else 0

@@ -1,5 +1,4 @@
 pub mod CommandLine
-pub mod Devices
 pub mod Ends
 pub mod Faults
 pub mod Told

@@ -1,8 +1,8 @@
 //! From bytes to bytes.
 ghost use Rattle.std.specs.Prelude.{◌≡◌, ◌+◌, ◌≤◌, List, ℕ, false, length, map, IfSome};
 ghost use Rattle.std.specs.Io.KnownBytes.{Appends};
-ghost use Rattle.bgview.specs.Devices.{HasRead, HasWritten};
-ghost use Rattle.bgview.specs.Ends.{failed_writes};
+ghost use Rattle.io_text.specs.Devices.{HasRead, HasWritten, failed_writes};
+ghost use Rattle.bgview.specs.Ends.{is_read_failed, is_write_failed};
 ghost use Rattle.bgview.specs.Faults.{AreFaultsSaid};
 ghost use Rattle.bgview.specs.Why.{IsWhyAnswer};
 
@@ -30,9 +30,9 @@ pub fn why_io<R: Read, W: Write>(
     // What is written is the output for what was read, and the answer goes with it. No write is of nothing.
     ensures text { IfSome (R.remaining reader.old.inner) (λ input. (output : List ℕ) × IsWhyAnswer input result output
         × Appends (W.contents writer.old.inner) (W.contents writer.new.inner) output
-        × (writer.new.calls ≤ writer.old.calls + length output + failed_writes result)) }
-    ensures reader { HasRead reader.old reader.new (R.remaining reader.old.inner) result }
-    ensures writer { HasWritten writer.old writer.new result }
+        × (writer.new.calls ≤ writer.old.calls + length output + failed_writes (is_write_failed result))) }
+    ensures reader { HasRead reader.old reader.new (R.remaining reader.old.inner) (is_read_failed result) }
+    ensures writer { HasWritten writer.old writer.new result (is_write_failed result) }
 {
     let input = read_input(alloc, reader)?;
     let answer = explain(alloc, &input)?;
@@ -53,8 +53,8 @@ pub fn fault_io<W: Write>(
     requires { writer.old.failed ≡ false }
     ensures text { (output : List ℕ) × AreFaultsSaid (map (λ text. text.now) codes.now) result output
         × Appends (W.contents writer.old.inner) (W.contents writer.new.inner) output
-        × (writer.new.calls ≤ writer.old.calls + length output + failed_writes result) }
-    ensures writer { HasWritten writer.old writer.new result }
+        × (writer.new.calls ≤ writer.old.calls + length output + failed_writes (is_write_failed result)) }
+    ensures writer { HasWritten writer.old writer.new result (is_write_failed result) }
 {
     let answer = say_faults(alloc, codes)?;
     write_output(writer, answer.output.as_bytes())?;

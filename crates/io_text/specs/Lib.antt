@@ -1,3 +1,4 @@
+pub mod Devices
 pub mod Ends
 pub mod Reading
 pub mod Writing

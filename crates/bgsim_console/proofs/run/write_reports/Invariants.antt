@@ -1,6 +1,6 @@
 use Rattle.std.proofs.Common.{◌≡◌, ◌++◌, take}
 use Rattle.std.specs.List.{flat_map}
-use Rattle.bgsim_console.specs.ReplyTexts.{report_text}
+use Rattle.script_play.specs.ReplyTexts.{report_text}
 use Rattle.bgsim_console.proofs.run.write_reports.Given as goal
 
 abbrev pub invariant-loop-one : goal.invariant-loop-one

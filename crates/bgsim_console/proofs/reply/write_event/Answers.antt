@@ -1,7 +1,0 @@
-use Rattle.std.proofs.Common.{arith}
-use Rattle.std.proofs.lemmas.Grind.{common_steps}
-use Rattle.bgsim_console.proofs.ReplyTexts.{snapshot_line}
-use Rattle.bgsim_console.proofs.reply.write_event.Goals as goal
-
-pub returns-in-Snap : goal.returns-in-Snap
-returns-in-Snap c = grind (arith, common_steps, snapshot_line)

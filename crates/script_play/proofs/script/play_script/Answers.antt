@@ -1,0 +1,54 @@
+use Rattle.std.proofs.Common.{◌++◌, ◌∷◌, ◌∙◌, [], length, sym, arith}
+use Rattle.room_files.specs.Script.{script_from, script_says}
+use Rattle.room_files.proofs.CallerLemmas.{bad_entry, bad_line, behind_none, fault_behind, good_entry, script_ends, step_script}
+use Rattle.script_play.proofs.Playing.{done-push}
+use Rattle.script_play.proofs.script.play_script.Goals as goal
+
+pub loop-entry-init : goal.loop-entry-init
+loop-entry-init g c = (length c.args.script.now, [], [], omega arith, behind_none (script_says c.args.script.now), omega arith, tt, c.new-player.ensures)
+
+pub loop-entry-preserved : goal.loop-entry-preserved
+loop-entry-preserved g c =
+    let inv = c.loop-entry.invariant in
+    let number = c.loop-entry.number in
+    let rest = c.loop-entry.rest.now in
+    let entry = c.in-Some.entry in
+    let few = c.in-Some.ensures.few in
+    let within = inv.5 in
+    let there = good_entry number entry (sym c.in-Ok.ensures.good ∙ c.if-not-good.false) in
+    let next = step_script inv.0 number c.lines-number.result rest c.in-Some.later.now entry there.0 inv.1 (script_says c.args.script.now) inv.3 c.in-Some.ensures.none c.in-Some.ensures.entry c.in-Some.ensures.rest c.in-Some.ensures.shorter c.lines-number.ensures there.1 inv.4 in
+    let plays = c.in-Ok.ensures.plays there.0 there.1 inv.2 inv.7 in (
+      next.0,
+      inv.1 ++ there.0 ∷ [],
+      inv.2 ++ plays.0 ∷ [],
+      next.1,
+      next.2,
+      omega (arith, few, within, c.lines-number.ensures),
+      done-push inv.1 inv.2 there.0 plays.0 inv.6 plays.1,
+      plays.2,
+    )
+
+pub returns-then-not-good-clause-err : goal.returns-then-not-good-clause-err
+returns-then-not-good-clause-err g c =
+    let inv = c.loop-entry.invariant in
+    let number = c.loop-entry.number in
+    let entry = c.in-Some.entry in
+    rw c.bad_command.ensures
+    (bad_entry inv.0 number c.loop-entry.rest.now entry inv.1 (script_says c.args.script.now) (number, 60) inv.3 c.in-Some.ensures.none c.in-Some.ensures.entry
+    (bad_line number entry (sym c.in-Ok.ensures.good ∙ c.if-not-good.true)) inv.4)
+
+pub returns-in_default-take-clause-err : goal.returns-in_default-take-clause-err
+returns-in_default-take-clause-err g c =
+    let inv = c.loop-entry.invariant in
+    fault_behind inv.1 (script_from inv.0 c.loop-entry.number c.loop-entry.rest.now) (script_says c.args.script.now) c.judge_unplayed.result inv.4 (c.judge_unplayed.ensures inv.0 inv.3)
+
+pub returns-clause-played : goal.returns-clause-played
+returns-clause-played g c =
+    let inv = c.loop-entry.invariant in
+    record {
+      entries = inv.1;
+      asked = script_ends inv.0 c.loop-entry.number c.loop-entry.rest.now inv.1 (script_says c.args.script.now) c.in_default.ensures.none inv.4;
+      all = inv.2;
+      each_entry = inv.6;
+      played = inv.7;
+    }

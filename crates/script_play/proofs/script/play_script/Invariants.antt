@@ -1,0 +1,14 @@
+use Rattle.std.proofs.Common.{◌≡◌, ◌+◌, ◌≤◌, ℕ, List, length}
+use Rattle.room_files.specs.Script.{Entry, script_from, script_says}
+use Rattle.room_files.proofs.CallerLemmas.{behind}
+use Rattle.script_play.specs.Play.{AreDone, Done, HasPlayed}
+use Rattle.script_play.proofs.script.play_script.Given as goal
+
+-- what is left asks for the rest, and what came of the entries before it is played
+abbrev pub invariant-loop-entry : goal.invariant-loop-entry
+invariant-loop-entry g l =
+    (most : ℕ) × (before : List Entry) × (all : List Done) × (length l.rest ≤ most) × (script_says l.script ≡ behind before (script_from most l.number l.rest)) × (l.number + length l.rest ≤ length l.script + 1)
+    × AreDone before all × HasPlayed (g.P.Performs.rooms l.player.performer) (g.P.Performs.has_done l.player.performer) l.player.ending all
+
+abbrev pub decreases-loop-entry : goal.decreases-loop-entry
+decreases-loop-entry g l = length l.rest

@@ -1,0 +1,177 @@
+-- What a script comes to.
+use Rattle.std.specs.Prelude.{◌≡◌, ⊤, ℕ, Bool, true, false, not, List, [], ◌∷◌, ◌++◌, length, Option, Some, None, Result, Ok, Err, alloc_error, if◌then◌else◌, codes}
+use Rattle.std.specs.declared.alloc.AllocError.{AllocError}
+use Rattle.std.specs.List.{flat_map, list_any}
+use Rattle.room_spec.specs.Rooms.{RoomSpec}
+use Rattle.room_spec.specs.Blocks.{IsHeadRight, block_in}
+use Rattle.room_spec.specs.declared.fault.SpecFault.{SpecFault}
+use Rattle.service_core.specs.declared.command.Command.{Command}
+use Rattle.service_core.specs.declared.command.Command.TheVariants.{Begin}
+use Rattle.service_core.specs.declared.reply.Reply.{Reply}
+use Rattle.service_core.specs.declared.reply.Reply.TheVariants.{Refused}
+use Rattle.service_core.specs.declared.reply.Refusal.{Refusal}
+use Rattle.service_core.specs.declared.reply.Refusal.TheVariants.{NoRoom, NameTaken, NoSimulator, OutOfMemory}
+use Rattle.service_core.specs.Replies.{part, replies_from, room_after_all}
+use Rattle.service_core.specs.Rooms.{Applies, Entries, IsStateOf, room_at}
+use Rattle.service_core.specs.Runs.{AreTrueReports, AreWants, granted, is_want, replies_of, without_wants}
+use Rattle.room_files.specs.Blocks.{fault_text, refused_line}
+use Rattle.room_files.specs.Verdicts.{outcome_if}
+use Rattle.room_files.specs.Script.{Entry, Ask, Open, script_says}
+use Rattle.room_files.specs.declared.outcome.Outcome.{Outcome}
+use Rattle.room_files.specs.declared.outcome.Outcome.TheVariants.{SomeRefused}
+use Rattle.script_play.specs.ReplyTexts.{reply_to_command}
+
+-- ---- replies to commands
+
+-- Each name's replies rest on its own commands alone. Those that were refused memory are as if they had not been; they begin
+-- a room under a free name, or ask for an open one's report. Each report is a true one.
+pub record AreReplies (commands : List Command) (replies : List Reply) : Type 0 where
+  pub count : length replies ≡ length commands
+  pub alone : (name : List ℕ) → without_wants (replies_of name commands replies) ≡ replies_from None (part name (granted commands replies))
+  pub wants : AreWants commands replies
+  pub reports : AreTrueReports commands replies
+
+-- ---- what comes of a script
+
+-- what came of an entry: the reply to a command; or a block was refused, whose first line has this number, for a fault or
+-- for want of memory
+pub data Done : Type 0 where
+  Replied : Command → Reply → Done
+  Faulty : ℕ → SpecFault → Done
+  Unread : ℕ → Done
+
+abbrev pub IsDone : Entry → Done → Type 0
+IsDone (Ask command) (Replied asked reply) = asked ≡ command
+IsDone (Ask command) (Faulty line fault) = ⊥
+IsDone (Ask command) (Unread line) = ⊥
+IsDone (Open number block) (Replied asked reply) = (spec : RoomSpec) × (len : ℕ) × (block_in block ≡ Ok (spec, len)) × (asked ≡ Begin spec)
+IsDone (Open number block) (Faulty line fault) = (line ≡ number) × (block_in block ≡ Err fault)
+IsDone (Open number block) (Unread line) = (line ≡ number) × IsHeadRight (block_in block)
+
+-- what came of each entry, in order
+abbrev pub AreDone : List Entry → List Done → Type 0
+AreDone [] [] = ⊤
+AreDone (entry ∷ entries) (done ∷ all) = IsDone entry done × AreDone entries all
+AreDone [] (done ∷ all) = ⊥
+AreDone (entry ∷ entries) [] = ⊥
+
+abbrev pub commands_in : Done → List Command
+commands_in (Replied command reply) = command ∷ []
+commands_in (Faulty line fault) = []
+commands_in (Unread line) = []
+
+abbrev pub reply_of : Done → List Reply
+reply_of (Replied command reply) = reply ∷ []
+reply_of (Faulty line fault) = []
+reply_of (Unread line) = []
+
+abbrev pub commands_of : List Done → List Command
+commands_of all = flat_map commands_in all
+
+abbrev pub replies_in : List Done → List Reply
+replies_in all = flat_map reply_of all
+
+-- ---- the text
+
+abbrev pub done_text : Done → List ℕ
+done_text (Replied command reply) = reply_to_command command reply
+done_text (Faulty line fault) = refused_line line (fault_text fault)
+done_text (Unread line) = refused_line line (codes "8")
+
+abbrev pub is_refusal : Reply → Bool
+is_refusal (Refused refusal) = true
+is_refusal reply = false
+
+abbrev pub is_refused : Done → Bool
+is_refused (Replied command reply) = is_refusal reply
+is_refused (Faulty line fault) = true
+is_refused (Unread line) = true
+
+-- for want of memory
+abbrev pub is_lacking : Done → Bool
+is_lacking (Replied command reply) = is_want reply
+is_lacking (Faulty line fault) = false
+is_lacking (Unread line) = true
+
+-- the end where nothing more went wrong: a refusal for want of memory comes before all others
+abbrev pub ending_if : Bool → Bool → Result Outcome AllocError
+ending_if lacking refused = if lacking then Err alloc_error else Ok (outcome_if (not refused))
+
+abbrev pub ending_of : List Done → Result Outcome AllocError
+ending_of all = ending_if (list_any is_lacking all) (list_any is_refused all)
+
+-- The text that a script's entries lead to, line by line, and the end that goes with it.
+pub record IsPlayText (entries : List Entry) (ending : Result Outcome AllocError) (output : List ℕ) : Type 0 where
+  pub all : List Done
+  pub each_entry : AreDone entries all
+  pub replies : AreReplies (commands_of all) (replies_in all)
+  pub output_is : output ≡ flat_map done_text all
+  pub ending_is : ending ≡ ending_of all
+
+-- the text for an input that has no fault
+abbrev pub IsPlayFor : List ℕ → Result Outcome AllocError → List ℕ → Type 0
+IsPlayFor input ending output = (entries : List Entry) × (script_says input ≡ Ok entries) × IsPlayText entries ending output
+
+-- ---- whoever does the commands
+
+-- why a command was refused, if it was
+abbrev pub refusal_in : Reply → Option Refusal
+refusal_in (Refused refusal) = Some refusal
+refusal_in reply = None
+
+-- Whoever had done all of some list has now done one more. Each is a predicate on lists of what was done.
+abbrev pub DoesMore : (List Done → Type 0) → Done → (List Done → Type 0) → Type 0
+DoesMore before done after = (all : List Done) → before all → after (all ++ done ∷ [])
+
+-- a command was done to the rooms, and is the last thing that was done; this says why it was refused, if it was
+pub record IsPerformed (rooms : Entries) (before : List Done → Type 0) (command : Command) (refusal : Option Refusal) (rooms_after : Entries) (after : List Done → Type 0) : Type 0 where
+  pub reply : Reply
+  pub applies : Applies rooms command reply rooms_after
+  pub refusal_is : refusal ≡ refusal_in reply
+  pub done : DoesMore before (Replied command reply) after
+
+-- ---- while it runs
+
+-- what a service that has been given these commands has become
+pub record HasRun (commands : List Command) (replies : List Reply) (entries : Entries) : Type 0 where
+  pub answers : AreReplies commands replies
+  pub rooms : (name : List ℕ) → IsStateOf (room_at entries name) (room_after_all None (part name (granted commands replies)))
+
+-- and what has come of a script's entries so far
+pub record HasPlayed (rooms : Entries) (has_done : List Done → Type 0) (ending : Result Outcome AllocError) (all : List Done) : Type 0 where
+  pub ran : HasRun (commands_of all) (replies_in all) rooms
+  pub done : has_done all
+  pub ending_is : ending ≡ ending_of all
+
+-- one command more, with some reply
+abbrev pub PlaysCommand : Command → (List Done → Type 0) → (List Done → Type 0) → Type 0
+PlaysCommand command before after = (reply : Reply) × DoesMore before (Replied command reply) after
+
+-- one entry more, of which this came
+abbrev pub PlaysOn : Entry → (List Done → Type 0) → (List Done → Type 0) → Type 0
+PlaysOn entry before after = (all : List Done) → before all → (done : Done) × IsDone entry done × after (all ++ done ∷ [])
+
+-- what comes of a whole script: of each of its entries, of the rooms, and at the end
+pub record IsPlay (input : List ℕ) (rooms : Entries) (has_done : List Done → Type 0) (ending : Result Outcome AllocError) : Type 0 where
+  pub entries : List Entry
+  pub asked : script_says input ≡ Ok entries
+  pub all : List Done
+  pub each_entry : AreDone entries all
+  pub played : HasPlayed rooms has_done ending all
+
+-- the end with one refusal more, which isn't for want of memory
+abbrev pub ending_at_refusal : Result Outcome AllocError → Result Outcome AllocError
+ending_at_refusal (Ok outcome) = Ok SomeRefused
+ending_at_refusal (Err fault) = Err fault
+
+-- the end with one entry more, which was refused or not, for want of memory or not
+abbrev pub ending_with : Bool → Bool → Result Outcome AllocError → Result Outcome AllocError
+ending_with lacking refused ending = if lacking then Err alloc_error else if refused then ending_at_refusal ending else ending
+
+-- a refusal for want of memory
+abbrev pub is_lack : Option Refusal → Bool
+is_lack None = false
+is_lack (Some NoRoom) = false
+is_lack (Some NameTaken) = false
+is_lack (Some NoSimulator) = false
+is_lack (Some OutOfMemory) = true
