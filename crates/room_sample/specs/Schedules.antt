@@ -1,0 +1,58 @@
+-- Schedules of a room, and what it comes to by one.
+use Rattle.std.specs.Prelude.{◌≡◌, ℕ, ◌+◌, ◌<◌, ◌≤◌, Bool, true, false, List, [], ◌∷◌, ⊤}
+use Rattle.std.specs.List.{count_by}
+use Rattle.room_spec.specs.Rooms.{RoomSpec}
+use Rattle.room_core.specs.Calls.{RoomState, crash_reply, opening_state, room_after_crash, room_after_settle, room_after_steps, step_reply}
+use Rattle.room_core.specs.Fields.{Fields}
+use Rattle.room_core.specs.Reading.{AreFieldsOf}
+use Rattle.room_core.specs.declared.reply.CrashReply.TheVariants as crash_replies
+use Rattle.room_core.specs.declared.reply.StepReply.TheVariants as step_replies
+use Rattle.ws_history.specs.Reports.{report_of}
+use Rattle.ws_history.specs.declared.states.ProcessState.{ProcessState}
+use Rattle.room_sample.specs.declared.stretch.Stretch.{Stretch}
+use Rattle.room_sample.specs.declared.stretch.Stretch.TheVariants.{Steps, Crash}
+
+abbrev pub room_after_stretch : RoomState → Stretch → RoomState
+room_after_stretch room (Steps simulator count) = room_after_steps room simulator count
+room_after_stretch room (Crash simulator) = room_after_crash room simulator
+
+-- the room after all stretches, in order
+abbrev pub room_after_schedule : RoomState → List Stretch → RoomState
+room_after_schedule room [] = room
+room_after_schedule room (stretch ∷ stretches) = room_after_schedule (room_after_stretch room stretch) stretches
+
+-- the simulator takes all these steps; or it crashes now
+abbrev pub MayCome : RoomState → Stretch → Type 0
+MayCome room (Steps simulator count) = (1 ≤ count) × ((k : ℕ) → k < count → step_reply (room_after_steps room simulator k) simulator ≡ step_replies.Stepped)
+MayCome room (Crash simulator) = crash_reply room simulator ≡ crash_replies.Crashed
+
+-- each stretch may come at its place
+abbrev pub IsSchedule : RoomState → List Stretch → Type 0
+IsSchedule room [] = ⊤
+IsSchedule room (stretch ∷ stretches) = MayCome room stretch × IsSchedule (room_after_stretch room stretch) stretches
+
+abbrev pub is_crash : Stretch → Bool
+is_crash (Steps simulator count) = false
+is_crash (Crash simulator) = true
+
+-- how many simulators crash
+abbrev pub crashes_in : List Stretch → ℕ
+crashes_in schedule = count_by is_crash schedule
+
+-- the room once it has settled behind a schedule
+abbrev pub settled_by : RoomSpec → List Stretch → RoomState
+settled_by spec schedule = room_after_settle (room_after_schedule (opening_state spec) schedule)
+
+-- Where each process stands in the report of a room that has settled behind a schedule, in which at most so many simulators crash.
+pub record IsOutcome (spec : RoomSpec) (crashes : ℕ) (schedule : List Stretch) (states : List ProcessState) : Type 0 where
+  pub may_come : IsSchedule (opening_state spec) schedule
+  pub few : crashes_in schedule ≤ crashes
+  pub reported : (fields : Fields) → AreFieldsOf (settled_by spec schedule) fields → states ≡ (report_of (settled_by spec schedule).spec fields).states.items
+
+-- ---- while a room is run
+
+-- A schedule has led to this room, and so many simulators may crash still.
+pub record IsScheduled (spec : RoomSpec) (crashes : ℕ) (schedule : List Stretch) (room : RoomState) (left : ℕ) : Type 0 where
+  pub may_come : IsSchedule (opening_state spec) schedule
+  pub leads : room_after_schedule (opening_state spec) schedule ≡ room
+  pub few : crashes_in schedule + left ≤ crashes

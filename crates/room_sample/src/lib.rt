@@ -1,0 +1,12 @@
+//! What a room may come to: it is run by many random schedules, and its outcomes are counted.
+#![tactic(auto)]
+
+mod chances;
+mod run;
+mod sampling;
+mod stretch;
+mod tally;
+
+pub use sampling::{Plan, sample};
+pub use stretch::Stretch;
+pub use tally::{Outcome, States, Tally};

@@ -1,0 +1,60 @@
+//! Many runs of one room.
+ghost use Rattle.std.specs.Prelude.{◌≡◌, Ok, IfOk, length};
+ghost use Rattle.room_spec.specs.Blocks.{block_in};
+ghost use Rattle.room_sample.specs.Samples.{IsSample};
+ghost use Rattle.room_sample.specs.Schedules.{IsOutcome};
+
+use crate::chances::Chances;
+use crate::run::{Run, run_by_chance};
+use crate::tally::Tally;
+use room_files::read_room;
+use room_spec::Spec;
+use std::alloc::{AllocError, Global};
+
+/// How a room is sampled.
+#[derive(Clone, Copy, Debug, PartialEq, Eq)]
+pub struct Plan {
+    /// By how many schedules it is run.
+    pub schedules: u32,
+    /// In each of them at most so many simulators crash.
+    pub crashes: u8,
+    /// What the schedules are drawn from: the same seed gives the same ones.
+    pub seed: u64,
+}
+
+/// Runs the room of a block by random schedules, from its beginning each time, and counts where its processes stand once it has
+/// settled. It is no search: an outcome that isn't among them may be possible.
+///
+/// # Errors
+///
+/// Where memory is refused.
+#[tactic(auto, using(crate::proofs::OneMore::no_sample, crate::proofs::OneMore::one_more))]
+pub fn sample(alloc: Global, spec: &Spec, block: &[u8], plan: &Plan) -> Result<Tally, AllocError>
+    requires { block_in block.now ≡ Ok (spec.now, length block.now) }
+    ensures { IfOk result (IsSample spec.now plan.now.schedules plan.now.crashes) }
+{
+    let mut chances = Chances::of(plan.seed);
+    let mut tally = Tally::new(alloc);
+    for _ in 0..plan.schedules {
+        let run = run_anew(alloc, spec, block, &mut chances, plan.crashes)?;
+        tally.count(run)?;
+    }
+    Ok(tally)
+}
+
+/// Opens the room of a block, and runs it by one random schedule.
+fn run_anew(
+    alloc: Global,
+    spec: &Spec,
+    block: &[u8],
+    chances: &mut Chances,
+    crashes: u8,
+) -> Result<Run, AllocError>
+    requires { block_in block.now ≡ Ok (spec.now, length block.now) }
+    ensures { IfOk result (λ run. IsOutcome spec.now crashes run.schedule.items run.states.items) }
+{
+    let Ok((spec, _)) = read_room(alloc, block)? else {
+        unreachable!() // it has been read before
+    };
+    run_by_chance(alloc, spec, chances, crashes)
+}

@@ -1,0 +1,10 @@
+//! The parts of schedules.
+
+/// A part of a schedule.
+#[derive(Clone, Copy, Debug, PartialEq, Eq)]
+pub enum Stretch {
+    /// This simulator takes so many atomic steps.
+    Steps { simulator: u8, count: u16 },
+    /// This simulator crashes.
+    Crash { simulator: u8 },
+}

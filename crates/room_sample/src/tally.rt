@@ -1,0 +1,70 @@
+//! Outcomes, and how often each came.
+ghost use Rattle.std.specs.Prelude.{◌≡◌, [], OnOk};
+ghost use Rattle.room_sample.specs.Samples.{counted};
+
+
+use crate::run::Run;
+use crate::stretch::Stretch;
+use arrayvec::ArrayVec;
+use indexmap::IndexMap;
+use room_spec::MAX_PROCESSES;
+use std::alloc::{AllocError, Global};
+use std::marker::Model;
+use ws_history::ProcessState;
+
+/// Where each process of a room stands, in order of their numbers.
+pub type States = ArrayVec<ProcessState, MAX_PROCESSES>;
+
+/// What there is to say of an outcome.
+#[derive(Drop)]
+pub struct Outcome {
+    /// By how many schedules it came.
+    pub times: u32,
+    /// The first of them.
+    pub schedule: Vec<Stretch>,
+}
+
+/// The outcomes of a room, in the order in which each came first.
+#[derive(Drop)]
+pub struct Tally {
+    outcomes: IndexMap<States, Outcome>,
+}
+
+impl Model for Tally {
+    ghost use Rattle.std.specs.Prelude.{List};
+    ghost use Rattle.room_sample.specs.Samples.{Counted, outcomes_in};
+
+    ghost Value = { List Counted };
+
+    ghost view = { λ tally. outcomes_in tally.outcomes.entries };
+}
+
+impl Tally {
+    /// No outcomes.
+    pub(crate) fn new(alloc: Global) -> Tally
+        ensures { result ≡ [] }
+    {
+        Tally {
+            outcomes: IndexMap::new(alloc),
+        }
+    }
+
+    /// Counts one run more.
+    pub(crate) fn count(&mut self, run: Run) -> Result<(), AllocError>
+        ensures { OnOk result (self.new ≡ counted (record { schedule = run.schedule.items; states = run.states.items }) self.old) }
+    {
+        let Some(index) = self.outcomes.get_index_of(&run.states) else {
+            let outcome = Outcome {
+                times: 1,
+                schedule: run.schedule,
+            };
+            self.outcomes.insert(run.states, outcome)?;
+            return Ok(());
+        };
+        let Some(outcome) = self.outcomes.get_index_mut(index) else {
+            unreachable!() // the index was found just now
+        };
+        outcome.times = outcome.times.saturating_add(1);
+        Ok(())
+    }
+}
