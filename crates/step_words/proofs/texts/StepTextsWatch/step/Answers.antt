@@ -1,0 +1,29 @@
+use Rattle.std.proofs.Common.{◌≡◌, ◌≢◌, Option, false, subst}
+use Rattle.std.specs.Prelude.{MatchOption}
+use Rattle.room_spec.specs.Rooms.{RoomSpec, IsWithinLimits}
+use Rattle.room_core.specs.Calls.{step_reply}
+use Rattle.room_core.specs.declared.reply.StepReply.TheVariants.{Stepped}
+use Rattle.room_steps.specs.Steps.{IsStepOf}
+use Rattle.room_steps.specs.declared.step.AtomicStep.{AtomicStep}
+use Rattle.step_words.specs.Told.{with_step}
+use Rattle.step_words.proofs.Within.{told_within}
+use Rattle.step_words.proofs.texts.StepTextsWatch.step.Goals as goal
+
+pub note-requires : goal.note-requires
+note-requires c =
+    let room = c.args.room.now in
+    let limits = subst IsWithinLimits c.spec.ensures.value c.shape-shape.ensures.limits in
+    let was = subst (λ (taken : Option AtomicStep). MatchOption taken (step_reply room c.args.i ≢ Stepped) (λ step. (step_reply room c.args.i ≡ Stepped) × IsStepOf room c.args.i step)) c.in-Some.is c.take_step-reply.ensures.step in
+    (told_within room c.take_step-reply.new.room c.spec-in-Some.result.now c.args.i c.in-Some.step limits c.spec.ensures.run c.take_step-reply.ensures.room c.spec-in-Some.ensures.value was.0 was.1).1
+
+pub returns-in-Some-clause-seen : goal.returns-in-Some-clause-seen
+returns-in-Some-clause-seen c = λ stepped.
+    let room = c.args.room.now in
+    let limits = subst IsWithinLimits c.spec.ensures.value c.shape-shape.ensures.limits in
+    let was = subst (λ (taken : Option AtomicStep). MatchOption taken (step_reply room c.args.i ≢ Stepped) (λ step. (step_reply room c.args.i ≡ Stepped) × IsStepOf room c.args.i step)) c.in-Some.is c.take_step-reply.ensures.step in
+    let same = (told_within room c.take_step-reply.new.room c.spec-in-Some.result.now c.args.i c.in-Some.step limits c.spec.ensures.run c.take_step-reply.ensures.room c.spec-in-Some.ensures.value was.0 was.1).0 in
+    record {
+      step = c.in-Some.step;
+      is = was.1;
+      told = subst (λ (spec : RoomSpec). c.note.new.self.lacks ≡ false → c.note.new.self ≡ with_step c.args.self.now spec c.in-Some.step) same c.note.ensures;
+    }

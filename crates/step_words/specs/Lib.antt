@@ -1,0 +1,5 @@
+pub mod Pieces
+pub mod Names
+pub mod Sights
+pub mod Lines
+pub mod Told

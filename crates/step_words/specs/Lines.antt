@@ -1,0 +1,57 @@
+-- The lines that tell of an atomic step.
+use Rattle.std.specs.Prelude.{ℕ, ◌<◌, List, [], ◌++◌, Bool, true, false, Option, Some, None, codes, decimal}
+use Rattle.room_spec.specs.Rooms.{RoomSpec, processes}
+use Rattle.room_spec.specs.Sizes.{sizes_in}
+use Rattle.view_table.specs.Places.{IsPlace}
+use Rattle.simulator.specs.declared.goal.Goal.{Goal}
+use Rattle.simulator.specs.declared.goal.Goal.TheVariants.{Write, Ask, Done, Spent}
+use Rattle.room_steps.specs.declared.step.AtomicStep.{AtomicStep}
+use Rattle.step_words.specs.Pieces.{behind, between, padded}
+use Rattle.step_words.specs.Names.{operation_text}
+use Rattle.step_words.specs.Sights.{sight_text}
+
+-- the widths of the columns with the number of a step, with its turn and with its operation
+abbrev pub number_width : ℕ
+number_width = 5
+
+abbrev pub turn_width : ℕ
+turn_width = 43
+
+abbrev pub operation_width : ℕ
+operation_width = 36
+
+-- whose turn it is, and what it works on
+abbrev pub turn_name : AtomicStep → List ℕ
+turn_name step =
+    behind (codes "simulator") step.simulator ++ (behind (codes ", turn") step.turn ++ (behind (codes ", process") step.process ++ behind (codes ", round") step.round))
+
+-- said at the first of a turn's steps
+abbrev pub turn_text : AtomicStep → Bool → List ℕ
+turn_text step true = []
+turn_text step false = turn_name step
+
+-- what a turn came to, by what is left to do for its process
+abbrev pub outcome_text : ℕ → Goal → List ℕ
+outcome_text process (Write round value) = behind (codes "useful: process") process ++ between (codes " writes") value (codes " next")
+outcome_text process (Ask round) = behind (codes "quiet: the agreement of process") process ++ between (codes ", round") round (codes " is not resolved")
+outcome_text process Done = between (codes "useful: process") process (codes " has decided")
+outcome_text process Spent = between (codes "useful: process") process (codes " is spent")
+
+-- a line for the end of a turn
+abbrev pub end_text : ℕ → Option Goal → List ℕ
+end_text process None = []
+end_text process (Some goal) = codes "         " ++ (outcome_text process goal ++ codes "\n")
+
+-- The step's number, its turn where that begins, its operation, and what there is to see; and the end of the turn.
+abbrev pub step_lines : RoomSpec → ℕ → AtomicStep → Bool → List ℕ
+step_lines spec number step same_turn =
+    codes "    "
+    ++ (padded number_width (decimal number)
+    ++ (padded turn_width (turn_text step same_turn)
+    ++ (padded operation_width (operation_text spec step) ++ (sight_text spec step ++ (codes "\n" ++ end_text step.process step.end)))))
+
+-- its numbers are those of the room
+pub record IsStepIn (spec : RoomSpec) (step : AtomicStep) : Type 0 where
+  pub simulator : step.simulator < spec.simulators
+  pub process : step.process < processes spec
+  pub place : IsPlace (sizes_in spec) step.place

@@ -1,0 +1,11 @@
+//! Single atomic steps of a room in words: a line for each, for people.
+#![tactic(auto)]
+
+mod operation;
+mod pieces;
+mod sight;
+mod step;
+mod texts;
+
+pub use step::write_step;
+pub use texts::StepTexts;

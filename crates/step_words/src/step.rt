@@ -1,0 +1,128 @@
+//! The lines of an atomic step.
+ghost use Rattle.std.specs.Prelude.{◌≡◌, ◌++◌, OnOk, codes, decimal};
+ghost use Rattle.step_words.specs.Lines.{IsStepIn, end_text, number_width, operation_width, outcome_text, step_lines, turn_name, turn_text, turn_width};
+ghost use Rattle.step_words.specs.Names.{operation_text};
+ghost use Rattle.step_words.specs.Pieces.{behind, between, padded};
+
+use crate::operation::write_operation;
+use crate::pieces::{pad, write_between, write_digits, write_number};
+use crate::sight::write_sight;
+use io_text::Text;
+use room_spec::Spec;
+use room_steps::AtomicStep;
+use simulator::Goal;
+use std::alloc::AllocError;
+
+/// The width of the column with the number of a step.
+const NUMBER_WIDTH: usize = 5;
+
+/// The width of the column with its turn.
+const TURN_WIDTH: usize = 43;
+
+/// The width of the column with its operation.
+const OPERATION_WIDTH: usize = 36;
+
+/// Writes the line of an atomic step of a room, behind four spaces: its number, which the caller counts; its turn, where this
+/// is the first step of the turn that is told (`same_turn` is false); its operation; and what its word shows. Where it ends its
+/// turn a second line says what the turn came to.
+///
+/// # Errors
+///
+/// Where memory is refused. Parts of the lines may have been written then.
+pub fn write_step(
+    output: &mut Text,
+    spec: &Spec,
+    number: u64,
+    step: &AtomicStep,
+    same_turn: bool,
+) -> Result<(), AllocError>
+    requires { IsStepIn spec.now step.now }
+    ensures { OnOk result (output.new ≡ output.old ++ step_lines spec.now number step.now same_turn) }
+{
+    output.put(b"    ")?;
+    write_step_number(output, number)?;
+    write_turn(output, step, same_turn)?;
+    write_padded_operation(output, spec, step)?;
+    write_sight(output, spec, step)?;
+    output.put(b"\n")?;
+    write_end(output, step.process, step.end)
+}
+
+fn write_step_number(output: &mut Text, number: u64) -> Result<(), AllocError>
+    ensures { OnOk result (output.new ≡ output.old ++ padded number_width (decimal number)) }
+{
+    let from = output.as_bytes().len();
+    write_digits(output, number)?;
+    pad(output, from, NUMBER_WIDTH)
+}
+
+fn write_turn(output: &mut Text, step: &AtomicStep, same_turn: bool) -> Result<(), AllocError>
+    ensures { OnOk result (output.new ≡ output.old ++ padded turn_width (turn_text step.now same_turn)) }
+{
+    let from = output.as_bytes().len();
+    write_turn_name(output, step, same_turn)?;
+    pad(output, from, TURN_WIDTH)
+}
+
+/// Writes whose turn it is, and what it works on, unless it was said before.
+fn write_turn_name(output: &mut Text, step: &AtomicStep, said: bool) -> Result<(), AllocError>
+    ensures { OnOk result (output.new ≡ output.old ++ turn_text step.now said) }
+{
+    if said {
+        return Ok(());
+    }
+    write_number(output, b"simulator", step.simulator as u64)?;
+    write_number(output, b", turn", step.turn)?;
+    write_number(output, b", process", step.process as u64)?;
+    write_number(output, b", round", u64::from(step.round))
+}
+
+fn write_padded_operation(
+    output: &mut Text,
+    spec: &Spec,
+    step: &AtomicStep,
+) -> Result<(), AllocError>
+    ensures { OnOk result (output.new ≡ output.old ++ padded operation_width (operation_text spec.now step.now)) }
+{
+    let from = output.as_bytes().len();
+    write_operation(output, spec, step)?;
+    pad(output, from, OPERATION_WIDTH)
+}
+
+/// Writes what the turn came to, where it has ended.
+fn write_end(output: &mut Text, process: usize, end: Option<Goal>) -> Result<(), AllocError>
+    ensures { OnOk result (output.new ≡ output.old ++ end_text process end) }
+{
+    let Some(goal) = end else {
+        return Ok(());
+    };
+    output.put(b"         ")?;
+    write_outcome(output, process as u64, goal)?;
+    output.put(b"\n")
+}
+
+fn write_outcome(output: &mut Text, process: u64, goal: Goal) -> Result<(), AllocError>
+    ensures { OnOk result (output.new ≡ output.old ++ outcome_text process goal) }
+{
+    match goal {
+        Goal::Write { value, .. } => write_next(output, process, value),
+        Goal::Ask { round } => write_unresolved(output, process, round),
+        Goal::Done => write_between(output, b"useful: process", process, b" has decided"),
+        Goal::Spent => write_between(output, b"useful: process", process, b" is spent"),
+    }
+}
+
+fn write_next(output: &mut Text, process: u64, value: u32) -> Result<(), AllocError>
+    ensures { OnOk result (output.new ≡ output.old ++ (behind (codes "useful: process") process ++ between (codes " writes") value (codes " next"))) }
+{
+    write_number(output, b"useful: process", process)?;
+    write_between(output, b" writes", u64::from(value), b" next")
+}
+
+fn write_unresolved(output: &mut Text, process: u64, round: u8) -> Result<(), AllocError>
+    ensures { OnOk result (output.new ≡ output.old ++
+        (behind (codes "quiet: the agreement of process") process ++ between (codes ", round") round (codes " is not resolved"))) }
+{
+    write_number(output, b"quiet: the agreement of process", process)?;
+    write_between(output, b", round", u64::from(round), b" is not resolved")
+}

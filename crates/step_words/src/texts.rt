@@ -1,0 +1,109 @@
+//! Who looks on, and writes what is to be seen.
+ghost use Rattle.std.specs.Prelude.{◌≡◌, ◌≢◌, false, true, IfOk, IfErr, OnOk, if◌then◌else◌, Ok, Err, alloc_error};
+ghost use Rattle.step_words.specs.Lines.{IsStepIn};
+ghost use Rattle.step_words.specs.Told.{is_turn, nothing_told, with_step};
+
+use crate::step::write_step;
+use io_text::Text;
+use room_core::{RoomCore, StepReply, Watch};
+use room_spec::Spec;
+use room_steps::{AtomicStep, take_step};
+use std::alloc::{AllocError, Global};
+use std::marker::Model;
+
+/// Who looks on while a room takes its steps, and writes the lines of each, numbered from 1. Where memory is refused it writes no
+/// more, and the room goes on.
+#[derive(Drop)]
+pub struct StepTexts {
+    lines: Text,
+    number: u64,
+    /// The last step's simulator, and the number of its turn.
+    last: Option<(usize, u64)>,
+    lacks: bool,
+}
+
+impl Model for StepTexts {
+    ghost use Rattle.step_words.specs.Told.{Telling};
+
+    ghost Value = { Telling };
+
+    ghost view = { λ texts. record { lines = texts.lines; number = texts.number; last = texts.last; lacks = texts.lacks } };
+}
+
+impl StepTexts {
+    /// No lines.
+    pub fn new(alloc: Global) -> StepTexts
+        ensures { result ≡ nothing_told }
+    {
+        StepTexts {
+            lines: Text::new(alloc),
+            number: 0,
+            last: None,
+            lacks: false,
+        }
+    }
+
+    /// The lines of all steps.
+    ///
+    /// # Errors
+    ///
+    /// Where memory was refused to some of them.
+    pub fn into_lines(self) -> Result<Text, AllocError>
+        ensures lines { IfOk result (λ lines. (self.lacks ≡ false) × (lines ≡ self.lines)) }
+        ensures refused { IfErr result (λ error. self.lacks ≡ true) }
+    {
+        if self.lacks {
+            return Err(AllocError);
+        }
+        Ok(self.lines)
+    }
+
+    fn note(&mut self, spec: &Spec, step: &AtomicStep)
+        requires { IsStepIn spec.now step.now }
+        ensures { self.new.lacks ≡ false → self.new ≡ with_step self.old spec.now step.now }
+    {
+        if !self.lacks && self.write(spec, step).is_err() {
+            self.lacks = true;
+        }
+    }
+
+    /// Writes the lines of a step.
+    fn write(&mut self, spec: &Spec, step: &AtomicStep) -> Result<(), AllocError>
+        requires { IsStepIn spec.now step.now }
+        ensures { OnOk result (self.new ≡ with_step self.old spec.now step.now) }
+    {
+        let same_turn = self.is_turn(step.simulator, step.turn);
+        let Some(number) = self.number.checked_add(1) else {
+            return Err(AllocError); // so many lines take more memory than there is
+        };
+        write_step(&mut self.lines, spec, number, step, same_turn)?;
+        self.number = number;
+        self.last = Some((step.simulator, step.turn));
+        Ok(())
+    }
+
+    /// Whether the last step belongs to this turn of this simulator.
+    fn is_turn(&self, simulator: usize, turn: u64) -> bool
+        ensures { result ≡ is_turn self.now.last simulator turn }
+    {
+        match self.last {
+            None => false,
+            Some((of, number)) => of == simulator && number == turn,
+        }
+    }
+}
+
+impl Watch for StepTexts {
+    ghost use Rattle.step_words.specs.Told.{IsTold};
+
+    ghost sees = { IsTold };
+
+    fn step(&mut self, room: &mut RoomCore, i: usize) -> StepReply {
+        let _shape = room.spec().shape(); // for the proof: the room is one that its simulators lead to
+        let (reply, taken) = take_step(room, i);
+        if let Some(step) = taken {
+            self.note(room.spec(), &step);
+        }
+        reply
+    }
+}
