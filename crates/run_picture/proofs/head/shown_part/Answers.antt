@@ -1,0 +1,14 @@
+use Rattle.std.proofs.Common.{sym, arith}
+use Rattle.std.proofs.lemmas.List.{length-take-le, take_all}
+use Rattle.run_picture.specs.Heads.{shown_part}
+use Rattle.run_picture.proofs.head.shown_part.Goals as goal
+
+pub slice_bounds-result-end : goal.slice_bounds-result-end
+slice_bounds-result-end c = sym (length-take-le 200 c.args.text.now (omega (arith, c.if-text-gt-MAX_SHOWN.true)))
+
+pub returns-then-text-gt-MAX_SHOWN-clause-few : goal.returns-then-text-gt-MAX_SHOWN-clause-few
+returns-then-text-gt-MAX_SHOWN-clause-few c = omega (arith, length-take-le 200 c.args.text.now (omega (arith, c.if-text-gt-MAX_SHOWN.true)))
+
+pub returns-else-text-gt-MAX_SHOWN-clause-value : goal.returns-else-text-gt-MAX_SHOWN-clause-value
+unfolding shown_part
+returns-else-text-gt-MAX_SHOWN-clause-value c = sym (take_all 200 c.args.text.now c.if-text-gt-MAX_SHOWN.false)

@@ -1,0 +1,11 @@
+pub mod Elements
+pub mod Columns
+pub mod Layout
+pub mod Words
+pub mod Lanes
+pub mod Squares
+pub mod Turns
+pub mod History
+pub mod Heads
+pub mod Picture
+pub mod Seen

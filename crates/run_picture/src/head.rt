@@ -1,0 +1,199 @@
+//! What stands over the picture of a room.
+ghost use Rattle.std.specs.Prelude.{◌≡◌, ◌++◌, ◌≤◌, IfOk, OnOk, length, take, string_bytes};
+ghost use Rattle.run_picture.specs.Heads.{IsHeadOf, head_lines, inputs_count, inputs_words, name_line, numbers_line, numbers_words, processes_words, protocol_byte, protocol_line, protocol_start, protocol_words, rest_words, shown_part};
+
+use crate::elements::{
+    FAINT, INK, Point, end_label, start_label, write_counted, write_escaped_byte, write_label,
+};
+use crate::layout::MARGIN;
+use io_text::Text;
+use protocol_lang::print;
+use room_spec::{Name, Spec};
+use std::alloc::{AllocError, Global};
+
+/// The most bytes of a protocol's text that are shown.
+const MAX_SHOWN: usize = 200;
+
+/// What is told of a room's spec.
+#[derive(Drop)]
+pub struct Head {
+    pub name: Name,
+    /// The inputs of its processes, in order of their numbers.
+    pub inputs: Vec<u32>,
+    pub simulators: u8,
+    pub rounds: u8,
+    /// The shortest text of the protocol.
+    pub protocol: String,
+}
+
+impl Head {
+    /// What is told of this spec.
+    ///
+    /// # Errors
+    ///
+    /// Where memory is refused.
+    pub fn of(alloc: Global, spec: &Spec) -> Result<Head, AllocError>
+        ensures { IfOk result (IsHeadOf spec.now) }
+    {
+        Ok(Head {
+            name: name_of(spec),
+            inputs: inputs_of(alloc, spec)?,
+            simulators: spec.m() as u8,
+            rounds: spec.rounds() as u8,
+            protocol: print(alloc, spec.protocol())?,
+        })
+    }
+}
+
+fn name_of(spec: &Spec) -> Name
+    ensures { result ≡ spec.now.name }
+{
+    let Some(name) = Name::read(spec.name().as_str().as_bytes()) else {
+        unreachable!() // the text of a name is one
+    };
+    name
+}
+
+fn inputs_of(alloc: Global, spec: &Spec) -> Result<Vec<u32>, AllocError>
+    ensures { IfOk result (λ inputs. inputs.items ≡ spec.now.inputs) }
+{
+    let mut inputs = Vec::new(alloc);
+    for process in 0..spec.n() {
+        inputs.push(spec.input(process))?;
+    }
+    Ok(inputs)
+}
+
+/// Writes the lines over the picture of a room.
+#[tactic(auto, unfolding(crate::specs::Heads::head_lines))]
+pub(crate) fn write_head(output: &mut Text, head: &Head) -> Result<(), AllocError>
+    ensures { OnOk result (output.new ≡ output.old ++ head_lines head.now) }
+{
+    write_name_line(output, head.name.as_str().as_bytes())?;
+    write_numbers_line(output, head)?;
+    write_protocol_line(output, head.protocol.as_bytes())
+}
+
+#[tactic(auto, unfolding(crate::specs::Heads::name_line))]
+fn write_name_line(output: &mut Text, name: &[u8]) -> Result<(), AllocError>
+    ensures { OnOk result (output.new ≡ output.old ++ name_line name.now) }
+{
+    let start = Point { x: MARGIN, y: 26 };
+    write_label(
+        output,
+        start,
+        b" font-size=\"16\" font-weight=\"600\"",
+        INK,
+        name,
+    )
+}
+
+#[tactic(auto, unfolding(crate::specs::Heads::numbers_line))]
+fn write_numbers_line(output: &mut Text, head: &Head) -> Result<(), AllocError>
+    ensures { OnOk result (output.new ≡ output.old ++ numbers_line head.now) }
+{
+    start_label(output, Point { x: MARGIN, y: 44 }, b"", FAINT)?;
+    write_processes(output, head.inputs.as_slice())?;
+    write_numbers(output, head.simulators, head.rounds)?;
+    end_label(output)
+}
+
+#[tactic(auto, unfolding(crate::specs::Heads::processes_words))]
+fn write_processes(output: &mut Text, inputs: &[u32]) -> Result<(), AllocError>
+    ensures { OnOk result (output.new ≡ output.old ++ processes_words inputs.now) }
+{
+    write_inputs_count(output, inputs.len())?;
+    write_inputs(output, inputs)
+}
+
+#[tactic(auto, unfolding(crate::specs::Heads::inputs_count))]
+fn write_inputs_count(output: &mut Text, count: usize) -> Result<(), AllocError>
+    ensures { OnOk result (output.new ≡ output.old ++ inputs_count count) }
+{
+    write_counted(
+        output,
+        count as u64,
+        b" process with input",
+        b" processes with inputs",
+    )
+}
+
+#[tactic(auto, unfolding(crate::specs::Heads::inputs_words))]
+fn write_inputs(output: &mut Text, inputs: &[u32]) -> Result<(), AllocError>
+    ensures { OnOk result (output.new ≡ output.old ++ inputs_words inputs.now) }
+{
+    for input in inputs {
+        output.put_number(u64::from(*input))?;
+    }
+    Ok(())
+}
+
+#[tactic(auto, unfolding(crate::specs::Heads::numbers_words))]
+fn write_numbers(output: &mut Text, simulators: u8, rounds: u8) -> Result<(), AllocError>
+    ensures { OnOk result (output.new ≡ output.old ++ numbers_words simulators rounds) }
+{
+    output.put(b", ")?;
+    write_counted(output, u64::from(simulators), b" simulator", b" simulators")?;
+    output.put(b", ")?;
+    write_counted(output, u64::from(rounds), b" round", b" rounds")
+}
+
+#[tactic(auto, unfolding(crate::specs::Heads::protocol_line))]
+fn write_protocol_line(output: &mut Text, text: &[u8]) -> Result<(), AllocError>
+    ensures { OnOk result (output.new ≡ output.old ++ protocol_line text.now) }
+{
+    start_protocol(output)?;
+    write_protocol(output, shown_part(text))?;
+    output.put(rest_words(text))?;
+    end_label(output)
+}
+
+#[tactic(auto, unfolding(crate::specs::Heads::protocol_start))]
+fn start_protocol(output: &mut Text) -> Result<(), AllocError>
+    ensures { OnOk result (output.new ≡ output.old ++ protocol_start) }
+{
+    let style = b" font-size=\"11\" font-family=\"monospace\"";
+    start_label(output, Point { x: MARGIN, y: 61 }, style, FAINT)
+}
+
+/// The beginning of a protocol's text that is shown.
+#[tactic(auto, unfolding(crate::specs::Heads::shown_part))]
+pub(crate) fn shown_part(text: &[u8]) -> &[u8]
+    ensures value { result.now ≡ shown_part text.now }
+    ensures few { length result.now ≤ MAX_SHOWN }
+{
+    if text.len() > MAX_SHOWN {
+        &text[..MAX_SHOWN]
+    } else {
+        text
+    }
+}
+
+/// What stands behind that beginning.
+#[tactic(auto, unfolding(crate::specs::Heads::rest_words))]
+fn rest_words(text: &[u8]) -> &'static [u8]
+    ensures { result.now ≡ rest_words text.now }
+{
+    if text.len() > MAX_SHOWN { b" .." } else { b"" }
+}
+
+/// Writes a protocol's text with a space behind each rule.
+#[tactic(auto, unfolding(crate::specs::Heads::protocol_words))]
+fn write_protocol(output: &mut Text, text: &[u8]) -> Result<(), AllocError>
+    ensures { OnOk result (output.new ≡ output.old ++ protocol_words text.now) }
+{
+    for byte in text {
+        write_protocol_byte(output, *byte)?;
+    }
+    Ok(())
+}
+
+fn write_protocol_byte(output: &mut Text, byte: u8) -> Result<(), AllocError>
+    ensures { OnOk result (output.new ≡ output.old ++ protocol_byte byte) }
+{
+    if byte == b';' {
+        output.put(b"; ")
+    } else {
+        write_escaped_byte(output, byte)
+    }
+}
