@@ -17,8 +17,10 @@ use Rattle.room_files.specs.Inputs.{events_behind, fed_from}
 use Rattle.room_files.specs.Lines.{text_lines}
 use Rattle.room_files.specs.Verdicts.{IsJustified, Judged, is_well, outcome_if}
 use Rattle.room_files.specs.declared.outcome.Outcome.{Outcome}
+use Rattle.bgview.specs.Refusals.{refusal_line, said_refusals}
 use Rattle.bgview.specs.Told.{IsLineBreak, IsTold, ToldRoom, lines_of}
 use Rattle.bgview.specs.Why.{Explained, IsExplained, IsExplanation, IsReasonFor, IsRoomSaid, explained_lines, told_of, verdict_of}
+use Rattle.bgview.specs.declared.refusals.Refusal.{Refusal}
 use Rattle.bgview.specs.declared.told.LineBreak.{LineBreak}
 use Rattle.bgview.proofs.Telling.{fed_at}
 
@@ -39,13 +41,13 @@ told_is told fed is =
 
 -- ---- one room behind the other
 
--- what is said of the first rooms stands behind the lines of the refused blocks
-abbrev pub SoFar : List RoomSpec → List ℕ → List FedEvent → ℕ → List ℕ → Bool → Type 0
-SoFar rooms refused fed count output well =
+-- what is said of the first rooms stands behind what is said of the refused blocks
+abbrev pub SoFar : List RoomSpec → List ℕ → List ℕ → List FedEvent → ℕ → List ℕ → Bool → Type 0
+SoFar rooms start refused fed count output well =
     (all : List Explained)
     × (map (λ one. one.judged.room) all ≡ take count rooms)
     × All (IsExplained fed) all
-    × (output ≡ refused ++ flat_map explained_lines all)
+    × (output ≡ start ++ flat_map explained_lines all)
     × (well ≡ ((length refused == 0) && list_all (λ one. is_well one.verdict one.task) (map (λ one. one.judged) all)))
 
 and_true : (b : Bool) → b ≡ (b && true)
@@ -63,9 +65,9 @@ well_more all one =
     let judged = map (λ (o : Explained). o.judged) all in
     ap (λ w. list_all test judged && w) (and_true (test one.judged)) ∙ sym (list_all-append test judged (one.judged ∷ [])) ∙ ap (list_all test) (sym (map_push (λ (o : Explained). o.judged) all one))
 
-pub one_more : (rooms : List RoomSpec) (refused : List ℕ) (fed : List FedEvent) (count : ℕ) (output : List ℕ) (well : Bool) (room : RoomSpec) (output_now : List ℕ) (well_now : Bool)
-    → SoFar rooms refused fed count output well → slice_get rooms count ≡ Some room → IsRoomSaid room (fed_to room.name fed) output output_now well_now → SoFar rooms refused fed (count + 1) output_now (well && well_now)
-one_more rooms refused fed count output well room output_now well_now so_far there said =
+pub one_more : (rooms : List RoomSpec) (start refused : List ℕ) (fed : List FedEvent) (count : ℕ) (output : List ℕ) (well : Bool) (room : RoomSpec) (output_now : List ℕ) (well_now : Bool)
+    → SoFar rooms start refused fed count output well → slice_get rooms count ≡ Some room → IsRoomSaid room (fed_to room.name fed) output output_now well_now → SoFar rooms start refused fed (count + 1) output_now (well && well_now)
+one_more rooms start refused fed count output well room output_now well_now so_far there said =
     let all = so_far.0 in
     let one = said.one in
     let within = slice_get_within rooms count room there in
@@ -76,8 +78,8 @@ one_more rooms refused fed count output well room output_now well_now so_far the
       all ++ one ∷ [],
       map_push (λ (o : Explained). o.judged.room) all one ∙ ap (λ rs. rs ++ one.judged.room ∷ []) so_far.1 ∙ ap (λ r. take count rooms ++ r ∷ []) said.room ∙ sym next,
       All-push (IsExplained fed) all one so_far.2 explained,
-      said.written ∙ ap (λ o. o ++ explained_lines one) so_far.3 ∙ append_assoc refused (flat_map explained_lines all) (explained_lines one)
-          ∙ ap (λ o. refused ++ (flat_map explained_lines all ++ o)) (sym (append-nil (explained_lines one))) ∙ ap (λ o. refused ++ o) (sym (flat_map-append explained_lines all (one ∷ []))),
+      said.written ∙ ap (λ o. o ++ explained_lines one) so_far.3 ∙ append_assoc start (flat_map explained_lines all) (explained_lines one)
+          ∙ ap (λ o. start ++ (flat_map explained_lines all ++ o)) (sym (append-nil (explained_lines one))) ∙ ap (λ o. start ++ o) (sym (flat_map-append explained_lines all (one ∷ []))),
       ap (λ w. well && w) said.well_is ∙ ap (λ w. w && is_well one.judged.verdict one.judged.task) so_far.4
           ∙ and_assoc (length refused == 0) (list_all (λ (o : Judged). is_well o.verdict o.task) (map (λ (o : Explained). o.judged) all)) (is_well one.judged.verdict one.judged.task)
           ∙ ap (λ w. (length refused == 0) && w) (well_more all one),
@@ -94,8 +96,11 @@ justified_each fed (one ∷ all) each = (each.0.0, justified_each fed all each.1
 all_justified : (fed : List FedEvent) (all : List Explained) → All (IsExplained fed) all → All (IsJustified fed) (map (λ (one : Explained). one.judged) all)
 all_justified fed all each = All-from_recursion (IsJustified fed) (map (λ (one : Explained). one.judged) all) (justified_each fed all (recursion_from_All (IsExplained fed) all each))
 
-pub all_said : (rooms : List RoomSpec) (refused : List ℕ) (fed : List FedEvent) (count : ℕ) (output : List ℕ) (well : Bool) (outcome : Outcome) → length rooms ≤ count → outcome ≡ outcome_if well → SoFar rooms refused fed count output well → IsExplanation rooms refused fed outcome output
-all_said rooms refused fed count output well outcome all_of outcome_is so_far = record {
+pub all_said : (input : List ℕ) (refusals : List Refusal) (rooms : List RoomSpec) (fed : List FedEvent) (count : ℕ) (output : List ℕ) (well : Bool) (outcome : Outcome) → length rooms ≤ count → outcome ≡ outcome_if well → SoFar rooms (said_refusals input refusals) (flat_map refusal_line refusals) fed count output well
+    → IsExplanation input rooms (flat_map refusal_line refusals) fed outcome output
+all_said input refusals rooms fed count output well outcome all_of outcome_is so_far = record {
+  refusals = refusals;
+  refused_are = refl;
   all = so_far.0;
   each_room = so_far.1 ∙ take_all count rooms all_of;
   explained = so_far.2;

@@ -4,6 +4,7 @@ mod Explaining
 mod Finding
 mod Hearing
 mod Reasoning
+mod Passing
 mod RoomLists
 mod Subcommands
 mod Telling

@@ -13,17 +13,16 @@ use Rattle.room_files.specs.Blocks.{Setup}
 use Rattle.room_files.specs.Inputs.{input_says}
 use Rattle.room_files.specs.Verdicts.{Judged, IsJustified, IsOutput, judged_line, is_well}
 use Rattle.room_files.specs.declared.outcome.Outcome.{Outcome}
+use Rattle.bgview.specs.Notes.{indented_all}
+use Rattle.bgview.specs.Refusals.{refusal_line, said_refusals}
 use Rattle.bgview.specs.Told.{ToldRoom, IsLineBreak, lines_of}
 use Rattle.bgview.specs.Words.{reason_words}
+use Rattle.bgview.specs.declared.refusals.Refusal.{Refusal}
 use Rattle.bgview.specs.declared.fault.ViewFault.{ViewFault}
 use Rattle.bgview.specs.declared.fault.ViewFault.TheVariants.{Device, BadInput}
 use Rattle.bgview.specs.declared.told.LineBreak.{LineBreak}
 
 -- ---- the reason
-
--- a line behind another, for people
-abbrev pub indented : List ℕ → List ℕ
-indented text = codes "    " ++ (text ++ codes "\n")
 
 -- an event's line, and why it may not come
 abbrev pub notes_on : List ℕ → Event → LineBreak → List (List ℕ)
@@ -64,7 +63,7 @@ abbrev pub IsExplained : List FedEvent → Explained → Type 0
 IsExplained fed one = IsJustified fed one.judged × IsReasonFor (told_of one.judged.room fed) one.judged.verdict one.notes
 
 abbrev pub explained_lines : Explained → List ℕ
-explained_lines one = judged_line one.judged ++ flat_map indented one.notes
+explained_lines one = judged_line one.judged ++ indented_all one.notes
 
 -- what is written of a room behind a text, and whether all is well with it
 pub record IsRoomSaid (spec : RoomSpec) (fed : List FedEvent) (old new : List ℕ) (well : Bool) : Type 0 where
@@ -76,18 +75,21 @@ pub record IsRoomSaid (spec : RoomSpec) (fed : List FedEvent) (old new : List �
   pub written : new ≡ old ++ explained_lines one
   pub well_is : well ≡ is_well one.judged.verdict one.judged.task
 
--- what `check` answers on each room, in order, each with the reason behind it
-pub record IsExplanation (rooms : List RoomSpec) (refused : List ℕ) (fed : List FedEvent) (outcome : Outcome) (output : List ℕ) : Type 0 where
+-- the line of each refused block of the input, with what is said of it; and what `check` answers on each room, in order, each with the
+-- reason behind it
+pub record IsExplanation (input : List ℕ) (rooms : List RoomSpec) (refused : List ℕ) (fed : List FedEvent) (outcome : Outcome) (output : List ℕ) : Type 0 where
+  pub refusals : List Refusal
+  pub refused_are : refused ≡ flat_map refusal_line refusals
   pub all : List Explained
   pub each_room : map (λ one. one.judged.room) all ≡ rooms
   pub explained : All (IsExplained fed) all
-  pub output_is : output ≡ refused ++ flat_map explained_lines all
+  pub output_is : output ≡ said_refusals input refusals ++ flat_map explained_lines all
   -- without the indented lines it is what `check` writes, with its outcome
   pub checked : IsOutput rooms refused fed outcome (refused ++ flat_map judged_line (map (λ one. one.judged) all))
 
 abbrev pub IsExplanationFor : List ℕ → Outcome → List ℕ → Type 0
 IsExplanationFor input outcome output =
-    (setup : Setup) × (fed : List FedEvent) × (input_says input ≡ Ok (setup, fed)) × IsExplanation setup.rooms setup.refused fed outcome output
+    (setup : Setup) × (fed : List FedEvent) × (input_says input ≡ Ok (setup, fed)) × IsExplanation input setup.rooms setup.refused fed outcome output
 
 -- a beginning of it
 abbrev pub IsPartFor : List ℕ → List ℕ → Type 0

@@ -6,9 +6,13 @@ ghost use Rattle.io_text.specs.Reading.{most_bytes};
 ghost use Rattle.room_files.specs.Blocks.{IsFaultOr};
 ghost use Rattle.room_files.specs.Inputs.{input_says};
 ghost use Rattle.bgview.specs.Told.{AreTold, IsLineBreak, IsTold, specs_of};
-ghost use Rattle.bgview.specs.Why.{IsExplanation, IsExplanationFor, IsReasonFor, IsRoomSaid, indented, verdict_of};
+ghost use Rattle.bgview.specs.Notes.{indented_all};
+ghost use Rattle.bgview.specs.Refusals.{refusal_line};
+ghost use Rattle.bgview.specs.Why.{IsExplanation, IsExplanationFor, IsReasonFor, IsRoomSaid, verdict_of};
 
+use crate::notes::write_indented;
 use crate::reasons::write_reason;
+use crate::refusals::Refusals;
 use crate::rooms::{ToldRooms, tell_events};
 use crate::told::{LineBreak, Told};
 use history_checker::Verdict;
@@ -25,7 +29,7 @@ pub fn explain(alloc: Global, input: &[u8]) -> Result<Answer, InputFault>
     ensures output { IfOk result (λ answer. IsExplanationFor input.now answer.outcome answer.output) }
     ensures err { IfErr result (IsFaultOr (Unit {0}) (input_says input.now)) }
 {
-    let setup = Setup::new(ToldRooms::new(alloc), Text::new(alloc));
+    let setup = Setup::new(ToldRooms::new(alloc), Refusals::new(alloc));
     let (setup, transcript) = read_blocks(alloc, setup, input)?;
     let Setup {
         mut rooms,
@@ -33,16 +37,22 @@ pub fn explain(alloc: Global, input: &[u8]) -> Result<Answer, InputFault>
         line,
     } = setup;
     tell_events(&mut rooms, line, transcript)?;
-    Ok(answer_of(alloc, &rooms, refused)?)
+    Ok(answer_of(alloc, input, &rooms, &refused)?)
 }
 
-/// Puts what is said of the rooms behind the lines of the refused blocks.
-fn answer_of(alloc: Global, rooms: &ToldRooms, refused: Text) -> Result<Answer, AllocError>
-    ensures { IfOk result (λ answer. (fed : List FedEvent) →
-        AreTold rooms.now fed → IsExplanation (specs_of rooms.now) refused fed answer.outcome answer.output) }
+/// Puts what is said of the rooms behind what is said of the refused blocks.
+fn answer_of(
+    alloc: Global,
+    input: &[u8],
+    rooms: &ToldRooms,
+    refusals: &Refusals,
+) -> Result<Answer, AllocError>
+    ensures { IfOk result (λ answer. (fed : List FedEvent) → AreTold rooms.now fed →
+        IsExplanation input.now (specs_of rooms.now) (flat_map refusal_line refusals.now) fed answer.outcome answer.output) }
 {
-    let mut all_well = refused.is_empty();
-    let mut output = refused;
+    let mut output = Text::new(alloc);
+    refusals.write(alloc, &mut output, input)?;
+    let mut all_well = refusals.is_empty();
     for index in 0..rooms.len() {
         let Some(told) = rooms.get(index) else {
             unreachable!() // there is a room of each index below their number
@@ -87,7 +97,7 @@ fn write_because(
     reason: Result<(), LineBreak>,
 ) -> Result<(), AllocError>
     requires { (broken : LineBreak) → reason ≡ Err broken → IsLineBreak told.now broken }
-    ensures { OnOk result ((notes : List (List ℕ)) × IsReasonFor told.now (verdict_of reason) notes × (output.new ≡ output.old ++ flat_map indented notes)) }
+    ensures { OnOk result ((notes : List (List ℕ)) × IsReasonFor told.now (verdict_of reason) notes × (output.new ≡ output.old ++ indented_all notes)) }
 {
     let Err(broken) = reason else {
         return Ok(());
@@ -100,12 +110,4 @@ fn write_because(
     output.put(b"    ")?;
     write_reason(output, event, broken.reason, broken.earlier)?;
     output.put(b"\n")
-}
-
-/// Writes a line behind another, for people.
-fn write_indented(output: &mut Text, line: &[u8]) -> Result<(), AllocError>
-    ensures { OnOk result (output.new ≡ output.old ++ indented line.now) }
-{
-    output.put(b"    ")?;
-    output.put_two(line, b"\n")
 }

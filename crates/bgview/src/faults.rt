@@ -34,9 +34,16 @@ fn write_fault(output: &mut Text, text: &[u8]) -> Result<bool, AllocError>
     let words = words_for(text);
     output.put(text)?;
     output.put(b": ")?;
-    output.put(words.unwrap_or("no fault has this number").as_bytes())?;
+    output.put(words_or_none(words).as_bytes())?;
     output.put(b"\n")?;
     Ok(words.is_some())
+}
+
+/// What a fault says, or that there is none.
+pub fn words_or_none(words: Option<&'static str>) -> &'static str
+    ensures { result.now ≡ words_or_none (option_map (λ words. words.now) words.entry) }
+{
+    words.unwrap_or("no fault has this number")
 }
 
 /// What the fault says that a text is the number of.

@@ -12,11 +12,15 @@ ghost use Rattle.bgview.specs.Faults.{AreFaultsSaid};
 ghost use Rattle.bgview.specs.Why.{IsWhyAnswer};
 
 mod answer;
+mod choices;
 mod command_line;
 mod engine;
 mod fault;
 mod faults;
+mod notes;
+mod places;
 mod reasons;
+mod refusals;
 mod rooms;
 mod told;
 

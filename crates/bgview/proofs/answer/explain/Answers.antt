@@ -2,6 +2,8 @@ use Rattle.std.proofs.Common.{◌∙◌, List, Ok, ap, sym, subst}
 use Rattle.room_spec.specs.Rooms.{RoomSpec}
 use Rattle.room_files.specs.Blocks.{Setup}
 use Rattle.room_files.specs.Inputs.{blocks_in}
+use Rattle.std.specs.List.{flat_map}
+use Rattle.bgview.specs.Refusals.{refusal_line}
 use Rattle.bgview.specs.Told.{specs_of}
 use Rattle.bgview.specs.Why.{IsExplanation}
 use Rattle.bgview.proofs.Explaining.{says}
@@ -9,12 +11,12 @@ use Rattle.bgview.proofs.answer.explain.Goals as goal
 
 pub returns-clause-output : goal.returns-clause-output
 returns-clause-output c =
-    let setup : Setup = record { rooms = specs_of c.setup.inside.rooms; refused = c.setup.inside.refused; line = c.setup.inside.line } in
+    let setup : Setup = record { rooms = specs_of c.setup.inside.rooms; refused = flat_map refusal_line c.setup.inside.refused; line = c.setup.inside.line } in
     let transcript = c.in_ok-setup.transcript.now in
     let told = c.in_ok-tell_events.ensures.told in
     let answer = c.in_ok-answer_of.field-0 in (
       setup,
       told.0,
       says (blocks_in c.args.input.now) setup transcript told.0 (c.in_ok-setup.ensures.read ∙ ap (λ (s : Setup). Ok (s, transcript)) (sym c.setup.view_is)) told.1,
-      subst (λ (rooms : List RoomSpec). IsExplanation rooms setup.refused told.0 answer.outcome answer.output) c.in_ok-tell_events.ensures.rooms (c.in_ok-answer_of.ensures told.0 told.2),
+      subst (λ (rooms : List RoomSpec). IsExplanation c.args.input.now rooms setup.refused told.0 answer.outcome answer.output) c.in_ok-tell_events.ensures.rooms (c.in_ok-answer_of.ensures told.0 told.2),
     )

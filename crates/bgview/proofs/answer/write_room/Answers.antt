@@ -4,8 +4,9 @@ use Rattle.std.proofs.lemmas.List.{append_assoc}
 use Rattle.history_checker.specs.Verdicts.{IsVerdict}
 use Rattle.history_checker.specs.declared.verdict.Verdict.{Verdict}
 use Rattle.room_files.specs.Reports.{task_line, verdict_line}
+use Rattle.bgview.specs.Notes.{indented_all}
 use Rattle.bgview.specs.Told.{ToldRoom}
-use Rattle.bgview.specs.Why.{IsReasonFor, indented}
+use Rattle.bgview.specs.Why.{IsReasonFor}
 use Rattle.bgview.proofs.Explaining.{is_verdict, told_is}
 use Rattle.bgview.proofs.answer.write_room.Goals as goal
 
@@ -28,8 +29,8 @@ returns c = λ fed is.
       task = c.task_verdict-task.ensures fed is;
       because = subst Q (told_is told fed is) own;
       written =
-          because.2 ∙ ap (λ t. t ++ flat_map indented because.0) (c.in_ok-write_task.ensures ∙ ap (λ t. t ++ task_line c.name-name.result.now verdict task) c.in_ok-write_verdict.ensures
+          because.2 ∙ ap (λ t. t ++ indented_all because.0) (c.in_ok-write_task.ensures ∙ ap (λ t. t ++ task_line c.name-name.result.now verdict task) c.in_ok-write_verdict.ensures
           ∙ append_assoc c.args.output.now (verdict_line c.name-name.result.now verdict) (task_line c.name-name.result.now verdict task) ∙ ap (λ n. c.args.output.now ++ line n) name)
-          ∙ append_assoc c.args.output.now (line told.spec.name) (flat_map indented because.0);
+          ∙ append_assoc c.args.output.now (line told.spec.name) (indented_all because.0);
       well_is = c.is_well.ensures;
     }
