@@ -8,5 +8,5 @@ mod reply;
 mod script;
 
 pub use replies::{PlayText, play};
-pub use reply::{refusal_in, sim_in, write_reply, write_report, write_steps};
+pub use reply::{refusal_in, sim_in, write_processes, write_reply, write_report, write_steps};
 pub use script::{Performs, Played, play_script};

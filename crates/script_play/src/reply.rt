@@ -103,7 +103,8 @@ pub fn write_report(output: &mut Text, name: &[u8], report: &Report) -> Result<(
     output.put_two(name, b" end\n")
 }
 
-fn write_processes(
+/// Writes a line for each process, in order of their numbers: where it stands.
+pub fn write_processes(
     output: &mut Text,
     name: &[u8],
     states: &[ProcessState],
