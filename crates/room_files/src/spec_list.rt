@@ -43,14 +43,14 @@ impl SpecList {
     }
 
     /// Whether a spec has this name.
-    fn has(&self, name: &Name) -> bool
+    pub fn has(&self, name: &Name) -> bool
         ensures { result ≡ has_room name.now self.now }
     {
         self.specs.contains_key(name)
     }
 
-    /// Adds a spec whose name no other has.
-    fn push(&mut self, spec: Spec) -> Result<(), AllocError>
+    /// Adds a spec whose name no other has. An `Err` drops it and changes nothing.
+    pub fn push(&mut self, spec: Spec) -> Result<(), AllocError>
         requires { IsFalse (has_room spec.name self.old) }
         ensures added { OnOk result (self.new ≡ self.old ++ spec ∷ []) }
         ensures err { OnErr result (self.new ≡ self.old) }

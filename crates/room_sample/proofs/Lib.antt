@@ -1,3 +1,5 @@
 mod Counting
 mod OneMore
+mod RoomTexts
 mod Schedules
+mod Taking

@@ -1,12 +1,11 @@
 -- One run more is sampled.
-use Rattle.std.proofs.Common.{◌≡◌, ℕ, ◌+◌, List, [], ◌∷◌, ◌++◌, length, refl, sym, ap, ◌∙◌, arith}
-use Rattle.std.specs.List.{All, fold}
+use Rattle.std.proofs.Common.{◌≡◌, ℕ, ◌+◌, List, [], ◌∷◌, ◌++◌, refl, sym, ap, ◌∙◌}
 use Rattle.std.proofs.lemmas.List.{length-append}
 use Rattle.std.proofs.lemmas.List.Elements.{All-append, All-cons, All-nil}
 use Rattle.std.proofs.lemmas.List.Sums.{fold-append}
 use Rattle.room_spec.specs.Rooms.{RoomSpec}
 use Rattle.ws_history.specs.declared.states.ProcessState.{ProcessState}
-use Rattle.room_sample.specs.Samples.{Counted, IsSample, IsSampled, Sampled, counted, counted_all}
+use Rattle.room_sample.specs.Samples.{Counted, IsSample, IsSampled, Sampled, counted}
 use Rattle.room_sample.specs.Schedules.{IsOutcome}
 use Rattle.room_sample.specs.declared.stretch.Stretch.{Stretch}
 

@@ -1,6 +1,5 @@
 -- One stretch more.
-use Rattle.std.proofs.Common.{◌≡◌, ℕ, ◌+◌, ◌-◌, ◌<◌, ◌≤◌, Bool, true, false, List, [], ◌∷◌, ◌++◌, refl, sym, ap, ◌∙◌, subst, arith}
-use Rattle.std.specs.List.{count_by}
+use Rattle.std.proofs.Common.{◌≡◌, ℕ, ◌+◌, ◌-◌, ◌<◌, ◌≤◌, List, [], ◌∷◌, ◌++◌, refl, sym, ap, ◌∙◌, subst, arith}
 use Rattle.std.proofs.lemmas.List.Sums.{sum_by-append}
 use Rattle.room_spec.specs.Rooms.{RoomSpec}
 use Rattle.room_core.specs.Calls.{RoomState, crash_reply, opening_state, room_after_crash, room_after_settle, room_after_steps, step_reply}
@@ -9,11 +8,10 @@ use Rattle.room_core.specs.Reading.{AreFieldsOf}
 use Rattle.room_core.specs.declared.reply.CrashReply.TheVariants.{Crashed}
 use Rattle.room_core.specs.declared.reply.StepReply.TheVariants.{Stepped}
 use Rattle.ws_history.specs.Reports.{report_of}
-use Rattle.ws_history.specs.declared.states.ProcessState.{ProcessState}
 use Rattle.ws_history.specs.declared.states.Report.{Report}
 use Rattle.room_sample.specs.declared.stretch.Stretch.{Stretch}
 use Rattle.room_sample.specs.declared.stretch.Stretch.TheVariants.{Steps, Crash}
-use Rattle.room_sample.specs.Schedules.{IsOutcome, IsSchedule, IsScheduled, MayCome, crashes_in, is_crash, room_after_schedule, room_after_stretch}
+use Rattle.room_sample.specs.Schedules.{IsOutcome, IsSchedule, IsScheduled, MayCome, crashes_in, room_after_schedule, room_after_stretch}
 
 more_comes : (room : RoomState) (schedule : List Stretch) (stretch : Stretch) → IsSchedule room schedule → MayCome (room_after_schedule room schedule) stretch → IsSchedule room (schedule ++ stretch ∷ [])
 more_comes room [] stretch is may = (may, tt)

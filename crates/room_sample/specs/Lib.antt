@@ -1,2 +1,4 @@
+pub mod Rooms
 pub mod Samples
 pub mod Schedules
+pub mod Texts

@@ -3,10 +3,14 @@
 
 mod chances;
 mod run;
+mod sampler;
 mod sampling;
 mod stretch;
 mod tally;
+mod text;
 
+pub use sampler::SampleRooms;
 pub use sampling::{Plan, sample};
 pub use stretch::Stretch;
 pub use tally::{Outcome, States, Tally};
+pub use text::write_sample;

@@ -134,11 +134,7 @@ fn random_length(chances: &mut Chances) -> u16
 
 /// Lets a simulator take up to so many steps, or crash where its fuse has burnt down. Gives whether it may
 /// take more.
-fn go_on(
-    scheduled: &mut Scheduled,
-    active: &mut Active,
-    most: u16,
-) -> Result<bool, AllocError>
+fn go_on(scheduled: &mut Scheduled, active: &mut Active, most: u16) -> Result<bool, AllocError>
     ensures { OnOk result ((spec : RoomSpec) (crashes : ℕ) →
         IsScheduled spec crashes scheduled.old.schedule.items scheduled.old.room scheduled.old.crashes_left →
         IsScheduled spec crashes scheduled.new.schedule.items scheduled.new.room scheduled.new.crashes_left) }

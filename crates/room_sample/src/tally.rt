@@ -1,7 +1,6 @@
 //! Outcomes, and how often each came.
-ghost use Rattle.std.specs.Prelude.{◌≡◌, [], OnOk};
-ghost use Rattle.room_sample.specs.Samples.{counted};
-
+ghost use Rattle.std.specs.Prelude.{◌≡◌, [], IsPermutation, OnOk, length, option_map, slice_get};
+ghost use Rattle.room_sample.specs.Samples.{counted, counted_of};
 
 use crate::run::Run;
 use crate::stretch::Stretch;
@@ -66,5 +65,27 @@ impl Tally {
         };
         outcome.times = outcome.times.saturating_add(1);
         Ok(())
+    }
+
+    /// Puts those first that came most often.
+    pub fn sort_by_times(&mut self) -> Result<(), AllocError>
+        ensures { IsPermutation self.old self.new }
+    {
+        self.outcomes
+            .sort_by_key(|_states, outcome| u32::MAX - outcome.times)
+    }
+
+    /// How many outcomes there are.
+    pub fn len(&self) -> usize
+        ensures { result ≡ length self.now }
+    {
+        self.outcomes.len()
+    }
+
+    /// The outcome of this index.
+    pub fn get(&self, index: usize) -> Option<(&States, &Outcome)>
+        ensures { option_map (λ one. counted_of (one.0.now, one.1.now)) result ≡ slice_get self.now index }
+    {
+        self.outcomes.get_index(index)
     }
 }

@@ -1,7 +1,6 @@
-use Rattle.std.proofs.Common.{◌≡◌, ℕ, ◌-◌, ◌++◌, ◌∷◌, [], List, sym, ap, ◌∙◌, subst, arith}
+use Rattle.std.proofs.Common.{◌-◌, List, sym, ap, ◌∙◌, subst, arith}
 use Rattle.room_core.specs.Calls.{crash_reply, room_after_crash}
 use Rattle.room_sample.specs.declared.stretch.Stretch.{Stretch}
-use Rattle.room_sample.specs.declared.stretch.Stretch.TheVariants.{Crash}
 use Rattle.room_sample.specs.Schedules.{IsScheduled}
 use Rattle.room_sample.proofs.Schedules.{crash_on}
 use Rattle.room_sample.proofs.run.Scheduled.crash.Goals as goal

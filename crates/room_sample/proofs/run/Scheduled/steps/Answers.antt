@@ -1,8 +1,7 @@
-use Rattle.std.proofs.Common.{◌≡◌, ℕ, ◌<◌, ◌++◌, ◌∷◌, [], List, sym, ap, ◌∙◌, subst, arith}
+use Rattle.std.proofs.Common.{◌≡◌, ℕ, ◌<◌, List, sym, ap, ◌∙◌, subst, arith}
 use Rattle.room_core.specs.Calls.{room_after_steps, step_reply}
 use Rattle.room_core.specs.declared.reply.StepReply.TheVariants.{Stepped}
 use Rattle.room_sample.specs.declared.stretch.Stretch.{Stretch}
-use Rattle.room_sample.specs.declared.stretch.Stretch.TheVariants.{Steps}
 use Rattle.room_sample.specs.Schedules.{IsScheduled}
 use Rattle.room_sample.proofs.Schedules.{steps_on}
 use Rattle.room_sample.proofs.run.Scheduled.steps.Goals as goal

@@ -1,0 +1,63 @@
+-- What is written of a room that was sampled.
+use Rattle.std.specs.Prelude.{ℕ, suc, max, not, List, [], ◌∷◌, ◌++◌, ◌&&◌, if◌then◌else◌, nat_eq, codes, decimal}
+use Rattle.std.specs.List.{count_by, ends_with, flat_map, fold, list_any}
+use Rattle.ws_history.specs.Reports.{is_decided, is_held}
+use Rattle.ws_history.specs.contracts.states.ProcessStatePartialEq.TheImpl.{ghosts}
+use Rattle.ws_history.specs.declared.states.ProcessState.{ProcessState}
+use Rattle.script_play.specs.ReplyTexts.{process_lines}
+use Rattle.room_sample.specs.Samples.{Counted}
+use Rattle.room_sample.specs.declared.sampling.Plan.{Plan}
+use Rattle.room_sample.specs.declared.stretch.Stretch.{Stretch}
+use Rattle.room_sample.specs.declared.stretch.Stretch.TheVariants.{Steps, Crash}
+
+-- ---- how many values and held processes an outcome has
+
+-- how many different values are decided: each counts where its last process stands
+abbrev pub values_in : List ProcessState → ℕ
+values_in [] = 0
+values_in (state ∷ states) = if is_decided state && not (list_any (ghosts.eq state) states) then suc (values_in states) else values_in states
+
+abbrev pub held_in : List ProcessState → ℕ
+held_in states = count_by is_held states
+
+-- the most that any outcome has
+abbrev pub most_of : (List ProcessState → ℕ) → List Counted → ℕ
+most_of count outcomes = fold (λ most one. max (count one.states) most) 0 outcomes
+
+-- ---- the script of a schedule
+
+abbrev pub stretch_line : List ℕ → Stretch → List ℕ
+stretch_line name (Steps simulator count) = codes "step " ++ (name ++ ((32 ∷ decimal simulator) ++ ((32 ∷ decimal count) ++ codes "\n")))
+stretch_line name (Crash simulator) = codes "crash " ++ (name ++ ((32 ∷ decimal simulator) ++ codes "\n"))
+
+-- a block, whose last line may end with it
+abbrev pub whole_block : List ℕ → List ℕ
+whole_block block = if ends_with nat_eq block (codes "\n") then block else block ++ codes "\n"
+
+-- what `play` is given so that it comes to the outcome, and reports it
+abbrev pub script_text : List ℕ → List ℕ → List Stretch → List ℕ
+script_text name block schedule =
+    codes "open\n" ++ (whole_block block ++ (flat_map (stretch_line name) schedule ++ ((codes "settle " ++ (name ++ codes "\n")) ++ (codes "report " ++ (name ++ codes "\n")))))
+
+-- ---- the text
+
+abbrev pub plan_line : List ℕ → Plan → List ℕ
+plan_line name plan =
+    (name ++ (codes " sample" ++ (32 ∷ decimal plan.schedules))) ++ ((codes " crashes" ++ (32 ∷ decimal plan.crashes)) ++ ((codes " seed" ++ (32 ∷ decimal plan.seed)) ++ codes "\n"))
+
+-- how often an outcome came, where the processes stand in it, and a script that leads there
+abbrev pub outcome_text : List ℕ → List ℕ → Counted → List ℕ
+outcome_text name block one =
+    (codes "\n" ++ (name ++ (codes " came" ++ ((32 ∷ decimal one.times) ++ codes " times\n")))) ++ (process_lines name one.states ++ script_text name block one.schedule)
+
+-- a line that says how many of something there were at most
+abbrev pub most_line : List ℕ → List ℕ → ℕ → List ℕ → List ℕ
+most_line name words most things = name ++ ((words ++ (32 ∷ decimal most)) ++ things)
+
+abbrev pub most_lines : List ℕ → List Counted → List ℕ
+most_lines name outcomes =
+    codes "\n"
+    ++ (most_line name (codes " decided at most") (most_of values_in outcomes) (codes " values\n") ++ most_line name (codes " held at most") (most_of held_in outcomes) (codes " processes\n"))
+
+abbrev pub sample_text : List ℕ → List ℕ → Plan → List Counted → List ℕ
+sample_text name block plan outcomes = plan_line name plan ++ (flat_map (outcome_text name block) outcomes ++ most_lines name outcomes)
