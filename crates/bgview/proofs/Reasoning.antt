@@ -1,7 +1,6 @@
 -- The line that breaks a room's run, and why it does, behind a text.
 use Rattle.std.proofs.Common.{◌≡◌, ◌∙◌, ℕ, List, [], ◌∷◌, ◌++◌, Some, None, ap, refl, sym, subst}
 use Rattle.std.specs.Prelude.{codes, slice_get, Result, Ok, Err, OnOk}
-use Rattle.std.specs.List.{flat_map}
 use Rattle.std.proofs.lemmas.List.{append-nil, append_assoc}
 use Rattle.transcript.specs.Grammar.{event_line}
 use Rattle.transcript.specs.declared.event.Event.{Event}

@@ -1,11 +1,11 @@
 -- Lines for people, behind those that `check` writes.
-use Rattle.std.specs.Prelude.{ℕ, zero, suc, ◌-◌, List, [], ◌∷◌, ◌++◌, Result, Ok, Err, codes}
+use Rattle.std.specs.Prelude.{◌≡◌, ℕ, zero, suc, ◌-◌, List, [], ◌∷◌, ◌++◌, Result, Ok, Err, codes}
 use Rattle.std.specs.List.{flat_map}
 use Rattle.room_spec.specs.Texts.{first_line, later_lines}
 use Rattle.fault_words.specs.Words.{words_of}
 use Rattle.bgview.specs.Faults.{words_or_none}
-use Rattle.room_files.specs.declared.fault.InputFault.{InputFault}
-use Rattle.room_files.specs.declared.fault.InputFault.TheVariants.{BadInput, Memory}
+use Rattle.bgview.specs.declared.fault.ViewFault.{ViewFault}
+use Rattle.bgview.specs.declared.fault.ViewFault.TheVariants.{Device, BadInput}
 
 -- a line behind another, for people
 abbrev pub indented : List ℕ → List ℕ
@@ -34,3 +34,9 @@ line_at number text = first_line (from_line number text)
 -- what is said of an input's fault: its words, and the line that has it
 abbrev pub bad_line_notes : List ℕ → ℕ → ℕ → List (List ℕ)
 bad_line_notes input line code = fault_note code ∷ line_at line input ∷ []
+
+-- what there is to say of the end of an answer to an input: of a bad line, and of no other
+abbrev pub AreNotes : {A : Type 0} → List ℕ → Result A ViewFault → List ℕ → List ℕ → Type 0
+AreNotes input (Ok value) old new = new ≡ old
+AreNotes input (Err (Device fault)) old new = new ≡ old
+AreNotes input (Err (BadInput line code)) old new = new ≡ indented_all (bad_line_notes input line code)

@@ -1,6 +1,6 @@
 -- What is said of the blocks that are refused.
 use Rattle.std.specs.Prelude.{ℕ, zero, suc, ◌==◌, Bool, true, false, List, [], ◌∷◌, ◌++◌, length, map, take, drop, Option, Some, None, Result, Ok, Err, nat_lt, codes, if◌then◌else◌}
-use Rattle.std.specs.List.{filter, flat_map}
+use Rattle.std.specs.List.{flat_map}
 use Rattle.std.specs.Str.{bytes_eq}
 use Rattle.protocol_lang.specs.Faults.{code_of as protocol_code}
 use Rattle.protocol_lang.specs.FirstFaults.{place_of}
@@ -44,8 +44,14 @@ abbrev pub choice_if : List ℕ → List ℕ → List ℕ
 choice_if before token = if can_stand before token then choice_words token else []
 
 -- the tokens that can stand there
+unfoldable pub choices : List ℕ → List ℕ
+choices before = flat_map (choice_if before) (map (λ token. token.now) TOKENS)
+
+abbrev pub choices_words : List ℕ → List ℕ
+choices_words words = if length words == 0 then codes "nothing could stand there" else codes "what could stand there:" ++ words
+
 abbrev pub choices_note : List ℕ → List ℕ
-choices_note before = codes "what could stand there:" ++ flat_map (choice_if before) (map (λ token. token.now) TOKENS)
+choices_note before = choices_words (choices before)
 
 -- ---- a place
 

@@ -1,5 +1,5 @@
 -- What is said of rooms that are no run, and what `bgview why` answers.
-use Rattle.std.specs.Prelude.{◌≡◌, ℕ, ◌≤◌, ◌<◌, Bool, List, [], ◌∷◌, ◌++◌, length, map, Some, Result, Ok, Err, codes, slice_get}
+use Rattle.std.specs.Prelude.{◌≡◌, ℕ, ◌≤◌, ◌<◌, Bool, List, [], ◌∷◌, ◌++◌, length, map, Some, Result, Ok, Err, slice_get}
 use Rattle.std.specs.List.{All, flat_map}
 use Rattle.io_text.specs.Reading.{most_bytes}
 use Rattle.io_text.specs.declared.fault.DeviceFault.TheVariants.{Read, Write, TooLong, Memory}
@@ -103,3 +103,11 @@ IsWhyAnswer input (Err (Device TooLong)) output = (most_bytes < length input) ×
 IsWhyAnswer input (Err (Device Memory)) output = output ≡ []
 IsWhyAnswer input (Err (Device Read)) output = output ≡ []
 IsWhyAnswer input (Err (Device Write)) output = (length input ≤ most_bytes) × IsPartFor input output
+
+-- the faults with which the explanation of an input may end
+abbrev pub MayEndWhy : List ℕ → ViewFault → Type 0
+MayEndWhy input (BadInput line code) = input_says input ≡ Err (line, code)
+MayEndWhy input (Device Memory) = Unit {0}
+MayEndWhy input (Device Read) = ⊥
+MayEndWhy input (Device Write) = ⊥
+MayEndWhy input (Device TooLong) = ⊥

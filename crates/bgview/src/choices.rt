@@ -2,7 +2,7 @@
 ghost use Rattle.std.specs.Prelude.{◌≡◌, ◌++◌, IfOk, OnOk, map};
 ghost use Rattle.std.specs.List.{flat_map};
 ghost use Rattle.protocol_lang.specs.FirstFaults.{place_of};
-ghost use Rattle.bgview.specs.Refusals.{can_stand, choice_if, choice_words, choices_note, is_fault_behind};
+ghost use Rattle.bgview.specs.Refusals.{can_stand, choice_if, choice_words, choices, choices_note, choices_words, is_fault_behind};
 
 use io_text::Text;
 use protocol_lang::{ParseFault, parse_bytes};
@@ -19,8 +19,29 @@ const TOKENS: [&[u8]; 32] = [
 pub fn write_choices(alloc: Global, output: &mut Text, before: &[u8]) -> Result<(), AllocError>
     ensures { OnOk result (output.new ≡ output.old ++ choices_note before.now) }
 {
-    output.put(b"what could stand there:")?;
-    write_choices_among(alloc, output, before, &TOKENS)
+    let choices = choices_behind(alloc, before)?;
+    write_words(output, choices.as_bytes())
+}
+
+/// Writes that these tokens could stand at a place, or that none could.
+fn write_words(output: &mut Text, choices: &[u8]) -> Result<(), AllocError>
+    ensures { OnOk result (output.new ≡ output.old ++ choices_words choices.now) }
+{
+    if choices.is_empty() {
+        output.put(b"nothing could stand there")
+    } else {
+        output.put_two(b"what could stand there:", choices)
+    }
+}
+
+/// The tokens that can stand behind these bytes of a protocol's text.
+#[tactic(auto, unfolding(crate::specs::Refusals::choices))]
+fn choices_behind(alloc: Global, before: &[u8]) -> Result<Text, AllocError>
+    ensures { IfOk result (λ text. text ≡ choices before.now) }
+{
+    let mut choices = Text::new(alloc);
+    write_choices_among(alloc, &mut choices, before, &TOKENS)?;
+    Ok(choices)
 }
 
 /// Writes which of these tokens can stand behind these bytes of a protocol's text.

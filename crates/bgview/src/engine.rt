@@ -1,21 +1,24 @@
 //! From bytes to bytes.
-ghost use Rattle.std.specs.Prelude.{◌≡◌, ◌+◌, ◌≤◌, List, ℕ, false, length, map, IfSome};
+ghost use Rattle.std.specs.Prelude.{◌≡◌, ◌+◌, ◌≤◌, List, ℕ, false, length, map, IfErr, IfOk, IfSome};
 ghost use Rattle.std.specs.Io.KnownBytes.{Appends};
 ghost use Rattle.io_text.specs.Devices.{HasRead, HasWritten, failed_writes};
 ghost use Rattle.bgview.specs.Ends.{is_read_failed, is_write_failed};
 ghost use Rattle.bgview.specs.Faults.{AreFaultsSaid};
-ghost use Rattle.bgview.specs.Why.{IsWhyAnswer};
+ghost use Rattle.io_text.specs.Reading.{most_bytes};
+ghost use Rattle.bgview.specs.Notes.{AreNotes};
+ghost use Rattle.bgview.specs.Why.{IsExplanationFor, IsWhyAnswer, MayEndWhy};
 
 use crate::answer::explain;
 use crate::fault::ViewFault;
 use crate::faults::say_faults;
-use io_text::{Device, read_input, write_output};
-use room_files::Outcome;
+use crate::notes::notes_on_bad_line;
+use io_text::{Device, DeviceFault, Text, read_input, write_output};
+use room_files::{Answer, InputFault, Outcome};
 use std::alloc::Global;
 use std::io::{Read, Write};
 
 /// Judges the transcript that the reader gives, and writes the verdicts, and behind each room that is no run the line that breaks it
-/// and why.
+/// and why. What is said of an input's fault for people becomes `notes`.
 ///
 /// # Errors
 ///
@@ -24,6 +27,7 @@ pub fn why_io<R: Read, W: Write>(
     alloc: Global,
     reader: &mut Device<R>,
     writer: &mut Device<W>,
+    notes: &mut Text,
 ) -> Result<Outcome, ViewFault>
     requires reader { reader.old.failed ≡ false }
     requires writer { writer.old.failed ≡ false }
@@ -33,11 +37,29 @@ pub fn why_io<R: Read, W: Write>(
         × (writer.new.calls ≤ writer.old.calls + length output + failed_writes (is_write_failed result))) }
     ensures reader { HasRead reader.old reader.new (R.remaining reader.old.inner) (is_read_failed result) }
     ensures writer { HasWritten writer.old writer.new result (is_write_failed result) }
+    ensures notes { IfSome (R.remaining reader.old.inner) (λ input. AreNotes input result notes.old notes.new) }
 {
     let input = read_input(alloc, reader)?;
-    let answer = explain(alloc, &input)?;
+    let answer = explain_or_note(alloc, &input, notes)?;
     write_output(writer, answer.output.as_bytes())?;
     Ok(answer.outcome)
+}
+
+/// Explains an input. What is said of its fault, if it has one, becomes `notes`.
+fn explain_or_note(alloc: Global, input: &[u8], notes: &mut Text) -> Result<Answer, ViewFault>
+    requires { length input.now ≤ most_bytes }
+    ensures output { IfOk result (λ answer. IsExplanationFor input.now answer.outcome answer.output) }
+    ensures err { IfErr result (MayEndWhy input.now) }
+    ensures notes { AreNotes input.now result notes.old notes.new }
+{
+    match explain(alloc, input) {
+        Ok(answer) => Ok(answer),
+        Err(InputFault::Memory) => Err(ViewFault::Device(DeviceFault::Memory)),
+        Err(InputFault::BadInput { line, code }) => {
+            *notes = notes_on_bad_line(alloc, input, line, code)?;
+            Err(ViewFault::BadInput { line, code })
+        }
+    }
 }
 
 /// Says in words, a line each, the faults that these texts are the numbers of.

@@ -9,6 +9,7 @@ ghost use Rattle.clap.specs.Words.{subcommand_rows_of};
 ghost use Rattle.bgview.specs.CommandLine.{codes_among};
 ghost use Rattle.bgview.specs.Ends.{ending_status, fault_status, unread_status, words_status};
 ghost use Rattle.bgview.specs.Faults.{AreFaultsSaid};
+ghost use Rattle.bgview.specs.Notes.{AreNotes};
 ghost use Rattle.bgview.specs.Why.{IsWhyAnswer};
 
 mod answer;
@@ -29,7 +30,7 @@ use clap::error::ErrorKind;
 use command_line::{Mode, line_in, read_words};
 use engine::{fault_io, why_io};
 use fault::ViewFault;
-use io_text::{Device, DeviceFault};
+use io_text::{Device, DeviceFault, Text};
 use room_files::Outcome;
 use std::alloc::Global;
 use std::fs::File;
@@ -49,7 +50,11 @@ fn status(rt: &HostRuntime) -> u8
         Err(error) => return unread_status(rt, &error),
     };
     match read_words(rt.alloc(), words.as_slice()) {
-        Ok(matches) => ending_status(rt, ending(rt, &matches)),
+        Ok(matches) => {
+            let mut notes = Text::new(rt.alloc());
+            let ending = ending(rt, &matches, &mut notes);
+            ending_status(rt, ending, &notes)
+        }
         Err(error) => words_status(rt, &error),
     }
 }
@@ -59,12 +64,16 @@ fn words(rt: &HostRuntime) -> io::Result<Vec<String>> {
     Ok(std::env::args(rt)?.skip(1).collect(rt.alloc())?)
 }
 
-/// How the program ends that does what the words ask for.
-fn ending(rt: &HostRuntime, matches: &ArgMatches<'_>) -> Result<Outcome, ViewFault> {
+/// How the program ends that does what the words ask for. What is said of the fault of an input becomes `notes`.
+fn ending(
+    rt: &HostRuntime,
+    matches: &ArgMatches<'_>,
+    notes: &mut Text,
+) -> Result<Outcome, ViewFault> {
     let line = line_in(matches);
     match line.command {
         Mode::Fault => say_faults(rt.alloc(), matches, &mut Device::new(rt.stdout())),
-        Mode::Why => explained(rt, line.file),
+        Mode::Why => explained(rt, line.file, notes),
     }
 }
 
@@ -88,39 +97,41 @@ fn say_faults<W: Write>(
 }
 
 /// How the program ends that explains this file, or standard input.
-fn explained(rt: &HostRuntime, file: Option<&str>) -> Result<Outcome, ViewFault> {
+fn explained(rt: &HostRuntime, file: Option<&str>, notes: &mut Text) -> Result<Outcome, ViewFault> {
     match file {
-        None => why(rt, rt.stdin()),
+        None => why(rt, rt.stdin(), notes),
         Some(path) => match File::open(rt, path) {
-            Ok(input) => why(rt, input),
+            Ok(input) => why(rt, input, notes),
             Err(_) => Err(ViewFault::Device(DeviceFault::Read)),
         },
     }
 }
 
 /// The answer to an input, whose text goes to standard output.
-fn why<R: Read + Drop>(rt: &HostRuntime, input: R) -> Result<Outcome, ViewFault>
-    ensures { IfSome (R.remaining input) (λ bytes. (output : List ℕ) × IsWhyAnswer bytes result output) }
+fn why<R: Read + Drop>(rt: &HostRuntime, input: R, notes: &mut Text) -> Result<Outcome, ViewFault>
+    ensures answer { IfSome (R.remaining input) (λ bytes. (output : List ℕ) × IsWhyAnswer bytes result output) }
+    ensures notes { IfSome (R.remaining input) (λ bytes. AreNotes bytes result notes.old notes.new) }
 {
     let mut reader = Device::new(input);
     let mut writer = Device::new(rt.stdout());
-    why_io(rt.alloc(), &mut reader, &mut writer)
+    why_io(rt.alloc(), &mut reader, &mut writer, notes)
 }
 
-fn ending_status(rt: &HostRuntime, ending: Result<Outcome, ViewFault>) -> u8
+fn ending_status(rt: &HostRuntime, ending: Result<Outcome, ViewFault>, notes: &Text) -> u8
     ensures { result ≡ ending_status ending }
 {
     match ending {
         Ok(outcome) => outcome.status(),
-        Err(fault) => fault_status(rt, fault),
+        Err(fault) => fault_status(rt, fault, notes.as_bytes()),
     }
 }
 
-/// The status where this fault ended the answer, once it is told on standard error.
-fn fault_status(rt: &HostRuntime, fault: ViewFault) -> u8
+/// The status where this fault ended the answer, once it is told on standard error with what else is said of it.
+fn fault_status(rt: &HostRuntime, fault: ViewFault, notes: &[u8]) -> u8
     ensures { result ≡ fault_status fault }
 {
     let _ = eprintln!(rt; "bgview: {fault}");
+    let _ = rt.stderr().write_all(notes);
     fault.status()
 }
 
@@ -129,7 +140,7 @@ fn unread_status(rt: &HostRuntime, error: &io::Error) -> u8
     ensures { result ≡ unread_status (error_kind error.now) }
 {
     if error.kind() == io::ErrorKind::OutOfMemory {
-        return fault_status(rt, ViewFault::Device(DeviceFault::Memory));
+        return fault_status(rt, ViewFault::Device(DeviceFault::Memory), &[]);
     }
     let _ = eprintln!(rt; "bgview: a word of the command line is not UTF-8");
     2
@@ -140,11 +151,11 @@ fn words_status(rt: &HostRuntime, error: &clap::Error) -> u8
     ensures { (is_printed : Bool) × (result ≡ words_status (kind_of error.now) is_printed) }
 {
     if error.kind() == ErrorKind::OutOfMemory {
-        return fault_status(rt, ViewFault::Device(DeviceFault::Memory));
+        return fault_status(rt, ViewFault::Device(DeviceFault::Memory), &[]);
     }
     let is_printed = error.print(rt).is_ok();
     if error.use_stderr() || is_printed {
         return error.exit_code() as u8;
     }
-    fault_status(rt, ViewFault::Device(DeviceFault::Write))
+    fault_status(rt, ViewFault::Device(DeviceFault::Write), &[])
 }

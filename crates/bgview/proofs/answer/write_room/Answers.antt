@@ -1,5 +1,4 @@
 use Rattle.std.proofs.Common.{◌≡◌, ◌∙◌, ◌++◌, List, ℕ, ap, refl, sym, subst}
-use Rattle.std.specs.List.{flat_map}
 use Rattle.std.proofs.lemmas.List.{append_assoc}
 use Rattle.history_checker.specs.Verdicts.{IsVerdict}
 use Rattle.history_checker.specs.declared.verdict.Verdict.{Verdict}
