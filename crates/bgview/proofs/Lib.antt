@@ -8,3 +8,4 @@ mod Passing
 mod RoomLists
 mod Subcommands
 mod Telling
+mod Tracing

@@ -6,3 +6,4 @@ pub mod Refusals
 pub mod Told
 pub mod Why
 pub mod Words
+pub mod Trace

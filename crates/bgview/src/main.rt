@@ -24,6 +24,7 @@ mod reasons;
 mod refusals;
 mod rooms;
 mod told;
+mod trace;
 
 use clap::ArgMatches;
 use clap::error::ErrorKind;

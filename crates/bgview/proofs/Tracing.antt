@@ -1,0 +1,108 @@
+-- What is noted of what was done, one by one.
+use Rattle.std.proofs.Common.{◌≡◌, ◌≢◌, ◌∙◌, ℕ, Bool, true, false, List, [], ◌∷◌, ◌++◌, Option, Some, None, Result, Ok, Err, refl, sym, ap, ap₂, subst}
+use Rattle.std.specs.Result.{OnOk}
+use Rattle.std.specs.declared.alloc.AllocError.{AllocError}
+use Rattle.std.proofs.lemmas.Grind.{flat_map-append}
+use Rattle.std.proofs.lemmas.List.{append-nil, append_assoc, map-append}
+use Rattle.room_core.specs.Calls.{RoomState}
+use Rattle.room_core.specs.Watching.{AreSeen}
+use Rattle.room_core.specs.declared.reply.StepReply.{StepReply}
+use Rattle.room_files.specs.declared.outcome.Outcome.{Outcome}
+use Rattle.service_core.specs.declared.command.Command.{Command}
+use Rattle.service_core.specs.declared.reply.Reply.{Reply}
+use Rattle.service_core.specs.declared.reply.Reply.TheVariants.{Begun, Steps, Crash, Settled, Report, Closed, Refused}
+use Rattle.service_core.specs.declared.reply.Refusal.{Refusal}
+use Rattle.service_core.specs.declared.reply.Refusal.TheVariants.{NoRoom, NameTaken, NoSimulator, OutOfMemory}
+use Rattle.service_core.specs.Replies.{name_in, refusal_code}
+use Rattle.service_core.specs.Rooms.{Applies, Entries, room_at, steps_of}
+use Rattle.script_play.specs.Play.{Done, DoesMore, IsPerformed, IsPlay, Replied, done_text, refusal_in}
+use Rattle.script_play.specs.ReplyTexts.{reply_to_command}
+use Rattle.step_words.specs.Told.{IsTold, Telling, nothing_told}
+use Rattle.bgview.specs.Trace.{AreNoted, AreNotesOn, HasTraced, IsNoted, IsTraceFor, Noted, noted_text, notes_after}
+use Rattle.bgview.specs.Notes.{fault_note, indented}
+
+noted-push : (rooms between after : Entries) (noted : List Noted) (one : Noted) → AreNoted rooms noted between → IsNoted one.done one.notes between after → AreNoted rooms (noted ++ one ∷ []) after
+noted-push rooms between after [] one is more = (after, subst (λ (r : Entries). IsNoted one.done one.notes r after) (sym is) more, refl)
+noted-push rooms between after (first ∷ noted) one is more = (is.0, is.1, noted-push is.0 between after noted one is.2 more)
+
+-- one more was done
+pub traced-push : (rooms after : Entries) (output now notes : List ℕ) (done : Done) → IsNoted done notes rooms after → now ≡ output ++ (done_text done ++ notes) → DoesMore (HasTraced rooms output) done (HasTraced after now)
+traced-push rooms after output now notes done is text all traced =
+    let one : Noted = record { done = done; notes = notes } in
+    record {
+      noted = traced.noted ++ one ∷ [];
+      each = map-append (λ (n : Noted). n.done) traced.noted (one ∷ []) ∙ ap (λ (l : List Done). l ++ done ∷ []) traced.each;
+      output_is = text ∙ ap₂ (λ (o t : List ℕ). o ++ t) traced.output_is (sym (append-nil (done_text done ++ notes))) ∙ sym (flat_map-append noted_text traced.noted (one ∷ []));
+      are_noted = noted-push [] rooms after traced.noted one traced.are_noted is;
+    }
+
+pub nothing_traced : (rooms : Entries) (output : List ℕ) → rooms ≡ [] → output ≡ [] → HasTraced rooms output []
+nothing_traced rooms output none empty = record { noted = []; each = refl; output_is = empty; are_noted = sym none }
+
+-- the notes under a reply
+notes_on : (room : Option RoomState) (command : Command) (reply : Reply) (telling : Telling) → AreSeen IsTold nothing_told (steps_of room command) telling → (refusal_in reply ≡ None → telling.lacks ≡ false)
+    → AreNotesOn room command reply (notes_after reply telling)
+notes_on room command Begun telling told whole = record { telling = telling; told = told; whole = whole refl; lines_are = refl }
+notes_on room command (Steps taken last) telling told whole = record { telling = telling; told = told; whole = whole refl; lines_are = refl }
+notes_on room command (Crash answer) telling told whole = record { telling = telling; told = told; whole = whole refl; lines_are = refl }
+notes_on room command Settled telling told whole = record { telling = telling; told = told; whole = whole refl; lines_are = refl }
+notes_on room command (Report report) telling told whole = record { telling = telling; told = told; whole = whole refl; lines_are = refl }
+notes_on room command Closed telling told whole = record { telling = telling; told = told; whole = whole refl; lines_are = refl }
+notes_on room command (Refused refusal) telling told whole = refl
+
+-- a command was done
+pub traced_command : (rooms after : Entries) (output middle now : List ℕ) (command : Command) (reply : Reply) (telling : Telling) → Applies rooms command reply after
+    → AreSeen IsTold nothing_told (steps_of (room_at rooms (name_in command)) command) telling → middle ≡ output ++ reply_to_command command reply → now ≡ middle ++ notes_after reply telling
+    → (refusal_in reply ≡ None → telling.lacks ≡ false) → IsPerformed rooms (HasTraced rooms output) command (refusal_in reply) after (HasTraced after now)
+traced_command rooms after output middle now command reply telling applies told first second whole = record {
+  reply = reply;
+  applies = applies;
+  refusal_is = refl;
+  done = traced-push rooms after output now (notes_after reply telling) (Replied command reply)
+      (applies, notes_on (room_at rooms (name_in command)) command reply telling told whole)
+      (second ∙ ap (λ (t : List ℕ). t ++ notes_after reply telling) first ∙ append_assoc output (reply_to_command command reply) (notes_after reply telling));
+}
+
+-- a command was refused
+pub refused_command : (rooms after : Entries) (output middle now : List ℕ) (command : Command) (refusal : Refusal) → Applies rooms command (Refused refusal) after → middle ≡ output ++ reply_to_command command (Refused refusal)
+    → now ≡ middle ++ indented (fault_note (refusal_code refusal)) → IsPerformed rooms (HasTraced rooms output) command (Some refusal) after (HasTraced after now)
+refused_command rooms after output middle now command refusal applies first second = record {
+  reply = Refused refusal;
+  applies = applies;
+  refusal_is = refl;
+  done = traced-push rooms after output now (indented (fault_note (refusal_code refusal))) (Replied command (Refused refusal)) (applies, refl)
+      (second ∙ ap (λ (t : List ℕ). t ++ indented (fault_note (refusal_code refusal))) first ∙ append_assoc output (reply_to_command command (Refused refusal)) (indented (fault_note (refusal_code refusal))));
+}
+
+-- a block was refused
+pub refused_block : (result : Result (Unit {0}) AllocError) (rooms : Entries) (output middle now line notes : List ℕ) (done : Done) → IsNoted done notes rooms rooms → line ≡ done_text done → middle ≡ output ++ line
+    → OnOk result (now ≡ middle ++ notes) → OnOk result (DoesMore (HasTraced rooms output) done (HasTraced rooms now))
+refused_block (Ok tt) rooms output middle now line notes done is same first second =
+    traced-push rooms rooms output now notes done is (second ∙ ap (λ (t : List ℕ). t ++ notes) (first ∙ ap (λ (t : List ℕ). output ++ t) same) ∙ append_assoc output (done_text done) notes)
+refused_block (Err error) rooms output middle now line notes done is same first second = tt
+
+-- all of a script
+pub traced_script : (script : List ℕ) (rooms : Entries) (output : List ℕ) (ending : Result Outcome AllocError) → IsPlay script rooms (HasTraced rooms output) ending → IsTraceFor script ending output
+traced_script script rooms output ending is = (
+  is.entries,
+  is.asked,
+  record {
+    all = is.all;
+    each_entry = is.each_entry;
+    replies = is.played.ran.answers;
+    ending_is = is.played.ending_is;
+    rooms = rooms;
+    traced = is.played.done;
+    played = record { all = is.all; each_entry = is.each_entry; replies = is.played.ran.answers; output_is = refl; ending_is = is.played.ending_is };
+  },
+)
+
+abbrev steps_refused : Refusal → Result (ℕ × StepReply) Refusal
+steps_refused refusal = Err refusal
+
+-- steps of a room whose name is no name
+pub nowhere : (refusal : Refusal) (named : Bool) → (steps_refused refusal ≢ steps_refused NoRoom → named ≡ true) → named ≡ false → Some refusal ≡ Some NoRoom
+nowhere NoRoom named says none = refl
+nowhere NameTaken named says none = absurd (let wrong : true ≡ false = sym (says (λ is. absurd cc)) ∙ none in cc)
+nowhere NoSimulator named says none = absurd (let wrong : true ≡ false = sym (says (λ is. absurd cc)) ∙ none in cc)
+nowhere OutOfMemory named says none = absurd (let wrong : true ≡ false = sym (says (λ is. absurd cc)) ∙ none in cc)

@@ -1,0 +1,160 @@
+//! A script's replies, and under each the atomic steps that its command took.
+ghost use Rattle.std.specs.Prelude.{◌≡◌, ◌+◌, ◌≤◌, ◌++◌, [], ℕ, List, None, Some, Err, false, IfErr, IfOk, IfSome, IsOk, OnOk, length};
+ghost use Rattle.std.specs.Io.KnownBytes.{Appends};
+ghost use Rattle.io_text.specs.Devices.{HasRead, HasWritten, failed_writes};
+ghost use Rattle.io_text.specs.Reading.{most_bytes};
+ghost use Rattle.room_spec.specs.Names.{is_name};
+ghost use Rattle.room_files.specs.Blocks.{IsFaultOr};
+ghost use Rattle.room_files.specs.Script.{script_says};
+ghost use Rattle.service_core.specs.declared.command.Command.TheVariants.{Step};
+ghost use Rattle.service_core.specs.declared.reply.Refusal.TheVariants.{NoRoom};
+ghost use Rattle.script_play.specs.Play.{IsPerformed, refusal_in};
+ghost use Rattle.bgview.specs.Ends.{is_read_failed, is_write_failed};
+ghost use Rattle.bgview.specs.Trace.{HasTraced, IsTraceFor, IsTraced, notes_after};
+
+use crate::fault::ViewFault;
+use crate::notes::write_fault_note;
+use io_text::{Device, Text, read_input, write_output};
+use room_files::{InputFault, Outcome, write_refused, write_refused_code};
+use room_spec::{Name, SpecFault};
+use script_play::{Performs, PlayText, Played, play_script, refusal_in, sim_in, write_reply};
+use service_core::{Command, Refusal, Reply, Service};
+use std::alloc::{AllocError, Global};
+use std::io::{Read, Write};
+use step_words::StepTexts;
+
+/// Plays the script that the reader gives, and writes the replies, and under each, behind four spaces, the atomic steps that its
+/// command took, or why it was refused. The whole script is read and judged before anything is written.
+///
+/// # Errors
+///
+/// The script's first fault, found before anything is written; a device that failed; or want of memory. Where a block or a
+/// command was refused for want of memory, the script goes on to its end.
+pub fn trace_io<R: Read, W: Write>(
+    alloc: Global,
+    reader: &mut Device<R>,
+    writer: &mut Device<W>,
+) -> Result<Outcome, ViewFault>
+    requires reader { reader.old.failed ≡ false }
+    requires writer { writer.old.failed ≡ false }
+    // What is written is the text for what was read, and the answer goes with it. No write is of nothing.
+    ensures text { IfSome (R.remaining reader.old.inner) (λ input. (output : List ℕ) × IsTraced input result output
+        × Appends (W.contents writer.old.inner) (W.contents writer.new.inner) output
+        × (writer.new.calls ≤ writer.old.calls + length output + failed_writes (is_write_failed result))) }
+    ensures reader { HasRead reader.old reader.new (R.remaining reader.old.inner) (is_read_failed result) }
+    ensures writer { HasWritten writer.old writer.new result (is_write_failed result) }
+{
+    let script = read_input(alloc, reader)?;
+    let traced = trace(alloc, &script)?;
+    write_output(writer, traced.output.as_bytes())?;
+    Ok(traced.ending?)
+}
+
+/// Judges a script, and tells what it comes to where it has no fault.
+fn trace(alloc: Global, script: &[u8]) -> Result<PlayText, InputFault>
+    requires { length script.now ≤ most_bytes }
+    ensures text { IfOk result (λ traced. IsTraceFor script.now traced.ending traced.output) }
+    // Want of memory hides no bad line.
+    ensures err { IfErr result (IsFaultOr (IsOk (script_says script.now)) (script_says script.now)) }
+{
+    let Played { performer, ending } = play_script(alloc, Tracer::new(alloc), script)?;
+    Ok(PlayText {
+        output: performer.output,
+        ending,
+    })
+}
+
+/// A service, and what is said of what it did.
+#[derive(Drop)]
+struct Tracer {
+    service: Service,
+    output: Text,
+}
+
+impl Tracer {
+    fn new(alloc: Global) -> Tracer
+        ensures service { result.service ≡ [] }
+        ensures output { result.output ≡ [] }
+    {
+        Tracer {
+            service: Service::new(alloc),
+            output: Text::new(alloc),
+        }
+    }
+
+    /// Has steps refused where the bytes are no name.
+    fn refuse_steps(
+        &mut self,
+        bytes: &[u8],
+        sim: u8,
+        count: u16,
+    ) -> Result<Option<Refusal>, AllocError>
+        requires { is_name bytes.now ≡ false }
+        ensures performed { IfOk result (λ refusal. IsPerformed self.old.service (HasTraced self.old.service self.old.output)
+            (Step bytes.now sim count) refusal self.new.service (HasTraced self.new.service self.new.output)) }
+        ensures nowhere { IfOk result (λ refusal. refusal ≡ Some NoRoom) }
+    {
+        let Err(refusal) = self.service.step(bytes, sim, count) else {
+            unreachable!() // each room has a name
+        };
+        write_reply(&mut self.output, bytes, sim, &Reply::Refused(refusal))?;
+        write_fault_note(&mut self.output, refusal.code())?;
+        Ok(Some(refusal))
+    }
+}
+
+impl Performs for Tracer {
+    ghost use Rattle.bgview.specs.Trace.{HasTraced};
+
+    ghost rooms = { λ tracer. tracer.service };
+
+    ghost has_done = { λ tracer. HasTraced tracer.service tracer.output };
+
+    fn perform(&mut self, alloc: Global, command: Command) -> Result<Option<Refusal>, AllocError> {
+        let name = command.name().clone()?;
+        let sim = sim_in(&command);
+        let mut steps = StepTexts::new(alloc);
+        let reply = self.service.apply_watched(alloc, command, &mut steps);
+        write_reply(&mut self.output, name.as_str().as_bytes(), sim, &reply)?;
+        write_notes(&mut self.output, &reply, steps)?;
+        Ok(refusal_in(&reply))
+    }
+
+    fn step(
+        &mut self,
+        alloc: Global,
+        name: &[u8],
+        sim: u8,
+        count: u16,
+    ) -> Result<Option<Refusal>, AllocError> {
+        match Name::read(name) {
+            Some(name) => self.perform(alloc, Command::Step { name, sim, count }),
+            None => self.refuse_steps(name, sim, count),
+        }
+    }
+
+    fn refuse(&mut self, line: u64, fault: SpecFault) -> Result<(), AllocError> {
+        write_refused(&mut self.output, line, fault)?;
+        write_fault_note(&mut self.output, fault.code())
+    }
+
+    fn lack(&mut self, line: u64) -> Result<(), AllocError> {
+        let code = Refusal::OutOfMemory.code();
+        write_refused_code(&mut self.output, line, code)?;
+        write_fault_note(&mut self.output, code)
+    }
+}
+
+/// Writes under a reply why the command was refused, or the steps that it took.
+fn write_notes(output: &mut Text, reply: &Reply, steps: StepTexts) -> Result<(), AllocError>
+    ensures notes { OnOk result (output.new ≡ output.old ++ notes_after reply.now steps) }
+    ensures whole { OnOk result (refusal_in reply.now ≡ None → steps.lacks ≡ false) }
+{
+    match refusal_in(reply) {
+        Some(refusal) => write_fault_note(output, refusal.code()),
+        None => {
+            let lines = steps.into_lines()?;
+            output.put(lines.as_bytes())
+        }
+    }
+}
