@@ -6,13 +6,13 @@ use Rattle.clap.specs.Words.{Row, all_of, first_of, first_value, matched_of, raw
 use Rattle.clap.specs.Walk.{rows_of}
 use Rattle.clap.specs.declared.parser.matches.Found.{Found}
 use Rattle.clap.proofs.WalkLemmas.{first_value-rows, raw_values-rows}
-use Rattle.bgview.specs.CommandLine.{codes_among, file_among}
+use Rattle.bgview.specs.CommandLine.{codes_among, value_among}
 
-pub file_found : (found : Option (List ℕ × List Row)) (f : Found) (file : Option (List ℕ)) → file ≡ first_value f (codes "FILE") → Some (rows_of f) ≡ option_map (λ sub. sub.1) found → file ≡ file_among found
-file_found None f file is there = absurd cc
-file_found (Some sub) f file is there =
+pub value_found : (name : List ℕ) (found : Option (List ℕ × List Row)) (f : Found) (value : Option (List ℕ)) → value ≡ first_value f name → Some (rows_of f) ≡ option_map (λ sub. sub.1) found → value ≡ value_among name found
+value_found name None f value is there = absurd cc
+value_found name (Some sub) f value is there =
     let rows : rows_of f ≡ sub.1 = cc in
-    is ∙ first_value-rows f (codes "FILE") ∙ ap (first_of (codes "FILE")) rows
+    is ∙ first_value-rows f name ∙ ap (first_of name) rows
 
 pub codes_found : (found : Option (List ℕ × List Row)) (f : Found) (texts : Option (List (List ℕ))) → texts ≡ option_map raw_values (matched_of f (codes "CODE")) → Some (rows_of f) ≡ option_map (λ sub. sub.1) found
     → unwrap_or texts [] ≡ codes_among found

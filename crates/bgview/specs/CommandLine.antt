@@ -1,15 +1,35 @@
 -- What `clap`'s parse reads of the program's command, and what that asks for.
-use Rattle.std.specs.Prelude.{ℕ, true, List, [], Option, Some, codes, option_and_then, unwrap_or, if◌then◌else◌}
+use Rattle.std.specs.Prelude.{◌≡◌, ◌<◌, ◌^◌, ℕ, pos, true, List, [], Option, None, Some, codes, option_and_then, unwrap_or, if◌then◌else◌}
 use Rattle.std.specs.Option.{option_map_or}
 use Rattle.std.specs.Str.{bytes_eq}
+use Rattle.std.specs.Str.Parse.{IsNumeral, digits_value, without_leading_plus}
 use Rattle.clap.specs.Lexer.{usize_max}
 use Rattle.clap.specs.Words.{App, Row, Rule, Shape, all_of, first_of, new_app, new_rule, with_rule, with_subcommand}
+use Rattle.clap.specs.declared.builder.value_parser.ValueParser.TheVariants.{Signed}
+use Rattle.room_sample.specs.declared.sampling.Plan.{Plan}
 use Rattle.bgview.specs.declared.command_line.Mode.{Mode}
-use Rattle.bgview.specs.declared.command_line.Mode.TheVariants.{Why, Fault}
+use Rattle.bgview.specs.declared.command_line.Mode.TheVariants.{Why, Trace, Fault, Sample}
 
--- the subcommand `why`, which takes a file
-abbrev pub why_app : App
-why_app = with_rule (new_app (codes "why")) (new_rule (codes "FILE"))
+-- the subcommand of a word, which takes a file
+abbrev pub file_app : List ℕ → App
+file_app word = with_rule (new_app word) (new_rule (codes "FILE"))
+
+-- an option that takes a number, from `least` to `most`
+abbrev pub number_rule : List ℕ → ℕ → ℕ → Rule
+number_rule name least most = record (new_rule name) { long = Some name; value_names = 1; parser = Some (Signed (pos least) (pos most)) }
+
+abbrev pub schedules_rule : Rule
+schedules_rule = number_rule (codes "schedules") 1 1000000
+
+abbrev pub crashes_rule : Rule
+crashes_rule = number_rule (codes "crashes") 0 8
+
+abbrev pub seed_rule : Rule
+seed_rule = number_rule (codes "seed") 0 4294967295
+
+-- the subcommand `sample`, which takes a file and three numbers
+abbrev pub sample_app : App
+sample_app = with_rule (with_rule (with_rule (file_app (codes "sample")) schedules_rule) crashes_rule) seed_rule
 
 -- one number at least
 abbrev pub code_rule : Rule
@@ -26,20 +46,36 @@ abbrev pub plain_app : App
 plain_app = record { top = plain_shape; subs = [] }
 
 abbrev pub bgview_app : App
-bgview_app = with_subcommand (with_subcommand plain_app why_app.top) fault_app.top
+bgview_app =
+    with_subcommand (with_subcommand (with_subcommand (with_subcommand plain_app (file_app (codes "why")).top) (file_app (codes "trace")).top) fault_app.top) sample_app.top
 
 -- the mode of a word, which is that of a subcommand
 abbrev pub mode_of : List ℕ → Mode
-mode_of word = if bytes_eq word (codes "fault") then Fault else Why
+mode_of word = if bytes_eq word (codes "trace") then Trace else if bytes_eq word (codes "fault") then Fault else if bytes_eq word (codes "sample") then Sample else Why
 
 -- the mode of the subcommand that was found
 abbrev pub mode_among : Option (List ℕ × List Row) → Mode
 mode_among found = option_map_or (λ sub. mode_of sub.0) found Why
 
--- the file among the values of a subcommand
+-- a value of the subcommand that was found, by its name
+abbrev pub value_among : List ℕ → Option (List ℕ × List Row) → Option (List ℕ)
+value_among name found = option_and_then (λ sub. first_of name sub.1) found
+
 abbrev pub file_among : Option (List ℕ × List Row) → Option (List ℕ)
-file_among found = option_and_then (λ sub. first_of (codes "FILE") sub.1) found
+file_among found = value_among (codes "FILE") found
 
 -- the numbers among the values of a subcommand
 abbrev pub codes_among : Option (List ℕ × List Row) → List (List ℕ)
 codes_among found = unwrap_or (option_and_then (λ sub. all_of (codes "CODE") sub.1) found) []
+
+-- the number that a text gives, or this one without a text
+abbrev pub IsNumber : Option (List ℕ) → ℕ → ℕ → Type 0
+IsNumber None default number = number ≡ default
+IsNumber (Some text) default number =
+    IsNumeral 10 (without_leading_plus text) → digits_value 10 (without_leading_plus text) < 2 ^ 32 → number ≡ digits_value 10 (without_leading_plus text)
+
+-- the plan that the values of `sample` say
+pub record IsPlanAmong (found : Option (List ℕ × List Row)) (plan : Plan) : Type 0 where
+  pub schedules : IsNumber (value_among (codes "schedules") found) 1000 plan.schedules
+  pub crashes : IsNumber (value_among (codes "crashes") found) 1 plan.crashes
+  pub seed : IsNumber (value_among (codes "seed") found) 1 plan.seed

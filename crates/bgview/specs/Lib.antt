@@ -3,6 +3,8 @@ pub mod Ends
 pub mod Faults
 pub mod Notes
 pub mod Refusals
+pub mod Modes
+pub mod Sample
 pub mod Told
 pub mod Why
 pub mod Words

@@ -1,11 +1,13 @@
 //! The words of the command line.
-ghost use Rattle.std.specs.Prelude.{◌≡◌, IfOk, IsOkAnd, codes, false, map, option_map};
+ghost use Rattle.std.specs.Prelude.{◌≡◌, IfOk, IsOkAnd, Some, codes, false, map, option_map};
 ghost use Rattle.clap.specs.Kinds.{FailsBy};
 ghost use Rattle.clap.specs.declared.builder.command.Command.TheViews.{out-Command};
-ghost use Rattle.clap.specs.Words.{app_of, fault_of, subcommand_of, subcommand_rows_of, with_subcommand};
-ghost use Rattle.bgview.specs.CommandLine.{bgview_app, fault_app, file_among, mode_among, mode_of, plain_app, why_app};
+ghost use Rattle.clap.specs.Words.{app_of, fault_of, first_value, found_of, subcommand_of, subcommand_rows_of, with_subcommand};
+ghost use Rattle.clap.specs.Walk.{rule_of};
+ghost use Rattle.bgview.specs.CommandLine.{bgview_app, crashes_rule, fault_app, file_among, file_app, mode_among, mode_of, plain_app, sample_app, schedules_rule, seed_rule, IsNumber, IsPlanAmong};
 
-use clap::{Arg, ArgMatches, Command, Error};
+use clap::{Arg, ArgMatches, Command, Error, value_parser};
+use room_sample::Plan;
 use std::alloc::{AllocError, Global};
 use std::convert::AsStr;
 
@@ -14,8 +16,12 @@ use std::convert::AsStr;
 pub enum Mode {
     /// Says of a transcript's rooms whether they are runs, and why not.
     Why,
+    /// Tells what each step of a script did.
+    Trace,
     /// Says faults in words.
     Fault,
+    /// Runs rooms by random schedules.
+    Sample,
 }
 
 impl Mode {
@@ -23,24 +29,115 @@ impl Mode {
     fn of(word: &str) -> Mode
         ensures { result ≡ mode_of word.now }
     {
-        if word == "fault" {
+        if word == "trace" {
+            Mode::Trace
+        } else if word == "fault" {
             Mode::Fault
+        } else if word == "sample" {
+            Mode::Sample
         } else {
             Mode::Why
         }
     }
 }
 
-/// The subcommand `why`.
-fn why_command<'a>(alloc: Global) -> Result<Command<'a>, AllocError>
-    ensures app { IfOk result (λ command. app_of command ≡ why_app) }
+/// The subcommand of this word, which takes a file.
+fn file_command<'a>(
+    alloc: Global,
+    word: &'a str,
+    about: &'a str,
+    usage: &'a str,
+    file: &'a str,
+) -> Result<Command<'a>, AllocError>
+    ensures app { IfOk result (λ command. app_of command ≡ file_app word.entry.now) }
     ensures local { IfOk result (λ command. (out-Command command).has_globals ≡ false) }
 {
-    let file = Arg::new(alloc, "FILE").help("The transcript; without it, standard input is read");
-    Command::new(alloc, "why")
-        .about("Says of each room in a transcript whether its events are a run, and if not, why")
-        .override_usage("bgview why [FILE]")
+    let file = Arg::new(alloc, "FILE").help(file);
+    Command::new(alloc, word)
+        .about(about)
+        .override_usage(usage)
         .arg(file)
+}
+
+/// The subcommand `why`.
+fn why_command<'a>(alloc: Global) -> Result<Command<'a>, AllocError>
+    ensures app { IfOk result (λ command. app_of command ≡ file_app (codes "why")) }
+    ensures local { IfOk result (λ command. (out-Command command).has_globals ≡ false) }
+{
+    file_command(
+        alloc,
+        "why",
+        "Says of each room in a transcript whether its events are a run, and if not, why",
+        "bgview why [FILE]",
+        "The transcript; without it, standard input is read",
+    )
+}
+
+/// The subcommand `trace`.
+fn trace_command<'a>(alloc: Global) -> Result<Command<'a>, AllocError>
+    ensures app { IfOk result (λ command. app_of command ≡ file_app (codes "trace")) }
+    ensures local { IfOk result (λ command. (out-Command command).has_globals ≡ false) }
+{
+    file_command(
+        alloc,
+        "trace",
+        "Plays a script, and tells under each reply what each atomic step did",
+        "bgview trace [FILE]",
+        "The script; without it, standard input is read",
+    )
+}
+
+/// The subcommand `sample`, which takes a file and numbers.
+fn sample_command<'a>(alloc: Global) -> Result<Command<'a>, AllocError>
+    ensures app { IfOk result (λ command. app_of command ≡ sample_app) }
+    ensures local { IfOk result (λ command. (out-Command command).has_globals ≡ false) }
+{
+    let sample = file_command(
+        alloc,
+        "sample",
+        "Runs each room of a file by random schedules, and counts the outcomes",
+        "bgview sample [--schedules N] [--crashes F] [--seed S] [FILE]",
+        "The rooms; without it, standard input is read",
+    )?;
+    let with_schedules = sample.arg(schedules_option(alloc))?;
+    let with_crashes = with_schedules.arg(crashes_option(alloc))?;
+    with_crashes.arg(seed_option(alloc))
+}
+
+/// The option `--schedules N`.
+fn schedules_option<'a>(alloc: Global) -> Arg<'a>
+    ensures rule { rule_of result ≡ schedules_rule }
+    ensures local { result.global ≡ false }
+{
+    Arg::new(alloc, "schedules")
+        .long("schedules")
+        .value_name("N")
+        .value_parser(value_parser!(u32).range(1..=1000000))
+        .help("By how many schedules each room is run, 1 to 1000000; without it, 1000")
+}
+
+/// The option `--crashes F`.
+fn crashes_option<'a>(alloc: Global) -> Arg<'a>
+    ensures rule { rule_of result ≡ crashes_rule }
+    ensures local { result.global ≡ false }
+{
+    Arg::new(alloc, "crashes")
+        .long("crashes")
+        .value_name("F")
+        .value_parser(value_parser!(u8).range(0..=8))
+        .help("How many simulators crash in a schedule at most, 0 to 8; without it, 1")
+}
+
+/// The option `--seed S`.
+fn seed_option<'a>(alloc: Global) -> Arg<'a>
+    ensures rule { rule_of result ≡ seed_rule }
+    ensures local { result.global ≡ false }
+{
+    Arg::new(alloc, "seed")
+        .long("seed")
+        .value_name("S")
+        .value_parser(value_parser!(u32).range(0..=4294967295))
+        .help("What the schedules are drawn from, 0 to 4294967295; without it, 1")
 }
 
 /// The subcommand `fault`.
@@ -86,7 +183,9 @@ fn command<'a>(alloc: Global) -> Result<Command<'a>, AllocError>
     ensures { IfOk result (λ command. app_of command ≡ bgview_app) }
 {
     let with_why = with_subcommand(plain_command(alloc), why_command(alloc))?;
-    with_subcommand(with_why, fault_command(alloc))
+    let with_trace = with_subcommand(with_why, trace_command(alloc))?;
+    let with_fault = with_subcommand(with_trace, fault_command(alloc))?;
+    with_subcommand(with_fault, sample_command(alloc))
 }
 
 /// What `clap` finds in the words after the program's name.
@@ -124,4 +223,39 @@ pub fn line_in<'a>(matches: &ArgMatches<'a>) -> Line<'a>
             file: None,
         },
     }
+}
+
+/// How rooms are sampled by what the words ask for.
+pub fn plan_in(matches: &ArgMatches<'_>) -> Plan
+    ensures { IsPlanAmong (subcommand_rows_of matches.now) result }
+{
+    match matches.subcommand() {
+        Some((_, inner)) => Plan {
+            schedules: number_among(inner, "schedules", 1000),
+            crashes: number_among(inner, "crashes", 1),
+            seed: number_among(inner, "seed", 1),
+        },
+        None => Plan {
+            schedules: 1000,
+            crashes: 1,
+            seed: 1,
+        },
+    }
+}
+
+/// The number behind an option, or this one where the option isn't there.
+fn number_among(matches: &ArgMatches<'_>, name: &str, default: u32) -> u32
+    ensures { IsNumber (first_value (found_of matches.now) name.now) default result }
+{
+    match matches.get_str(name) {
+        Some(text) => number_in(text, default),
+        None => default,
+    }
+}
+
+/// The number that a text gives. `clap` takes no text that is no number.
+fn number_in(text: &str, default: u32) -> u32
+    ensures { IsNumber (Some text.now) default result }
+{
+    text.parse::<u32>().unwrap_or(default)
 }

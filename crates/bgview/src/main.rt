@@ -1,4 +1,5 @@
-//! Explains what bgsim answers: why a transcript is no run, and what the numbers of faults mean.
+//! Explains what bgsim answers: why a transcript is no run, what each step of a script did, which outcomes a room may have, and what
+//! the numbers of faults mean.
 #![tactic(auto)]
 
 ghost use Rattle.std.specs.Prelude.{◌≡◌, ◌≤◌, Bool, IfSome, List, ℕ, false};
@@ -9,8 +10,9 @@ ghost use Rattle.clap.specs.Words.{subcommand_rows_of};
 ghost use Rattle.bgview.specs.CommandLine.{codes_among};
 ghost use Rattle.bgview.specs.Ends.{ending_status, fault_status, unread_status, words_status};
 ghost use Rattle.bgview.specs.Faults.{AreFaultsSaid};
+ghost use Rattle.bgview.specs.Modes.{IsViewed};
 ghost use Rattle.bgview.specs.Notes.{AreNotes};
-ghost use Rattle.bgview.specs.Why.{IsWhyAnswer};
+ghost use Rattle.bgview.specs.declared.command_line.Mode.TheVariants.{Why};
 
 mod answer;
 mod choices;
@@ -23,21 +25,24 @@ mod places;
 mod reasons;
 mod refusals;
 mod rooms;
+mod sample;
 mod told;
 mod trace;
 
 use clap::ArgMatches;
 use clap::error::ErrorKind;
-use command_line::{Mode, line_in, read_words};
-use engine::{fault_io, why_io};
+use command_line::{Mode, line_in, plan_in, read_words};
+use engine::{fault_io, sample_io, why_io};
 use fault::ViewFault;
 use io_text::{Device, DeviceFault, Text};
 use room_files::Outcome;
+use room_sample::Plan;
 use std::alloc::Global;
 use std::fs::File;
 use std::io;
 use std::io::{Read, Write};
 use std::process::ExitCode;
+use trace::trace_io;
 
 fn main(rt: HostRuntime) -> ExitCode {
     ExitCode::from(status(&rt))
@@ -72,9 +77,16 @@ fn ending(
     notes: &mut Text,
 ) -> Result<Outcome, ViewFault> {
     let line = line_in(matches);
-    match line.command {
-        Mode::Fault => say_faults(rt.alloc(), matches, &mut Device::new(rt.stdout())),
-        Mode::Why => explained(rt, line.file, notes),
+    if line.command == Mode::Fault {
+        return say_faults(rt.alloc(), matches, &mut Device::new(rt.stdout()));
+    }
+    let plan = plan_in(matches);
+    match line.file {
+        None => answered(rt, rt.stdin(), line.command, &plan, notes),
+        Some(path) => match File::open(rt, path) {
+            Ok(input) => answered(rt, input, line.command, &plan, notes),
+            Err(_) => Err(ViewFault::Device(DeviceFault::Read)),
+        },
     }
 }
 
@@ -97,25 +109,24 @@ fn say_faults<W: Write>(
     fault_io(alloc, writer, codes)
 }
 
-/// How the program ends that explains this file, or standard input.
-fn explained(rt: &HostRuntime, file: Option<&str>, notes: &mut Text) -> Result<Outcome, ViewFault> {
-    match file {
-        None => why(rt, rt.stdin(), notes),
-        Some(path) => match File::open(rt, path) {
-            Ok(input) => why(rt, input, notes),
-            Err(_) => Err(ViewFault::Device(DeviceFault::Read)),
-        },
-    }
-}
-
-/// The answer to an input, whose text goes to standard output.
-fn why<R: Read + Drop>(rt: &HostRuntime, input: R, notes: &mut Text) -> Result<Outcome, ViewFault>
-    ensures answer { IfSome (R.remaining input) (λ bytes. (output : List ℕ) × IsWhyAnswer bytes result output) }
-    ensures notes { IfSome (R.remaining input) (λ bytes. AreNotes bytes result notes.old notes.new) }
+/// The answer of a mode to an input, whose text goes to standard output. What is said of an input's fault becomes `notes`.
+fn answered<R: Read + Drop>(
+    rt: &HostRuntime,
+    input: R,
+    mode: Mode,
+    plan: &Plan,
+    notes: &mut Text,
+) -> Result<Outcome, ViewFault>
+    ensures answer { IfSome (R.remaining input) (λ bytes. (output : List ℕ) × IsViewed mode plan.now bytes result output) }
+    ensures notes { mode ≡ Why → IfSome (R.remaining input) (λ bytes. AreNotes bytes result notes.old notes.new) }
 {
     let mut reader = Device::new(input);
     let mut writer = Device::new(rt.stdout());
-    why_io(rt.alloc(), &mut reader, &mut writer, notes)
+    match mode {
+        Mode::Why | Mode::Fault => why_io(rt.alloc(), &mut reader, &mut writer, notes),
+        Mode::Trace => trace_io(rt.alloc(), &mut reader, &mut writer),
+        Mode::Sample => sample_io(rt.alloc(), &mut reader, &mut writer, plan),
+    }
 }
 
 fn ending_status(rt: &HostRuntime, ending: Result<Outcome, ViewFault>, notes: &Text) -> u8

@@ -30,12 +30,12 @@ struct Scheduled {
     room: RoomCore,
     schedule: Vec<Stretch>,
     /// How many simulators may crash still.
-    crashes_left: u8,
+    crashes_left: u32,
 }
 
 impl Scheduled {
     /// A room in which nobody has taken a step.
-    fn fresh(alloc: Global, spec: Spec, crashes: u8) -> Result<Scheduled, AllocError>
+    fn fresh(alloc: Global, spec: Spec, crashes: u32) -> Result<Scheduled, AllocError>
         ensures { IfOk result (λ fresh. IsScheduled spec crashes fresh.schedule.items fresh.room fresh.crashes_left) }
     {
         Ok(Scheduled {
@@ -157,7 +157,7 @@ pub(crate) fn run_by_chance(
     alloc: Global,
     spec: Spec,
     chances: &mut Chances,
-    crashes: u8,
+    crashes: u32,
 ) -> Result<Run, AllocError>
     ensures { IfOk result (λ run. IsOutcome spec crashes run.schedule.items run.states.items) }
 {

@@ -17,9 +17,9 @@ pub struct Plan {
     /// By how many schedules it is run.
     pub schedules: u32,
     /// In each of them at most so many simulators crash.
-    pub crashes: u8,
+    pub crashes: u32,
     /// What the schedules are drawn from: the same seed gives the same ones.
-    pub seed: u64,
+    pub seed: u32,
 }
 
 /// Runs the room of a block by random schedules, from its beginning each time, and counts where its processes stand once it has
@@ -33,7 +33,7 @@ pub fn sample(alloc: Global, spec: &Spec, block: &[u8], plan: &Plan) -> Result<T
     requires { block_in block.now ≡ Ok (spec.now, length block.now) }
     ensures { IfOk result (IsSample spec.now plan.now.schedules plan.now.crashes) }
 {
-    let mut chances = Chances::of(plan.seed);
+    let mut chances = Chances::of(u64::from(plan.seed));
     let mut tally = Tally::new(alloc);
     for _ in 0..plan.schedules {
         let run = run_anew(alloc, spec, block, &mut chances, plan.crashes)?;
@@ -48,7 +48,7 @@ fn run_anew(
     spec: &Spec,
     block: &[u8],
     chances: &mut Chances,
-    crashes: u8,
+    crashes: u32,
 ) -> Result<Run, AllocError>
     requires { block_in block.now ≡ Ok (spec.now, length block.now) }
     ensures { IfOk result (λ run. IsOutcome spec.now crashes run.schedule.items run.states.items) }

@@ -35,7 +35,7 @@ fn write_plan(output: &mut Text, name: &[u8], plan: &Plan) -> Result<(), AllocEr
 {
     write_schedules(output, name, plan.schedules)?;
     write_crashes(output, plan.crashes)?;
-    write_number(output, b" seed", plan.seed)?;
+    write_number(output, b" seed", u64::from(plan.seed))?;
     output.put(b"\n")
 }
 
@@ -46,7 +46,7 @@ fn write_schedules(output: &mut Text, name: &[u8], schedules: u32) -> Result<(),
     write_number(output, b" sample", u64::from(schedules))
 }
 
-fn write_crashes(output: &mut Text, crashes: u8) -> Result<(), AllocError>
+fn write_crashes(output: &mut Text, crashes: u32) -> Result<(), AllocError>
     ensures { OnOk result (output.new ≡ output.old ++ (codes " crashes" ++ (32 ∷ decimal crashes))) }
 {
     write_number(output, b" crashes", u64::from(crashes))

@@ -1,6 +1,7 @@
+use Rattle.std.specs.Prelude.{codes}
 use Rattle.clap.specs.Words.{found_of, subcommand_rows_of}
-use Rattle.bgview.proofs.Finding.{file_found}
+use Rattle.bgview.proofs.Finding.{value_found}
 use Rattle.bgview.proofs.command_line.line_in.Goals as goal
 
 pub returns-in-Some-clause-file : goal.returns-in-Some-clause-file
-returns-in-Some-clause-file c = file_found (subcommand_rows_of c.args.matches.now) (found_of c.in-Some.inner.now) _ c.get_str.ensures c.in-Some.ensures.rows
+returns-in-Some-clause-file c = value_found (codes "FILE") (subcommand_rows_of c.args.matches.now) (found_of c.in-Some.inner.now) _ c.get_str.ensures c.in-Some.ensures.rows

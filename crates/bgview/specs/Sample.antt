@@ -1,0 +1,37 @@
+-- What `bgview sample` answers for a file of rooms.
+use Rattle.std.specs.Prelude.{◌≡◌, ℕ, ◌≤◌, ◌<◌, ◌==◌, List, [], ◌++◌, length, Result, Ok, Err, codes}
+use Rattle.io_text.specs.Reading.{most_bytes}
+use Rattle.io_text.specs.declared.fault.DeviceFault.TheVariants.{Read, Write, TooLong, Memory}
+use Rattle.room_files.specs.Blocks.{Setup}
+use Rattle.room_files.specs.Inputs.{all_blocks}
+use Rattle.room_files.specs.Verdicts.{outcome_if}
+use Rattle.room_files.specs.declared.outcome.Outcome.{Outcome}
+use Rattle.room_sample.specs.Rooms.{AddsSamples}
+use Rattle.room_sample.specs.declared.sampling.Plan.{Plan}
+use Rattle.bgview.specs.declared.fault.ViewFault.{ViewFault}
+use Rattle.bgview.specs.declared.fault.ViewFault.TheVariants.{Device, BadInput}
+
+-- The lines of the refused blocks, and then a sample of each room; and that it is none but a sample. All is well where no block
+-- was refused.
+pub record IsSampleOutput (plan : Plan) (setup : Setup) (outcome : Outcome) (output : List ℕ) : Type 0 where
+  pub told : List ℕ
+  pub samples : AddsSamples plan setup.rooms setup.refused told
+  pub output_is : output ≡ told ++ codes "\nother outcomes may come\n"
+  pub outcome_is : outcome ≡ outcome_if (length setup.refused == 0)
+
+abbrev pub IsSampleFor : Plan → List ℕ → Outcome → List ℕ → Type 0
+IsSampleFor plan input outcome output = IsSampleOutput plan (all_blocks input) outcome output
+
+-- a beginning of it
+abbrev pub IsSamplePart : Plan → List ℕ → List ℕ → Type 0
+IsSamplePart plan input part = (outcome : Outcome) × (rest : List ℕ) × IsSampleFor plan input outcome (part ++ rest)
+
+-- the answer to a whole file of rooms is an outcome, with its output, or a fault, with none; where writing failed a beginning of the
+-- output is there; no input is bad
+abbrev pub IsSampleAnswer : Plan → List ℕ → Result Outcome ViewFault → List ℕ → Type 0
+IsSampleAnswer plan input (Ok outcome) output = (length input ≤ most_bytes) × IsSampleFor plan input outcome output
+IsSampleAnswer plan input (Err (BadInput line code)) output = ⊥
+IsSampleAnswer plan input (Err (Device TooLong)) output = (most_bytes < length input) × (output ≡ [])
+IsSampleAnswer plan input (Err (Device Memory)) output = output ≡ []
+IsSampleAnswer plan input (Err (Device Read)) output = output ≡ []
+IsSampleAnswer plan input (Err (Device Write)) output = (length input ≤ most_bytes) × IsSamplePart plan input output
