@@ -4,7 +4,7 @@ ghost use Rattle.std.specs.List.{flat_map};
 ghost use Rattle.history_checker.specs.Verdicts.{FedEvent};
 ghost use Rattle.io_text.specs.Reading.{most_bytes};
 ghost use Rattle.room_files.specs.Blocks.{IsFaultOr};
-ghost use Rattle.room_files.specs.Inputs.{input_says};
+ghost use Rattle.room_files.specs.Inputs.{MayLackMemory, input_says};
 ghost use Rattle.bgview.specs.Told.{AreTold, IsLineBreak, IsTold, specs_of};
 ghost use Rattle.bgview.specs.Notes.{indented_all};
 ghost use Rattle.bgview.specs.Refusals.{refusal_line};
@@ -27,7 +27,8 @@ use transcript::write_event;
 pub fn explain(alloc: Global, input: &[u8]) -> Result<Answer, InputFault>
     requires { length input.now ≤ most_bytes }
     ensures output { IfOk result (λ answer. IsExplanationFor input.now answer.outcome answer.output) }
-    ensures err { IfErr result (IsFaultOr (Unit {0}) (input_says input.now)) }
+    // Memory is wanted for a block, and for the answer to an input that has no fault.
+    ensures err { IfErr result (IsFaultOr (MayLackMemory input.now) (input_says input.now)) }
 {
     let setup = Setup::new(ToldRooms::new(alloc), Refusals::new(alloc));
     let (setup, transcript) = read_blocks(alloc, setup, input)?;

@@ -1,5 +1,5 @@
 //! The rooms of a transcript, each with what it tells of them.
-ghost use Rattle.std.specs.Prelude.{◌≡◌, ◌+◌, ◌<◌, ◌^◌, ◌∷◌, ◌++◌, [], List, IfErr, IsFalse, Ok, OnErr, OnOk, Some, is_some, length, option_map, slice_get};
+ghost use Rattle.std.specs.Prelude.{◌≡◌, ◌≢◌, ◌+◌, ◌<◌, ◌^◌, ◌∷◌, ◌++◌, [], List, IfErr, IsFalse, Ok, OnErr, OnOk, Some, is_some, length, option_map, slice_get};
 ghost use Rattle.std.specs.List.{position};
 ghost use Rattle.std.specs.Str.{bytes_eq};
 ghost use Rattle.transcript.specs.Lines.{line_in};
@@ -95,7 +95,8 @@ impl ToldRooms {
         ensures told { OnOk result ((one : FedEvent) × (of_known_room (specs_of self.old) line (line_in text.now) ≡ Ok one) ×
             ((fed : List FedEvent) → AreTold self.old fed → AreTold self.new (fed ++ one ∷ []))) }
         ensures rooms { OnOk result (specs_of self.new ≡ specs_of self.old) }
-        ensures err { IfErr result (IsFaultOr (Unit {0}) (of_known_room (specs_of self.old) line (line_in text.now))) }
+        // Only an event of a room takes memory.
+        ensures err { IfErr result (IsFaultOr (specs_of self.old ≢ []) (of_known_room (specs_of self.old) line (line_in text.now))) }
     {
         let (name, event) = match read_line(text) {
             Ok(read) => read,
@@ -148,7 +149,7 @@ pub fn tell_events(
     ensures told { OnOk result ((fed : List FedEvent) ×
         (fed_from (specs_of rooms.old) [] first_line (text_lines transcript.now) ≡ Ok fed) × AreTold rooms.new fed) }
     ensures rooms { OnOk result (specs_of rooms.new ≡ specs_of rooms.old) }
-    ensures err { IfErr result (IsFaultOr (Unit {0}) (fed_from (specs_of rooms.old) [] first_line (text_lines transcript.now))) }
+    ensures err { IfErr result (IsFaultOr (specs_of rooms.old ≢ []) (fed_from (specs_of rooms.old) [] first_line (text_lines transcript.now))) }
 {
     let mut rest = transcript;
     let mut line = first_line;

@@ -1,4 +1,4 @@
-use Rattle.std.proofs.Common.{◌≡◌, ◌∙◌, ◌++◌, ◌∷◌, [], List, Ok, arith, ap, subst}
+use Rattle.std.proofs.Common.{◌≡◌, ◌≢◌, ◌∙◌, ◌++◌, ◌∷◌, [], List, Ok, arith, ap, subst}
 use Rattle.std.proofs.lemmas.Result.{err_from_is_err_and}
 use Rattle.room_spec.specs.Rooms.{RoomSpec}
 use Rattle.transcript.specs.Lines.{line_in}
@@ -19,8 +19,8 @@ returns-in_err-tell_line-clause-err c =
     let text = c.in-Some.text.now in
     let texts = text_lines c.in-Some.later.now in
     let p = err_from_is_err_and c.from_residual.result c.from_residual.ensures.1 in
-    let bad = subst (λ (rs : List RoomSpec). IsFaultOr (Unit {0}) (of_known_room rs line (line_in text)) c.in_err-tell_line.field-0.0) c.loop-text.invariant.3 c.in_err-tell_line.ensures.err in
-    rw (p.1, p.2) (fault_told rooms fed line text texts _ c.in_err-tell_line.field-0.0 (c.loop-text.invariant.1 ∙ ap (fed_from rooms fed line) c.in-Some.ensures.lines) bad)
+    let bad = subst (λ (rs : List RoomSpec). IsFaultOr (rs ≢ []) (of_known_room rs line (line_in text)) c.in_err-tell_line.field-0.0) c.loop-text.invariant.3 c.in_err-tell_line.ensures.err in
+    rw (p.1, p.2) (fault_told (rooms ≢ []) rooms fed line text texts _ c.in_err-tell_line.field-0.0 (c.loop-text.invariant.1 ∙ ap (fed_from rooms fed line) c.in-Some.ensures.lines) bad)
 
 pub loop-text-preserved : goal.loop-text-preserved
 loop-text-preserved c =
