@@ -7,5 +7,6 @@ pub mod Squares
 pub mod Turns
 pub mod History
 pub mod Heads
+pub mod Panels
 pub mod Picture
 pub mod Seen

@@ -4,7 +4,7 @@ use Rattle.run_picture.specs.declared.mark.Deed.{Deed}
 use Rattle.run_picture.specs.declared.mark.Deed.TheVariants.{StoreWrite, CountWrite, Snapshot, Propose, Enter, Look, Stand, Withdraw, Ask, LoadView, LoadValue, Decide}
 use Rattle.run_picture.specs.declared.column.Scale.{Scale}
 use Rattle.run_picture.specs.declared.column.Scale.TheVariants.{Steps, Turns, Simulators}
-use Rattle.run_picture.specs.declared.picture.Panel.{Panel}
+use Rattle.run_picture.specs.Panels.{Panel, events_in, states_in}
 use Rattle.run_picture.specs.Columns.{Columns, more, run_of}
 use Rattle.run_picture.specs.Elements.{counted, hint_end, label, label_start, label_end, sized}
 use Rattle.run_picture.specs.Heads.{head_lines, shown_part}
@@ -49,25 +49,25 @@ history_heading y = label (record { x = 16; y = y }) (codes " font-weight=\"600\
 unfoldable pub history_part : Panel → List ℕ
 history_part panel =
     history_heading (history_y panel.head.simulators)
-    ++ (process_lanes panel.head.simulators (history_right panel.report.history) panel.report.states.items
-    ++ event_marks panel.head.simulators panel.report.history)
+    ++ (process_lanes panel.head.simulators (history_right (events_in panel.report)) (states_in panel.report)
+    ++ event_marks panel.head.simulators (events_in panel.report))
 
 unfoldable pub panel_start : ℕ → List ℕ
 panel_start y = codes "<g transform=\"translate(0 " ++ (decimal y ++ codes ")\">\n")
 
 unfoldable pub panel_text : ℕ → Panel → List ℕ
 panel_text y panel =
-    panel_start y ++ (head_lines panel.head ++ (steps_part panel.head.simulators (run_of panel.marks.items) ++ (history_part panel ++ hint_end)))
+    panel_start y ++ (head_lines panel.head ++ (steps_part panel.head.simulators (run_of panel.marks) ++ (history_part panel ++ hint_end)))
 
 -- how high and how wide the picture of a room is
 unfoldable pub panel_height : Panel → ℕ
-panel_height panel = history_y panel.head.simulators + 40 * length panel.report.states.items + 40
+panel_height panel = history_y panel.head.simulators + 40 * length (states_in panel.report) + 40
 
 unfoldable pub head_width : Panel → ℕ
 head_width panel = 8 * length (shown_part (string_bytes panel.head.protocol)) + 60
 
 unfoldable pub panel_width : Panel → ℕ
-panel_width panel = max (head_width panel) (max (right_of (run_of panel.marks.items) + 80) (history_right panel.report.history + 200))
+panel_width panel = max (head_width panel) (max (right_of (run_of panel.marks) + 80) (history_right (events_in panel.report) + 200))
 
 -- one below the other
 abbrev pub panels_from : ℕ → List Panel → List ℕ

@@ -1,5 +1,5 @@
 -- Atomic steps as they are drawn.
-use Rattle.std.specs.Prelude.{ℕ, true, false, Option, Some, None, min, nat_le, if◌then◌else◌}
+use Rattle.std.specs.Prelude.{ℕ, Bool, true, false, Option, Some, None, ◌&&◌, min, nat_lt, if◌then◌else◌}
 use Rattle.simulator.specs.declared.goal.Goal.{Goal}
 use Rattle.simulator.specs.declared.goal.Goal.TheVariants as goals
 use Rattle.simulator.specs.declared.line.Line.{Line}
@@ -34,15 +34,21 @@ deed_of (lines.GetView chosen) operation = LoadView
 deed_of lines.Values operation = LoadValue
 deed_of (lines.Out decision) operation = Decide
 
--- the word of the step numbers, or of a proposal
 abbrev pub word_in : Place → Option ℕ
 word_in (Memory word) = Some (min word 255)
 word_in (View simulator process round word) = Some (min word 255)
 word_in place = None
 
--- it is told where there are several
-abbrev pub word_of : ℕ → Place → Option ℕ
-word_of words place = if nat_le words 1 then None else word_in place
+-- whether a step at this line is on one of the words of a snapshot
+abbrev pub is_on_snapshot : Line → Bool
+is_on_snapshot lines.Snap = true
+is_on_snapshot lines.Show = true
+is_on_snapshot (lines.GetView chosen) = true
+is_on_snapshot line = false
+
+-- which of them is told where there are several
+abbrev pub word_of : ℕ → Line → Place → Option ℕ
+word_of words line place = if nat_lt 1 words && is_on_snapshot line then word_in place else None
 
 -- A turn was quiet where its process's snapshot is still asked for.
 abbrev pub end_of : Option Goal → Turn
@@ -59,7 +65,7 @@ step_mark words step = record {
   simulator = min step.simulator 255;
   process = min step.process 255;
   round = step.round;
-  word = word_of words step.place;
+  word = word_of words step.line step.place;
   deed = deed_of step.line step.operation;
   end = end_of step.end;
 }

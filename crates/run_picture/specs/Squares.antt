@@ -21,7 +21,7 @@ step_title number step = hint_start ++ (codes "step " ++ (decimal number ++ (dee
 
 unfoldable pub digit_of : Option ℕ → List ℕ
 digit_of None = []
-digit_of (Some word) = decimal word
+digit_of (Some word) = codes "<tspan font-size=\"7\">" ++ (decimal word ++ codes "</tspan>")
 
 -- its square has the hue of its process; one that changes the agreement or decides is filled
 unfoldable pub step_fill : StepMark → List ℕ

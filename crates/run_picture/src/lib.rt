@@ -9,6 +9,7 @@ mod lanes;
 mod layout;
 mod legend;
 mod mark;
+mod panel;
 mod picture;
 mod processes;
 mod seen;
@@ -19,4 +20,5 @@ mod words;
 
 pub use head::Head;
 pub use mark::{Deed, Mark, Step};
-pub use picture::{Panel, write_picture};
+pub use panel::Panel;
+pub use picture::write_picture;

@@ -2,36 +2,26 @@
 ghost use Rattle.std.specs.Prelude.{◌≡◌, ◌++◌, ◌≤◌, IfOk, OnOk, length};
 ghost use Rattle.run_picture.specs.Columns.{run_of};
 ghost use Rattle.run_picture.specs.History.{history_right};
+ghost use Rattle.run_picture.specs.Panels.{events_in};
 ghost use Rattle.run_picture.specs.Picture.{bottom_from, ground_of_all, hatching, hatching_lines, head_width, history_heading, history_part, panel_height, panel_start, panel_text, panel_width, panels_from, paper, picture_text, svg_end, svg_open, svg_start, view_box, width_from};
 
 use crate::column::Run;
 use crate::elements::{INK, Point, end_hint, write_decimal, write_label, write_sized};
 use crate::events::write_event_marks;
-use crate::head::{Head, shown_part, write_head};
+use crate::head::{shown_part, write_head};
 use crate::layout::{MARGIN, history_y};
 use crate::legend::write_legend;
-use crate::mark::Mark;
+use crate::panel::Panel;
 use crate::processes::write_process_lanes;
 use crate::steps::write_steps_part;
 use io_text::Text;
 use std::alloc::{AllocError, Global};
-use ws_history::Report;
 
 /// Greater than each x in a picture.
 const WIDE: u64 = 10000000;
 
 /// The least width of a picture.
 const MIN_WIDTH: u64 = 640;
-
-/// What is drawn of a room.
-#[derive(Drop)]
-pub struct Panel {
-    pub head: Head,
-    /// What happened in the room, in this order.
-    pub marks: Vec<Mark>,
-    /// What the room has come to.
-    pub report: Report,
-}
 
 /// Draws these rooms, one below the other, as a whole SVG file: the picture opens in any browser, and needs no script, font or other file.
 ///
@@ -82,7 +72,7 @@ fn write_panels(alloc: Global, output: &mut Text, panels: &[Panel]) -> Result<Si
 fn panel_height(panel: &Panel) -> u64
     ensures { result ≡ panel_height panel.now }
 {
-    history_y(panel.head.simulators) + 40 * panel.report.states.len() as u64 + 40
+    history_y(panel.head().simulators) + 40 * panel.states().len() as u64 + 40
 }
 
 /// Draws a room from this y on. Gives how wide its picture is.
@@ -91,10 +81,10 @@ fn write_panel(alloc: Global, output: &mut Text, y: u64, panel: &Panel) -> Resul
     ensures text { OnOk result (output.new ≡ output.old ++ panel_text y panel.now) }
     ensures width { IfOk result (λ width. width ≡ panel_width panel.now) }
 {
-    let run = Run::of(alloc, &panel.marks)?;
+    let run = Run::of(alloc, panel.marks())?;
     start_panel(output, y)?;
-    write_head(output, &panel.head)?;
-    write_steps_part(output, panel.head.simulators, &run)?;
+    write_head(output, panel.head())?;
+    write_steps_part(output, panel.head().simulators, &run)?;
     let right = write_history(alloc, output, panel)?;
     end_hint(output)?;
     Ok(panel_width(panel, &run, right))
@@ -103,8 +93,8 @@ fn write_panel(alloc: Global, output: &mut Text, y: u64, panel: &Panel) -> Resul
 /// How wide the picture of a room is, whose history ends at this x.
 #[tactic(auto, unfolding(crate::specs::Picture::panel_width))]
 fn panel_width(panel: &Panel, run: &Run, right: u64) -> u64
-    requires run { run.now ≡ run_of panel.now.marks.items }
-    requires right { right ≡ history_right panel.now.report.history }
+    requires run { run.now ≡ run_of panel.now.marks }
+    requires right { right ≡ history_right (events_in panel.now.report) }
     requires range { right ≤ WIDE }
     ensures { result ≡ panel_width panel.now }
 {
@@ -115,7 +105,7 @@ fn panel_width(panel: &Panel, run: &Run, right: u64) -> u64
 fn head_width(panel: &Panel) -> u64
     ensures { result ≡ head_width panel.now }
 {
-    8 * shown_part(panel.head.protocol.as_bytes()).len() as u64 + 60
+    8 * shown_part(panel.head().protocol.as_bytes()).len() as u64 + 60
 }
 
 #[tactic(auto, unfolding(crate::specs::Picture::panel_start))]
@@ -131,13 +121,13 @@ pub(crate) fn start_panel(output: &mut Text, y: u64) -> Result<(), AllocError>
 #[tactic(auto, unfolding(crate::specs::Picture::history_part))]
 fn write_history(alloc: Global, output: &mut Text, panel: &Panel) -> Result<u64, AllocError>
     ensures text { OnOk result (output.new ≡ output.old ++ history_part panel.now) }
-    ensures right { IfOk result (λ right. (right ≡ history_right panel.now.report.history) × (right ≤ WIDE)) }
+    ensures right { IfOk result (λ right. (right ≡ history_right (events_in panel.now.report)) × (right ≤ WIDE)) }
 {
-    let simulators = panel.head.simulators;
+    let simulators = panel.head().simulators;
     let mut marks = Text::new(alloc);
-    let right = write_event_marks(alloc, &mut marks, simulators, panel.report.history.events())?;
+    let right = write_event_marks(alloc, &mut marks, simulators, panel.events())?;
     write_history_heading(output, history_y(simulators))?;
-    write_process_lanes(output, simulators, right, panel.report.states.as_slice())?;
+    write_process_lanes(output, simulators, right, panel.states())?;
     output.put(marks.as_bytes())?;
     Ok(right)
 }

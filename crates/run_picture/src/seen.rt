@@ -1,6 +1,6 @@
 //! Atomic steps as they are drawn.
 ghost use Rattle.std.specs.Prelude.{◌≡◌, min};
-ghost use Rattle.run_picture.specs.Seen.{deed_of, end_of, step_mark, word_in, word_of};
+ghost use Rattle.run_picture.specs.Seen.{deed_of, end_of, is_on_snapshot, step_mark, word_in, word_of};
 
 use crate::mark::{Deed, Step};
 use room_steps::AtomicStep;
@@ -17,7 +17,7 @@ impl Step {
             simulator: small(step.simulator),
             process: small(step.process),
             round: step.round,
-            word: word_of(step.place, words),
+            word: word_of(words, step.line, step.place),
             deed: deed_of(step.line, step.operation),
             end: end_of(step.end),
         }
@@ -54,11 +54,21 @@ fn deed_of(line: Line, operation: Move) -> Deed
     }
 }
 
-/// Which word of the step numbers or of a proposal this place is, where these take several words.
-fn word_of(place: Place, words: usize) -> Option<u8>
-    ensures { result ≡ word_of words place }
+/// Which word of a snapshot a step at this line is on, where a snapshot takes several.
+fn word_of(words: usize, line: Line, place: Place) -> Option<u8>
+    ensures { result ≡ word_of words line place }
 {
-    if words <= 1 { None } else { word_in(place) }
+    if words > 1 && is_on_snapshot(line) {
+        word_in(place)
+    } else {
+        None
+    }
+}
+
+fn is_on_snapshot(line: Line) -> bool
+    ensures { result ≡ is_on_snapshot line }
+{
+    matches!(line, Line::Snap | Line::Show | Line::GetView { .. })
 }
 
 fn word_in(place: Place) -> Option<u8>

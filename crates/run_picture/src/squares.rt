@@ -153,14 +153,17 @@ fn write_step_letter(output: &mut Text, x: u64, step: &Step) -> Result<(), Alloc
     end_label(output)
 }
 
+/// Writes the number of a word, small enough for a square.
 #[tactic(auto, unfolding(crate::specs::Squares::digit_of))]
 fn write_digit(output: &mut Text, word: Option<u8>) -> Result<(), AllocError>
     ensures { OnOk result (output.new ≡ output.old ++ digit_of word) }
 {
-    match word {
-        None => Ok(()),
-        Some(word) => write_decimal(output, u64::from(word)),
-    }
+    let Some(word) = word else {
+        return Ok(());
+    };
+    output.put(b"<tspan font-size=\"7\">")?;
+    write_decimal(output, u64::from(word))?;
+    output.put(b"</tspan>")
 }
 
 /// Draws a stretch of steps of this simulator.

@@ -1,0 +1,5 @@
+mod Changing
+mod Closing
+mod Finishing
+mod Performing
+mod Seeing

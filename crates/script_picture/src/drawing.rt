@@ -1,0 +1,207 @@
+//! Who does a script's commands, and keeps what is drawn of them.
+ghost use Rattle.std.specs.Prelude.{◌≡◌, [], false, Some, IfOk};
+ghost use Rattle.service_core.specs.Replies.{name_in};
+ghost use Rattle.service_core.specs.declared.command.Command.TheVariants.{Begin, Close, Crash as CrashCommand, Report as ReportCommand, Step as StepCommand};
+ghost use Rattle.service_core.specs.declared.reply.Refusal.TheVariants.{NoRoom};
+ghost use Rattle.room_spec.specs.Names.{is_name};
+ghost use Rattle.script_picture.specs.Drawn.{IsClosed, IsDrawnOn, IsSteppedOn, has_crashed};
+
+use crate::panels::{finish, note};
+use crate::recorder::Recorder;
+use room_core::{CrashReply, Unwatched};
+use room_spec::{Name, Spec, SpecFault};
+use run_picture::{Head, Mark, Panel};
+use script_play::{Performs, refusal_in};
+use service_core::{Command, Refusal, Reply, Service};
+use std::alloc::{AllocError, Global};
+use ws_history::Report;
+
+/// A service, and a panel for each room that it has opened.
+#[derive(Drop)]
+pub(crate) struct Drawing {
+    pub(crate) service: Service,
+    pub(crate) panels: Vec<Panel>,
+}
+
+impl Drawing {
+    pub(crate) fn new(alloc: Global) -> Drawing
+        ensures service { result.service ≡ [] }
+        ensures panels { result.panels.items ≡ [] }
+    {
+        Drawing {
+            service: Service::new(alloc),
+            panels: Vec::new(alloc),
+        }
+    }
+
+    /// Opens a room, which has a panel of its own.
+    fn begin(&mut self, alloc: Global, spec: Spec) -> Result<Option<Refusal>, AllocError>
+        ensures { IfOk result (λ refusal. IsDrawnOn self.old.service self.old.panels.items (Begin spec) refusal self.new.service self.new.panels.items) }
+    {
+        let head = Head::of(alloc, &spec)?;
+        let reply = self
+            .service
+            .apply_watched(alloc, Command::Begin(spec), &mut Unwatched);
+        match &reply {
+            Reply::Begun => {
+                self.panels.push(Panel::new(alloc, head))?;
+                Ok(None)
+            }
+            _ => Ok(refusal_in(&reply)),
+        }
+    }
+
+    /// Does a command that lets the room of this name take steps, and draws these.
+    fn step_on(
+        &mut self,
+        alloc: Global,
+        name: &Name,
+        command: Command,
+    ) -> Result<Option<Refusal>, AllocError>
+        requires { name_in command ≡ name.now }
+        ensures { IfOk result (λ refusal. IsSteppedOn self.old.service self.old.panels.items command refusal self.new.service self.new.panels.items) }
+    {
+        let mut recorder = Recorder::new(alloc);
+        let reply = self.service.apply_watched(alloc, command, &mut recorder);
+        let None = refusal_in(&reply) else {
+            return Ok(refusal_in(&reply));
+        };
+        let Some(marks) = recorder.marks() else {
+            return Err(AllocError);
+        };
+        note(&mut self.panels, name, marks)?;
+        Ok(None)
+    }
+
+    /// Crashes a simulator of the room of this name.
+    fn crash(&mut self, alloc: Global, name: Name, sim: u8) -> Result<Option<Refusal>, AllocError>
+        ensures { IfOk result (λ refusal. IsDrawnOn self.old.service self.old.panels.items (CrashCommand name sim) refusal self.new.service self.new.panels.items) }
+    {
+        let room = name.clone()?;
+        let reply = self
+            .service
+            .apply_watched(alloc, Command::Crash { name, sim }, &mut Unwatched);
+        let crash = [Mark::Crash { simulator: sim }];
+        let marks = if has_crashed(&reply) { &crash[..] } else { &[] };
+        note(&mut self.panels, &room, marks)?;
+        Ok(refusal_in(&reply))
+    }
+
+    /// Asks for the report of the room of this name. It is not drawn.
+    fn report(&mut self, alloc: Global, name: Name) -> Result<Option<Refusal>, AllocError>
+        ensures { IfOk result (λ refusal. IsDrawnOn self.old.service self.old.panels.items (ReportCommand name) refusal self.new.service self.new.panels.items) }
+    {
+        let reply = self
+            .service
+            .apply_watched(alloc, Command::Report(name), &mut Unwatched);
+        Ok(refusal_in(&reply))
+    }
+
+    /// Asks for steps in the name of no room.
+    fn step_nobody(
+        &mut self,
+        name: &[u8],
+        sim: u8,
+        count: u16,
+    ) -> Result<Option<Refusal>, AllocError>
+        requires { is_name name.now ≡ false }
+        ensures drawn { IfOk result (λ refusal. IsDrawnOn self.old.service self.old.panels.items (StepCommand name.now sim count) refusal self.new.service self.new.panels.items) }
+        ensures nobody { IfOk result (λ refusal. refusal ≡ Some NoRoom) }
+    {
+        match self.service.step(name, sim, count) {
+            Err(refusal) => Ok(Some(refusal)),
+            Ok(_) => unreachable!(), // no room has such a name
+        }
+    }
+
+    /// Closes the room of this name, which has come to its report.
+    fn close(&mut self, alloc: Global, name: Name) -> Result<Option<Refusal>, AllocError>
+        ensures { IfOk result (λ refusal. IsDrawnOn self.old.service self.old.panels.items (Close name) refusal self.new.service self.new.panels.items) }
+    {
+        let room = name.clone()?;
+        let reply = self
+            .service
+            .apply_watched(alloc, Command::Report(room), &mut Unwatched);
+        match reply {
+            Reply::Report(report) => self.close_with(alloc, name, report),
+            Reply::Refused(Refusal::NoRoom) => Ok(Some(Refusal::NoRoom)),
+            _ => Err(AllocError),
+        }
+    }
+
+    /// Closes the room of this name, which has come to this report.
+    fn close_with(
+        &mut self,
+        alloc: Global,
+        name: Name,
+        report: Report,
+    ) -> Result<Option<Refusal>, AllocError>
+        ensures { IfOk result (IsClosed self.old.service self.old.panels.items name report self.new.service self.new.panels.items) }
+    {
+        finish(&mut self.panels, &name, report);
+        match self
+            .service
+            .apply_watched(alloc, Command::Close(name), &mut Unwatched)
+        {
+            Reply::Closed => Ok(None),
+            _ => Err(AllocError), // a room that has a report is closed
+        }
+    }
+}
+
+/// Whether a reply says that a simulator has crashed just now.
+fn has_crashed(reply: &Reply) -> bool
+    ensures { result ≡ has_crashed reply.now }
+{
+    match reply {
+        Reply::Crash(CrashReply::Crashed) => true,
+        _ => false,
+    }
+}
+
+impl Performs for Drawing {
+    ghost use Rattle.script_picture.specs.Drawn.{HasDrawn};
+
+    ghost rooms = { λ drawing. drawing.service };
+
+    ghost has_done = { λ drawing all. HasDrawn all drawing.service drawing.panels.items };
+
+    fn perform(&mut self, alloc: Global, command: Command) -> Result<Option<Refusal>, AllocError> {
+        match command {
+            Command::Begin(spec) => self.begin(alloc, spec),
+            Command::Step { name, sim, count } => {
+                let room = name.clone()?;
+                self.step_on(alloc, &room, Command::Step { name, sim, count })
+            }
+            Command::Crash { name, sim } => self.crash(alloc, name, sim),
+            Command::Settle(name) => {
+                let room = name.clone()?;
+                self.step_on(alloc, &room, Command::Settle(name))
+            }
+            Command::Report(name) => self.report(alloc, name),
+            Command::Close(name) => self.close(alloc, name),
+        }
+    }
+
+    fn step(
+        &mut self,
+        alloc: Global,
+        name: &[u8],
+        sim: u8,
+        count: u16,
+    ) -> Result<Option<Refusal>, AllocError> {
+        let Some(room) = Name::read(name) else {
+            return self.step_nobody(name, sim, count);
+        };
+        let name = room.clone()?;
+        self.step_on(alloc, &room, Command::Step { name, sim, count })
+    }
+
+    fn refuse(&mut self, _line: u64, _fault: SpecFault) -> Result<(), AllocError> {
+        Ok(())
+    }
+
+    fn lack(&mut self, _line: u64) -> Result<(), AllocError> {
+        Ok(())
+    }
+}
