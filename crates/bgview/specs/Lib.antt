@@ -1,4 +1,5 @@
 pub mod CommandLine
+pub mod Draw
 pub mod Ends
 pub mod Faults
 pub mod Notes

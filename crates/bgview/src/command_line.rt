@@ -18,6 +18,8 @@ pub enum Mode {
     Why,
     /// Tells what each step of a script did.
     Trace,
+    /// Draws the rooms of a script.
+    Draw,
     /// Says faults in words.
     Fault,
     /// Runs rooms by random schedules.
@@ -31,6 +33,8 @@ impl Mode {
     {
         if word == "trace" {
             Mode::Trace
+        } else if word == "draw" {
+            Mode::Draw
         } else if word == "fault" {
             Mode::Fault
         } else if word == "sample" {
@@ -83,6 +87,20 @@ fn trace_command<'a>(alloc: Global) -> Result<Command<'a>, AllocError>
         "trace",
         "Plays a script, and tells under each reply what each atomic step did",
         "bgview trace [FILE]",
+        "The script; without it, standard input is read",
+    )
+}
+
+/// The subcommand `draw`.
+fn draw_command<'a>(alloc: Global) -> Result<Command<'a>, AllocError>
+    ensures app { IfOk result (λ command. app_of command ≡ file_app (codes "draw")) }
+    ensures local { IfOk result (λ command. (out-Command command).has_globals ≡ false) }
+{
+    file_command(
+        alloc,
+        "draw",
+        "Plays a script, and draws each of its rooms, as SVG",
+        "bgview draw [FILE]",
         "The script; without it, standard input is read",
     )
 }
@@ -184,7 +202,8 @@ fn command<'a>(alloc: Global) -> Result<Command<'a>, AllocError>
 {
     let with_why = with_subcommand(plain_command(alloc), why_command(alloc))?;
     let with_trace = with_subcommand(with_why, trace_command(alloc))?;
-    let with_fault = with_subcommand(with_trace, fault_command(alloc))?;
+    let with_draw = with_subcommand(with_trace, draw_command(alloc))?;
+    let with_fault = with_subcommand(with_draw, fault_command(alloc))?;
     with_subcommand(with_fault, sample_command(alloc))
 }
 

@@ -3,6 +3,7 @@ ghost use Rattle.std.specs.Prelude.{◌≡◌, ◌+◌, ◌≤◌, List, ℕ, fa
 ghost use Rattle.std.specs.Io.KnownBytes.{Appends};
 ghost use Rattle.io_text.specs.Devices.{HasRead, HasWritten, failed_writes};
 ghost use Rattle.bgview.specs.Ends.{is_read_failed, is_write_failed};
+ghost use Rattle.bgview.specs.Draw.{IsDrawAnswer};
 ghost use Rattle.bgview.specs.Faults.{AreFaultsSaid};
 ghost use Rattle.io_text.specs.Reading.{most_bytes};
 ghost use Rattle.bgview.specs.Notes.{AreNotes};
@@ -17,6 +18,7 @@ use crate::sample::sample_blocks;
 use io_text::{Device, DeviceFault, Text, read_input, write_output};
 use room_files::{Answer, InputFault, Outcome};
 use room_sample::Plan;
+use script_picture::draw;
 use std::alloc::Global;
 use std::io::{Read, Write};
 
@@ -111,4 +113,31 @@ pub fn sample_io<R: Read, W: Write>(
     let answer = sample_blocks(alloc, &input, plan)?;
     write_output(writer, answer.output.as_bytes())?;
     Ok(answer.outcome)
+}
+
+/// Plays the script that the reader gives, and writes a picture of its rooms. The whole script is read and judged before anything is
+/// written.
+///
+/// # Errors
+///
+/// The script's first fault, found before anything is written; a device that failed; or want of memory. Where a block or a
+/// command was refused for want of memory, the script goes on to its end.
+pub fn draw_io<R: Read, W: Write>(
+    alloc: Global,
+    reader: &mut Device<R>,
+    writer: &mut Device<W>,
+) -> Result<Outcome, ViewFault>
+    requires reader { reader.old.failed ≡ false }
+    requires writer { writer.old.failed ≡ false }
+    // What is written is the picture for what was read, and the answer goes with it. No write is of nothing.
+    ensures text { IfSome (R.remaining reader.old.inner) (λ input. (output : List ℕ) × IsDrawAnswer input result output
+        × Appends (W.contents writer.old.inner) (W.contents writer.new.inner) output
+        × (writer.new.calls ≤ writer.old.calls + length output + failed_writes (is_write_failed result))) }
+    ensures reader { HasRead reader.old reader.new (R.remaining reader.old.inner) (is_read_failed result) }
+    ensures writer { HasWritten writer.old writer.new result (is_write_failed result) }
+{
+    let script = read_input(alloc, reader)?;
+    let drawn = draw(alloc, &script)?;
+    write_output(writer, drawn.output.as_bytes())?;
+    Ok(drawn.ending?)
 }

@@ -1,5 +1,5 @@
-//! Explains what bgsim answers: why a transcript is no run, what each step of a script did, which outcomes a room may have, and what
-//! the numbers of faults mean.
+//! Shows what bgsim answers: why a transcript is no run, what each step of a script did, a picture of it, which outcomes a room may
+//! have, and what the numbers of faults mean.
 #![tactic(auto)]
 
 ghost use Rattle.std.specs.Prelude.{◌≡◌, ◌≤◌, Bool, IfSome, List, ℕ, false};
@@ -32,7 +32,7 @@ mod trace;
 use clap::ArgMatches;
 use clap::error::ErrorKind;
 use command_line::{Mode, line_in, plan_in, read_words};
-use engine::{fault_io, sample_io, why_io};
+use engine::{draw_io, fault_io, sample_io, why_io};
 use fault::ViewFault;
 use io_text::{Device, DeviceFault, Text};
 use room_files::Outcome;
@@ -125,6 +125,7 @@ fn answered<R: Read + Drop>(
     match mode {
         Mode::Why | Mode::Fault => why_io(rt.alloc(), &mut reader, &mut writer, notes),
         Mode::Trace => trace_io(rt.alloc(), &mut reader, &mut writer),
+        Mode::Draw => draw_io(rt.alloc(), &mut reader, &mut writer),
         Mode::Sample => sample_io(rt.alloc(), &mut reader, &mut writer, plan),
     }
 }
