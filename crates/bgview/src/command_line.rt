@@ -178,7 +178,7 @@ fn plain_command<'a>(alloc: Global) -> Command<'a>
     ensures { app_of result ≡ plain_app }
 {
     Command::new(alloc, "bgview")
-        .version("0.1.0")
+        .version("0.2.0 (proved with rattle-kit-13f logic dac8208d650f15bf)")
         .about("Explains what bgsim answers")
         .override_usage("bgview COMMAND")
         .no_binary_name(true)
