@@ -15,22 +15,9 @@ use Rattle.transcript.specs.Runs.{process_of, event_by, written_by, seen_by, is_
 use Rattle.history_checker.specs.declared.process.Turn.TheVariants.{Write, Snap, Decide, Over}
 use Rattle.history_checker.specs.declared.process.Process.{Process}
 use Rattle.history_checker.specs.Processes.{turn_for, turn_after, owed, lasts, IsAt, Tracks}
-use Rattle.transcript.proofs.CallerLemmas.{latest-push, same, quiet, none_seen}
-
--- ---- counts
-
-count_more : (test : Event → Bool) (history : List Event) (event : Event) → test event ≡ true → count_by test (history ++ event ∷ []) ≡ count_by test history + 1
-count_more test history event passes = sum_by_push (λ e. cond (test e) 1 0) history event ∙ rw passes refl
-
-count_same : (test : Event → Bool) (history : List Event) (event : Event) → test event ≡ false → count_by test (history ++ event ∷ []) ≡ count_by test history
-count_same test history event fails = sum_by_push (λ e. cond (test e) 1 0) history event ∙ rw fails (omega arith)
+use Rattle.transcript.proofs.CallerLemmas.{count_more, count_same, due_other, if_same, latest-push, same, quiet, none_seen}
 
 -- ---- another process
-
-due_other : (spec : RoomSpec) (history : List Event) (event : Event) (q : ℕ) → process_of event ≢ q → action_due spec (history ++ event ∷ []) q ≡ action_due spec history q
-due_other spec history event q ne =
-    let calm = quiet q event ne in
-    rw (latest-push (seen_by q) history event, calm.seen, count_same (is_snap_by q) history event calm.snap) refl
 
 at_other : (spec : RoomSpec) (history : List Event) (event : Event) (q : ℕ) (process : Process) → process_of event ≢ q → IsAt spec history q process → IsAt spec (history ++ event ∷ []) q process
 at_other spec history event q process ne at =
@@ -44,9 +31,6 @@ at_other spec history event q process ne at =
     }
 
 -- ---- the process itself
-
-if_same : {A : Type 0} (p : ℕ) (x : A) → cond (eqb p p) (Some x) None ≡ Some x
-if_same p x = rw (same p) refl
 
 at_write : (spec : RoomSpec) (history : List Event) (p v : ℕ) (process : Process) → process.turn ≡ Write v → IsAt spec history p process
     → IsAt spec (history ++ events.Write p v ∷ []) p (record { input = process.input; turn = Snap; last = Some v; writes = process.writes + 1 })

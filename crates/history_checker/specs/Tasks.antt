@@ -1,14 +1,10 @@
 -- Whether a room's decisions keep its task, and what is kept of them.
-use Rattle.std.specs.Prelude.{◌≡◌, ℕ, ◌≤◌, Bool, List, [], ◌∷◌, ◌++◌, length, Option, IfSome, MatchBool}
+use Rattle.std.specs.Prelude.{◌≡◌, ℕ, ◌≤◌, Bool, List, [], ◌∷◌, ◌++◌, length, Option, MatchBool}
 use Rattle.room_spec.specs.Rooms.{RoomSpec}
 use Rattle.transcript.specs.declared.event.Event.{Event}
 use Rattle.std.specs.List.{Contains}
 use Rattle.transcript.specs.Runs.{IsRun}
-use Rattle.transcript.specs.Tasks.{MayBeDecided, IsInTask, KeepsTask, decided_in, different}
-
--- the events keep the room's task, if it has one
-abbrev pub KeepsOwnTask : RoomSpec → List Event → Type 0
-KeepsOwnTask spec events = IfSome spec.task (λ most. KeepsTask spec most events)
+use Rattle.transcript.specs.Tasks.{MayBeDecided, IsInTask, decided_in, different}
 
 -- in each run of the room at most so many different values are decided
 abbrev pub DecidesAtMost : RoomSpec → ℕ → Type 0

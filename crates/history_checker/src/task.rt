@@ -1,7 +1,7 @@
 //! Whether an agreement task is kept.
 ghost use Rattle.std.specs.Prelude.{◌≡◌, ◌↔◌, ◌≤◌, [], ℕ, IsOk, Err, Some};
-ghost use Rattle.transcript.specs.Tasks.{IsFirstExcess, KeepsTask};
-ghost use Rattle.history_checker.specs.Tasks.{Allows, HasDecided, KeepsOwnTask};
+ghost use Rattle.transcript.specs.Tasks.{IsFirstExcess, KeepsOwnTask, KeepsTask};
+ghost use Rattle.history_checker.specs.Tasks.{Allows, HasDecided};
 ghost use Rattle.room_spec.specs.declared.spec.TheConstants.{MAX_AGREED};
 
 use arrayvec::ArrayVec;

@@ -11,3 +11,4 @@ mod WorkedRuns
 mod WorkedTasks
 mod Writing
 mod FirstFault
+mod Differences

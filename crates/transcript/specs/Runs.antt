@@ -1,6 +1,6 @@
 -- Runs of a protocol on write-snapshot memory (update and scan of Afek et al. 1993, section 2): each event is
 -- judged by its place in a whole list of events.
-use Rattle.std.specs.Prelude.{◌≡◌, ℕ, ◌<◌, Bool, false, List, [], ◌∷◌, length, take, Option, Some, None, ◌==◌, slice_get, slice_index, slice_index_or, if◌then◌else◌}
+use Rattle.std.specs.Prelude.{◌≡◌, ℕ, ◌<◌, ◌≤◌, Bool, false, List, [], ◌∷◌, length, take, Option, Some, None, ◌==◌, slice_get, slice_index, slice_index_or, if◌then◌else◌}
 use Rattle.std.specs.List.{count_by}
 use Rattle.std.specs.Option.{option_or, option_map_or}
 use Rattle.protocol_lang.specs.Meaning.{first_value, next_action}
@@ -109,6 +109,13 @@ abbrev pub IsEnabled : RoomSpec → List Event → Event → Type 0
 IsEnabled spec before (Write p v) = MayWrite spec before p v
 IsEnabled spec before (Snap p row) = MaySnap spec before p row.items
 IsEnabled spec before (Decide p v) = MayDecide spec before p v
+
+-- By these events process p has no round left, and its last snapshot asks for one more write.
+pub record IsOutOfRounds (spec : RoomSpec) (events : List Event) (p : ℕ) : Type 0 where
+  pub writes : spec.rounds ≤ count_by (is_write_by p) events
+  pub snaps : spec.rounds ≤ count_by (is_snap_by p) events
+  pub value : ℕ
+  pub asked : action_due spec events p ≡ actions.Write value
 
 -- ---- runs
 

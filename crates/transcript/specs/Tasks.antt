@@ -1,5 +1,5 @@
 -- Agreement tasks: how many different values may be decided, and which (Chaudhuri 1993).
-use Rattle.std.specs.Prelude.{◌≡◌, ℕ, ◌≤◌, not, List, [], ◌∷◌, ◌++◌, length, Option, Some, None, take, ◌==◌, slice_get}
+use Rattle.std.specs.Prelude.{◌≡◌, ℕ, ◌≤◌, not, List, [], ◌∷◌, ◌++◌, length, Option, Some, None, take, ◌==◌, IfSome, slice_get}
 use Rattle.std.specs.List.{Contains, filter, filter_map}
 use Rattle.room_spec.specs.Rooms.{RoomSpec}
 use Rattle.transcript.specs.declared.event.Event.{Event}
@@ -35,6 +35,10 @@ IsInTask spec most before (Decide p v) = MayBeDecided spec most before v
 -- each decision is one that the task allows after those before it
 abbrev pub KeepsTask : RoomSpec → ℕ → List Event → Type 0
 KeepsTask spec most events = (t : ℕ) (event : Event) → slice_get events t ≡ Some event → IsInTask spec most (take t events) event
+
+-- the events keep the room's task, if it has one
+abbrev pub KeepsOwnTask : RoomSpec → List Event → Type 0
+KeepsOwnTask spec events = IfSome spec.task (λ most. KeepsTask spec most events)
 
 -- t is the first place whose decision the task doesn't allow
 pub record IsFirstExcess (spec : RoomSpec) (most : ℕ) (events : List Event) (t : ℕ) : Type 0 where
