@@ -129,7 +129,7 @@ stands_snap spec src events c s agreed turn stands =
     let wide : length (shown_row src s) ≡ processes spec = length-map-range_with_len (λ p. shown src p (entry_of src s p)) 0 (length (row_of src s)) ∙ agreed.width in
     let ahead : entry_of src s s.process ≡ c s.process + 1 = agreed.own ∙ turn in
     let at : IsAt spec src events s.process s.round (c s.process) = subst (λ (k : ℕ). IsAt spec src events s.process k (c s.process)) agreed.own (stands.each s.process agreed.process) in
-    let after : IsAt spec src (events ++ event ∷ []) s.process s.round s.round = at_snap spec src events s.process s.round (c s.process) (record { items = shown_row src s }) turn agreed.goes_on at in
+    let after : IsAt spec src (events ++ event ∷ []) s.process s.round s.round = at_snap spec src events s.process s.round (c s.process) (record { items = shown_row src s }) turn agreed.goes_on refl at in
     record {
       run = IsRun-push spec events event stands.run
           (may_snap spec src events s.process (entry_of src s) c (shown_row src s) agreed.process ahead wide
@@ -207,7 +207,7 @@ stands_nothing : (spec : RoomSpec) (src : Source) → IsSource spec src → Stan
 stands_nothing spec src is = record { run = IsRun-nil spec; each = λ q low. at_nothing spec src q (is.begins q low) }
 
 -- after the whole history each process has made all its writes
-history_stands : (spec : RoomSpec) (src : Source) → IsSource spec src → Stands spec src (history_from spec src) src.greatest (last_round src.order)
+pub history_stands : (spec : RoomSpec) (src : Source) → IsSource spec src → Stands spec src (history_from spec src) src.greatest (last_round src.order)
 history_stands spec src is =
     let n = processes spec in
     let last = last_is spec src is in

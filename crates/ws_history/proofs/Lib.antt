@@ -1,3 +1,4 @@
+pub mod CallerLemmas
 mod Worked
 mod Order
 mod Turns
@@ -20,3 +21,4 @@ mod Held
 mod Deciders
 mod Settled
 mod Certified
+mod Spending

@@ -111,11 +111,31 @@ round_least (s ∷ done) p most each =
       | inr other ↦ rw (ne_eqb s.process p other) (omega arith)
     ]
 
-round_most : (done : List Snapshot) (t : Snapshot) → Contains done t → t.round ≤ last_round done t.process
+pub round_most : (done : List Snapshot) (t : Snapshot) → Contains done t → t.round ≤ last_round done t.process
 round_most [] t has = absurd (not_empty t has)
 round_most (s ∷ done) t has = elim (cons_cases s done t has) [
   | inl is ↦ subst (λ (u : Snapshot). u.round ≤ last_round (s ∷ done) u.process) is (rw (eq-eqb s.process s.process refl) (omega arith))
   | inr more ↦ let rest = round_most done t more in omega arith
+]
+
+-- the last round is that of a snapshot
+pub round_there : (done : List Snapshot) (p : ℕ) → 1 ≤ last_round done p → Contains done (snapshot_at p (last_round done p))
+round_there [] p some = absurd (omega (arith, some))
+round_there (s ∷ done) p some = elim (cases_eq s.process p) [
+  | inr other ↦
+      let none : cond (eqb s.process p) s.round 0 ≡ 0 = rw (ne_eqb s.process p other) refl in
+      let same : last_round (s ∷ done) p ≡ last_round done p = omega (arith, none) in
+      subst (λ (r : ℕ). Contains (s ∷ done) (snapshot_at p r)) (sym same) (cons_rest s done (snapshot_at p (last_round done p)) (round_there done p (omega (arith, some, same))))
+  | inl is ↦
+      let own : cond (eqb s.process p) s.round 0 ≡ s.round = rw (eq-eqb s.process p is) refl in
+      elim (cases_lt s.round (last_round done p)) [
+        | inl below ↦
+            let same : last_round (s ∷ done) p ≡ last_round done p = omega (arith, own, below) in
+            subst (λ (r : ℕ). Contains (s ∷ done) (snapshot_at p r)) (sym same) (cons_rest s done (snapshot_at p (last_round done p)) (round_there done p (omega (arith, some, same))))
+        | inr most ↦
+            let same : last_round (s ∷ done) p ≡ s.round = omega (arith, own, most) in
+            subst (λ (r : ℕ). Contains (s ∷ done) (snapshot_at p r)) (sym same) (subst (λ (q : ℕ). Contains (s ∷ done) (snapshot_at q s.round)) is (cons_first s done))
+      ]
 ]
 
 shown_most : (src : Source) (done : List Snapshot) (t : Snapshot) (p : ℕ) → Contains done t → entry_of src t p ≤ shown_before src done p

@@ -17,7 +17,7 @@ use Rattle.ws_history.specs.declared.states.ProcessState.{ProcessState}
 use Rattle.ws_history.specs.Reports.{crashed_in, held_by, is_held, is_inside, is_over, is_spent, is_write, state_by, state_of, states_of}
 use Rattle.ws_history.proofs.Held.{held_at_most}
 
-any_found : (p : ℕ → Bool) (xs : List ℕ) → list_any p xs ≡ true → (x : ℕ) × (find p xs ≡ Some x)
+pub any_found : (p : ℕ → Bool) (xs : List ℕ) → list_any p xs ≡ true → (x : ℕ) × (find p xs ≡ Some x)
 any_found p [] has = absurd cc
 any_found p (x ∷ xs) has = elim (cases_Bool (p x)) [
   | inl here ↦ (x, ap (λ (b : Bool). cond b (Some x) (find p xs)) here)

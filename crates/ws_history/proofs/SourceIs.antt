@@ -38,7 +38,7 @@ one_of f m out has =
     let low : i < m = let l = length-map-range_with_len f 0 m in let w = has.1 in omega arith in
     (i, low, sym (get_or-map-range_with_len f 0 m i i out low (omega arith)) ∙ has.2)
 
-decided_is : (spec : RoomSpec) (fields : Fields) → HasAgreed spec fields → (j v : ℕ) → j < processes spec → decided_in spec fields j ≡ Some v → room.asks spec fields j (greatest_step spec fields j) ≡ actions.Decide v
+pub decided_is : (spec : RoomSpec) (fields : Fields) → HasAgreed spec fields → (j v : ℕ) → j < processes spec → decided_in spec fields j ≡ Some v → room.asks spec fields j (greatest_step spec fields j) ≡ actions.Decide v
 decided_is spec fields has j v low is =
     let found = found_in (outs_at spec fields j) v is in
     let one = one_of (λ i. fields.out i j) spec.simulators found.0 found.1 in
@@ -64,7 +64,7 @@ gone_beyond spec fields p r less = or_left _ _ (or_right _ _ (lt-ltb r (greatest
 -- ---- the source
 
 -- what a row shows, and what the protocol asks_after for after it, is the same by the source as by the fields
-asks_are : (spec : RoomSpec) (fields : Fields) (s : Snapshot) → asks_after spec (source_of spec fields) s ≡ room.asks spec fields s.process s.round
+pub asks_are : (spec : RoomSpec) (fields : Fields) (s : Snapshot) → asks_after spec (source_of spec fields) s ≡ room.asks spec fields s.process s.round
 asks_are spec fields s =
     let row = row_at spec fields s.process s.round in
     ap (λ (n : ℕ). next_action spec.protocol (slice_index spec.inputs s.process) s.process s.round (map (λ p. shown spec fields p (slice_index row p)) (range_with_len 0 n)))

@@ -11,7 +11,7 @@ use Rattle.room_spec.specs.Rooms.{RoomSpec, processes}
 use Rattle.transcript.specs.declared.event.Event.{Event}
 use Rattle.transcript.specs.declared.event.Event.TheVariants.{Write, Snap, Decide}
 use Rattle.transcript.specs.Runs.{process_of, event_by, written_by, seen_by, is_write_by, is_snap_by, latest, last_write, action_due, IsNothingOrSnap, IsWrite, MayWrite, MaySnap, MayDecide}
-use Rattle.ws_history.specs.Histories.{Source, shown}
+use Rattle.ws_history.specs.Histories.{Source, shown, shown_row}
 use Rattle.transcript.proofs.CallerLemmas.{latest-push, same, quiet}
 
 -- After these events process q has written w times and has taken c snapshots. It may have decided only where there
@@ -23,6 +23,7 @@ pub record IsAt (spec : RoomSpec) (src : Source) (events : List Event) (q w c : 
   pub idle : c ≡ w → w < src.greatest q → IsNothingOrSnap (latest (event_by q) events)
   pub due : c ≡ w → w < src.greatest q → action_due spec events q ≡ actions.Write (src.written q (w + 1))
   pub wrote : w ≡ c + 1 → IsWrite (latest (event_by q) events)
+  pub seen : 1 ≤ c → latest (seen_by q) events ≡ Some (shown_row src (record { process = q; round = c }))
 
 pub at_nothing : (spec : RoomSpec) (src : Source) (q : ℕ) → (1 ≤ src.greatest q → src.written q 1 ≡ first_value spec.protocol (slice_index spec.inputs q) q (processes spec)) → IsAt spec src [] q 0 0
 at_nothing spec src q begins = record {
@@ -32,6 +33,7 @@ at_nothing spec src q begins = record {
   idle = λ e more. tt;
   due = λ e more. ap (λ v. actions.Write v) (sym (begins (omega arith)));
   wrote = λ e. absurd (omega arith);
+  seen = λ some. absurd (omega arith);
 }
 
 -- ---- one more event
@@ -55,6 +57,7 @@ at_other spec src events event q w c ne at =
       idle = λ e more. rw (latest-push (event_by q) events event, calm.event) (at.idle e more);
       due = λ e more. due_other spec events event q calm.seen calm.snap ∙ at.due e more;
       wrote = λ e. rw (latest-push (event_by q) events event, calm.event) (at.wrote e);
+      seen = λ some. rw (latest-push (seen_by q) events event, calm.seen) (at.seen some);
     }
 
 if_same : {A : Type 0} (p : ℕ) (x : A) → cond (eqb p p) (Some x) None ≡ Some x
@@ -73,12 +76,13 @@ at_write spec src events p w c level at =
       idle = λ e more. absurd (omega arith);
       due = λ e more. absurd (omega arith);
       wrote = λ e. rw (latest-push (event_by p) events event, if_same p event) tt;
+      seen = λ some. rw (latest-push (seen_by p) events event) (at.seen some);
     }
 
 pub at_snap : (spec : RoomSpec) (src : Source) (events : List Event) (p w c : ℕ) (row : ArrayVec (Option ℕ)) → w ≡ c + 1
     → (w < src.greatest p → next_action spec.protocol (slice_index spec.inputs p) p w row.items ≡ actions.Write (src.written p (w + 1)))
-    → IsAt spec src events p w c → IsAt spec src (events ++ Snap p row ∷ []) p w w
-at_snap spec src events p w c row ahead goes_on at =
+    → row.items ≡ shown_row src (record { process = p; round = w }) → IsAt spec src events p w c → IsAt spec src (events ++ Snap p row ∷ []) p w w
+at_snap spec src events p w c row ahead goes_on shows at =
     let event : Event = Snap p row in
     let round : count_by (is_snap_by p) (events ++ Snap p row ∷ []) ≡ w = count_more (is_snap_by p) events event (same p) ∙ omega (arith, at.snaps) in
     record {
@@ -88,6 +92,7 @@ at_snap spec src events p w c row ahead goes_on at =
       idle = λ e more. rw (latest-push (event_by p) events event, if_same p event) tt;
       due = λ e more. rw (latest-push (seen_by p) events event, if_same p row.items, round) (goes_on more);
       wrote = λ e. absurd (omega arith);
+      seen = λ some. rw (latest-push (seen_by p) events event, if_same p row.items) (ap Some shows);
     }
 
 pub at_decide : (spec : RoomSpec) (src : Source) (events : List Event) (p w v : ℕ) → src.greatest p ≡ w → IsAt spec src events p w w → IsAt spec src (events ++ Decide p v ∷ []) p w w
@@ -100,6 +105,7 @@ at_decide spec src events p w v over at =
       idle = λ e more. absurd (omega arith);
       due = λ e more. absurd (omega arith);
       wrote = λ e. absurd (omega arith);
+      seen = λ some. rw (latest-push (seen_by p) events event) (at.seen some);
     }
 
 -- ---- which event may come

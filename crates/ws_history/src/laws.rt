@@ -2,7 +2,7 @@
 ghost use Rattle.std.specs.Prelude.{◌≢◌, ◌≡◌, ◌<◌, ◌≤◌, ◌↔◌, ◌+◌, ◌==◌, ℕ, Bool, length};
 ghost use Rattle.std.specs.List.{count_by, Contains};
 ghost use Rattle.room_spec.specs.Rooms.{IsCertified, RoomSpec, IsWithinLimits, processes};
-ghost use Rattle.transcript.specs.Runs.{IsRun, is_write_by, is_snap_by};
+ghost use Rattle.transcript.specs.Runs.{IsOutOfRounds, IsRun, is_write_by, is_snap_by};
 ghost use Rattle.transcript.specs.declared.event.Event.TheVariants.{Decide};
 ghost use Rattle.room_core.specs.Calls.{RoomState};
 ghost use Rattle.room_core.specs.Fields.{Fields};
@@ -65,6 +65,13 @@ pub fn decided_in_history()
     ensures { (room : RoomState) (fields : Fields) →
         IsWithinLimits room.spec → AreFieldsOf room fields → (j v : ℕ) → j < processes room.spec →
         (state_of room.spec fields j ≡ Decided v) ↔ Contains (history_of room.spec fields) (Decide j v) }
+{}
+
+/// A process is spent exactly where its history leaves it no round, and asks it for a write.
+pub fn spent_in_history()
+    ensures { (room : RoomState) (fields : Fields) →
+        IsWithinLimits room.spec → AreFieldsOf room fields → (j : ℕ) → j < processes room.spec →
+        (state_of room.spec fields j ≡ Spent) ↔ IsOutOfRounds room.spec (history_of room.spec fields) j }
 {}
 
 /// Where each process of a room has settled, all have decided or are spent but for at most as many
