@@ -1,0 +1,26 @@
+//! Laws that tie a simulated room to the outcomes of its protocol.
+ghost use Rattle.std.specs.Prelude.{◌≡◌, ◌≤◌, ◌<◌, ℕ, length};
+ghost use Rattle.std.specs.List.{count_by};
+ghost use Rattle.room_spec.specs.Rooms.{IsWithinLimits, processes};
+ghost use Rattle.room_core.specs.Calls.{RoomState};
+ghost use Rattle.room_core.specs.Fields.{Fields};
+ghost use Rattle.room_core.specs.Reading.{AreFieldsOf};
+ghost use Rattle.room_core.specs.Settled.{IsSettledFor};
+ghost use Rattle.ws_history.specs.Reports.{crashed_in, states_of};
+ghost use Rattle.ws_history.specs.Sources.{history_of};
+ghost use Rattle.run_search.specs.Outcomes.{IsRunOutcome, is_stopped, outcome_of};
+ghost use Rattle.room_outcomes.specs.Ends.{ends_of};
+
+/// The states of a room's processes, whatever its simulators did, are an outcome of a run of its protocol: that of its history. A
+/// process that is held or going on counts as stopped.
+pub fn rooms_end()
+    ensures history { (room : RoomState) (fields : Fields) →
+        IsWithinLimits room.spec → AreFieldsOf room fields → ends_of (states_of room.spec fields) ≡ outcome_of room.spec (history_of room.spec fields) }
+    ensures outcome { (room : RoomState) (fields : Fields) (crashes : ℕ) →
+        IsWithinLimits room.spec → AreFieldsOf room fields → count_by is_stopped (ends_of (states_of room.spec fields)) ≤ crashes →
+        IsRunOutcome room.spec crashes (ends_of (states_of room.spec fields)) }
+    // Once each process has settled, no more stop than simulators have crashed.
+    ensures settled { (room : RoomState) (fields : Fields) →
+        IsWithinLimits room.spec → AreFieldsOf room fields → ((j : ℕ) → j < processes room.spec → IsSettledFor room.spec fields j) →
+        IsRunOutcome room.spec (length (crashed_in room.spec fields)) (ends_of (states_of room.spec fields)) }
+{}
