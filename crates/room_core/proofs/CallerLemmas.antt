@@ -11,3 +11,4 @@ pub use Rattle.room_core.proofs.fields.Repeating.{same_spec_steps}
 pub use Rattle.room_core.proofs.fields.Replays.{is_room, shapes, under_crash_at_end, under_line_at_end}
 pub use Rattle.room_core.proofs.agreements.Stages.{one_inside}
 pub use Rattle.room_core.proofs.fields.States.{refill-set}
+pub use Rattle.room_core.proofs.points.RoomPoints.{effects_at, timelines}

@@ -6,6 +6,9 @@ pub mod Reading
 pub mod Tracks
 pub mod Agreements
 pub mod Moments
+pub mod Points
+pub mod Timelines
+pub mod RealTime
 pub mod Settled
 pub mod Contents
 pub mod Settles

@@ -3,12 +3,15 @@ ghost use Rattle.std.specs.Prelude.{length, slice_index, false, ℕ, ◌≡◌, 
 ghost use Rattle.room_spec.specs.Rooms.{IsCertified, RoomSpec, IsWithinLimits, processes};
 ghost use Rattle.safe_agreement.specs.Levels.{IsClean, least_two};
 ghost use Rattle.room_core.specs.Contents.{IsDue};
-ghost use Rattle.room_core.specs.Agreements.{AgreementsStay, DoCompare, HasAgreed, IsFixedAt, IsInsideTurn, asks, is_clean, is_passed, row_at, view_at};
+ghost use Rattle.room_core.specs.Agreements.{AgreementsStay, DoCompare, HasAgreed, IsFixedAt, IsInsideTurn, asks, greatest_step, is_clean, is_passed, row_at, shown_of, view_at};
 ghost use Rattle.protocol_lang.specs.Numbers.{greatest};
 ghost use Rattle.protocol_lang.specs.declared.meaning.Action.TheVariants.{Decide, Write};
 ghost use Rattle.simulator.specs.Minds.{goal_at};
 ghost use Rattle.simulator.specs.declared.goal.Goal.TheVariants.{Spent};
-ghost use Rattle.room_core.specs.Moments.{IsMoment, IsScan};
+ghost use Rattle.room_core.specs.Moments.{IsMoment, IsScan, fields_at};
+ghost use Rattle.room_core.specs.Points.{AreEffects, HasPassed, Point, TakesEffect, points_at, read_time, reads_at};
+ghost use Rattle.room_core.specs.RealTime.{HasBegun, HasEnded, Precedes};
+ghost use Rattle.room_core.specs.Timelines.{IsTimeline, timeline_of};
 ghost use Rattle.simulator.specs.Minds.{current_round};
 ghost use Rattle.simulator.specs.declared.line.Line.TheVariants.{Show};
 ghost use Rattle.room_core.specs.Settled.{HasTurnLeft, IsDecidedOrHeld, IsSettledFor};
@@ -270,6 +273,53 @@ pub fn scans()
         IsWithinLimits room.spec → (are : AreFieldsOf room fields) → (i : ℕ) → i < room.spec.simulators → (fields.mind i).line ≡ Show →
         IsScan room.spec are.run.schedule (length are.run.schedule) i (fields.mind i).process (current_round (fields.mind i))
         (fields.mind i).snapshot (fields.mind i).collects }
+{}
+
+/// At each atomic step of a schedule at most one write, snapshot or decision of a simulated process takes effect, and it does so within its
+/// operation. A write takes effect at the step by which it is first counted; a snapshot that is agreed on in the end, at the step by which the
+/// proposal that was chosen was read; a decision, at the step by which it is first stored.
+pub fn points()
+    ensures effects { (room : RoomState) (fields : Fields) →
+        IsWithinLimits room.spec → (are : AreFieldsOf room fields) → (time : ℕ) → time < length are.run.schedule →
+        AreEffects room.spec are.run.schedule fields time (points_at room.spec are.run.schedule fields time) }
+    // A snapshot was read by a step of the simulator whose proposal was chosen,
+    ensures read { (room : RoomState) (fields : Fields) →
+        IsWithinLimits room.spec → (are : AreFieldsOf room fields) → (j k : ℕ) → HasPassed room.spec fields j k →
+        (read_time room.spec are.run.schedule fields j k < length are.run.schedule) ×
+        (reads_at room.spec are.run.schedule (read_time room.spec are.run.schedule fields j k) (shown_of room.spec fields j k) j k ≡ true) }
+    // after its process's write of the round had been counted, and before the next one was,
+    ensures counted { (room : RoomState) (fields : Fields) →
+        IsWithinLimits room.spec → (are : AreFieldsOf room fields) → (j k : ℕ) → HasPassed room.spec fields j k →
+        greatest_step room.spec (fields_at room.spec are.run.schedule (read_time room.spec are.run.schedule fields j k)) j ≡ k }
+    // and before its agreement was fixed, so before any simulator could find it resolved.
+    ensures fixed { (room : RoomState) (fields : Fields) →
+        IsWithinLimits room.spec → (are : AreFieldsOf room fields) → (j k time : ℕ) → HasPassed room.spec fields j k →
+        time ≤ length are.run.schedule → IsFixedAt room.spec (fields_at room.spec are.run.schedule time) j k →
+        read_time room.spec are.run.schedule fields j k < time }
+    // What a snapshot shows had been counted when it was read; and whatever else crates above rest on.
+    ensures timeline { (room : RoomState) (fields : Fields) →
+        IsWithinLimits room.spec → (are : AreFieldsOf room fields) →
+        IsTimeline (processes room.spec) room.spec.rounds (timeline_of room.spec are.run.schedule fields) (points_at room.spec are.run.schedule fields) }
+{}
+
+/// The points keep real time (Herlihy and Wing 1990): each lies between the beginning and the end of its write, snapshot or decision, so one
+/// that had ended at a moment at which another had not begun takes effect before it.
+pub fn real_time()
+    // What has taken effect by a moment had begun by then,
+    ensures begun { (room : RoomState) (fields : Fields) →
+        IsWithinLimits room.spec → (are : AreFieldsOf room fields) → (moment time : ℕ) (point : Point) → moment ≤ length are.run.schedule →
+        TakesEffect room.spec are.run.schedule fields time point → time < moment →
+        HasBegun room.spec (fields_at room.spec are.run.schedule moment) point }
+    // what has ended by a moment has taken effect by then,
+    ensures ended { (room : RoomState) (fields : Fields) →
+        IsWithinLimits room.spec → (are : AreFieldsOf room fields) → (moment time : ℕ) (point : Point) → moment ≤ length are.run.schedule →
+        time < length are.run.schedule → TakesEffect room.spec are.run.schedule fields time point →
+        HasEnded room.spec (fields_at room.spec are.run.schedule moment) point → time < moment }
+    // and so of two that don't overlap the earlier one takes effect first.
+    ensures order { (room : RoomState) (fields : Fields) →
+        IsWithinLimits room.spec → (are : AreFieldsOf room fields) → (one other : Point) (s t : ℕ) → s < length are.run.schedule →
+        TakesEffect room.spec are.run.schedule fields s one → TakesEffect room.spec are.run.schedule fields t other →
+        Precedes room.spec are.run.schedule one other → s < t }
 {}
 
 /// A simulator counts the first write of each process before the second of any, since its sweep goes round. So what was agreed on in
