@@ -1,13 +1,20 @@
 pub mod CallerLemmas
 mod Worked
+mod WorkedPoints
 mod Order
 mod Turns
+mod Timed
+mod OwnEvents
+mod Linearizing
+mod SameEvents
+mod Effects
 mod Alternation
 mod Sorting
 mod PassedSources
 mod Decisions
 mod Counts
 mod SourceIs
+mod Linearized
 mod Searching
 mod Ranges
 mod WordsRead

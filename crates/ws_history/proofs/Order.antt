@@ -102,7 +102,7 @@ shown_least src (s ∷ done) p most each =
     let rest = shown_least src done p most (λ t has. each t (cons_rest s done t has)) in
     omega arith
 
-round_least : (done : List Snapshot) (p most : ℕ) → ((t : Snapshot) → Contains done t → t.process ≡ p → t.round ≤ most) → last_round done p ≤ most
+pub round_least : (done : List Snapshot) (p most : ℕ) → ((t : Snapshot) → Contains done t → t.process ≡ p → t.round ≤ most) → last_round done p ≤ most
 round_least [] p most each = omega arith
 round_least (s ∷ done) p most each =
     let rest = round_least done p most (λ t has. each t (cons_rest s done t has)) in

@@ -1,5 +1,5 @@
 //! Laws of histories that are made from the snapshots that were agreed on.
-ghost use Rattle.std.specs.Prelude.{◌≢◌, ◌≡◌, ◌<◌, ◌≤◌, ◌↔◌, ◌+◌, ◌==◌, ℕ, Bool, length};
+ghost use Rattle.std.specs.Prelude.{List, ◌≢◌, ◌≡◌, ◌<◌, ◌≤◌, ◌↔◌, ◌+◌, ◌==◌, ℕ, Bool, length};
 ghost use Rattle.std.specs.List.{count_by, Contains};
 ghost use Rattle.room_spec.specs.Rooms.{IsCertified, RoomSpec, IsWithinLimits, processes};
 ghost use Rattle.transcript.specs.Runs.{IsOutOfRounds, IsRun, is_write_by, is_snap_by};
@@ -11,7 +11,8 @@ ghost use Rattle.room_core.specs.Agreements.{HasAgreed};
 ghost use Rattle.room_core.specs.Settled.{IsSettledFor};
 ghost use Rattle.ws_history.specs.Reports.{crashed_in, held_in, is_decided, is_held, is_over, state_of, states_of};
 ghost use Rattle.ws_history.specs.declared.states.ProcessState.TheVariants.{Decided, Spent};
-ghost use Rattle.ws_history.specs.Sources.{history_of};
+ghost use Rattle.ws_history.specs.Sources.{history_of, source_of};
+ghost use Rattle.ws_history.specs.Linearizations.{IsLinearization, Timed, events_in, events_of, linearized};
 ghost use Rattle.ws_history.specs.Histories.{Snapshot, Source, IsSource, history_from};
 ghost use Rattle.ws_history.specs.Passed.{IsOfPassed, IsDecided};
 
@@ -47,6 +48,40 @@ pub fn fields_run()
 /// memory, whatever its simulators did.
 pub fn rooms_run()
     ensures { (room : RoomState) (fields : Fields) → IsWithinLimits room.spec → AreFieldsOf room fields → IsRun room.spec (history_of room.spec fields) }
+{}
+
+/// The simulation is linearizable (Herlihy and Wing 1990): each write, snapshot and decision of the history takes effect at one atomic step of
+/// a simulator, no two at one step, and in the order of these steps they are a run. This holds of each interleaving that leads to the room.
+pub fn linearizations()
+    // There is a linearization, and each
+    ensures some { (room : RoomState) (fields : Fields) →
+        IsWithinLimits room.spec → (are : AreFieldsOf room fields) →
+        (points : List Timed) × IsLinearization room.spec are.run.schedule fields points }
+    // is a run,
+    ensures run { (room : RoomState) (fields : Fields) →
+        IsWithinLimits room.spec → (are : AreFieldsOf room fields) → (points : List Timed) →
+        IsLinearization room.spec are.run.schedule fields points →
+        IsRun room.spec (events_in (source_of room.spec fields) points) }
+    // in which each process does what it does in the history.
+    ensures same { (room : RoomState) (fields : Fields) →
+        IsWithinLimits room.spec → (are : AreFieldsOf room fields) → (points : List Timed) →
+        IsLinearization room.spec are.run.schedule fields points → (p : ℕ) →
+        p < processes room.spec →
+        events_of p (events_in (source_of room.spec fields) points) ≡ events_of p (history_of room.spec fields) }
+{}
+
+/// The linearization is one, and is found step by step.
+pub fn linearized_runs()
+    ensures is { (room : RoomState) (fields : Fields) →
+        IsWithinLimits room.spec → (are : AreFieldsOf room fields) → (points : List Timed) →
+        IsLinearization room.spec are.run.schedule fields points →
+        events_in (source_of room.spec fields) points ≡ linearized room.spec are.run.schedule fields }
+    ensures run { (room : RoomState) (fields : Fields) →
+        IsWithinLimits room.spec → (are : AreFieldsOf room fields) →
+        IsRun room.spec (linearized room.spec are.run.schedule fields) }
+    ensures same { (room : RoomState) (fields : Fields) →
+        IsWithinLimits room.spec → (are : AreFieldsOf room fields) → (p : ℕ) → p < processes room.spec →
+        events_of p (linearized room.spec are.run.schedule fields) ≡ events_of p (history_of room.spec fields) }
 {}
 
 /// At most as many processes are held as simulators have crashed.

@@ -1,0 +1,69 @@
+-- The history of a room in the order of time is a run.
+use Rattle.std.proofs.Common.{subst, length, List, ◌≡◌, ℕ, ◌<◌, cond, eqb, Bool, true, false, Option, Some, None, refl, sym, ap, ◌∙◌, inl, inr}
+use Rattle.std.proofs.lemmas.Bool.{cases_Bool, eq-eqb, eqb-true}
+use Rattle.room_spec.specs.Rooms.{IsWithinLimits, processes}
+use Rattle.transcript.specs.Runs.{IsRun}
+use Rattle.room_core.specs.Calls.{RoomState}
+use Rattle.room_core.specs.Fields.{Fields}
+use Rattle.room_core.specs.Reading.{AreFieldsOf}
+use Rattle.room_core.specs.Agreements.{decided_in, greatest_step}
+use Rattle.room_core.specs.Points.{AreEffects, points_at}
+use Rattle.room_core.specs.Timelines.{IsTimeline, timeline_of}
+use Rattle.room_core.proofs.CallerLemmas.{effects_at, rooms_agree, timelines}
+use Rattle.ws_history.specs.Sources.{source_of, history_of}
+use Rattle.ws_history.specs.Linearizations.{IsLinearization, IsSourceOf, Timed, events_in, events_of, linearized}
+use Rattle.ws_history.proofs.SourceIs.{is_of_passed}
+use Rattle.ws_history.proofs.Linearizing.{timeline_is_run}
+use Rattle.ws_history.proofs.SameEvents.{same_events}
+use Rattle.ws_history.proofs.Effects.{events_are, is_one, only_one, timed_before}
+
+none_either : (b : Bool) (o : Option ℕ) → o ≡ None → cond b o None ≡ None
+none_either true o none = none
+none_either false o none = refl
+
+last_either : (g r decision : ℕ) (o : Option ℕ) → cond (eqb g r) o None ≡ Some decision → g ≡ r
+last_either g r decision o is = elim (cases_Bool (eqb g r)) [
+  | inl same ↦ eqb-true g r same
+  | inr apart ↦ absurd (let wrong : None ≡ Some decision = ap (λ (b : Bool). cond b o None) (sym apart) ∙ is in cc)
+]
+
+module _ (room : RoomState) (fields : Fields) (limits : IsWithinLimits room.spec) (are : AreFieldsOf room fields) where
+  abbrev Linearizes : List Timed → Type 0
+  Linearizes points = IsLinearization room.spec are.run.schedule fields points
+
+  is : IsTimeline (processes room.spec) room.spec.rounds (timeline_of room.spec are.run.schedule fields) (points_at room.spec are.run.schedule fields)
+  is = timelines room fields limits are
+
+  pub of_history : IsSourceOf (processes room.spec) (source_of room.spec fields) (timeline_of room.spec are.run.schedule fields)
+  of_history = record {
+    greatest = λ p low. sym (is.ends p);
+    row = λ p r. refl;
+    decision = λ p decision low decided.
+        ap (λ (b : Bool). cond b (decided_in room.spec fields p) None) (eq-eqb (greatest_step room.spec fields p) _ (sym (is.ends p))) ∙ decided;
+    undecided = λ p r none. none_either (eqb (greatest_step room.spec fields p) r) (decided_in room.spec fields p) none;
+    decides_last = λ p r decision is'. last_either (greatest_step room.spec fields p) r decision (decided_in room.spec fields p) is';
+  }
+
+  pub linearized_run : IsRun room.spec (linearized room.spec are.run.schedule fields)
+  linearized_run = timeline_is_run room.spec (source_of room.spec fields) (timeline_of room.spec are.run.schedule fields) (points_at room.spec are.run.schedule fields) (is_of_passed room.spec fields (rooms_agree room fields limits are)) (timelines room fields limits are) of_history
+
+  pub linearized_events : (p : ℕ) → p < processes room.spec → events_of p (linearized room.spec are.run.schedule fields) ≡ events_of p (history_of room.spec fields)
+  linearized_events p low = same_events room.spec (source_of room.spec fields) (timeline_of room.spec are.run.schedule fields) (points_at room.spec are.run.schedule fields) (is_of_passed room.spec fields (rooms_agree room fields limits are)) (timelines room fields limits are) of_history p low
+
+  room_effects : (time : ℕ) → time < length are.run.schedule → AreEffects room.spec are.run.schedule fields time (points_at room.spec are.run.schedule fields time)
+  room_effects time early = effects_at room fields limits are time early
+
+  -- there is one linearization
+  pub has_linearization : (points : List Timed) × Linearizes points
+  has_linearization = (timed_before (points_at room.spec are.run.schedule fields) (length are.run.schedule), is_one room.spec are.run.schedule fields (points_at room.spec are.run.schedule fields) room_effects)
+
+  pub is_linearized : (points : List Timed) → Linearizes points → events_in (source_of room.spec fields) points ≡ linearized room.spec are.run.schedule fields
+  is_linearized points is =
+      ap (events_in (source_of room.spec fields)) (only_one room.spec are.run.schedule fields (points_at room.spec are.run.schedule fields) room_effects points is)
+      ∙ events_are (source_of room.spec fields) (points_at room.spec are.run.schedule fields) (length are.run.schedule)
+
+  pub linearization_run : (points : List Timed) → Linearizes points → IsRun room.spec (events_in (source_of room.spec fields) points)
+  linearization_run points is = subst (IsRun room.spec) (sym (is_linearized points is)) linearized_run
+
+  pub linearization_events : (points : List Timed) → Linearizes points → (p : ℕ) → p < processes room.spec → events_of p (events_in (source_of room.spec fields) points) ≡ events_of p (history_of room.spec fields)
+  linearization_events points is p low = ap (events_of p) (is_linearized points is) ∙ linearized_events p low
