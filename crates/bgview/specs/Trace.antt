@@ -12,7 +12,7 @@ use Rattle.service_core.specs.declared.reply.Reply.{Reply}
 use Rattle.service_core.specs.declared.reply.Reply.TheVariants.{Refused}
 use Rattle.service_core.specs.Replies.{name_in, refusal_code}
 use Rattle.service_core.specs.Rooms.{Applies, Entries, room_at, steps_of}
-use Rattle.room_files.specs.Script.{Entry, script_says}
+use Rattle.script_play.specs.Script.{Entry, script_says}
 use Rattle.room_files.specs.declared.outcome.Outcome.{Outcome}
 use Rattle.script_play.specs.Play.{AreDone, AreReplies, Done, Faulty, IsPlayText, Replied, Unread, commands_of, done_text, ending_of, replies_in}
 use Rattle.step_words.specs.Told.{IsTold, Telling, nothing_told}

@@ -5,7 +5,7 @@ ghost use Rattle.io_text.specs.Devices.{HasRead, HasWritten, failed_writes};
 ghost use Rattle.io_text.specs.Reading.{most_bytes};
 ghost use Rattle.room_spec.specs.Names.{is_name};
 ghost use Rattle.room_files.specs.Blocks.{IsFaultOr};
-ghost use Rattle.room_files.specs.Script.{script_says};
+ghost use Rattle.script_play.specs.Script.{script_says};
 ghost use Rattle.service_core.specs.declared.command.Command.TheVariants.{Step};
 ghost use Rattle.service_core.specs.declared.reply.Refusal.TheVariants.{NoRoom};
 ghost use Rattle.script_play.specs.Play.{IsPerformed, refusal_in};

@@ -6,5 +6,3 @@ mod Numbering
 mod Feeding
 mod SpecLists
 mod WorkedInputs
-mod Commands
-mod Scripts

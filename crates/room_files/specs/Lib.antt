@@ -3,6 +3,5 @@ pub mod Inputs
 pub mod LineNumbers
 pub mod Lines
 pub mod Reports
-pub mod Script
 pub mod SpecLists
 pub mod Verdicts

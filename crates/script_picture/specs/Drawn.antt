@@ -12,8 +12,8 @@ use Rattle.service_core.specs.declared.reply.Reply.TheVariants as replies
 use Rattle.service_core.specs.declared.reply.Refusal.{Refusal}
 use Rattle.service_core.specs.Replies.{OpenRoom, name_in}
 use Rattle.service_core.specs.Rooms.{Applies, Entries, IsReportOf, IsStateOf, room_at, steps_of}
-use Rattle.room_files.specs.Script.{script_says}
-use Rattle.room_files.specs.Script.{Entry as Asked}
+use Rattle.script_play.specs.Script.{script_says}
+use Rattle.script_play.specs.Script.{Entry as Asked}
 use Rattle.room_files.specs.declared.outcome.Outcome.{Outcome}
 use Rattle.script_play.specs.Play.{AreDone, Done, Replied, Faulty, Unread, ending_of, refusal_in}
 use Rattle.run_picture.specs.Heads.{IsHeadOf}

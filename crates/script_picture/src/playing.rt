@@ -2,7 +2,7 @@
 ghost use Rattle.std.specs.Prelude.{◌≡◌, ◌≤◌, IsOk, IfOk, IfErr, OnOk, length};
 ghost use Rattle.io_text.specs.Reading.{most_bytes};
 ghost use Rattle.room_files.specs.Blocks.{IsFaultOr};
-ghost use Rattle.room_files.specs.Script.{script_says};
+ghost use Rattle.script_play.specs.Script.{script_says};
 ghost use Rattle.script_picture.specs.Drawn.{AreFinished, IsDrawn, IsFinished, IsPictureFrom, IsPictureOf};
 
 use crate::drawing::Drawing;

@@ -1,2 +1,4 @@
+mod Commands
 mod Playing
 mod ReplyTexts
+mod Scripts

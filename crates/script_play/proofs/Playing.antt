@@ -17,7 +17,7 @@ use Rattle.service_core.specs.Rooms.{Entries}
 use Rattle.service_core.specs.Runs.{is_want}
 use Rattle.service_core.proofs.CallerLemmas.{Ran, begins, goes_on}
 use Rattle.room_files.specs.Blocks.{refused_line}
-use Rattle.room_files.specs.Script.{Entry, Ask, asked, steps_for}
+use Rattle.script_play.specs.Script.{Entry, Ask, asked, steps_for}
 use Rattle.room_files.specs.declared.outcome.Outcome.{Outcome}
 use Rattle.room_files.specs.declared.outcome.Outcome.TheVariants.{AllWell}
 use Rattle.script_play.specs.Play.{AreDone, Done, DoesMore, Replied, Unread, HasPlayed, HasRun, IsDone, IsPerformed, PlaysCommand, PlaysOn, commands_of, replies_in, commands_in, reply_of, done_text, ending_if, ending_of, ending_with, is_lack, is_lacking, is_refusal, is_refused, refusal_in}

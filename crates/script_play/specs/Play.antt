@@ -16,7 +16,7 @@ use Rattle.service_core.specs.Rooms.{Applies, Entries, IsStateOf, room_at}
 use Rattle.service_core.specs.Runs.{AreTrueReports, AreWants, granted, is_want, replies_of, without_wants}
 use Rattle.room_files.specs.Blocks.{fault_text, refused_line}
 use Rattle.room_files.specs.Verdicts.{outcome_if}
-use Rattle.room_files.specs.Script.{Entry, Ask, Open, script_says}
+use Rattle.script_play.specs.Script.{Entry, Ask, Open, script_says}
 use Rattle.room_files.specs.declared.outcome.Outcome.{Outcome}
 use Rattle.room_files.specs.declared.outcome.Outcome.TheVariants.{SomeRefused}
 use Rattle.script_play.specs.ReplyTexts.{reply_to_command}

@@ -1,11 +1,12 @@
-//! What a script comes to: its entries are done one by one, by a service or by whoever else has rooms, and the replies are
-//! written as lines.
+//! Reads and plays scripts: each command is executed in order, on any implementation of [`Performs`], and the replies are written as lines.
 #![tactic(auto)]
 
+mod entries;
 mod player;
 mod replies;
 mod reply;
 mod script;
+mod steps;
 
 pub use replies::{PlayText, play};
 pub use reply::{refusal_in, sim_in, write_processes, write_reply, write_report, write_steps};

@@ -3,11 +3,13 @@ ghost use Rattle.std.specs.Prelude.{◌≡◌, ◌<◌, ◌+◌, ◌^◌, [], tr
 ghost use Rattle.service_core.specs.declared.command.Command.{Command as CommandData};
 ghost use Rattle.service_core.specs.declared.command.Command.TheVariants.{Step};
 ghost use Rattle.room_spec.specs.Names.{is_name};
-ghost use Rattle.room_files.specs.Script.{Entry as Asked, Open, asks_at, command_in, is_asking};
+ghost use Rattle.script_play.specs.Script.{Entry as Asked, Open, asks_at, command_in, is_asking};
 ghost use Rattle.script_play.specs.Play.{HasPlayed, PlaysCommand, PlaysOn, ending_with, is_lack};
 
+use crate::entries::{Entry, read_command};
 use crate::script::Performs;
-use room_files::{Entry, Outcome, read_command, read_room, read_steps};
+use crate::steps::read_steps;
+use room_files::{Outcome, read_room};
 use room_spec::Name;
 use service_core::{Command, Refusal};
 use std::alloc::{AllocError, Global};

@@ -1,7 +1,7 @@
 //! The replies to a script, as text.
 ghost use Rattle.std.specs.Prelude.{◌≡◌, ◌≤◌, ◌++◌, [], IsOk, IfOk, IfErr, OnOk, length};
 ghost use Rattle.room_files.specs.Blocks.{IsFaultOr};
-ghost use Rattle.room_files.specs.Script.{script_says};
+ghost use Rattle.script_play.specs.Script.{script_says};
 ghost use Rattle.io_text.specs.Reading.{most_bytes};
 ghost use Rattle.script_play.specs.Play.{IsPlayFor};
 ghost use Rattle.script_play.specs.ReplyTexts.{reply_text};

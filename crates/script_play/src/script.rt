@@ -2,12 +2,13 @@
 ghost use Rattle.std.specs.Prelude.{◌≡◌, ◌≤◌, ◌+◌, [], ℕ, IsOk, IfOk, IfErr, length};
 ghost use Rattle.room_files.specs.Blocks.{IsFaultOr};
 ghost use Rattle.room_files.specs.declared.fault.InputFault.TheVariants.{BadInput};
-ghost use Rattle.room_files.specs.Script.{is_asking, script_from, script_says};
+ghost use Rattle.script_play.specs.Script.{is_asking, script_from, script_says};
 ghost use Rattle.io_text.specs.Reading.{most_bytes};
 ghost use Rattle.script_play.specs.Play.{IsPlay};
 
+use crate::entries::{Entry, next_entry, read_command};
 use crate::player::Player;
-use room_files::{Entry, InputFault, Outcome, next_entry, read_command};
+use room_files::{InputFault, Outcome};
 use room_spec::SpecFault;
 use service_core::{Command, Refusal};
 use std::alloc::{AllocError, Global};

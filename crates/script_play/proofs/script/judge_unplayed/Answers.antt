@@ -1,6 +1,6 @@
 use Rattle.std.proofs.Common.{◌++◌, ◌∷◌, ◌∙◌, [], refl, sym, arith}
-use Rattle.room_files.specs.Script.{script_from}
-use Rattle.room_files.proofs.CallerLemmas.{bad_entry, bad_line, behind_none, good_entry, script_ends, step_script}
+use Rattle.script_play.specs.Script.{script_from}
+use Rattle.script_play.proofs.Scripts.{bad_entry, bad_line, behind_none, good_entry, script_ends, step_script}
 use Rattle.script_play.proofs.script.judge_unplayed.Goals as goal
 
 pub loop-entry-init : goal.loop-entry-init

@@ -1,6 +1,6 @@
 use Rattle.std.proofs.Common.{◌≡◌, ◌+◌, ◌≤◌, ℕ, List, length}
-use Rattle.room_files.specs.Script.{Entry, script_from}
-use Rattle.room_files.proofs.CallerLemmas.{behind}
+use Rattle.script_play.specs.Script.{Entry, script_from}
+use Rattle.script_play.proofs.Scripts.{behind}
 use Rattle.script_play.proofs.script.judge_unplayed.Given as goal
 
 -- what is left asks for the rest

@@ -1,6 +1,6 @@
 use Rattle.std.proofs.Common.{◌++◌, ◌∷◌, ◌∙◌, [], length, sym, arith}
-use Rattle.room_files.specs.Script.{script_from, script_says}
-use Rattle.room_files.proofs.CallerLemmas.{bad_entry, bad_line, behind_none, fault_behind, good_entry, script_ends, step_script}
+use Rattle.script_play.specs.Script.{script_from, script_says}
+use Rattle.script_play.proofs.Scripts.{bad_entry, bad_line, behind_none, fault_behind, good_entry, script_ends, step_script}
 use Rattle.script_play.proofs.Playing.{done-push}
 use Rattle.script_play.proofs.script.play_script.Goals as goal
 

@@ -1,6 +1,6 @@
 use Rattle.std.proofs.Common.{◌≡◌, ◌+◌, ◌≤◌, ℕ, List, length}
-use Rattle.room_files.specs.Script.{Entry, script_from, script_says}
-use Rattle.room_files.proofs.CallerLemmas.{behind}
+use Rattle.script_play.specs.Script.{Entry, script_from, script_says}
+use Rattle.script_play.proofs.Scripts.{behind}
 use Rattle.script_play.specs.Play.{AreDone, Done, HasPlayed}
 use Rattle.script_play.proofs.script.play_script.Given as goal
 

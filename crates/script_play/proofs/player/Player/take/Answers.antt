@@ -1,7 +1,7 @@
 use Rattle.std.proofs.Common.{◌≡◌, ◌∙◌, Ok, sym, ap, subst}
 use Rattle.service_core.specs.declared.command.Command.TheVariants.{Step}
-use Rattle.room_files.specs.declared.script.Entry.{Entry as First}
-use Rattle.room_files.specs.Script.{Ask, asks_at, command_in}
+use Rattle.script_play.specs.declared.entries.Entry.{Entry as First}
+use Rattle.script_play.specs.Script.{Ask, asks_at, command_in}
 use Rattle.script_play.specs.Play.{HasPlayed}
 use Rattle.script_play.proofs.Playing.{command_played, found_command, steps_asked, where_ok}
 use Rattle.script_play.proofs.player.Player.take.Goals as goal

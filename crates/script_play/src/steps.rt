@@ -1,14 +1,14 @@
 //! Lines that ask for steps, as most lines of a script do.
 ghost use Rattle.std.specs.Prelude.{◌≡◌, IfSome};
-ghost use Rattle.room_files.specs.Script.{command_in, steps_for};
+ghost use Rattle.script_play.specs.Script.{command_in, steps_for};
 
-use crate::script::read_within;
+use crate::entries::read_within;
 use room_spec::cut_near;
 
 /// The steps that a line asks for, with no command made: the bytes in the place of the room's name, which may be none;
 /// the simulator; and how many. `None` where the line asks for no steps.
 #[inline]
-pub fn read_steps(line: &[u8]) -> Option<(&[u8], u8, u16)>
+pub(crate) fn read_steps(line: &[u8]) -> Option<(&[u8], u8, u16)>
     ensures { IfSome result (λ asked. command_in line.now ≡ steps_for asked.0.now asked.1 asked.2) }
 {
     let (word, others) = cut_near(line, b' ');

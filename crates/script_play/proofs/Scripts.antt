@@ -9,9 +9,9 @@ use Rattle.room_files.specs.Blocks.{IsFaultOr}
 use Rattle.room_files.specs.Lines.{text_lines}
 use Rattle.room_files.specs.declared.fault.InputFault.{InputFault}
 use Rattle.room_files.specs.declared.fault.InputFault.TheVariants.{BadInput, Memory}
-use Rattle.room_files.specs.declared.script.Entry.{Entry as First}
-use Rattle.room_files.specs.declared.script.Entry.TheVariants as first
-use Rattle.room_files.specs.Script.{Entry, Ask, Open, StandsFirst, and_then, asked, asks_at, block_behind, command_in, command_to, entry_at, entry_lines, is_asking, is_open, script_from, text_behind}
+use Rattle.script_play.specs.declared.entries.Entry.{Entry as First}
+use Rattle.script_play.specs.declared.entries.Entry.TheVariants as first
+use Rattle.script_play.specs.Script.{Entry, Ask, Open, StandsFirst, and_then, asked, asks_at, block_behind, command_in, command_to, entry_at, entry_lines, is_asking, is_open, script_from, text_behind}
 
 -- no command has three fields behind the name
 pub no_command : (is_cut : ℕ → Bool) (word name sim count rest : List ℕ) → ◌≡◌ {A = Option Command} None (command_to word name (sim ∷ count ∷ slice_split is_cut rest))

@@ -1,7 +1,7 @@
 use Rattle.std.proofs.Common.{arith}
 use Rattle.std.proofs.lemmas.Grind.{common_steps}
-use Rattle.room_files.proofs.BlockEnds.{few_behind}
-use Rattle.room_files.proofs.script.next_entry.Goals as goal
+use Rattle.room_files.proofs.CallerLemmas.{few_behind}
+use Rattle.script_play.proofs.entries.next_entry.Goals as goal
 
 pub returns-clause-rest : goal.returns-clause-rest
 returns-clause-rest c = grind (arith, common_steps)

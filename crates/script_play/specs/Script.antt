@@ -10,8 +10,8 @@ use Rattle.service_core.specs.declared.command.Command.TheVariants.{Begin, Step,
 use Rattle.service_core.specs.Replies.{name_in}
 use Rattle.room_files.specs.Blocks.{block_extent}
 use Rattle.room_files.specs.Lines.{text_lines}
-use Rattle.room_files.specs.declared.script.Entry.{Entry as First}
-use Rattle.room_files.specs.declared.script.Entry.TheVariants as first
+use Rattle.script_play.specs.declared.entries.Entry.{Entry as First}
+use Rattle.script_play.specs.declared.entries.Entry.TheVariants as first
 
 -- ---- commands
 

@@ -15,7 +15,7 @@ use Rattle.transcript.proofs.CallerLemmas.{no_space_in}
 use Rattle.service_core.specs.declared.command.Command.{Command}
 use Rattle.service_core.specs.declared.command.Command.TheVariants.{Begin, Step, Crash, Settle, Report, Close}
 use Rattle.service_core.specs.Replies.{name_in}
-use Rattle.room_files.specs.Script.{HasNumbers, IsCommandLine, command_fields, command_in, command_of, command_to, crash_command, number_within, step_command, steps_for, within}
+use Rattle.script_play.specs.Script.{HasNumbers, IsCommandLine, command_fields, command_in, command_of, command_to, crash_command, number_within, step_command, steps_for, within}
 
 -- ---- what is read is what the line asks for
 

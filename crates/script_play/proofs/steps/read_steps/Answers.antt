@@ -1,8 +1,8 @@
 use Rattle.std.proofs.Common.{◌≡◌, ◌∷◌, rules}
 use Rattle.std.specs.Prelude.{codes}
 use Rattle.room_spec.specs.Texts.{fields_of}
-use Rattle.room_files.proofs.Commands.{steps_read}
-use Rattle.room_files.proofs.steps.read_steps.Goals as goal
+use Rattle.script_play.proofs.Commands.{steps_read}
+use Rattle.script_play.proofs.steps.read_steps.Goals as goal
 
 pub returns : goal.returns
 returns c =

@@ -1,18 +1,18 @@
-//! The lines of a script.
+//! The entries of a script: blocks after a line `open`, and lines that are commands.
 ghost use Rattle.std.specs.Prelude.{◌≡◌, ◌<◌, ◌≤◌, ◌+◌, MatchOption, IfSome, Some, [], ◌∷◌, length};
 ghost use Rattle.service_core.specs.declared.command.Command.{Command as CommandData};
 ghost use Rattle.room_spec.specs.Texts.{fields_of, first_line, later_lines};
 ghost use Rattle.room_files.specs.Blocks.{block_extent};
-ghost use Rattle.room_files.specs.Script.{IsCommandLine, StandsFirst, bare_command, command_in, command_of, command_to, entry_lines, number_within, text_behind};
+ghost use Rattle.script_play.specs.Script.{IsCommandLine, StandsFirst, bare_command, command_in, command_of, command_to, entry_lines, number_within, text_behind};
 
-use crate::lines::count_lines;
 use protocol_lang::read_number;
+use room_files::count_lines;
 use room_spec::{Name, block_len, cut};
 use service_core::Command;
 
 /// The command that a line is, or `None`. A block is opened by other means.
 #[tactic(auto, using(crate::proofs::Commands::is_found))]
-pub fn read_command(line: &[u8]) -> Option<Command>
+pub(crate) fn read_command(line: &[u8]) -> Option<Command>
     // What is read is what the line asks for.
     ensures sound { IfSome result (λ command. IsCommandLine line.now command) }
     // What a line asks for is read.
@@ -97,7 +97,7 @@ pub(crate) fn read_within(least: u16, most: u16, field: &[u8]) -> Option<u16>
 
 /// What stands first in a script.
 #[derive(Clone, Copy, Debug, PartialEq, Eq)]
-pub enum Entry<'a> {
+pub(crate) enum Entry<'a> {
     /// The line `open`, and this block behind it: the bytes up to its line `end`, or else all.
     Block(&'a [u8]),
     /// Another line, without its line end.
@@ -107,7 +107,7 @@ pub enum Entry<'a> {
 impl Entry<'_> {
     /// How many lines of the script it has.
     #[inline]
-    pub fn lines(&self) -> u64
+    pub(crate) fn lines(&self) -> u64
         ensures { result ≡ entry_lines self.now }
     {
         match self {
@@ -119,7 +119,7 @@ impl Entry<'_> {
 
 /// What stands first in a script, and what stands behind it. `None` where the script is empty.
 #[inline(always)]
-pub fn next_entry(script: &[u8]) -> Option<(Entry<'_>, &[u8])>
+pub(crate) fn next_entry(script: &[u8]) -> Option<(Entry<'_>, &[u8])>
     ensures none { MatchOption result (script.now ≡ []) (λ r. 0 < length script.now) }
     ensures entry { IfSome result (λ r. StandsFirst script.now r.0) }
     ensures rest { IfSome result (λ r. r.1.now ≡ text_behind (first_line script.now) (later_lines script.now)) }

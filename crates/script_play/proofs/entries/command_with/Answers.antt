@@ -1,6 +1,6 @@
 use Rattle.room_spec.specs.Texts.{is_space}
-use Rattle.room_files.proofs.Scripts.{no_command}
-use Rattle.room_files.proofs.script.command_with.Goals as goal
+use Rattle.script_play.proofs.Scripts.{no_command}
+use Rattle.script_play.proofs.entries.command_with.Goals as goal
 
 pub returns-in_default-None-cut : goal.returns-in_default-None-cut
 returns-in_default-None-cut c =
