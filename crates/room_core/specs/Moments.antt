@@ -41,11 +41,13 @@ pub record EndsCollect (spec : RoomSpec) (schedule : List ScheduleEvent) (i j k 
   pub process : ((fields_at spec schedule time).mind i).process ≡ j
   pub round : current_round ((fields_at spec schedule time).mind i) ≡ k
 
--- The content of a scan: the step numbers at a moment at which the simulator had counted the round. Where the memory has more
--- than one word, it is the moment at which the collect before the last ended.
-pub record IsScan (spec : RoomSpec) (schedule : List ScheduleEvent) (now i j k : ℕ) (map : StepMap) (collects : ℕ) : Type 0 where
+-- The content of a scan, and the collect before it: the step numbers at a moment at which the simulator had counted the round.
+-- Where the memory has more than one word, the scan ended with two equal collects, and it is the moment at which the first of
+-- them ended.
+pub record IsScan (spec : RoomSpec) (schedule : List ScheduleEvent) (now i j k : ℕ) (before map : StepMap) (collects : ℕ) : Type 0 where
   pub time : ℕ
   pub early : time ≤ now
   pub counted : HasCounted spec schedule i j k time
   pub same : AreSameSteps spec.simulators (processes spec) map (steps_at spec schedule time)
-  pub ended : words_in spec ≢ 1 → (before : ℕ) × (collects ≡ before + 1) × EndsCollect spec schedule i j k before time
+  pub equal : words_in spec ≢ 1 → AreSameSteps spec.simulators (processes spec) map before
+  pub ended : words_in spec ≢ 1 → (first : ℕ) × (collects ≡ first + 1) × EndsCollect spec schedule i j k first time

@@ -267,12 +267,12 @@ pub fn settles()
 {}
 
 /// The content of each scan is the step numbers after a prefix of the list, which holds the simulator's own last write. Where the
-/// memory has more than one word, it is the prefix with which the collect before the last ended.
+/// memory has more than one word, the last two collects are equal, and it is the prefix with which the first of them ended.
 pub fn scans()
     ensures { (room : RoomState) (fields : Fields) →
         IsWithinLimits room.spec → (are : AreFieldsOf room fields) → (i : ℕ) → i < room.spec.simulators → (fields.mind i).line ≡ Show →
         IsScan room.spec are.run.schedule (length are.run.schedule) i (fields.mind i).process (current_round (fields.mind i))
-        (fields.mind i).snapshot (fields.mind i).collects }
+        (fields.mind i).before (fields.mind i).snapshot (fields.mind i).collects }
 {}
 
 /// At each atomic step of a schedule at most one write, snapshot or decision of a simulated process takes effect, and it does so within its

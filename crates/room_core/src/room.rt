@@ -151,11 +151,11 @@ impl RoomCore {
         // Its numbers are within their ranges, and so an open turn has taken fewer steps than its limit.
         ensures is_mind { IsMind self.now.spec (mind_at (configuration_of self.now) i) }
         // The content of its scan, which it stores next, is the step numbers after a prefix of the list that leads to the room; the
-        // prefix holds its own last write.
+        // prefix holds its own last write. A scan of several words ends with two equal collects.
         ensures scan { (fields : Fields) (are : AreFieldsOf self.now fields) →
             (fields.mind i).line ≡ Show →
             IsScan self.now.spec are.run.schedule (length are.run.schedule) i (fields.mind i).process (current_round (fields.mind i))
-            (fields.mind i).snapshot (fields.mind i).collects }
+            (fields.mind i).before (fields.mind i).snapshot (fields.mind i).collects }
     {
         self.sweeps[i].mind()
     }

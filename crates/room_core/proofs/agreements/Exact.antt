@@ -206,9 +206,9 @@ module _ (room : RoomState) (fields : Fields) (limits : IsWithinLimits room.spec
   of_base : (P : Fields → Type 0) → P (with_quiet (replay_fields room.spec (opening_fields room.spec) are.run.schedule) fields.quiet) → P fields
   of_base P is = subst P (sym (leads_of room fields are)) is
 
-  pub room_scans : (i : ℕ) → i < room.spec.simulators → (fields.mind i).line ≡ Show → IsScan room.spec are.run.schedule (length are.run.schedule) i (fields.mind i).process (current_round (fields.mind i)) (fields.mind i).snapshot (fields.mind i).collects
+  pub room_scans : (i : ℕ) → i < room.spec.simulators → (fields.mind i).line ≡ Show → IsScan room.spec are.run.schedule (length are.run.schedule) i (fields.mind i).process (current_round (fields.mind i)) (fields.mind i).before (fields.mind i).snapshot (fields.mind i).collects
   room_scans =
-      of_base (λ (f : Fields). (i : ℕ) → i < room.spec.simulators → (f.mind i).line ≡ Show → IsScan room.spec are.run.schedule (length are.run.schedule) i (f.mind i).process (current_round (f.mind i)) (f.mind i).snapshot (f.mind i).collects)
+      of_base (λ (f : Fields). (i : ℕ) → i < room.spec.simulators → (f.mind i).line ≡ Show → IsScan room.spec are.run.schedule (length are.run.schedule) i (f.mind i).process (current_round (f.mind i)) (f.mind i).before (f.mind i).snapshot (f.mind i).collects)
       (let history = history_run (configuration_of room) limits are.run in history.scans)
 
   pub room_entry : (i j k : ℕ) → i < room.spec.simulators → 1 ≤ k → fields.level i j k ≡ 2 → entry_of_steps room.spec (fields.view i j k) j ≡ k

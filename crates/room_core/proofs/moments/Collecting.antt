@@ -10,6 +10,14 @@ use Rattle.room_core.specs.Fields.{StepMap, same_steps}
 use Rattle.room_core.proofs.moments.Collects.{Grows, HasCollected, IsCollecting, IsContent, is_last_collect, sum_of}
 use Rattle.room_core.proofs.moments.Sums.{same_of, sum_rises, sum_within}
 
+both_last : (a b : Bool) → a && b ≡ true → (a ≡ true) × (b ≡ true)
+both_last true b is = (refl, is)
+both_last false b is = absurd cc
+
+-- a scan that has ended by its test ended with two equal collects
+pub equal_collects : (sizes : Sizes) (collects : ℕ) (before collect : StepMap) → is_last_collect sizes collects before collect ≡ true → AreSameSteps sizes.m sizes.n collect before
+equal_collects sizes collects before collect is = same_of sizes.m sizes.n collect before (both_last (ltb 0 collects) (same_steps sizes.m sizes.n collect before) is).1
+
 -- ---- one word of a map
 
 pub with_here : (sizes : Sizes) (word : ℕ) (source into : StepMap) (i p : ℕ) → word_of sizes i p ≡ word → with_part sizes word source into i p ≡ source i p
@@ -71,10 +79,6 @@ module _ (sizes : Sizes) (Ends : ℕ → Type 0) (at : ℕ → StepMap) (now : �
       not_last true b one is' = is'
       not_last false b one is' = absurd cc
 
-      both_last : (a b : Bool) → a && b ≡ true → (a ≡ true) × (b ≡ true)
-      both_last true b is' = (refl, is')
-      both_last false b is' = absurd cc
-
       risen_by : (whole : (collects ≡ 0) ⊎ HasCollected sizes Ends at now before snapshot word collects) → is_last_collect sizes collects before (with_part sizes word (at now) snapshot) ≡ false → collects ≤ sum_of sizes (with_part sizes word (at now) snapshot)
       risen_by (inl none) not = omega arith
       risen_by (inr has) not = dite (ℕ_discrete collects 0) (λ (e : collects ≡ 0). omega arith) (λ (other : collects ≢ 0). more (omega arith))
@@ -101,7 +105,7 @@ module _ (sizes : Sizes) (Ends : ℕ → Type 0) (at : ℕ → StepMap) (now : �
       content_by : (whole : (collects ≡ 0) ⊎ HasCollected sizes Ends at now before snapshot word collects) → is_last_collect sizes collects before (with_part sizes word (at now) snapshot) ≡ true → IsContent sizes Ends at now (with_part sizes word (at now) snapshot)
       content_by (inl none) equal = absurd (let some = ltb-true 0 collects (both_last _ _ equal).0 in omega arith)
       content_by (inr has) equal =
-          let same : AreSameSteps sizes.m sizes.n (with_part sizes word (at now) snapshot) before = same_of sizes.m sizes.n (with_part sizes word (at now) snapshot) before (both_last (ltb 0 collects) (same_steps sizes.m sizes.n (with_part sizes word (at now) snapshot) before) equal).1 in
+          let same = equal_collects sizes collects before (with_part sizes word (at now) snapshot) equal in
           record {
             time = has.time;
             early = has.early;

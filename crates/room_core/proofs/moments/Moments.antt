@@ -101,7 +101,7 @@ Collects spec schedule now i own =
     IsCollecting (sizes_in spec) (EndsCollect spec schedule i (process_on own) (round_on own) own.mind.collects) (steps_at spec schedule) now own.mind.before own.mind.snapshot own.mind.word own.mind.collects
 
 abbrev pub Scans : RoomSpec → List ScheduleEvent → ℕ → ℕ → Own → Type 0
-Scans spec schedule now i own = IsScan spec schedule now i (process_on own) (round_on own) own.mind.snapshot own.mind.collects
+Scans spec schedule now i own = IsScan spec schedule now i (process_on own) (round_on own) own.mind.before own.mind.snapshot own.mind.collects
 
 -- what has been stored of a snapshot
 abbrev pub IsStored : RoomSpec → Own → Type 0
@@ -235,13 +235,20 @@ module _ (spec : RoomSpec) (limits : IsWithinLimits spec) (schedule : List Sched
       (last_is was last ends)
 
   scan_content : own.step ≡ fields.step i → own.step (process_on own) ≡ round_on own → IsLastWord spec own → (words_in spec ≢ 1 → Was) → (collects : ℕ) → ScanEnds spec fields own collects
-      → IsScan spec schedule now i (process_on own) (round_on own) (step_loaded spec fields own).snapshot collects
+      → IsScan spec schedule now i (process_on own) (round_on own) own.mind.before (step_loaded spec fields own).snapshot collects
   scan_content mine count last was collects (inl one) =
       let content = one_content mine count last one in
-      record { time = content.time; early = content.early; counted = content.ends; same = content.same; ended = λ several. absurd (several one) }
+      record { time = content.time; early = content.early; counted = content.ends; same = content.same; equal = λ several. absurd (several one); ended = λ several. absurd (several one) }
   scan_content mine count last was collects (inr more) =
       let content = more_content (was more.0) last more.1 in
-      record { time = content.time; early = content.early; counted = (content.ends).counted; same = content.same; ended = λ several. (own.mind.collects, more.2, content.ends) }
+      record {
+        time = content.time;
+        early = content.early;
+        counted = (content.ends).counted;
+        same = content.same;
+        equal = λ several. collecting.equal_collects (sizes_in spec) own.mind.collects own.mind.before (step_loaded spec fields own).snapshot (last_is (was more.0) last more.1);
+        ended = λ several. (own.mind.collects, more.2, content.ends);
+      }
 
 -- ---- what a line makes of a proposal that is being stored
 
@@ -329,11 +336,12 @@ scans_rest spec schedule event i own is = record {
   early = is.early;
   counted = ap (λ (f : Fields). f.step i (process_on own)) (at_before spec schedule event is.time is.early) ∙ is.counted;
   same = λ a p less less'. is.same a p less less' ∙ ap (λ (f : Fields). f.step a p) (sym (at_before spec schedule event is.time is.early));
+  equal = is.equal;
   ended = λ several. let end = is.ended several in (end.0, end.1, ends_rest spec schedule event i (process_on own) (round_on own) end.0 is.time is.early end.2);
 }
 
 scans_more : (spec : RoomSpec) (schedule : List ScheduleEvent) (event : ScheduleEvent) (i : ℕ) (own : Own) → Scans spec (schedule ++ event ∷ []) (length schedule) i own → Scans spec (schedule ++ event ∷ []) (length (schedule ++ event ∷ [])) i own
-scans_more spec schedule event i own is = record { time = is.time; early = let long = length-snoc schedule event in let e = is.early in omega (arith, long, e); counted = is.counted; same = is.same; ended = is.ended }
+scans_more spec schedule event i own is = record { time = is.time; early = let long = length-snoc schedule event in let e = is.early in omega (arith, long, e); counted = is.counted; same = is.same; equal = is.equal; ended = is.ended }
 
 collects_rest : (spec : RoomSpec) (schedule : List ScheduleEvent) (event : ScheduleEvent) (i : ℕ) (own : Own) → Collects spec schedule (length schedule) i own → Collects spec (schedule ++ event ∷ []) (length schedule) i own
 collects_rest spec schedule event i own is =

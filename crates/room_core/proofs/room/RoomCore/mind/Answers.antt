@@ -18,6 +18,6 @@ returns-clause-scan c =
     let room : RoomState = record { spec = c.self.inside.spec; words = c.self.inside.words; sweeps = boxed_slice_items c.self.inside.sweeps; crashed = c.self.inside.crashed.items } in
     let P : RoomState → Type 0 =
     λ (r : RoomState).
-    (i : ℕ) → i < r.spec.simulators → (fields : Fields) (are : AreFieldsOf r fields) → (fields.mind i).line ≡ Show → IsScan r.spec are.run.schedule (length are.run.schedule) i (fields.mind i).process (current_round (fields.mind i)) (fields.mind i).snapshot (fields.mind i).collects
+    (i : ℕ) → i < r.spec.simulators → (fields : Fields) (are : AreFieldsOf r fields) → (fields.mind i).line ≡ Show → IsScan r.spec are.run.schedule (length are.run.schedule) i (fields.mind i).process (current_round (fields.mind i)) (fields.mind i).before (fields.mind i).snapshot (fields.mind i).collects
     in
     subst P c.self.view_is (λ i below fields are is. room_scans room fields c.self.invariant.is_room.shape.limits are i below is) c.args.i c.requires
