@@ -1,6 +1,6 @@
 //! What the blocks of an input say, one after the other.
 ghost use Rattle.std.specs.Prelude.{◌≡◌, ◌+◌, ◌<◌, ◌^◌, ◌≤◌, [], IfOk, IfErr, IsOk, OnOk, length};
-ghost use Rattle.room_spec.specs.Blocks.{IsHeadRight, block_in, block_len};
+ghost use Rattle.room_spec.specs.Blocks.{LacksMemory, block_in, block_len};
 ghost use Rattle.room_files.specs.Lines.{text_lines};
 ghost use Rattle.room_files.specs.Blocks.{no_blocks, refuse, open_room, after_block, pass_lines, why_text, IsWhy, ReadsBlock};
 
@@ -192,8 +192,8 @@ pub fn read_room(
     block: &[u8],
 ) -> Result<Result<(Spec, usize), SpecFault>, AllocError>
     ensures read { IfOk result (λ read. read ≡ block_in block.now) }
-    // Want of memory hides no fault of a line before the protocol's text, nor that this text is too long.
-    ensures head { IfErr result (λ _. IsHeadRight (block_in block.now)) }
+    // Want of memory hides no fault that is found before memory is asked for.
+    ensures lacks { IfErr result (λ _. LacksMemory block.now) }
 {
     match read_block(alloc, block) {
         Err(SpecFault::BadProtocol(ParseFault::OutOfMemory)) => Err(AllocError),
@@ -209,8 +209,8 @@ fn read_lines<'a>(
     protocols: &mut Protocols<'a>,
 ) -> Result<Result<Spec, SpecFault>, AllocError>
     ensures read { IfOk result (λ read. ReadsBlock block.now read) }
-    // Want of memory hides no fault of a line before the protocol's text, nor that this text is too long.
-    ensures head { IfErr result (λ _. IsHeadRight (block_in block.now)) }
+    // Want of memory hides no fault that is found before memory is asked for.
+    ensures lacks { IfErr result (λ _. LacksMemory block.now) }
 {
     match block.read(alloc, protocols) {
         Err(SpecFault::BadProtocol(ParseFault::OutOfMemory)) => Err(AllocError),

@@ -47,7 +47,7 @@ pub fn read_blocks<R: Opens, T: Refuses>(
 }
 
 /// Takes all blocks of an input that has nothing else: what they say. Where the last has no line `end`
-/// it is cut off, and refused. `Err` is want of memory.
+/// it is cut off, and refused. `Err` is want of memory, which an input of no bytes takes none of.
 #[tactic(auto, unfolding(crate::specs::Inputs::all_blocks_from))]
 pub fn read_all_blocks<R: Opens, T: Refuses>(
     alloc: Global,
@@ -56,7 +56,8 @@ pub fn read_all_blocks<R: Opens, T: Refuses>(
 ) -> Result<Setup<R, T>, AllocError>
     requires new { setup ≡ no_blocks }
     requires short { length input.now ≤ most_bytes }
-    ensures { IfOk result (λ setup. setup ≡ all_blocks input.now) }
+    ensures read { IfOk result (λ setup. setup ≡ all_blocks input.now) }
+    ensures lacks { IfErr result (λ _. 0 < length input.now) }
 {
     let mut protocols = Protocols::new(alloc);
     let mut rest = input;

@@ -6,7 +6,7 @@ use Rattle.std.specs.Option.{option_map}
 use Rattle.std.proofs.lemmas.List.{append_assoc, length-append, length-take-le, take_all, take_at, take-take}
 use Rattle.room_spec.specs.Texts.{is_line_end, lines_of, pieces_of}
 use Rattle.protocol_lang.specs.Results.{◌>>=◌}
-use Rattle.room_spec.specs.Blocks.{body_len, block_len, block_in, is_end, room_in, room_before, GivesOrMemory, IsEnded, OrMemory}
+use Rattle.room_spec.specs.Blocks.{body_len, block_len, block_in, is_end, room_in, room_before, GivesOrMemory, IsEnded, MayLackAt, MayLackIn, OrMemory}
 use Rattle.room_spec.specs.Grammar.{EndsAt, are_before_end, line_end, text_of}
 use Rattle.room_spec.specs.Rooms.{RoomSpec}
 use Rattle.room_spec.specs.declared.fault.SpecFault.{SpecFault}
@@ -93,13 +93,13 @@ lines_read text (Some body) before is front whole =
     let len : min (body + 4) (length text) ≡ length text = cc in
     rw (len, same, ← front) refl
 
-gives : (result : Result RoomSpec SpecFault) (wanted : Result RoomSpec SpecFault) (len : ℕ) → OrMemory result wanted → GivesOrMemory {Y = RoomSpec × ℕ} (λ room. (room, len)) result (wanted >>= λ room. Ok (room, len))
-gives (Ok room) wanted len (inl is) = rw (← is) refl
-gives (Ok room) wanted len (inr is) = absurd (let never = is.0 in cc)
-gives (Err fault) wanted len found = refused_on fault wanted (λ room. (room, len)) found
+gives : (lacks also : Type 0) (result : Result RoomSpec SpecFault) (wanted : Result RoomSpec SpecFault) (len : ℕ) → (lacks → also) → OrMemory lacks result wanted → GivesOrMemory {Y = RoomSpec × ℕ} also (λ room. (room, len)) result (wanted >>= λ room. Ok (room, len))
+gives lacks also (Ok room) wanted len more (inl is) = rw (← is) refl
+gives lacks also (Ok room) wanted len more (inr is) = absurd (let never = is.0 in cc)
+gives lacks also (Err fault) wanted len more found = refused_on lacks also fault wanted (λ room. (room, len)) more found
 
-pub block_says : (text body : List ℕ) (lines : ℕ) (result : Result RoomSpec SpecFault) → IsEnded text body lines → OrMemory result (room_in body) → GivesOrMemory {Y = RoomSpec × ℕ} (λ room. (room, length text)) result (block_in text)
-block_says text body lines result ended found = rw (lines_read text (body_len text) body ended.body_is ended.bytes ended.whole) (gives result (room_in body) (length text) found)
+pub block_says : (text body : List ℕ) (lines : ℕ) (result : Result RoomSpec SpecFault) → IsEnded text body lines → OrMemory (MayLackIn body) result (room_in body) → GivesOrMemory {Y = RoomSpec × ℕ} (MayLackAt text) (λ room. (room, length text)) result (block_in text)
+block_says text body lines result ended found = rw (lines_read text (body_len text) body ended.body_is ended.bytes ended.whole) (gives (MayLackIn body) (MayLackAt text) result (room_in body) (length text) (λ lacks. record { body = length body; ends = ended.body_is; lines = subst MayLackIn ended.bytes lacks }) found)
 
 body_within : (text : List ℕ) (body : ℕ) → body_len text ≡ Some body → body ≤ length text
 body_within text body found =
@@ -119,3 +119,17 @@ front_says text block len front =
     let ends : body_len block ≡ Some body = ap body_len front ∙ same.0 in
     let before : take body block ≡ take body text = ap (take body) front ∙ take-take body (length block) text (omega (arith, found.2, body_within text body found.1)) in
     same_says text block body (body_len block) (body_len text) ends found.1 before (omega (arith, found.2))
+
+-- what lacks memory in the block at a text's front lacks it in the text
+pub front_lacks : (text block : List ℕ) → block_len text ≡ Some (length block) → block ≡ take (length block) text → MayLackAt block → MayLackAt text
+front_lacks text block len front lacks =
+    let found = some_body text (body_len text) (length block) len in
+    let body = found.0 in
+    let same = same_end text body (length block) (sym found.1) found.2 in
+    let ends : body_len block ≡ Some body = ap body_len front ∙ same.0 in
+    let is : lacks.body ≡ body = some_same lacks.body body (sym lacks.ends ∙ ends) in
+    let before : take body block ≡ take body text = ap (take body) front ∙ take-take body (length block) text (omega (arith, found.2, body_within text body found.1)) in
+    record { body = body; ends = found.1; lines = subst MayLackIn (ap (λ (n : ℕ). take n block) is ∙ before) lacks.lines }
+  where
+    some_same : (a b : ℕ) → Some a ≡ Some b → a ≡ b
+    some_same a b e = cc

@@ -1,16 +1,18 @@
 -- What holds of a block that was read, or of its fault, where memory may have been refused.
-use Rattle.std.proofs.Common.{arith, ◌≡◌, ℕ, ◌+◌, ◌<◌, ◌≤◌, min, List, length, take, Option, Some, None, Result, Ok, Err, refl, sym, ap, ◌∙◌, subst, inl, inr}
-use Rattle.std.specs.Prelude.{IfOk, IfErr}
-use Rattle.protocol_lang.specs.Reading.{reading, IsReading, MayLackMemory}
-use Rattle.protocol_lang.specs.Trees.{Tree}
+use Rattle.std.proofs.Common.{arith, ◌≡◌, ℕ, zero, suc, ◌+◌, ◌≤◌, Bool, true, false, cond, ltb, min, List, length, take, Option, Some, None, Result, Ok, Err, refl, sym, ap, ◌∙◌, subst, inl, inr}
+use Rattle.std.specs.Prelude.{IfOk, IfErr, IsOk}
+use Rattle.std.proofs.lemmas.Bool.{ltb-false}
+use Rattle.protocol_lang.specs.Reading.{State, at_start, one_token, onward, opening, most_tokens, reading, run, tree_read, IsReading, MayLackMemory}
+use Rattle.protocol_lang.specs.Formulas.{trees}
+use Rattle.protocol_lang.specs.Trees.{Expression, Tree}
 use Rattle.protocol_lang.specs.Limits.{HasSmallNumerals}
 use Rattle.protocol_lang.specs.declared.protocol.Protocol.{Protocol}
 use Rattle.protocol_lang.specs.declared.fault.ParseFault.{ParseFault}
 use Rattle.protocol_lang.specs.declared.fault.ParseFault.TheVariants.{OutOfMemory, TooLong}
-use Rattle.protocol_lang.proofs.CallerLemmas.{first_fault, small_if_read}
+use Rattle.protocol_lang.proofs.CallerLemmas.{small_if_read}
 use Rattle.room_spec.specs.Rooms.{RoomSpec}
 use Rattle.protocol_lang.specs.Results.{◌>>=◌}
-use Rattle.room_spec.specs.Blocks.{body_len, protocol_of, room_in, room_before, block_in, GivesOrMemory, IsHeadRight, OrMemory, UnlessMemory, out_of_memory}
+use Rattle.room_spec.specs.Blocks.{body_len, protocol_of, room_in, room_before, block_in, GivesOrMemory, MayLackAt, OrMemory, UnlessMemory, out_of_memory}
 use Rattle.room_spec.specs.Grammar.{IsBlock, IsLocal, IsOfText, IsFirstFault}
 use Rattle.room_spec.specs.declared.fault.SpecFault.{SpecFault}
 use Rattle.room_spec.specs.declared.fault.SpecFault.TheVariants.{BadProtocol}
@@ -37,59 +39,71 @@ unless fault fact holds = holds
 refused : (fault : SpecFault) (fact : Type 0) → fault ≡ out_of_memory → UnlessMemory fault fact
 refused fault fact e = rw e tt
 
-pub found_or : (text : List ℕ) (result : Result (RoomSpec × ℕ) SpecFault) → OrMemory result (block_in text) → IfOk result (λ read. IsBlock text read.0 read.1)
+pub found_or : (text : List ℕ) (result : Result (RoomSpec × ℕ) SpecFault) → OrMemory (MayLackAt text) result (block_in text) → IfOk result (λ read. IsBlock text read.0 read.1)
 found_or text (Ok read) (inl e) = before_found text (body_len text) read refl (sym e)
 found_or text (Ok read) (inr e) = absurd (let never = e.0 in cc)
 found_or text (Err fault) e = tt
 
-pub only_or : (text : List ℕ) (result : Result (RoomSpec × ℕ) SpecFault) → OrMemory result (block_in text) → (room : RoomSpec) (len : ℕ) → IsBlock text room len → OrMemory result (read_as room len)
+pub only_or : (text : List ℕ) (result : Result (RoomSpec × ℕ) SpecFault) → OrMemory (MayLackAt text) result (block_in text) → (room : RoomSpec) (len : ℕ) → IsBlock text room len → OrMemory (MayLackAt text) result (read_as room len)
 only_or text result (inl e) room len block = inl (e ∙ block_again text room len block)
-only_or text result (inr e) room len block = inr (e.0, tt)
+only_or text result (inr e) room len block = inr e
 
-pub local_or : (text : List ℕ) (result : Result (RoomSpec × ℕ) SpecFault) → OrMemory result (block_in text) → IfErr result (λ fault. UnlessMemory fault (IsLocal text fault))
+pub local_or : (text : List ℕ) (result : Result (RoomSpec × ℕ) SpecFault) → OrMemory (MayLackAt text) result (block_in text) → IfErr result (λ fault. UnlessMemory fault (IsLocal text fault))
 local_or text (Ok read) e = tt
 local_or text (Err fault) (inl e) = unless fault (IsLocal text fault) (block_local text (Err fault) e)
 local_or text (Err fault) (inr e) = let same : fault ≡ out_of_memory = (let is = e.0 in cc) in refused fault (IsLocal text fault) same
 
-pub of_text_or : (text : List ℕ) (result : Result (RoomSpec × ℕ) SpecFault) → OrMemory result (block_in text) → IfErr result (λ fault. UnlessMemory fault (IsOfText text fault))
+pub of_text_or : (text : List ℕ) (result : Result (RoomSpec × ℕ) SpecFault) → OrMemory (MayLackAt text) result (block_in text) → IfErr result (λ fault. UnlessMemory fault (IsOfText text fault))
 of_text_or text (Ok read) e = tt
 of_text_or text (Err fault) (inl e) = unless fault (IsOfText text fault) (block_of_text text (Err fault) e)
 of_text_or text (Err fault) (inr e) = let same : fault ≡ out_of_memory = (let is = e.0 in cc) in refused fault (IsOfText text fault) same
 
-pub first_or : (text : List ℕ) (result : Result (RoomSpec × ℕ) SpecFault) → OrMemory result (block_in text) → IfErr result (λ fault. UnlessMemory fault (IsFirstFault text fault))
+pub first_or : (text : List ℕ) (result : Result (RoomSpec × ℕ) SpecFault) → OrMemory (MayLackAt text) result (block_in text) → IfErr result (λ fault. UnlessMemory fault (IsFirstFault text fault))
 first_or text (Ok read) e = tt
 first_or text (Err fault) (inl e) = unless fault (IsFirstFault text fault) (block_first text (Err fault) e)
 first_or text (Err fault) (inr e) = let same : fault ≡ out_of_memory = (let is = e.0 in cc) in refused fault (IsFirstFault text fault) same
 
 -- a protocol that was read has small numerals
-pub kept_small : {X : Type 0} (view : X → Protocol) (text : List ℕ) (kept : Result X SpecFault) (x : X) → GivesOrMemory view kept (protocol_of (reading text)) → kept ≡ Ok x → HasSmallNumerals (view x)
+pub kept_small : {X : Type 0} (view : X → Protocol) (text : List ℕ) (kept : Result X SpecFault) (x : X) → GivesOrMemory (MayLackMemory text) view kept (protocol_of (reading text)) → kept ≡ Ok x → HasSmallNumerals (view x)
 kept_small view text (Ok y) x gives e = let same : y ≡ x = cc in subst (λ z. HasSmallNumerals (view z)) same (small_if_read text (view y) (protocol_read (reading text) (view y) gives))
 kept_small view text (Err fault) x gives e = absurd cc
 
--- ---- memory is asked for by a text that isn't too long
+-- ---- where memory is refused to a protocol
 
-module _ (text : List ℕ) (short : length text ≤ 4096) where
-  head_by : (read : Result Tree ParseFault) → reading text ≡ read → IsHeadRight (protocol_of read)
-  head_by (Ok tree) is = tt
-  head_by (Err TooLong) is = let long : 4096 < length text = first_fault text (Err TooLong) is in absurd (omega (arith, long, short))
-  head_by (Err fault) is = tt
+-- the first token of a text that is read has no fault
+first_taken : (most : ℕ) (text : List ℕ) (s end : State Expression) → run trees most text 0 s ≡ Ok end → IsOk (one_token trees text 0 s)
+unfolding run
+first_taken zero text s end is = absurd cc
+first_taken (suc most) text s end is = ok_first (one_token trees text 0 s) (onward (run trees most text)) end is
+  where
+    ok_first : (token : Result (State Expression × Option ℕ) ParseFault) (next : State Expression × Option ℕ → Result (State Expression) ParseFault) (end : State Expression) → (token >>= next) ≡ Ok end → IsOk token
+    ok_first (Ok x) next end is = refl
+    ok_first (Err fault) next end is = absurd cc
 
-pub head_right : (text : List ℕ) → MayLackMemory text → IsHeadRight (protocol_of (reading text))
-head_right text lacks = head_by text lacks.short (reading text) refl
+read_short : (b : Bool) (text : List ℕ) (found : Result (State Expression) ParseFault) (tree : Tree) → b ≡ ltb 4096 (length text) → cond b (Err TooLong) (found >>= λ s. Ok (tree_read trees s)) ≡ Ok tree → (length text ≤ 4096) × ((end : State Expression) × (found ≡ Ok end))
+read_short true text found tree long is = absurd cc
+read_short false text (Err fault) tree long is = absurd cc
+read_short false text (Ok end) tree long is = (omega (arith, ltb-false 4096 (length text) (sym long)), (end, refl))
+
+-- a text that is read may lack memory, so too when it is kept
+pub read_may_lack : (text : List ℕ) (tree : Tree) → reading text ≡ Ok tree → MayLackMemory text
+unfolding reading
+read_may_lack text tree is =
+    let read = read_short (ltb 4096 (length text)) text (run trees most_tokens text 0 (opening trees)) tree refl is in
+    record { short = read.0; from = 0; state = opening trees; reached = at_start; taken = first_taken most_tokens text (opening trees) read.1.0 read.1.1 }
 
 -- what was read of the protocol's text, or why memory was refused to it
-pub parsed_or : (text : List ℕ) (fault : ParseFault) → IsReading text (Err fault) → OrMemory {A = Protocol} (Err (BadProtocol fault)) (protocol_of (reading text))
-parsed_or text OutOfMemory lacks = inr (refl, head_right text lacks)
+pub parsed_or : (text : List ℕ) (fault : ParseFault) → IsReading text (Err fault) → OrMemory {A = Protocol} (MayLackMemory text) (Err (BadProtocol fault)) (protocol_of (reading text))
+parsed_or text OutOfMemory lacks = inr (refl, lacks)
 parsed_or text fault is = inl (sym (ap protocol_of is))
 
-still_right : (A B : Type 0) (fault : SpecFault) → IsHeadRight {A = A} (Err fault) → IsHeadRight {A = B} (Err fault)
-still_right A B (BadProtocol TooLong) right = absurd right
-still_right A B (BadProtocol fault) right = tt
-still_right A B fault right = absurd right
-
 -- what was refused to the protocol was refused to its block
-pub refused_on : {A B : Type 0} (fault : SpecFault) (wanted : Result A SpecFault) (next : A → B) → OrMemory {A = A} (Err fault) wanted → OrMemory {A = B} (Err fault) (wanted >>= λ x. Ok (next x))
-refused_on fault (Ok x) next (inl is) = absurd cc
-refused_on fault (Ok x) next (inr is) = inr ((let same : fault ≡ out_of_memory = (let e = is.0 in cc) in ap Err same), tt)
-refused_on fault (Err other) next (inl is) = inl (let same : fault ≡ other = cc in ap Err same)
-refused_on {A = A} {B = B} fault (Err other) next (inr is) = inr ((let same : fault ≡ out_of_memory = (let e = is.0 in cc) in ap Err same), still_right A B other is.1)
+pub refused_on : {A B : Type 0} (lacks also : Type 0) (fault : SpecFault) (wanted : Result A SpecFault) (next : A → B) → (lacks → also) → OrMemory {A = A} lacks (Err fault) wanted → OrMemory {A = B} also (Err fault) (wanted >>= λ x. Ok (next x))
+refused_on lacks also fault (Ok x) next more (inl is) = absurd cc
+refused_on lacks also fault (Err other) next more (inl is) = inl (let same : fault ≡ other = cc in ap Err same)
+refused_on lacks also fault wanted next more (inr is) = inr ((let same : fault ≡ out_of_memory = (let e = is.0 in cc) in ap Err same), more is.1)
+
+-- memory that may be refused here may be refused there
+pub lacks_also : {A : Type 0} (lacks also : Type 0) (result wanted : Result A SpecFault) → (lacks → also) → OrMemory lacks result wanted → OrMemory also result wanted
+lacks_also lacks also result wanted more (inl is) = inl is
+lacks_also lacks also result wanted more (inr is) = inr (is.0, more is.1)

@@ -1,5 +1,5 @@
 -- What it is that a fault stands at a line, and a head judged line by line.
-use Rattle.std.proofs.Common.{◌≡◌, ◌≢◌, ℕ, ◌+◌, ◌-◌, ◌<◌, ◌≤◌, ◌⊎◌, true, suc, List, [], ◌∷◌, ◌++◌, length, take, Some, Result, Ok, Err, refl, sym, ap, ◌∙◌, subst, arith, inl, inr}
+use Rattle.std.proofs.Common.{◌≡◌, ◌≢◌, ℕ, ◌-◌, ◌<◌, ◌≤◌, ◌⊎◌, true, suc, List, [], ◌∷◌, ◌++◌, length, take, Some, Result, Ok, Err, refl, sym, ap, ◌∙◌, subst, arith, inl, inr}
 use Rattle.std.specs.Prelude.{codes}
 use Rattle.std.proofs.lemmas.Bool.{and_parts, cases_lt}
 use Rattle.std.proofs.lemmas.List.{append_assoc, append-nil, length-append}
@@ -13,7 +13,7 @@ use Rattle.protocol_lang.specs.declared.tree.Kind.TheVariants as kinds
 use Rattle.protocol_lang.specs.declared.fault.ParseFault.{ParseFault}
 use Rattle.room_spec.specs.Rooms.{RoomSpec, IsWithinLimits, most_bits}
 use Rattle.room_spec.specs.Texts.{first_line, later_lines}
-use Rattle.room_spec.specs.Blocks.{said, room_in}
+use Rattle.room_spec.specs.Blocks.{room_in}
 use Rattle.room_spec.specs.Grammar.{is_line, text_of, are_before_end, head_lines, line_of, IsHead, width_of, Begin, IsReason}
 use Rattle.room_spec.specs.declared.fault.SpecFault.{SpecFault}
 use Rattle.room_spec.specs.declared.fault.SpecFault.TheVariants.{BadProtocol, TooWide}

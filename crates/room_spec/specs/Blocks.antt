@@ -5,10 +5,10 @@ use Rattle.std.specs.Option.{option_map, option_and_then}
 use Rattle.std.specs.Str.{bytes_eq}
 use Rattle.protocol_lang.specs.Results.{◌>>=◌}
 use Rattle.protocol_lang.specs.Numbers.{number_of}
-use Rattle.protocol_lang.specs.Reading.{reading}
+use Rattle.protocol_lang.specs.Reading.{MayLackMemory, reading}
 use Rattle.protocol_lang.specs.declared.protocol.Protocol.{Protocol}
 use Rattle.protocol_lang.specs.declared.fault.ParseFault.{ParseFault}
-use Rattle.protocol_lang.specs.declared.fault.ParseFault.TheVariants.{OutOfMemory, TooLong}
+use Rattle.protocol_lang.specs.declared.fault.ParseFault.TheVariants.{OutOfMemory}
 use Rattle.room_spec.specs.Names.{is_name}
 use Rattle.room_spec.specs.Rooms.{RoomSpec, bits_of, is_value, most_bits}
 use Rattle.room_spec.specs.Texts.{first_line, later_lines, lines_of, fields_of}
@@ -180,9 +180,10 @@ abbrev pub protocol_of : Result Protocol ParseFault → Result Protocol SpecFaul
 protocol_of (Ok protocol) = Ok protocol
 protocol_of (Err fault) = Err (BadProtocol fault)
 
--- what the lines before the line `end` say
-unfoldable pub room_in : List ℕ → Result RoomSpec SpecFault
-room_in body =
+-- the lines before the protocol's text, in their order; `end` goes on with the room that they say, which lacks its protocol, and
+-- that text
+abbrev pub lines_in : {A : Type 0} → ((Protocol → RoomSpec) → List ℕ → Result A SpecFault) → List ℕ → Result A SpecFault
+lines_in end body =
     version_line body
     >>= λ version. name_line version.1
     >>= λ name. inputs_line name.1
@@ -192,8 +193,18 @@ room_in body =
     >>= λ bits. number_line 6 (codes "turns ") MAX_TURNS Turns rounds.1
     >>= λ turns. task_line version.0 turns.1
     >>= λ task. fuse_lines (line_behind_task task.0) simulators.0 task.1
-    >>= λ fuses. protocol_of (reading fuses.1)
-    >>= λ protocol. Ok (record { version = version.0; name = name.0; inputs = inputs.0; simulators = simulators.0; rounds = rounds.0; turns = turns.0; task = task.0; fuses = fuses.0; protocol = protocol })
+    >>= λ fuses. end (λ protocol. record { version = version.0; name = name.0; inputs = inputs.0; simulators = simulators.0; rounds = rounds.0; turns = turns.0; task = task.0; fuses = fuses.0; protocol = protocol }) fuses.1
+
+abbrev pub with_protocol : (Protocol → RoomSpec) → List ℕ → Result RoomSpec SpecFault
+with_protocol room text = protocol_of (reading text) >>= λ protocol. Ok (room protocol)
+
+-- what the lines before the line `end` say
+unfoldable pub room_in : List ℕ → Result RoomSpec SpecFault
+room_in body = lines_in with_protocol body
+
+-- the protocol's text, where no line before it has a fault
+unfoldable pub protocol_text_in : List ℕ → Result (List ℕ) SpecFault
+protocol_text_in body = lines_in (λ room text. Ok text) body
 
 abbrev pub room_before : List ℕ → Option ℕ → Result (RoomSpec × ℕ) SpecFault
 room_before text None = Err Truncated
@@ -207,21 +218,31 @@ block_in text = room_before text (body_len text)
 abbrev pub out_of_memory : SpecFault
 out_of_memory = BadProtocol OutOfMemory
 
--- no line before the protocol's text has a fault, and that text isn't too long: only then is memory asked for
-abbrev pub IsHeadRight : {A : Type 0} → Result A SpecFault → Type 0
-IsHeadRight (Ok read) = Unit {0}
-IsHeadRight (Err (BadProtocol TooLong)) = ⊥
-IsHeadRight (Err (BadProtocol fault)) = Unit {0}
-IsHeadRight (Err fault) = ⊥
+-- Where memory may be refused to lines: none of those before the protocol's text has a fault, and in that text it is refused at a
+-- token that has none, behind others that have none.
+pub record MayLackIn (body : List ℕ) : Type 0 where
+  pub text : List ℕ
+  pub head : protocol_text_in body ≡ Ok text
+  pub lacks : MayLackMemory text
 
--- what a function returned is this, or memory was refused to the protocol
-abbrev pub OrMemory : {A : Type 0} → Result A SpecFault → Result A SpecFault → Type 0
-OrMemory result wanted = (result ≡ wanted) ⊎ ((result ≡ Err out_of_memory) × IsHeadRight wanted)
+-- the same of the block at the front of a text
+pub record MayLackAt (text : List ℕ) : Type 0 where
+  pub body : ℕ
+  pub ends : body_len text ≡ Some body
+  pub lines : MayLackIn (take body text)
+
+-- what a function returned is this; or, where `lacks` holds, memory was refused to the protocol
+abbrev pub OrMemory : {A : Type 0} → Type 0 → Result A SpecFault → Result A SpecFault → Type 0
+OrMemory lacks result wanted = (result ≡ wanted) ⊎ ((result ≡ Err out_of_memory) × lacks)
+
+-- memory was refused to the protocol of the block at the front of a text
+abbrev pub LacksMemory : List ℕ → Type 0
+LacksMemory text = OrMemory (MayLackAt text) (Err out_of_memory) (block_in text)
 
 -- the same of what a function returned, seen by `view`
-abbrev pub GivesOrMemory : {X Y : Type 0} → (X → Y) → Result X SpecFault → Result Y SpecFault → Type 0
-GivesOrMemory view (Ok x) wanted = wanted ≡ Ok (view x)
-GivesOrMemory view (Err fault) wanted = OrMemory (Err fault) wanted
+abbrev pub GivesOrMemory : {X Y : Type 0} → Type 0 → (X → Y) → Result X SpecFault → Result Y SpecFault → Type 0
+GivesOrMemory lacks view (Ok x) wanted = wanted ≡ Ok (view x)
+GivesOrMemory lacks view (Err fault) wanted = OrMemory lacks (Err fault) wanted
 
 abbrev pub UnlessMemory : SpecFault → Type 0 → Type 0
 UnlessMemory (BadProtocol OutOfMemory) fact = ⊤

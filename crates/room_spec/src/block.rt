@@ -5,7 +5,7 @@ ghost use Rattle.std.specs.Option.{option_map};
 ghost use Rattle.room_spec.specs.Rooms.{RoomSpec};
 ghost use Rattle.room_spec.specs.Texts.{lines_of};
 ghost use Rattle.room_spec.specs.Grammar.{EndsAt, IsBlock, IsLocal, IsOfText, IsFirstFault};
-ghost use Rattle.room_spec.specs.Blocks.{body_len, is_end, block_len, block_in, GivesOrMemory, OrMemory, UnlessMemory};
+ghost use Rattle.room_spec.specs.Blocks.{body_len, is_end, block_len, block_in, GivesOrMemory, MayLackAt, OrMemory, UnlessMemory};
 
 use crate::block_lines::read_lines;
 use crate::fault::SpecFault;
@@ -82,7 +82,7 @@ impl<'a> Block<'a> {
 
     /// Reads its lines. The fault is that of the first line that has one. Blocks with the same protocol's text share the protocol.
     pub fn read(&self, alloc: Global, protocols: &mut Protocols<'a>) -> Result<Spec, SpecFault>
-        ensures { GivesOrMemory (λ spec. (spec, length self.now)) result (block_in self.now) }
+        ensures { GivesOrMemory (MayLackAt self.now) (λ spec. (spec, length self.now)) result (block_in self.now) }
     {
         read_lines(alloc, self.body, protocols)
     }
@@ -129,7 +129,7 @@ pub fn read_block(alloc: Global, text: &[u8]) -> Result<(Spec, usize), SpecFault
     // What is read is a block.
     ensures sound { IfOk result (λ read. IsBlock text.now read.0 read.1) }
     // What is a block is read.
-    ensures complete { (room : RoomSpec) (len : ℕ) → IsBlock text.now room len → OrMemory result (Ok (room, len)) }
+    ensures complete { (room : RoomSpec) (len : ℕ) → IsBlock text.now room len → OrMemory (MayLackAt text.now) result (Ok (room, len)) }
     ensures within { IfOk result (λ read. read.1 ≤ length text.now) }
     // A fault rests on the lines up to its own,
     ensures local { IfErr result (λ fault. UnlessMemory fault (IsLocal text.now fault)) }
@@ -137,14 +137,14 @@ pub fn read_block(alloc: Global, text: &[u8]) -> Result<(Spec, usize), SpecFault
     ensures of_text { IfErr result (λ fault. UnlessMemory fault (IsOfText text.now fault)) }
     // The lines before a fault's own begin some block; it can't follow them, or the protocol's text has its fault.
     ensures first { IfErr result (λ fault. UnlessMemory fault (IsFirstFault text.now fault)) }
-    // Which fault it is.
-    ensures exact { OrMemory result (block_in text.now) }
+    // Which fault it is. Want of memory hides none that is found before memory is asked for.
+    ensures exact { OrMemory (MayLackAt text.now) result (block_in text.now) }
 {
     read_front(alloc, text)
 }
 
 fn read_front(alloc: Global, text: &[u8]) -> Result<(Spec, usize), SpecFault>
-    ensures exact { OrMemory result (block_in text.now) }
+    ensures exact { OrMemory (MayLackAt text.now) result (block_in text.now) }
     ensures within { IfOk result (λ read. read.1 ≤ length text.now) }
 {
     let mut protocols = Protocols::new(alloc);

@@ -4,7 +4,7 @@ ghost use Rattle.std.specs.Option.{option_copied};
 ghost use Rattle.room_spec.specs.Rooms.{IsTaskIn};
 ghost use Rattle.room_spec.specs.Texts.{fields_of};
 ghost use Rattle.protocol_lang.specs.Results.{Gives};
-ghost use Rattle.room_spec.specs.Blocks.{version_of, version_line, name_line, inputs_of, in_range, inputs_line, number_line, task_of, task_words, task_line, line_behind_task, room_in, OrMemory};
+ghost use Rattle.room_spec.specs.Blocks.{version_of, version_line, name_line, inputs_of, in_range, inputs_line, number_line, task_of, task_words, task_line, line_behind_task, room_in, MayLackIn, OrMemory};
 
 use crate::crash_lines::read_fuses;
 use crate::fault::SpecFault;
@@ -27,7 +27,7 @@ pub(crate) fn read_lines<'a>(
     body: &'a [u8],
     protocols: &mut Protocols<'a>,
 ) -> Result<Spec, SpecFault>
-    ensures { OrMemory result (room_in body.now) }
+    ensures { OrMemory (MayLackIn body.now) result (room_in body.now) }
 {
     let (version, rest) = read_version(body)?;
     let (name, rest) = read_name(rest)?;

@@ -1,7 +1,7 @@
 //! Protocols that several blocks share.
 ghost use Rattle.std.specs.Prelude.{◌≡◌, IfSome, IfOk, Ok};
 ghost use Rattle.std.specs.Arc.{arc_value};
-ghost use Rattle.protocol_lang.specs.Reading.{reading};
+ghost use Rattle.protocol_lang.specs.Reading.{MayLackMemory, reading};
 ghost use Rattle.room_spec.specs.Blocks.{GivesOrMemory, protocol_of};
 
 use crate::fault::SpecFault;
@@ -71,7 +71,7 @@ impl<'a> Protocols<'a> {
         alloc: Global,
         text: &'a [u8],
     ) -> Result<Arc<Protocol, Global>, SpecFault>
-        ensures { GivesOrMemory arc_value result (protocol_of (reading text.now)) }
+        ensures { GivesOrMemory (MayLackMemory text.now) arc_value result (protocol_of (reading text.now)) }
     {
         if let Some(protocol) = self.find(text) {
             return Ok(protocol);
@@ -108,7 +108,7 @@ impl<'a> Protocols<'a> {
 }
 
 fn parse_shared(alloc: Global, text: &[u8]) -> Result<Arc<Protocol, Global>, SpecFault>
-    ensures { GivesOrMemory arc_value result (protocol_of (reading text.now)) }
+    ensures { GivesOrMemory (MayLackMemory text.now) arc_value result (protocol_of (reading text.now)) }
 {
     let protocol = match parse_bytes(alloc, text) {
         Ok(protocol) => protocol,

@@ -3,7 +3,7 @@ use Rattle.std.specs.Prelude.{◌≡◌, ⊤, ℕ, Bool, true, false, not, List,
 use Rattle.std.specs.declared.alloc.AllocError.{AllocError}
 use Rattle.std.specs.List.{flat_map, list_any}
 use Rattle.room_spec.specs.Rooms.{RoomSpec}
-use Rattle.room_spec.specs.Blocks.{IsHeadRight, block_in}
+use Rattle.room_spec.specs.Blocks.{LacksMemory, block_in}
 use Rattle.room_spec.specs.declared.fault.SpecFault.{SpecFault}
 use Rattle.service_core.specs.declared.command.Command.{Command}
 use Rattle.service_core.specs.declared.command.Command.TheVariants.{Begin}
@@ -46,7 +46,7 @@ IsDone (Ask command) (Faulty line fault) = ⊥
 IsDone (Ask command) (Unread line) = ⊥
 IsDone (Open number block) (Replied asked reply) = (spec : RoomSpec) × (len : ℕ) × (block_in block ≡ Ok (spec, len)) × (asked ≡ Begin spec)
 IsDone (Open number block) (Faulty line fault) = (line ≡ number) × (block_in block ≡ Err fault)
-IsDone (Open number block) (Unread line) = (line ≡ number) × IsHeadRight (block_in block)
+IsDone (Open number block) (Unread line) = (line ≡ number) × LacksMemory block
 
 -- what came of each entry, in order
 abbrev pub AreDone : List Entry → List Done → Type 0

@@ -1,4 +1,5 @@
-use Rattle.std.proofs.Common.{◌≡◌, ◌∙◌, ◌+◌, ◌≤◌, ℕ, List, length, refl, subst, sym, ap, arith, rules}
+use Rattle.std.proofs.Common.{◌≡◌, ◌∙◌, ◌+◌, ◌<◌, ◌≤◌, ℕ, List, Result, Ok, Err, length, refl, subst, sym, ap, arith, rules}
+use Rattle.std.specs.Prelude.{IfErr}
 use Rattle.room_files.specs.Blocks.{after_block, or_all}
 use Rattle.room_files.proofs.BlockEnds.{positive_len}
 use Rattle.room_files.proofs.BlockSteps.{all_taken, behind, bytes_left, front_as, line_bound, rest_refused, shorter_behind, step_all, within_text}
@@ -26,6 +27,7 @@ loop-block-preserved g c =
       next.1,
       inv.2 ∙ next.2,
       line_bound rest len _ c.loop-block.setup.line c.take.new.self.line (length c.args.input.now) refl within passed inv.3,
+      omega (arith, shorter_behind rest len _ refl positive within, inv.4),
     )
 
 pub take-requires : goal.take-requires
@@ -37,11 +39,20 @@ pub returns-then-is_empty : goal.returns-then-is_empty
 returns-then-is_empty g c =
     let inv = c.loop-block.invariant in
     let none : length c.loop-block.rest.now ≡ 0 = grind (arith, rules) in
-    sym (inv.2 ∙ all_taken inv.0 c.loop-block.setup c.loop-block.rest.now none)
+    record { read = sym (inv.2 ∙ all_taken inv.0 c.loop-block.setup c.loop-block.rest.now none); lacks = tt }
 
 pub returns : goal.returns
 returns g c =
     let inv = c.loop-block.invariant in
     let rest = c.loop-block.rest.now in
     let some = bytes_left (length rest) c.is_empty.result c.is_empty.ensures c.if-is_empty.false in
-    sym (inv.2 ∙ rest_refused inv.0 c.loop-block.setup c.refuse_rest.new.self rest inv.1 some c.in_default.ensures.none c.in_ok-refuse_rest.ensures)
+    record { read = sym (inv.2 ∙ rest_refused inv.0 c.loop-block.setup c.refuse_rest.new.self rest inv.1 some c.in_default.ensures.none c.in_ok-refuse_rest.ensures); lacks = tt }
+
+if_err : {T E : Type 0} {P : Type 0} (result : Result T E) → P → IfErr result (λ fault. P)
+if_err (Ok value) holds = tt
+if_err (Err fault) holds = holds
+
+pub returns-in_err-refuse_rest-clause-lacks : goal.returns-in_err-refuse_rest-clause-lacks
+returns-in_err-refuse_rest-clause-lacks g c =
+    let some = bytes_left (length c.loop-block.rest.now) c.is_empty.result c.is_empty.ensures c.if-is_empty.false in
+    if_err c.from_residual-in_err-refuse_rest.result (omega (arith, some, c.loop-block.invariant.4))

@@ -1,7 +1,9 @@
 use Rattle.std.proofs.Common.{◌≡◌, ◌∙◌, ℕ, List, length, take, Some, Ok, ap, inl, sym, rules}
 use Rattle.std.proofs.lemmas.Result.{err_from_is_err_and}
 use Rattle.room_spec.specs.Blocks.{block_len}
-use Rattle.room_spec.proofs.Fronts.{front_says}
+use Rattle.room_spec.specs.Blocks.{MayLackAt, block_in}
+use Rattle.room_spec.proofs.Fronts.{front_lacks, front_says}
+use Rattle.room_spec.proofs.Memory.{lacks_also}
 use Rattle.room_spec.proofs.block.read_front.Goals as goal
 
 pub returns-in_err-spec-clause-exact : goal.returns-in_err-spec-clause-exact
@@ -11,7 +13,7 @@ returns-in_err-spec-clause-exact c =
     let len : block_len text ≡ Some (length block) = search rules in
     let front : block ≡ take (length block) text = search rules in
     let p = err_from_is_err_and c.from_residual-in_err-spec.result c.from_residual-in_err-spec.ensures.1 in
-    rw (p.1, p.2, ← front_says text block len front) c.in_err-spec.ensures
+    rw (p.1, p.2, ← front_says text block len front) (lacks_also (MayLackAt block) (MayLackAt text) _ (block_in block) (front_lacks text block len front) c.in_err-spec.ensures)
 
 pub returns-clause-exact : goal.returns-clause-exact
 returns-clause-exact c =

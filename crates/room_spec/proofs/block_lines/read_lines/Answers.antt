@@ -3,10 +3,10 @@ use Rattle.std.specs.Prelude.{codes}
 use Rattle.std.proofs.lemmas.Bool.{le-leb}
 use Rattle.std.proofs.lemmas.Result.{err_from_is_err_and}
 use Rattle.protocol_lang.specs.declared.protocol.Protocol.{Protocol}
-use Rattle.protocol_lang.specs.Reading.{reading}
+use Rattle.protocol_lang.specs.Reading.{MayLackMemory, reading}
 use Rattle.room_spec.specs.Rooms.{RoomSpec, IsShape, bits_of, most_bits}
 use Rattle.protocol_lang.specs.Results.{◌>>=◌}
-use Rattle.room_spec.specs.Blocks.{OrMemory, are_inputs, version_line, name_line, inputs_line, number_line, fitting, task_line, line_behind_task, fuse_lines, protocol_of, room_in}
+use Rattle.room_spec.specs.Blocks.{MayLackIn, OrMemory, protocol_text_in, are_inputs, version_line, name_line, inputs_line, number_line, fitting, task_line, line_behind_task, fuse_lines, protocol_of, room_in}
 use Rattle.room_spec.specs.declared.version.Version.{Version}
 use Rattle.room_spec.specs.declared.fault.SpecFault.{SpecFault}
 use Rattle.room_spec.specs.declared.fault.SpecFault.TheVariants.{Simulators, Rounds, Turns}
@@ -29,6 +29,12 @@ behind version name inputs simulators rounds =
 fits_in : (most bits : ℕ) → bits ≤ most → fitting most bits ≡ Ok bits
 fits_in most bits few = rw (le-leb bits most few) refl
 
+-- the protocol's text, where the lines before it have no fault
+text_is : (body : List ℕ) (version : Version × List ℕ) (name inputs : List ℕ × List ℕ) (simulators rounds turns : ℕ × List ℕ) (task : Option ℕ × List ℕ) (fuses : List (ℕ × ℕ) × List ℕ) → version_line body ≡ Ok version → name_line version.1 ≡ Ok name → inputs_line name.1 ≡ Ok inputs → number_line 4 (codes "simulators ") 8 Simulators inputs.1 ≡ Ok simulators → number_line 5 (codes "rounds ") 15 Rounds simulators.1 ≡ Ok rounds → simulators.0 * length inputs.0 * bits_of rounds.0 ≤ most_bits version.0
+    → number_line 6 (codes "turns ") 65535 Turns rounds.1 ≡ Ok turns → task_line version.0 turns.1 ≡ Ok task → fuse_lines (line_behind_task task.0) simulators.0 task.1 ≡ Ok fuses → protocol_text_in body ≡ Ok fuses.1
+unfolding protocol_text_in
+text_is body version name inputs simulators rounds turns task fuses v n i s r fits t a f = rw (v, n, i, s, r, fits_in _ _ fits, t, a, f) refl
+
 front_is : (body : List ℕ) (version : Version × List ℕ) (name inputs : List ℕ × List ℕ) (simulators rounds : ℕ × List ℕ) → version_line body ≡ Ok version → name_line version.1 ≡ Ok name → inputs_line name.1 ≡ Ok inputs → number_line 4 (codes "simulators ") 8 Simulators inputs.1 ≡ Ok simulators → number_line 5 (codes "rounds ") 15 Rounds simulators.1 ≡ Ok rounds → simulators.0 * length inputs.0 * bits_of rounds.0 ≤ most_bits version.0 → room_in body ≡ behind version.0 name inputs simulators rounds
 unfolding room_in
 front_is body version name inputs simulators rounds v n i s r fits = rw (v, n, i, s, r, fits_in _ _ fits) refl
@@ -37,10 +43,10 @@ room_is : (version : Version) (name inputs : List ℕ × List ℕ) (simulators r
     → Ok (record { version = version; name = name.0; inputs = inputs.0; simulators = simulators.0; rounds = rounds.0; turns = turns.0; task = task.0; fuses = fuses.0; protocol = protocol }) ≡ behind version name inputs simulators rounds
 room_is version name inputs simulators rounds turns task fuses protocol t a f p = rw (t, a, f, p) refl
 
-refused_in : (version : Version) (name inputs : List ℕ × List ℕ) (simulators rounds turns : ℕ × List ℕ) (task : Option ℕ × List ℕ) (fuses : List (ℕ × ℕ) × List ℕ) (fault : SpecFault) → number_line 6 (codes "turns ") 65535 Turns rounds.1 ≡ Ok turns → task_line version turns.1 ≡ Ok task → fuse_lines (line_behind_task task.0) simulators.0 task.1 ≡ Ok fuses → OrMemory {A = Protocol} (Err fault) (protocol_of (reading fuses.1))
-    → OrMemory {A = RoomSpec} (Err fault) (behind version name inputs simulators rounds)
-refused_in version name inputs simulators rounds turns task fuses fault t a f refused =
-    rw (t, a, f) (refused_on fault (protocol_of (reading fuses.1)) (λ protocol. record { version = version; name = name.0; inputs = inputs.0; simulators = simulators.0; rounds = rounds.0; turns = turns.0; task = task.0; fuses = fuses.0; protocol = protocol }) refused)
+refused_in : (lacks : Type 0) (version : Version) (name inputs : List ℕ × List ℕ) (simulators rounds turns : ℕ × List ℕ) (task : Option ℕ × List ℕ) (fuses : List (ℕ × ℕ) × List ℕ) (fault : SpecFault) → number_line 6 (codes "turns ") 65535 Turns rounds.1 ≡ Ok turns → task_line version turns.1 ≡ Ok task → fuse_lines (line_behind_task task.0) simulators.0 task.1 ≡ Ok fuses → (MayLackMemory fuses.1 → lacks) → OrMemory {A = Protocol} (MayLackMemory fuses.1) (Err fault) (protocol_of (reading fuses.1))
+    → OrMemory {A = RoomSpec} lacks (Err fault) (behind version name inputs simulators rounds)
+refused_in lacks version name inputs simulators rounds turns task fuses fault t a f more refused =
+    rw (t, a, f) (refused_on (MayLackMemory fuses.1) lacks fault (protocol_of (reading fuses.1)) (λ protocol. record { version = version; name = name.0; inputs = inputs.0; simulators = simulators.0; rounds = rounds.0; turns = turns.0; task = task.0; fuses = fuses.0; protocol = protocol }) more refused)
 
 shape_is : (version : Version) (inputs : List ℕ) (m rounds : ℕ) → are_inputs inputs ≡ true → (1 ≤ m) × (m ≤ 8) → (1 ≤ rounds) × (rounds ≤ 15) → m * length inputs * bits_of rounds ≤ most_bits version → IsShape (length inputs) m (bits_of rounds) rounds
 shape_is version inputs m rounds are m_range rounds_range fits = record { n_range = inputs_range inputs are; m_range = m_range; rounds_range = rounds_range; width = refl; memory = most_bits_few version (m * length inputs * bits_of rounds) fits }
@@ -101,7 +107,8 @@ returns-in_err-protocol c =
     let front = front_is c.args.body.now (c.in_ok-version.version, c.in_ok-version.rest.now) (c.in_ok-name.name, c.in_ok-name.rest.now) (c.in_ok-inputs.inputs.items, c.in_ok-inputs.rest.now) (c.in_ok-simulators.simulators, c.in_ok-simulators.rest.now) (c.in_ok-rounds.rounds, c.in_ok-rounds.rest.now) c.in_ok-version.ensures c.in_ok-name.ensures c.in_ok-inputs.ensures c.in_ok-simulators.ensures.value c.in_ok-rounds.ensures.value fits in
     let exit = err_from_is_err_and c.from_residual-in_err-protocol.result c.from_residual-in_err-protocol.ensures.1 in
     let same : exit.0 ≡ c.in_err-protocol.field-0.0 = cc in
-    rw (exit.1, same, front) (refused_in c.in_ok-version.version (c.in_ok-name.name, c.in_ok-name.rest.now) (c.in_ok-inputs.inputs.items, c.in_ok-inputs.rest.now) (c.in_ok-simulators.simulators, c.in_ok-simulators.rest.now) (c.in_ok-rounds.rounds, c.in_ok-rounds.rest.now) (c.in_ok-turns.turns, c.in_ok-turns.rest.now) (c.in_ok-task.task, c.in_ok-task.rest.now) (c.in_ok-fuses.fuses.items, c.in_ok-fuses.text.now) c.in_err-protocol.field-0.0 c.in_ok-turns.ensures.value c.in_ok-task.ensures.value (rw c.line_behind_task.ensures.value at c.in_ok-fuses.ensures.value) (rw c.in_err-protocol.was at c.read.ensures))
+    let text = text_is c.args.body.now (c.in_ok-version.version, c.in_ok-version.rest.now) (c.in_ok-name.name, c.in_ok-name.rest.now) (c.in_ok-inputs.inputs.items, c.in_ok-inputs.rest.now) (c.in_ok-simulators.simulators, c.in_ok-simulators.rest.now) (c.in_ok-rounds.rounds, c.in_ok-rounds.rest.now) (c.in_ok-turns.turns, c.in_ok-turns.rest.now) (c.in_ok-task.task, c.in_ok-task.rest.now) (c.in_ok-fuses.fuses.items, c.in_ok-fuses.text.now) c.in_ok-version.ensures c.in_ok-name.ensures c.in_ok-inputs.ensures c.in_ok-simulators.ensures.value c.in_ok-rounds.ensures.value fits c.in_ok-turns.ensures.value c.in_ok-task.ensures.value (rw c.line_behind_task.ensures.value at c.in_ok-fuses.ensures.value) in
+    rw (exit.1, same, front) (refused_in (MayLackIn c.args.body.now) c.in_ok-version.version (c.in_ok-name.name, c.in_ok-name.rest.now) (c.in_ok-inputs.inputs.items, c.in_ok-inputs.rest.now) (c.in_ok-simulators.simulators, c.in_ok-simulators.rest.now) (c.in_ok-rounds.rounds, c.in_ok-rounds.rest.now) (c.in_ok-turns.turns, c.in_ok-turns.rest.now) (c.in_ok-task.task, c.in_ok-task.rest.now) (c.in_ok-fuses.fuses.items, c.in_ok-fuses.text.now) c.in_err-protocol.field-0.0 c.in_ok-turns.ensures.value c.in_ok-task.ensures.value (rw c.line_behind_task.ensures.value at c.in_ok-fuses.ensures.value) (λ lacks. record { text = c.in_ok-fuses.text.now; head = text; lacks = lacks }) (rw c.in_err-protocol.was at c.read.ensures))
 
 pub returns : goal.returns
 returns c =
