@@ -10,5 +10,13 @@ pub use Rattle.room_core.proofs.agreements.Promises.{rooms_agree}
 pub use Rattle.room_core.proofs.fields.Repeating.{same_spec_steps}
 pub use Rattle.room_core.proofs.fields.Replays.{is_room, shapes, under_crash_at_end, under_line_at_end}
 pub use Rattle.room_core.proofs.agreements.Stages.{one_inside}
-pub use Rattle.room_core.proofs.fields.States.{refill-set}
-pub use Rattle.room_core.proofs.points.RoomPoints.{effects_at, timelines}
+pub use Rattle.room_core.proofs.fields.States.{moved_data, opening_data, refill-set, woken_data}
+pub use Rattle.room_core.proofs.fields.EventCounts.{events_are}
+pub use Rattle.room_core.proofs.fields.Prefixes.{replay_fields-snoc}
+pub use Rattle.room_core.proofs.fields.Taken.{taken_line, taken_moves}
+pub use Rattle.room_core.proofs.moments.Moments.{at_before, at_end, length-snoc}
+pub use Rattle.room_core.proofs.points.LastReads.{last_now, last_same, slice_get-push}
+pub use Rattle.room_core.proofs.points.OneProcess.{left_alone}
+pub use Rattle.room_core.proofs.points.RealTimes.{decision_stays}
+pub use Rattle.room_core.proofs.points.RoomPoints.{effects_at, timeline_of_run, timelines}
+pub use Rattle.room_core.proofs.settling.Following.{settling_follows, steps_follow}

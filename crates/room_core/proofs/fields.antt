@@ -18,3 +18,5 @@ pub mod Prefixes
 pub mod Effects
 pub mod Repeating
 pub mod Turning
+pub mod EventCounts
+pub mod Taken

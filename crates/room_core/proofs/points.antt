@@ -6,3 +6,4 @@ pub mod Timelines
 pub mod RoomPoints
 pub mod OneEffect
 pub mod RealTimes
+pub mod OneProcess

@@ -10,3 +10,4 @@ pub mod Ending
 pub mod Certified
 pub mod Unbounded
 pub mod Watched
+pub mod Following

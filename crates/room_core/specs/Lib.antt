@@ -6,6 +6,7 @@ pub mod Reading
 pub mod Tracks
 pub mod Agreements
 pub mod Moments
+pub mod Counting
 pub mod Points
 pub mod Timelines
 pub mod RealTime

@@ -2,7 +2,8 @@
 use Rattle.std.specs.Prelude.{◌≡◌, ℕ, zero, suc, Bool, true, false, List, [], ◌∷◌, ◌++◌, if◌then◌else◌}
 use Rattle.room_core.specs.declared.reply.StepReply.{StepReply}
 use Rattle.room_core.specs.declared.reply.StepReply.TheVariants.{Stepped}
-use Rattle.room_core.specs.Calls.{RoomState, room_after_step, room_kind, step_reply}
+use Rattle.room_core.specs.Rooms.{Configuration}
+use Rattle.room_core.specs.Calls.{RoomState, configuration_of, room_after_step, room_kind, step_reply}
 use Rattle.room_core.specs.Settling.{KindOf, settled}
 
 -- an atomic step that was taken: the room before it, and the simulator that took it
@@ -48,6 +49,12 @@ traced_kind = record {
 
 abbrev pub steps_of_settling : RoomState → List TakenStep
 steps_of_settling room = (settled traced_kind (record { room = room; taken = [] })).taken
+
+-- Each of these steps was taken in the room that the one before it left, quiet counts aside.
+abbrev pub Follow : Configuration → List TakenStep → Configuration → Type 0
+Follow room [] after = room ≡ after
+Follow room (step ∷ steps) after =
+    (configuration_of step.room ≡ room) × (step_reply step.room step.simulator ≡ Stepped) × Follow (configuration_of (room_after_step step.room step.simulator)) steps after
 
 -- ---- somebody who looks on
 

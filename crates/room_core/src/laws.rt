@@ -1,23 +1,26 @@
 //! Laws of rooms, for a crate that runs one over shared words. Each is what its function ensures.
-ghost use Rattle.std.specs.Prelude.{length, slice_index, false, ℕ, ◌≡◌, ◌≢◌, ◌↔◌, ◌+◌, ◌*◌, ◌<◌, ◌≤◌, [], ◌∷◌, ◌++◌, true, List, Some};
+ghost use Rattle.std.specs.Prelude.{length, slice_index, false, ℕ, ◌≡◌, ◌≢◌, ◌↔◌, ◌+◌, ◌*◌, ◌<◌, ◌≤◌, [], ◌∷◌, ◌++◌, ◌⊎◌, true, List, Some};
 ghost use Rattle.room_spec.specs.Rooms.{IsCertified, RoomSpec, IsWithinLimits, processes};
 ghost use Rattle.safe_agreement.specs.Levels.{IsClean, least_two};
 ghost use Rattle.room_core.specs.Contents.{IsDue};
-ghost use Rattle.room_core.specs.Agreements.{AgreementsStay, DoCompare, HasAgreed, IsFixedAt, IsInsideTurn, asks, greatest_step, is_clean, is_passed, row_at, shown_of, view_at};
+ghost use Rattle.room_core.specs.Agreements.{AgreementsStay, DoCompare, HasAgreed, IsFixedAt, IsInsideTurn, asks, greatest_step, has_out, is_clean, is_passed, row_at, shown_of, view_at};
 ghost use Rattle.protocol_lang.specs.Numbers.{greatest};
 ghost use Rattle.protocol_lang.specs.declared.meaning.Action.TheVariants.{Decide, Write};
 ghost use Rattle.simulator.specs.Minds.{goal_at};
 ghost use Rattle.simulator.specs.declared.goal.Goal.TheVariants.{Spent};
 ghost use Rattle.room_core.specs.Moments.{IsMoment, IsScan, fields_at};
+ghost use Rattle.room_core.specs.Counting.{events_so_far};
+ghost use Rattle.room_core.specs.Watching.{Follow, steps_of_settling, steps_of_steps};
+ghost use Rattle.room_core.specs.declared.reply.StepReply.TheVariants.{Stepped};
 ghost use Rattle.room_core.specs.Points.{AreEffects, HasPassed, Point, TakesEffect, points_at, read_time, reads_at};
 ghost use Rattle.room_core.specs.RealTime.{HasBegun, HasEnded, Precedes};
 ghost use Rattle.room_core.specs.Timelines.{IsTimeline, timeline_of};
 ghost use Rattle.simulator.specs.Minds.{current_round};
-ghost use Rattle.simulator.specs.declared.line.Line.TheVariants.{Show};
+ghost use Rattle.simulator.specs.declared.line.Line.TheVariants.{Rest, Show};
 ghost use Rattle.room_core.specs.Settled.{HasTurnLeft, IsDecidedOrHeld, IsSettledFor};
 ghost use Rattle.room_core.specs.Settling.{steps_while};
 ghost use Rattle.simulator.specs.Sweeps.{is_resting};
-ghost use Rattle.room_core.specs.Calls.{Call, RoomState, configuration_of, has_crashed, marked, step_bound, moved, opening_state, replies_to, room_after_calls, room_after_step, room_kind, sweep_at, with_sweep, woken};
+ghost use Rattle.room_core.specs.Calls.{Call, RoomState, configuration_of, has_crashed, marked, step_bound, moved, opening_state, replies_to, room_after_calls, room_after_settle, room_after_step, room_after_steps, room_kind, step_reply, sweep_at, with_sweep, woken};
 ghost use Rattle.room_core.specs.Fields.{Fields, HasLineIn, IsLegalIn, levels_at, line, entry_of_steps, fields_after_call, fields_after_calls, fields_after_settle, opening_fields, replay_fields, replies_in, row_of_steps, with_crash};
 ghost use Rattle.room_spec.specs.Sizes.{sizes_in};
 ghost use Rattle.room_core.specs.Reading.{AgreeIn, AreFieldsOf, Reads, fields_in};
@@ -320,6 +323,41 @@ pub fn real_time()
         IsWithinLimits room.spec → (are : AreFieldsOf room fields) → (one other : Point) (s t : ℕ) → s < length are.run.schedule →
         TakesEffect room.spec are.run.schedule fields s one → TakesEffect room.spec are.run.schedule fields t other →
         Precedes room.spec are.run.schedule one other → s < t }
+{}
+
+/// A schedule has as many events as its simulators have taken atomic steps and crashed.
+pub fn schedules_are_counted()
+    ensures { (room : Configuration) → IsWithinLimits room.spec → (one : IsOneInterleaving room) → length one.schedule ≡ events_so_far room }
+{}
+
+/// A step counts a write of no process but that of its turn, and stores no decision of another; the first step of a turn does neither.
+pub fn steps_are_of_one_process()
+    ensures counts { (room : Configuration) →
+        IsWithinLimits room.spec → (one : IsOneInterleaving room) (i : ℕ) → HasLine room i → (p : ℕ) →
+        (((replay_fields room.spec (opening_fields room.spec) one.schedule).mind i).line ≡ Rest) ⊎
+        (p ≢ ((replay_fields room.spec (opening_fields room.spec) one.schedule).mind i).process) →
+        greatest_step room.spec (replay_fields room.spec (opening_fields room.spec) (one.schedule ++ steps i ∷ [])) p ≡
+        greatest_step room.spec (replay_fields room.spec (opening_fields room.spec) one.schedule) p }
+    ensures stores { (room : Configuration) →
+        IsWithinLimits room.spec → (one : IsOneInterleaving room) (i : ℕ) → HasLine room i → (p : ℕ) →
+        (((replay_fields room.spec (opening_fields room.spec) one.schedule).mind i).line ≡ Rest) ⊎
+        (p ≢ ((replay_fields room.spec (opening_fields room.spec) one.schedule).mind i).process) →
+        has_out room.spec (replay_fields room.spec (opening_fields room.spec) (one.schedule ++ steps i ∷ [])) p ≡
+        has_out room.spec (replay_fields room.spec (opening_fields room.spec) one.schedule) p }
+{}
+
+/// A step that is taken is a line that its simulator has, and is the room's only change.
+pub fn taken_steps_are_lines()
+    ensures line { (room : RoomState) (i : ℕ) → IsShaped (configuration_of room) → step_reply room i ≡ Stepped → HasLine (configuration_of room) i }
+    ensures moved { (room : RoomState) (i : ℕ) → step_reply room i ≡ Stepped → room_after_step room i ≡ moved room i }
+{}
+
+/// The steps that a command takes follow one another: each is taken in the room that the one before it left, quiet counts aside.
+pub fn taken_steps_follow()
+    ensures steps { (room : RoomState) (i count : ℕ) →
+        Follow (configuration_of room) (steps_of_steps room i count)
+        (configuration_of (room_after_steps room i (length (steps_of_steps room i count)))) }
+    ensures settling { (room : RoomState) → Follow (configuration_of room) (steps_of_settling room) (configuration_of (room_after_settle room)) }
 {}
 
 /// A simulator counts the first write of each process before the second of any, since its sweep goes round. So what was agreed on in

@@ -57,7 +57,7 @@ under_crash_at_end room i one may = (under_crash room i one may, refl)
 
 -- ---- shapes
 
-opening_at : (spec : RoomSpec) (i : ℕ) → i < spec.simulators → mind_at (opening spec) i ≡ opening_mind spec i
+pub opening_at : (spec : RoomSpec) (i : ℕ) → i < spec.simulators → mind_at (opening spec) i ≡ opening_mind spec i
 opening_at spec i below = get_or-map-range_with_len (opening_mind spec) 0 spec.simulators i i (opening_mind spec i) (omega arith) (omega arith)
 
 pub opening_shape : (spec : RoomSpec) → IsWithinLimits spec → IsShaped (opening spec)
@@ -111,7 +111,7 @@ is_room room limits one = record { run = one; shape = shapes room limits one }
 
 -- ---- each simulator stands in the list as often as its mind counts steps
 
-counted_at : (room : Configuration) (event : ScheduleEvent) (i : ℕ) → MayHappen room event → IsShaped room → (mind_at (after_event room event) i).steps ≡ times i (event ∷ []) + (mind_at room i).steps
+pub counted_at : (room : Configuration) (event : ScheduleEvent) (i : ℕ) → MayHappen room event → IsShaped room → (mind_at (after_event room event) i).steps ≡ times i (event ∷ []) + (mind_at room i).steps
 counted_at room (crashes j) i may shape = omega arith
 counted_at room (steps j) i may shape =
     let place : j < length room.minds = let count = shape.minds in let h = may.alive.below in omega arith in

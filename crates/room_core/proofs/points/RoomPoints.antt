@@ -76,10 +76,13 @@ module _ (room : RoomState) (fields : Fields) (limits : IsWithinLimits room.spec
   passed_in_base : (j k : ℕ) → HasPassed room.spec fields j k → HasPassed room.spec (replay_fields room.spec (opening_fields room.spec) are.run.schedule) j k
   passed_in_base j k passed = record { process = passed.process; first = passed.first; last = passed.last; is = subst (λ (f : Fields). is_passed room.spec f j k ≡ true) same passed.is }
 
+  pub timeline_of_run : IsTimeline (processes room.spec) room.spec.rounds (timeline_of room.spec are.run.schedule (replay_fields room.spec (opening_fields room.spec) are.run.schedule)) (points_at room.spec are.run.schedule (replay_fields room.spec (opening_fields room.spec) are.run.schedule))
+  timeline_of_run = is_timeline room.spec are.run.schedule base ends tracks (all.0).0 all.1 all.2 known fixed
+
   pub timelines : IsTimeline (processes room.spec) room.spec.rounds (timeline_of room.spec are.run.schedule fields) (points_at room.spec are.run.schedule fields)
   timelines =
       subst (λ (f : Fields). IsTimeline (processes room.spec) room.spec.rounds (timeline_of room.spec are.run.schedule f) (points_at room.spec are.run.schedule f)) (sym same)
-      (timeline_aside room.spec are.run.schedule base fields.quiet (is_timeline room.spec are.run.schedule base ends tracks (all.0).0 all.1 all.2 known fixed))
+      (timeline_aside room.spec are.run.schedule base fields.quiet timeline_of_run)
 
   -- at most one write, snapshot or decision takes effect at a step
   pub effects_at : (time : ℕ) → time < length are.run.schedule → AreEffects room.spec are.run.schedule fields time (points_at room.spec are.run.schedule fields time)

@@ -43,7 +43,7 @@ map_same {A = A} f g a (suc n) same =
 counted_most : (spec : RoomSpec) (before after : Fields) (p more : ℕ) → ((a : ℕ) → a < spec.simulators → after.step a p ≤ before.step a p + more) → greatest_step spec after p ≤ greatest_step spec before p + more
 counted_most spec before after p more most = merged_below spec.simulators after.step p (greatest_step spec before p + more) (λ a below. let m = most a below in let e = merged_at spec.simulators before.step a p below in omega (arith, m, e))
 
-counted_same : (spec : RoomSpec) (before after : Fields) (p : ℕ) → ((a : ℕ) → a < spec.simulators → after.step a p ≡ before.step a p) → greatest_step spec after p ≡ greatest_step spec before p
+pub counted_same : (spec : RoomSpec) (before after : Fields) (p : ℕ) → ((a : ℕ) → a < spec.simulators → after.step a p ≡ before.step a p) → greatest_step spec after p ≡ greatest_step spec before p
 counted_same spec before after p same =
     let most = counted_most spec before after p 0 (λ a below. let e = same a below in omega (arith, e)) in
     let least = counted_most spec after before p 0 (λ a below. let e = same a below in omega (arith, e)) in
@@ -52,7 +52,7 @@ counted_same spec before after p same =
 counted_more : (spec : RoomSpec) (before after : Fields) (p : ℕ) → ((a : ℕ) → a < spec.simulators → before.step a p ≤ after.step a p) → greatest_step spec before p ≤ greatest_step spec after p
 counted_more spec before after p least = let most = counted_most spec after before p 0 (λ a below. let e = least a below in omega (arith, e)) in omega (arith, most)
 
-out_same : (spec : RoomSpec) (before after : Fields) (p : ℕ) → ((a : ℕ) → a < spec.simulators → after.out a p ≡ before.out a p) → has_out spec after p ≡ has_out spec before p
+pub out_same : (spec : RoomSpec) (before after : Fields) (p : ℕ) → ((a : ℕ) → a < spec.simulators → after.out a p ≡ before.out a p) → has_out spec after p ≡ has_out spec before p
 out_same spec before after p same = ap (list_any is_out) (map_same (λ a. after.out a p) (λ a. before.out a p) 0 spec.simulators (λ a low high. same a (omega (arith, high))))
 
 has_from : (spec : RoomSpec) (fields : Fields) (a p : ℕ) → a < spec.simulators → fields.out a p ≢ 0 → has_out spec fields p ≡ true
@@ -117,12 +117,12 @@ module _ (spec : RoomSpec) (before after : Fields) (i : ℕ) (effect : IsLineOf 
   step_of : (row : ℕ → ℕ) → after.step i ≡ row → (a p : ℕ) → (a ≡ i → after.step a p ≡ row p) × (a ≢ i → after.step a p ≡ before.step a p)
   step_of row is a p = (λ e. ap (λ (b : ℕ). after.step b p) e ∙ ap (λ (r : ℕ → ℕ). r p) is, λ n. ap (λ (own : Own). own.step p) (effect.others a n))
 
-  steps_same : after.step i ≡ before.step i → (a p : ℕ) → after.step a p ≡ before.step a p
+  pub steps_same : after.step i ≡ before.step i → (a p : ℕ) → after.step a p ≡ before.step a p
   steps_same is a p = dite (ℕ_discrete a i)
       (λ (e : a ≡ i). (step_of (before.step i) is a p).0 e ∙ ap (λ (b : ℕ). before.step b p) (sym e))
       (λ (n : a ≢ i). (step_of (before.step i) is a p).1 n)
 
-  outs_same : after.out i ≡ before.out i → (a p : ℕ) → after.out a p ≡ before.out a p
+  pub outs_same : after.out i ≡ before.out i → (a p : ℕ) → after.out a p ≡ before.out a p
   outs_same is a p = dite (ℕ_discrete a i)
       (λ (e : a ≡ i). ap (λ (b : ℕ). after.out b p) e ∙ ap (λ (r : ℕ → ℕ). r p) is ∙ ap (λ (b : ℕ). before.out b p) (sym e))
       (λ (n : a ≢ i). ap (λ (own : Own). own.out p) (effect.others a n))
@@ -138,12 +138,12 @@ module _ (spec : RoomSpec) (before after : Fields) (i : ℕ) (effect : IsLineOf 
       (λ (e : a ≡ i). let s = (step_of (changed (before.step i) j (before.step i j + 1)) is a j).0 e ∙ changed_here (before.step i) j (before.step i j + 1) j refl ∙ ap (λ (b : ℕ). before.step b j + 1) (sym e) in omega (arith, s))
       (λ (n : a ≢ i). let s = (step_of (changed (before.step i) j (before.step i j + 1)) is a j).1 n in omega (arith, s))
 
-  raised_else : (j q a : ℕ) → q ≢ j → after.step i ≡ changed (before.step i) j (before.step i j + 1) → after.step a q ≡ before.step a q
+  pub raised_else : (j q a : ℕ) → q ≢ j → after.step i ≡ changed (before.step i) j (before.step i j + 1) → after.step a q ≡ before.step a q
   raised_else j q a apart is = dite (ℕ_discrete a i)
       (λ (e : a ≡ i). (step_of (changed (before.step i) j (before.step i j + 1)) is a q).0 e ∙ changed_else (before.step i) j (before.step i j + 1) q apart ∙ ap (λ (b : ℕ). before.step b q) (sym e))
       (λ (n : a ≢ i). (step_of (changed (before.step i) j (before.step i j + 1)) is a q).1 n)
 
-  stored_else : (j q a entry : ℕ) → q ≢ j → after.out i ≡ changed (before.out i) j entry → after.out a q ≡ before.out a q
+  pub stored_else : (j q a entry : ℕ) → q ≢ j → after.out i ≡ changed (before.out i) j entry → after.out a q ≡ before.out a q
   stored_else j q a entry apart is = dite (ℕ_discrete a i)
       (λ (e : a ≡ i). ap (λ (b : ℕ). after.out b q) e ∙ ap (λ (r : ℕ → ℕ). r q) is ∙ changed_else (before.out i) j entry q apart ∙ ap (λ (b : ℕ). before.out b q) (sym e))
       (λ (n : a ≢ i). ap (λ (own : Own). own.out q) (effect.others a n))
