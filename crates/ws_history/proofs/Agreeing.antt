@@ -22,6 +22,12 @@ found_low p xs some = elim (cases_lt (position_or_len p xs) (length xs)) [
   | inr past ↦ let no_it = le-ltb (position_or_len p xs) (length xs) past in rw no_it some
 ]
 
+-- whose proposal is shown is a simulator of the room
+pub shown_low : (spec : RoomSpec) (fields : Fields) → 0 < spec.simulators → (j k : ℕ) → shown_of spec fields j k < spec.simulators
+shown_low spec fields some j k =
+    let long = length-map-range_with_len (λ (i : ℕ). fields.level i j k) 0 spec.simulators in
+    subst (λ (m : ℕ). shown_of spec fields j k < m) long (found_low (λ (one : ℕ). one == 2) (levels_at spec fields j k) (omega (arith, long, some)))
+
 module _ (spec : RoomSpec) (F G : Fields) (some : 0 < spec.simulators) (agree : AgreeIn (sizes_in spec) F G) where
   pub same_greatest : (p : ℕ) → p < processes spec → greatest_step spec F p ≡ greatest_step spec G p
   same_greatest p below = merged_same spec.simulators (processes spec) F.step G.step p below agree.step
@@ -31,6 +37,9 @@ module _ (spec : RoomSpec) (F G : Fields) (some : 0 < spec.simulators) (agree : 
 
   pub same_decided : (j : ℕ) → j < processes spec → decided_in spec F j ≡ decided_in spec G j
   same_decided j below = ap (λ (l : List ℕ). option_map (λ (out : ℕ). out - 1) (find is_out l)) (same_outs j below)
+
+  pub same_out : (j : ℕ) → j < processes spec → has_out spec F j ≡ has_out spec G j
+  same_out j below = ap (λ (l : List ℕ). list_any is_out l) (same_outs j below)
 
   same_levels : (j k : ℕ) → j < processes spec → 1 ≤ k → k ≤ spec.rounds → levels_at spec F j k ≡ levels_at spec G j k
   same_levels j k below first last = map_same _ _ 0 spec.simulators (λ i low high. agree.level i j k (omega arith) below (first, last))
@@ -43,6 +52,9 @@ module _ (spec : RoomSpec) (F G : Fields) (some : 0 < spec.simulators) (agree : 
       ap (λ (b : Bool). b || nat_lt k (greatest_step spec F j) || (has_out spec F j && (greatest_step spec F j == k))) (same_clean j k below first last)
       ∙ ap (λ (g : ℕ). is_clean spec G j k || nat_lt k g || (has_out spec F j && (g == k))) (same_greatest j below)
       ∙ ap (λ (l : List ℕ). is_clean spec G j k || nat_lt k (greatest_step spec G j) || (list_any is_out l && (greatest_step spec G j == k))) (same_outs j below)
+
+  pub same_shown : (j k : ℕ) → j < processes spec → 1 ≤ k → k ≤ spec.rounds → shown_of spec F j k ≡ shown_of spec G j k
+  same_shown j k below first last = ap (λ (l : List ℕ). unwrap_or (least_two l) 0) (same_levels j k below first last)
 
   view_same : (j k : ℕ) → j < processes spec → 1 ≤ k → k ≤ spec.rounds → AreSameSteps spec.simulators (processes spec) (view_at spec F j k) (view_at spec G j k)
   view_same j k below first last =

@@ -15,6 +15,12 @@ mod Decisions
 mod Counts
 mod SourceIs
 mod Linearized
+mod Looking
+mod Said
+mod Noted
+mod Placed
+mod NotedPoints
+mod LinearizedNotes
 mod Searching
 mod Ranges
 mod WordsRead

@@ -7,6 +7,7 @@ use Rattle.transcript.specs.declared.event.Event.TheVariants.{Write, Snap, Decid
 use Rattle.transcript.specs.Runs.{process_of}
 use Rattle.room_core.specs.Rooms.{ScheduleEvent}
 use Rattle.room_core.specs.Fields.{Fields}
+use Rattle.room_core.specs.Moments.{fields_at}
 use Rattle.room_core.specs.Points.{Point, Writes, Snaps, Decides, TakesEffect, points_at}
 use Rattle.room_core.specs.Timelines.{Timeline}
 use Rattle.ws_history.specs.Histories.{Source, shown_row}
@@ -36,6 +37,15 @@ event_of src (Decides p decision) = Decide p decision
 
 abbrev pub events_in : Source → List Timed → List Event
 events_in src points = map (λ (x : Timed). event_of src x.point) points
+
+-- an event, with the time of the step at which it takes effect
+abbrev pub timed_event : Source → Timed → ℕ × Event
+timed_event src x = (x.time, event_of src x.point)
+
+-- These are the events of a linearization of this schedule, each with its time; the last fields are those to which it leads.
+abbrev pub AreEventsAtSteps : RoomSpec → List ScheduleEvent → List (ℕ × Event) → Type 0
+AreEventsAtSteps spec schedule events =
+    (points : List Timed) × IsLinearization spec schedule (fields_at spec schedule (length schedule)) points × (events ≡ map (timed_event (source_of spec (fields_at spec schedule (length schedule)))) points)
 
 -- the events of process p, in their order
 abbrev pub is_by : ℕ → Event → Bool

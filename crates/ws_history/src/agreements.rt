@@ -37,7 +37,7 @@ pub(crate) fn is_passed(room: &RoomCore, j: usize, k: usize, greatest: usize, ou
 }
 
 /// The least simulator at level 2 in this agreement, or 0.
-fn shown_of(room: &RoomCore, j: usize, k: usize) -> usize
+pub(crate) fn shown_of(room: &RoomCore, j: usize, k: usize) -> usize
     requires process { j < processes room.now.spec }
     requires round { IsRound (sizes_in room.now.spec) k }
     ensures value { result ≡ shown_of room.now.spec (read_of room.now) j k }

@@ -1,5 +1,5 @@
 //! Laws of histories that are made from the snapshots that were agreed on.
-ghost use Rattle.std.specs.Prelude.{List, ◌≢◌, ◌≡◌, ◌<◌, ◌≤◌, ◌↔◌, ◌+◌, ◌==◌, ℕ, Bool, length};
+ghost use Rattle.std.specs.Prelude.{List, [], ◌∷◌, ◌++◌, ◌≢◌, ◌≡◌, ◌<◌, ◌≤◌, ◌↔◌, ◌+◌, ◌==◌, ℕ, Bool, length};
 ghost use Rattle.std.specs.List.{count_by, Contains};
 ghost use Rattle.room_spec.specs.Rooms.{IsCertified, RoomSpec, IsWithinLimits, processes};
 ghost use Rattle.transcript.specs.Runs.{IsOutOfRounds, IsRun, is_write_by, is_snap_by};
@@ -12,6 +12,10 @@ ghost use Rattle.room_core.specs.Settled.{IsSettledFor};
 ghost use Rattle.ws_history.specs.Reports.{crashed_in, held_in, is_decided, is_held, is_over, state_of, states_of};
 ghost use Rattle.ws_history.specs.declared.states.ProcessState.TheVariants.{Decided, Spent};
 ghost use Rattle.ws_history.specs.Sources.{history_of, source_of};
+ghost use Rattle.room_core.specs.Calls.{configuration_of, marked, room_after_settle, room_after_steps};
+ghost use Rattle.room_core.specs.Rooms.{IsAlive, ScheduleEvent, crashes};
+ghost use Rattle.room_core.specs.Watching.{AreSeen, steps_of_settling, steps_of_steps};
+ghost use Rattle.ws_history.specs.Notes.{AreNotesOf, IsNoted, Notes, events_taken};
 ghost use Rattle.ws_history.specs.Linearizations.{IsLinearization, Timed, events_in, events_of, linearized};
 ghost use Rattle.ws_history.specs.Histories.{Snapshot, Source, IsSource, history_from};
 ghost use Rattle.ws_history.specs.Passed.{IsOfPassed, IsDecided};
@@ -82,6 +86,20 @@ pub fn linearized_runs()
     ensures same { (room : RoomState) (fields : Fields) →
         IsWithinLimits room.spec → (are : AreFieldsOf room fields) → (p : ℕ) → p < processes room.spec →
         events_of p (linearized room.spec are.run.schedule fields) ≡ events_of p (history_of room.spec fields) }
+{}
+
+/// Notes that a [`Points`](crate::Points) takes of a room stay notes of its schedule: by the steps of a command, each of which it saw, and by a crash.
+pub fn notes_go_on()
+    ensures steps { (room : RoomState) (i count : ℕ) (schedule : List ScheduleEvent) (old new : Notes) →
+        AreNotesOf (configuration_of room) schedule old → AreSeen IsNoted old (steps_of_steps room i count) new →
+        AreNotesOf (configuration_of (room_after_steps room i (length (steps_of_steps room i count))))
+        (schedule ++ events_taken (steps_of_steps room i count)) new }
+    ensures settling { (room : RoomState) (schedule : List ScheduleEvent) (old new : Notes) →
+        AreNotesOf (configuration_of room) schedule old → AreSeen IsNoted old (steps_of_settling room) new →
+        AreNotesOf (configuration_of (room_after_settle room)) (schedule ++ events_taken (steps_of_settling room)) new }
+    ensures crash { (room : RoomState) (i : ℕ) (schedule : List ScheduleEvent) (notes : Notes) →
+        AreNotesOf (configuration_of room) schedule notes → IsAlive (configuration_of room) i →
+        AreNotesOf (configuration_of (marked room i)) (schedule ++ crashes i ∷ []) notes }
 {}
 
 /// At most as many processes are held as simulators have crashed.

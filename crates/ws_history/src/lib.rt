@@ -5,12 +5,16 @@
 mod agreements;
 mod histories;
 pub mod laws;
+mod linearization;
+mod points;
 mod reading;
 mod reports;
 mod snapshots;
 mod states;
 
 pub use histories::history;
+pub use linearization::linearize;
+pub use points::Points;
 pub use reports::report;
 pub use states::{History, ProcessState, Report};
 

@@ -1,6 +1,6 @@
 use super::*;
 use protocol_lang::View;
-use room_core::{CrashReply, RoomCore, StepReply};
+use room_core::{CrashReply, RoomCore, StepReply, Watch};
 use room_spec::read_block;
 use std::alloc::{AllocError, Global};
 use std::fmt::Write;
@@ -286,4 +286,37 @@ fn nobody_left(rt: HostRuntime) -> Result<(), Fail> {
         Act::Report("process 0 going\nprocess 1 going\ncrashed 0 1\nhistory 0\n"),
     ];
     act_out(&rt, PAIR, &acts)
+}
+
+/// By the sums of their rows process 0 decides before process 1 has written; in time it was the other way round.
+const IN_TIME: &str =
+    "1: 0 write 7\n2: 0 snap 7 .\n4: 1 write 3\n12: 0 decide 7\n13: 1 snap 7 3\n22: 1 decide 3\n";
+
+/// Each event with the step at which it takes effect.
+fn timed_lines(rt: &HostRuntime, room: &RoomCore, points: &Points) -> Result<String, Fail> {
+    let events = linearize(rt.alloc(), room, points)?;
+    let mut text = String::new(rt.alloc());
+    for (time, event) in &events {
+        write!(text, "{time}: ")?;
+        push_event(&mut text, event)?;
+    }
+    Ok(text)
+}
+
+#[test]
+fn in_the_order_of_time(rt: HostRuntime) -> Result<(), Fail> {
+    let mut room = room(&rt, PAIR)?;
+    let mut points = Points::new(rt.alloc(), room.spec())?;
+    for i in [0, 0, 0, 1, 1] {
+        points.step(&mut room, i);
+    }
+    room.settle_watched(&mut points);
+    let lines = timed_lines(&rt, &room, &points)?;
+    if lines.as_str() != IN_TIME {
+        return Err(Fail::from("another order"));
+    }
+    if !reports(&rt, &room, PAIR_REPORT)? {
+        return Err(Fail::from("another report"));
+    }
+    Ok(())
 }

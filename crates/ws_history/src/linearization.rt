@@ -1,0 +1,179 @@
+//! The linearization of a room's simulated execution.
+ghost use Rattle.std.specs.Prelude.{◌≡◌, ℕ, ◌<◌, ◌≤◌, List, IfOk, OnOk, IfNone, map};
+ghost use Rattle.std.specs.List.{fold};
+ghost use Rattle.room_spec.specs.Rooms.{processes};
+ghost use Rattle.room_spec.specs.Sizes.{sizes_in};
+ghost use Rattle.view_table.specs.Places.{IsRound};
+ghost use Rattle.transcript.specs.Runs.{IsRun};
+ghost use Rattle.room_core.specs.Agreements.{greatest_step, has_out, row_at, shown_by};
+ghost use Rattle.transcript.specs.declared.event.Event.TheVariants.{Snap};
+ghost use Rattle.room_core.specs.Calls.{configuration_of};
+ghost use Rattle.room_core.specs.Fields.{Fields};
+ghost use Rattle.room_core.specs.Moments.{fields_at};
+ghost use Rattle.room_core.specs.Reading.{AreFieldsOf};
+ghost use Rattle.room_core.specs.Rooms.{ScheduleEvent};
+ghost use Rattle.ws_history.specs.Linearizations.{AreEventsAtSteps, events_of};
+ghost use Rattle.ws_history.specs.Notes.{AreNotesOf};
+ghost use Rattle.ws_history.specs.Ordered.{decision_points, events_by_time, points_of, put_in, read_points, write_points};
+ghost use Rattle.ws_history.specs.Readings.{read_of};
+ghost use Rattle.ws_history.specs.Sources.{history_of, source_of};
+
+use crate::agreements::{is_passed, shown_by, shown_of, view_at, written};
+use crate::points::Points;
+use crate::reading::{
+    decided_in, greatest_step, has_out, number_of, process_count, round_count, row_of, shape_of,
+};
+use room_core::RoomCore;
+use std::alloc::{AllocError, Global};
+use std::collections::BTreeMap;
+use transcript::Event;
+
+/// The events of the room's history by the steps at which they take effect, if these are the notes of its steps: a write by the step that
+/// first counted it, a snapshot by the step by which the proposal that was chosen was read, a decision by the step that first stored it. A
+/// step's number is that of the event of the schedule, counted from 0: atomic steps and crashes alike. In this order the events are a run of
+/// the processes on write-snapshot memory, as they are in that of [`history`](crate::history), and each process does the same in both.
+///
+/// # Errors
+///
+/// If an allocation fails.
+pub fn linearize(
+    alloc: Global,
+    room: &RoomCore,
+    points: &Points,
+) -> Result<BTreeMap<u64, Event>, AllocError>
+    // They are what takes effect at the steps of the schedule that was noted, each with the number of its step.
+    ensures at_steps { (schedule : List ScheduleEvent) →
+        AreNotesOf (configuration_of room.now) schedule points.now →
+        IfOk result (λ events. AreEventsAtSteps room.now.spec schedule events.entries) }
+    // In this order they are a run,
+    ensures run { (schedule : List ScheduleEvent) →
+        AreNotesOf (configuration_of room.now) schedule points.now →
+        IfOk result (λ events. IsRun room.now.spec (map (λ e. e.1) events.entries)) }
+    // in which each process does what it does in the history.
+    ensures same { (schedule : List ScheduleEvent) (fields : Fields) →
+        AreNotesOf (configuration_of room.now) schedule points.now → AreFieldsOf room.now fields → (p : ℕ) → p < processes room.now.spec →
+        IfOk result (λ events. events_of p (map (λ e. e.1) events.entries) ≡ events_of p (history_of room.now.spec fields)) }
+{
+    let _shape = shape_of(room); // for the proof: the room stands for some fields
+    let events = events_by_time(alloc, room, points)?;
+    Ok(events)
+}
+
+/// The events of all points, by their times.
+fn events_by_time(
+    alloc: Global,
+    room: &RoomCore,
+    points: &Points,
+) -> Result<BTreeMap<u64, Event>, AllocError>
+    ensures { IfOk result (λ events. events.entries ≡ events_by_time room.now points.now) }
+{
+    let mut events = BTreeMap::new(alloc);
+    for p in 0..process_count(room) {
+        put_process(&mut events, room, points, p)?;
+    }
+    Ok(events)
+}
+
+/// Those of process `p`.
+fn put_process(
+    events: &mut BTreeMap<u64, Event>,
+    room: &RoomCore,
+    points: &Points,
+    p: usize,
+) -> Result<(), AllocError>
+    requires { p < processes room.now.spec }
+    ensures { OnOk result (events.new.entries ≡ fold (put_in room.now) events.old.entries (points_of room.now.spec (read_of room.now) points.now p)) }
+{
+    let greatest = greatest_step(room, p);
+    let out = has_out(room, p);
+    for k in 0..round_count(room) {
+        put_write(events, room, points, p, k + 1, greatest)?;
+        put_snapshot(events, room, points, p, k + 1, greatest, out)?;
+    }
+    put_decision(events, room, points, p)
+}
+
+/// Its write in round `r`, if that was counted.
+fn put_write(
+    events: &mut BTreeMap<u64, Event>,
+    room: &RoomCore,
+    points: &Points,
+    p: usize,
+    r: usize,
+    greatest: usize,
+) -> Result<(), AllocError>
+    requires process { p < processes room.now.spec }
+    requires round { IsRound (sizes_in room.now.spec) r }
+    requires greatest { greatest ≡ greatest_step room.now.spec (read_of room.now) p }
+    ensures { OnOk result (events.new.entries ≡ fold (put_in room.now) events.old.entries (write_points room.now.spec (read_of room.now) points.now p r)) }
+{
+    if r <= greatest {
+        let v = written(room, p, r);
+        events.insert(
+            points.counted_at(room, p, r),
+            Event::Write {
+                p: number_of(room, p),
+                v,
+            },
+        )?;
+    }
+    Ok(())
+}
+
+/// Its snapshot in round `r`, if that was agreed on: by how many writes of it were counted, and whether a decision is stored.
+fn put_snapshot(
+    events: &mut BTreeMap<u64, Event>,
+    room: &RoomCore,
+    points: &Points,
+    p: usize,
+    r: usize,
+    greatest: usize,
+    out: bool,
+) -> Result<(), AllocError>
+    requires process { p < processes room.now.spec }
+    requires round { IsRound (sizes_in room.now.spec) r }
+    requires greatest { greatest ≡ greatest_step room.now.spec (read_of room.now) p }
+    requires out { out ≡ has_out room.now.spec (read_of room.now) p }
+    ensures { OnOk result (events.new.entries ≡ fold (put_in room.now) events.old.entries (read_points room.now.spec (read_of room.now) points.now p r)) }
+{
+    if is_passed(room, p, r, greatest, out) {
+        let time = points.read_at(room, shown_of(room, p, r), p, r);
+        events.insert(time, snapshot_of(room, p, r))?;
+    }
+    Ok(())
+}
+
+/// The snapshot of process `p` in round `r`, with the values that it shows.
+fn snapshot_of(room: &RoomCore, p: usize, r: usize) -> Event
+    requires process { p < processes room.now.spec }
+    requires round { IsRound (sizes_in room.now.spec) r }
+    ensures { result ≡ Snap p (record { items = shown_by room.now.spec (read_of room.now) (row_at room.now.spec (read_of room.now) p r) }) }
+{
+    let shown = row_of(room.spec(), view_at(room, p, r));
+    Event::Snap {
+        p: number_of(room, p),
+        row: shown_by(room, shown.as_slice()),
+    }
+}
+
+/// Its decision, if one is stored.
+fn put_decision(
+    events: &mut BTreeMap<u64, Event>,
+    room: &RoomCore,
+    points: &Points,
+    p: usize,
+) -> Result<(), AllocError>
+    requires { p < processes room.now.spec }
+    ensures { OnOk result (events.new.entries ≡ fold (put_in room.now) events.old.entries (decision_points room.now.spec (read_of room.now) points.now p)) }
+{
+    if let Some(v) = decided_in(room, p) {
+        events.insert(
+            points.stored_at(p),
+            Event::Decide {
+                p: number_of(room, p),
+                v,
+            },
+        )?;
+    }
+    Ok(())
+}
