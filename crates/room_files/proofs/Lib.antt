@@ -5,4 +5,5 @@ mod LineLists
 mod Numbering
 mod Feeding
 mod SpecLists
+mod BlockLists
 mod WorkedInputs

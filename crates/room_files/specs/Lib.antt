@@ -4,4 +4,5 @@ pub mod LineNumbers
 pub mod Lines
 pub mod Reports
 pub mod SpecLists
+pub mod BlockLists
 pub mod Verdicts

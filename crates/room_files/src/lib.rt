@@ -1,6 +1,7 @@
 //! Reads files of rooms and transcripts, with the number of each line, and writes the lines that report refused blocks and verdicts.
 #![tactic(auto)]
 
+mod block_list;
 mod blocks;
 mod events;
 mod fault;
@@ -11,6 +12,7 @@ mod report;
 mod setup;
 mod spec_list;
 
+pub use block_list::BlockList;
 pub use blocks::{Opens, Refuses, Setup, read_room};
 pub use events::feed_events;
 pub use fault::{BlockFault, InputFault};

@@ -1,3 +1,4 @@
+pub mod CallerLemmas
 mod Commands
 mod Playing
 mod ReplyTexts

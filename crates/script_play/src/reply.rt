@@ -178,7 +178,7 @@ fn write_count(output: &mut Text, name: &[u8], count: usize) -> Result<(), Alloc
 
 /// Writes the events' lines. Most entries of a snapshot show what they did in the one before, so the
 /// number that was shown last at each place of a row is kept as text.
-fn write_events(output: &mut Text, name: &[u8], events: &[Event]) -> Result<(), AllocError>
+pub fn write_events(output: &mut Text, name: &[u8], events: &[Event]) -> Result<(), AllocError>
     ensures { OnOk result (output.new ≡ output.old ++ event_lines name.now events.now) }
 {
     let mut shown = [Numeral::of(0); MAX_PROCESSES];
