@@ -1,0 +1,3 @@
+mod AllListed
+mod Counting
+mod Answering

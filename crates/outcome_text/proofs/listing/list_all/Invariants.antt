@@ -1,0 +1,12 @@
+use Rattle.std.proofs.Common.{◌≡◌, ℕ, Some, take}
+use Rattle.std.specs.Prelude.{slice_get}
+use Rattle.run_search.specs.Outcomes.{outcomes_in}
+use Rattle.outcome_text.specs.declared.listing.Listed.{Listed}
+use Rattle.outcome_text.specs.Listing.{HasRun, listed_ends}
+use Rattle.outcome_text.proofs.listing.list_all.Given as goal
+
+abbrev pub invariant-loop-index : goal.invariant-loop-index
+invariant-loop-index l = record {
+  runs : (i : ℕ) (one : Listed) → slice_get l.all.items i ≡ Some one → HasRun l.spec one;
+  ends : listed_ends l.all.items ≡ take l.index (outcomes_in l.found);
+}

@@ -1,0 +1,5 @@
+pub mod Blocks
+pub mod Counts
+pub mod Listing
+pub mod Rooms
+pub mod Texts

@@ -1,0 +1,36 @@
+-- All outcomes of a room, each with a run that has it.
+use Rattle.std.specs.Prelude.{◌≡◌, ℕ, ◌≤◌, List, length, map, Option, Some, None, slice_get}
+use Rattle.std.specs.List.{Contains, count_by}
+use Rattle.room_spec.specs.Rooms.{RoomSpec}
+use Rattle.transcript.specs.declared.event.Event.{Event}
+use Rattle.transcript.specs.Runs.{IsRun}
+use Rattle.transcript.specs.Tasks.{KeepsOwnTask}
+use Rattle.run_search.specs.declared.ended.Ended.{Ended}
+use Rattle.run_search.specs.Outcomes.{IsRunOutcome, is_stopped, outcome_of}
+use Rattle.run_search.specs.Reached.{AreAllReachable, State}
+use Rattle.run_search.specs.Tasks.{IsBreakingRun}
+use Rattle.outcome_text.specs.declared.listing.Listed.{Listed}
+
+-- the events are a run that has the outcome
+pub record HasRun (spec : RoomSpec) (one : Listed) : Type 0 where
+  pub run : IsRun spec one.events.items
+  pub outcome : one.ends.items ≡ outcome_of spec one.events.items
+
+abbrev pub listed_ends : List Listed → List (List Ended)
+listed_ends all = map (λ one. one.ends.items) all
+
+-- all outcomes of the room's runs in which at most `crashes` processes stop, each once, and each with a run that has it
+pub record AreAllListed (spec : RoomSpec) (crashes : ℕ) (all : List Listed) : Type 0 where
+  pub runs : (i : ℕ) (one : Listed) → slice_get all i ≡ Some one → HasRun spec one
+  pub few : (i : ℕ) (one : Listed) → slice_get all i ≡ Some one → count_by is_stopped one.ends.items ≤ crashes
+  pub complete : (outcome : List Ended) → IsRunOutcome spec crashes outcome → Contains (listed_ends all) outcome
+  pub distinct : (i j : ℕ) (outcome : List Ended) → slice_get (listed_ends all) i ≡ Some outcome → slice_get (listed_ends all) j ≡ Some outcome → i ≡ j
+
+-- the runs of the room have this number of states, which is within the limit
+abbrev pub HasStates : RoomSpec → ℕ → ℕ → Type 0
+HasStates spec limit count = (states : List State) × AreAllReachable spec states × (length states ≡ count) × (count ≤ limit)
+
+-- each run keeps the room's task, or these are the events of one that breaks it
+abbrev pub IsTaskAnswer : RoomSpec → Option (List Event) → Type 0
+IsTaskAnswer spec None = (events : List Event) → IsRun spec events → KeepsOwnTask spec events
+IsTaskAnswer spec (Some events) = IsBreakingRun spec events

@@ -1,0 +1,95 @@
+-- What is written of all outcomes of a room.
+use Rattle.std.specs.Prelude.{ℕ, ◌+◌, ◌-◌, ◌==◌, Bool, List, [], ◌∷◌, ◌++◌, length, map, Option, None, Some, if◌then◌else◌, codes, decimal, nat_eq, option_map, slice_index_or}
+use Rattle.std.specs.List.{concat, ends_with, flat_map, list_any, range_with_len}
+use Rattle.room_spec.specs.Rooms.{RoomSpec, processes}
+use Rattle.transcript.specs.declared.event.Event.{Event}
+use Rattle.script_play.specs.ReplyTexts.{event_lines}
+use Rattle.run_search.specs.declared.ended.Ended.{Ended}
+use Rattle.run_search.specs.declared.ended.Ended.TheVariants.{Decided, Spent, Stopped}
+use Rattle.outcome_text.specs.declared.listing.AllOutcomes.{AllOutcomes}
+use Rattle.outcome_text.specs.declared.listing.Listed.{Listed}
+use Rattle.outcome_text.specs.Counts.{can_be_spent, has_spent, most_values, values_in}
+
+-- ---- one outcome
+
+abbrev pub end_words : Ended → List ℕ
+end_words (Decided v) = codes " decided" ++ ((32 ∷ decimal v) ++ codes "\n")
+end_words Spent = codes " spent\n"
+end_words Stopped = codes " stopped\n"
+
+abbrev pub end_line : List ℕ → ℕ → Ended → List ℕ
+end_line name p ended = (name ++ codes " process") ++ ((32 ∷ decimal p) ++ end_words ended)
+
+-- how each process ends
+abbrev pub end_lines : List ℕ → List Ended → List ℕ
+end_lines name ends = concat (map (λ p. end_line name p (slice_index_or ends p Stopped)) (range_with_len 0 (length ends)))
+
+-- a block, and a line end if it has none at its end
+abbrev pub whole_block : List ℕ → List ℕ
+whole_block block = if ends_with nat_eq block (codes "\n") then block else block ++ codes "\n"
+
+-- a transcript of these events
+abbrev pub transcript_text : List ℕ → List ℕ → List Event → List ℕ
+transcript_text name block events = whole_block block ++ (codes "events\n" ++ event_lines name events)
+
+abbrev pub outcome_text : List ℕ → List ℕ → Bool → Listed → List ℕ
+outcome_text name block brief one = codes "\n" ++ (end_lines name one.ends.items ++ (if brief then [] else transcript_text name block one.events.items))
+
+-- ---- all outcomes
+
+abbrev pub text_if : List ℕ → List ℕ → Bool → ℕ → Listed → List ℕ
+text_if name block brief values one = if values_in one.ends.items == values then outcome_text name block brief one else []
+
+-- those with this number of decided values
+abbrev pub outcomes_with : List ℕ → List ℕ → Bool → List Listed → ℕ → List ℕ
+outcomes_with name block brief all values = flat_map (text_if name block brief values) all
+
+-- those with most decided values first
+abbrev pub outcomes_text : List ℕ → List ℕ → Bool → List Listed → List ℕ
+outcomes_text name block brief all = concat (map (λ fewer. outcomes_with name block brief all (most_values all - fewer)) (range_with_len 0 (most_values all + 1)))
+
+-- ---- what they have in common
+
+abbrev pub most_line : List ℕ → List Listed → List ℕ
+most_line name all = (codes "\n" ++ name) ++ (codes " decided at most" ++ ((32 ∷ decimal (most_values all)) ++ codes " values\n"))
+
+abbrev pub spent_line : List ℕ → ℕ → List ℕ
+spent_line name p = (name ++ codes " process") ++ ((32 ∷ decimal p) ++ codes " can be spent\n")
+
+abbrev pub spent_line_if : List ℕ → List Listed → ℕ → List ℕ
+spent_line_if name all p = if can_be_spent all p then spent_line name p else []
+
+abbrev pub spent_lines : List ℕ → ℕ → List Listed → List ℕ
+spent_lines name n all = concat (map (spent_line_if name all) (range_with_len 0 n))
+
+abbrev pub none_spent_if : List ℕ → List Listed → List ℕ
+none_spent_if name all = if list_any (λ one. has_spent one.ends.items) all then [] else name ++ codes " no process can be spent\n"
+
+-- ---- the task
+
+abbrev pub breaking_text : List ℕ → List ℕ → List Event → List ℕ
+breaking_text name block events = (name ++ codes " task broken by this run:\n") ++ transcript_text name block events
+
+-- a room without a task has no line of it
+abbrev pub task_text : List ℕ → List ℕ → Option ℕ → Option (List Event) → List ℕ
+task_text name block None breaking = []
+task_text name block (Some most) None = name ++ codes " task holds in every run\n"
+task_text name block (Some most) (Some events) = breaking_text name block events
+
+-- ---- a room
+
+abbrev pub head_line : List ℕ → ℕ → List ℕ
+head_line name crashes = (name ++ codes " outcomes crashes") ++ ((32 ∷ decimal crashes) ++ codes "\n")
+
+abbrev pub complete_line : ℕ → List ℕ
+complete_line states = codes "these are all outcomes:" ++ ((32 ∷ decimal states) ++ codes " states searched\n")
+
+abbrev pub unfinished_line : ℕ → List ℕ
+unfinished_line limit = codes "more than" ++ ((32 ∷ decimal limit) ++ codes " states: not searched to the end\n")
+
+abbrev pub found_text : RoomSpec → List ℕ → Bool → AllOutcomes → List ℕ
+found_text spec block brief all =
+    outcomes_text spec.name block brief all.listed.items
+    ++ (most_line spec.name all.listed.items
+    ++ ((spent_lines spec.name (processes spec) all.listed.items ++ none_spent_if spec.name all.listed.items)
+    ++ (task_text spec.name block spec.task (option_map (λ events. events.items) all.breaking) ++ complete_line all.states)))

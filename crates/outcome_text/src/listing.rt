@@ -1,0 +1,103 @@
+//! All outcomes of a room, each with a run that has it.
+ghost use Rattle.std.specs.Prelude.{◌≡◌, ◌<◌, ℕ, IfOk, IsErrOf, Some, length, option_map, slice_get};
+ghost use Rattle.run_search.specs.Outcomes.{IsFoundFor, outcomes_in};
+ghost use Rattle.run_search.specs.Reached.{HasMoreStates};
+ghost use Rattle.run_search.specs.declared.fault.SearchFault.TheVariants as SearchFault;
+ghost use Rattle.outcome_text.specs.Listing.{AreAllListed, HasRun, HasStates, IsTaskAnswer, listed_ends};
+ghost use Rattle.outcome_text.specs.declared.listing.Listed.{Listed as ListedValue};
+
+use room_spec::Spec;
+use run_search::{Ends, Outcomes, SearchFault, search};
+use std::alloc::{AllocError, Global};
+use transcript::Event;
+
+/// An outcome, and a run that has it.
+#[derive(Drop)]
+pub struct Listed {
+    /// How each process ends.
+    pub ends: Ends,
+    /// The events of the run.
+    pub events: Vec<Event>,
+}
+
+/// What a search of all runs of a room found.
+#[derive(Drop)]
+pub struct AllOutcomes {
+    /// All outcomes, in the order in which a search breadth first comes to them.
+    pub listed: Vec<Listed>,
+    /// How many states the runs have.
+    pub states: usize,
+    /// The events of a run that breaks the room's task, if one does.
+    pub breaking: Option<Vec<Event>>,
+}
+
+/// Finds all outcomes of a room's runs in which at most `crashes` processes stop, and whether each run keeps the room's task.
+///
+/// # Errors
+///
+/// `TooManyStates` if the runs have more than `limit` states; `OutOfMemory` if an allocation fails.
+pub fn find_all(
+    alloc: Global,
+    spec: &Spec,
+    crashes: usize,
+    limit: usize,
+) -> Result<AllOutcomes, SearchFault>
+    ensures outcomes { IfOk result (λ all. AreAllListed spec.now crashes all.listed.items) }
+    ensures states { IfOk result (λ all. HasStates spec.now limit all.states) }
+    ensures task { IfOk result (λ all. IsTaskAnswer spec.now (option_map (λ events. events.items) all.breaking)) }
+    ensures too_many { IsErrOf result SearchFault.TooManyStates → HasMoreStates spec.now limit }
+{
+    let found = search(alloc, spec, crashes, limit)?;
+    let listed = list_all(alloc, spec, &found)?;
+    let breaking = found.breaking_run(alloc, spec)?;
+    Ok(AllOutcomes {
+        listed,
+        states: found.states(),
+        breaking,
+    })
+}
+
+/// Each outcome that was found, with a run that has it.
+fn list_all(alloc: Global, spec: &Spec, found: &Outcomes) -> Result<Vec<Listed>, AllocError>
+    requires { IsFoundFor spec.now found.now }
+    ensures runs { IfOk result (λ all. (i : ℕ) (one : ListedValue) → slice_get all.items i ≡ Some one → HasRun spec.now one) }
+    ensures ends { IfOk result (λ all. listed_ends all.items ≡ outcomes_in found.now) }
+{
+    let mut all = Vec::new(alloc);
+    for index in 0..found.len() {
+        all.push(list_one(alloc, spec, found, index)?)?;
+    }
+    Ok(all)
+}
+
+/// The outcome of this index, with a run that has it.
+fn list_one(
+    alloc: Global,
+    spec: &Spec,
+    found: &Outcomes,
+    index: usize,
+) -> Result<Listed, AllocError>
+    requires found { IsFoundFor spec.now found.now }
+    requires there { index < length (outcomes_in found.now) }
+    ensures run { IfOk result (HasRun spec.now) }
+    ensures there { IfOk result (λ one. slice_get (outcomes_in found.now) index ≡ Some one.ends.items) }
+{
+    let events = found.transcript(alloc, spec, index)?;
+    let Some(ends) = found.get(index) else {
+        unreachable!() // the index is below the number of outcomes
+    };
+    Ok(Listed {
+        ends: copied(ends),
+        events,
+    })
+}
+
+fn copied(ends: &Ends) -> Ends
+    ensures { result.items ≡ ends.now.items }
+{
+    let mut copy = Ends::new();
+    let Ok(()) = copy.try_extend_from_slice(ends.as_slice()) else {
+        unreachable!() // both have the same capacity
+    };
+    copy
+}
