@@ -6,6 +6,8 @@ use Rattle.view_table.specs.Places.{IsPlace}
 use Rattle.simulator.specs.declared.goal.Goal.{Goal}
 use Rattle.simulator.specs.declared.goal.Goal.TheVariants.{Write, Ask, Done, Spent}
 use Rattle.room_steps.specs.declared.step.AtomicStep.{AtomicStep}
+use Rattle.ws_history.specs.declared.effects.Effect.{Effect}
+use Rattle.ws_history.specs.declared.effects.Effect.TheVariants.{Write as WriteEffect, Snapshot, Decision}
 use Rattle.step_words.specs.Pieces.{behind, between, padded}
 use Rattle.step_words.specs.Names.{operation_text}
 use Rattle.step_words.specs.Sights.{sight_text}
@@ -42,13 +44,28 @@ abbrev pub end_text : ℕ → Option Goal → List ℕ
 end_text process None = []
 end_text process (Some goal) = codes "         " ++ (outcome_text process goal ++ codes "\n")
 
--- The step's number, its turn where that begins, its operation, and what there is to see; and the end of the turn.
-abbrev pub step_lines : RoomSpec → ℕ → AtomicStep → Bool → List ℕ
-step_lines spec number step same_turn =
+-- a process does this with a value
+abbrev pub here_text : ℕ → List ℕ → ℕ → List ℕ
+here_text process verb value = behind (codes "here: process") process ++ behind verb value
+
+-- what takes effect
+abbrev pub effect_text : Effect → List ℕ
+effect_text (WriteEffect process value) = here_text process (codes " writes") value
+effect_text (Snapshot process) = codes "here, if proposed and chosen:" ++ behind (codes " the snapshot of process") process
+effect_text (Decision process value) = here_text process (codes " decides") value
+
+-- a line for it
+abbrev pub effect_line : Option Effect → List ℕ
+effect_line None = []
+effect_line (Some effect) = codes "         " ++ (effect_text effect ++ codes "\n")
+
+-- The step's number, its turn where that begins, its operation, and what there is to see; what takes effect; and the end of the turn.
+abbrev pub step_lines : RoomSpec → ℕ → AtomicStep → Bool → Option Effect → List ℕ
+step_lines spec number step same_turn effect =
     codes "    "
     ++ (padded number_width (decimal number)
     ++ (padded turn_width (turn_text step same_turn)
-    ++ (padded operation_width (operation_text spec step) ++ (sight_text spec step ++ (codes "\n" ++ end_text step.process step.end)))))
+    ++ (padded operation_width (operation_text spec step) ++ (sight_text spec step ++ (codes "\n" ++ (effect_line effect ++ end_text step.process step.end))))))
 
 -- its numbers are those of the room
 pub record IsStepIn (spec : RoomSpec) (step : AtomicStep) : Type 0 where

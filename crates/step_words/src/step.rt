@@ -1,6 +1,6 @@
 //! The lines of an atomic step.
 ghost use Rattle.std.specs.Prelude.{◌≡◌, ◌++◌, OnOk, codes, decimal};
-ghost use Rattle.step_words.specs.Lines.{IsStepIn, end_text, number_width, operation_width, outcome_text, step_lines, turn_name, turn_text, turn_width};
+ghost use Rattle.step_words.specs.Lines.{IsStepIn, effect_line, effect_text, end_text, here_text, number_width, operation_width, outcome_text, step_lines, turn_name, turn_text, turn_width};
 ghost use Rattle.step_words.specs.Names.{operation_text};
 ghost use Rattle.step_words.specs.Pieces.{behind, between, padded};
 
@@ -12,6 +12,7 @@ use room_spec::Spec;
 use room_steps::AtomicStep;
 use simulator::Goal;
 use std::alloc::AllocError;
+use ws_history::Effect;
 
 /// The width of the column with the number of a step.
 const NUMBER_WIDTH: usize = 5;
@@ -23,8 +24,8 @@ const TURN_WIDTH: usize = 43;
 const OPERATION_WIDTH: usize = 36;
 
 /// Writes the line of an atomic step of a room, behind four spaces: its number, which the caller counts; its turn, where this
-/// is the first step of the turn that is told (`same_turn` is false); its operation; and what its word shows. Where it ends its
-/// turn a second line says what the turn came to.
+/// is the first step of the turn that is told (`same_turn` is false); its operation; and what its word shows. A second line says
+/// what takes effect at the step, if something does, and where the step ends its turn a last one says what the turn came to.
 ///
 /// # Errors
 ///
@@ -35,9 +36,10 @@ pub fn write_step(
     number: u64,
     step: &AtomicStep,
     same_turn: bool,
+    effect: Option<Effect>,
 ) -> Result<(), AllocError>
     requires { IsStepIn spec.now step.now }
-    ensures { OnOk result (output.new ≡ output.old ++ step_lines spec.now number step.now same_turn) }
+    ensures { OnOk result (output.new ≡ output.old ++ step_lines spec.now number step.now same_turn effect) }
 {
     output.put(b"    ")?;
     write_step_number(output, number)?;
@@ -45,7 +47,57 @@ pub fn write_step(
     write_padded_operation(output, spec, step)?;
     write_sight(output, spec, step)?;
     output.put(b"\n")?;
+    write_notes(output, step, effect)
+}
+
+/// Writes what takes effect at the step, if something does, and what the turn came to, where it has ended.
+fn write_notes(
+    output: &mut Text,
+    step: &AtomicStep,
+    effect: Option<Effect>,
+) -> Result<(), AllocError>
+    ensures { OnOk result (output.new ≡ output.old ++ (effect_line effect ++ end_text step.now.process step.now.end)) }
+{
+    write_effect(output, effect)?;
     write_end(output, step.process, step.end)
+}
+
+/// Writes what takes effect at the step, if something does.
+fn write_effect(output: &mut Text, effect: Option<Effect>) -> Result<(), AllocError>
+    ensures { OnOk result (output.new ≡ output.old ++ effect_line effect) }
+{
+    let Some(effect) = effect else {
+        return Ok(());
+    };
+    output.put(b"         ")?;
+    write_effect_words(output, effect)?;
+    output.put(b"\n")
+}
+
+fn write_effect_words(output: &mut Text, effect: Effect) -> Result<(), AllocError>
+    ensures { OnOk result (output.new ≡ output.old ++ effect_text effect) }
+{
+    match effect {
+        Effect::Write { process, value } => write_here(output, process, b" writes", value),
+        Effect::Snapshot { process } => write_snapshot(output, process),
+        Effect::Decision { process, value } => write_here(output, process, b" decides", value),
+    }
+}
+
+/// Writes that here a process does this with a value.
+fn write_here(output: &mut Text, process: usize, verb: &[u8], value: u32) -> Result<(), AllocError>
+    ensures { OnOk result (output.new ≡ output.old ++ here_text process verb.now value) }
+{
+    write_number(output, b"here: process", process as u64)?;
+    write_number(output, verb, u64::from(value))
+}
+
+/// Writes whose snapshot it is, if it is one.
+fn write_snapshot(output: &mut Text, process: usize) -> Result<(), AllocError>
+    ensures { OnOk result (output.new ≡ output.old ++ (codes "here, if proposed and chosen:" ++ behind (codes " the snapshot of process") process)) }
+{
+    output.put(b"here, if proposed and chosen:")?;
+    write_number(output, b" the snapshot of process", process as u64)
 }
 
 fn write_step_number(output: &mut Text, number: u64) -> Result<(), AllocError>

@@ -10,8 +10,9 @@ use room_spec::Spec;
 use room_steps::{AtomicStep, take_step};
 use std::alloc::{AllocError, Global};
 use std::marker::Model;
+use ws_history::{Effect, StepStart};
 
-/// Who looks on while a room takes its steps, and writes the lines of each, numbered from 1. Where memory is refused it writes no
+/// Who looks on while a room takes its steps, and writes the lines of each, numbered from 1, with what takes effect at it. Where memory is refused it writes no
 /// more, and the room goes on.
 #[derive(Drop)]
 pub struct StepTexts {
@@ -58,25 +59,30 @@ impl StepTexts {
         Ok(self.lines)
     }
 
-    fn note(&mut self, spec: &Spec, step: &AtomicStep)
+    fn note(&mut self, spec: &Spec, step: &AtomicStep, effect: Option<Effect>)
         requires { IsStepIn spec.now step.now }
-        ensures { self.new.lacks ≡ false → self.new ≡ with_step self.old spec.now step.now }
+        ensures { self.new.lacks ≡ false → self.new ≡ with_step self.old spec.now step.now effect }
     {
-        if !self.lacks && self.write(spec, step).is_err() {
+        if !self.lacks && self.write(spec, step, effect).is_err() {
             self.lacks = true;
         }
     }
 
     /// Writes the lines of a step.
-    fn write(&mut self, spec: &Spec, step: &AtomicStep) -> Result<(), AllocError>
+    fn write(
+        &mut self,
+        spec: &Spec,
+        step: &AtomicStep,
+        effect: Option<Effect>,
+    ) -> Result<(), AllocError>
         requires { IsStepIn spec.now step.now }
-        ensures { OnOk result (self.new ≡ with_step self.old spec.now step.now) }
+        ensures { OnOk result (self.new ≡ with_step self.old spec.now step.now effect) }
     {
         let same_turn = self.is_turn(step.simulator, step.turn);
         let Some(number) = self.number.checked_add(1) else {
             return Err(AllocError); // so many lines take more memory than there is
         };
-        write_step(&mut self.lines, spec, number, step, same_turn)?;
+        write_step(&mut self.lines, spec, number, step, same_turn, effect)?;
         self.number = number;
         self.last = Some((step.simulator, step.turn));
         Ok(())
@@ -100,9 +106,11 @@ impl Watch for StepTexts {
 
     fn step(&mut self, room: &mut RoomCore, i: usize) -> StepReply {
         let _shape = room.spec().shape(); // for the proof: the room is one that its simulators lead to
+        let start = StepStart::of(room, i);
         let (reply, taken) = take_step(room, i);
         if let Some(step) = taken {
-            self.note(room.spec(), &step);
+            let effect = start.effect(room, i);
+            self.note(room.spec(), &step, effect);
         }
         reply
     }

@@ -7,7 +7,7 @@ mod Timed
 mod OwnEvents
 mod Linearizing
 mod SameEvents
-mod Effects
+mod Unique
 mod Alternation
 mod Sorting
 mod PassedSources
@@ -21,6 +21,7 @@ mod Noted
 mod Placed
 mod NotedPoints
 mod LinearizedNotes
+mod EffectsOf
 mod Searching
 mod Ranges
 mod WordsRead

@@ -15,7 +15,7 @@ use Rattle.ws_history.specs.Linearizations.{IsLinearization, IsSourceOf, Timed, 
 use Rattle.ws_history.proofs.SourceIs.{is_of_passed}
 use Rattle.ws_history.proofs.Linearizing.{timeline_is_run}
 use Rattle.ws_history.proofs.SameEvents.{same_events}
-use Rattle.ws_history.proofs.Effects.{events_are, is_one, only_one, timed_before}
+use Rattle.ws_history.proofs.Unique.{events_are, is_one, only_one, timed_before}
 
 none_either : (b : Bool) (o : Option ℕ) → o ≡ None → cond b o None ≡ None
 none_either true o none = none

@@ -60,7 +60,7 @@ last_by_more spec schedule event test =
     ∙ ap (λ (f : Fields). cond (test f (fields_at spec (schedule ++ event ∷ []) (length schedule + 1))) (length schedule) (last_by spec schedule test)) before
     ∙ ap (λ (f : Fields). cond (test (replay_fields spec (opening_fields spec) schedule) f) (length schedule) (last_by spec schedule test)) after
 
-reads_by : (spec : RoomSpec) (schedule : List ScheduleEvent) (event : ScheduleEvent) (i p r : ℕ)
+pub reads_by : (spec : RoomSpec) (schedule : List ScheduleEvent) (event : ScheduleEvent) (i p r : ℕ)
     → reads_at spec (schedule ++ event ∷ []) (length schedule) i p r ≡ is_step_of i (Some event) && reads_in spec (replay_fields spec (opening_fields spec) schedule) (replay_fields spec (opening_fields spec) (schedule ++ event ∷ [])) i p r
 reads_by spec schedule event i p r =
     let before = at_before spec schedule event (length schedule) (omega arith) ∙ at_end spec schedule (length schedule) (omega arith) in
@@ -71,15 +71,15 @@ reads_by spec schedule event i p r =
 
 -- ---- plain facts
 
-not_true_of : (b : Bool) → (b ≡ true → ⊥) → b ≡ false
+pub not_true_of : (b : Bool) → (b ≡ true → ⊥) → b ≡ false
 not_true_of true never = absurd (never refl)
 not_true_of false never = refl
 
-both_true : (b c : Bool) → b ≡ true → c ≡ true → b && c ≡ true
+pub both_true : (b c : Bool) → b ≡ true → c ≡ true → b && c ≡ true
 both_true true c is is' = is'
 both_true false c is is' = absurd cc
 
-resting_is : (line : Line) → is_resting line ≡ true → line ≡ Rest
+pub resting_is : (line : Line) → is_resting line ≡ true → line ≡ Rest
 resting_is Rest is = refl
 resting_is Raise is = absurd cc
 resting_is Snap is = absurd cc
@@ -127,7 +127,7 @@ module _ (spec : RoomSpec) (before after : Fields) where
       let none = not-true (has_out spec before p) parts.0 in
       let wrong : true ≡ false = sym parts.1 ∙ same ∙ none in cc)
 
-  no_read : (i p r : ℕ) → is_snap (before.mind i).line ≡ false → reads_in spec before after i p r ≡ false
+  pub no_read : (i p r : ℕ) → is_snap (before.mind i).line ≡ false → reads_in spec before after i p r ≡ false
   no_read i p r other = not_true_of (reads_in spec before after i p r) (λ is.
       let wrong : true ≡ false = sym (read_parts spec before after i p r is).0 ∙ other in cc)
 

@@ -3,6 +3,7 @@
 #![tactic(auto)]
 
 mod agreements;
+mod effects;
 mod histories;
 pub mod laws;
 mod linearization;
@@ -12,6 +13,7 @@ mod reports;
 mod snapshots;
 mod states;
 
+pub use effects::{Effect, StepStart};
 pub use histories::history;
 pub use linearization::linearize;
 pub use points::Points;

@@ -12,6 +12,7 @@ ghost use Rattle.room_core.specs.Rooms.{opening};
 ghost use Rattle.room_core.specs.declared.reply.StepReply.TheVariants.{Stepped};
 ghost use Rattle.ws_history.specs.Notes.{AreNotesOf, counted_at, place, read_at, stored_at};
 ghost use Rattle.ws_history.specs.Noting.{before_step, count_noted, looked, noted, noted_if, noted_step, read_noted, store_noted};
+ghost use Rattle.ws_history.specs.Effects.{has_read};
 
 use crate::reading::{
     greatest_step, has_out, process_count, round_count, shape_of, simulator_count,
@@ -140,7 +141,7 @@ impl Points {
         requires round { before.now.round ≤ room.now.spec.rounds }
         ensures { self.new ≡ read_noted room.now i before.now self.old }
     {
-        if before.ends_collect && (word_count(room) == 1 || scans(room, i)) {
+        if reads(room, i, before) {
             put(
                 self.read.as_mut_slice(),
                 place(room, row(room, i, before.process), before.round),
@@ -178,8 +179,16 @@ impl Watch for Points {
     }
 }
 
+/// Whether by the step of simulator `i` that led to this room a collect ended that may be what its scan shows.
+pub(crate) fn reads(room: &RoomCore, i: usize, before: &Before) -> bool
+    requires { i < room.now.spec.simulators }
+    ensures { result ≡ has_read room.now i before.now }
+{
+    before.ends_collect && (word_count(room) == 1 || scans(room, i))
+}
+
 /// What there is before a step of simulator `i`. `None` between two turns: the first step of a turn stores a value or asks.
-fn look(room: &RoomCore, i: usize) -> Option<Before>
+pub(crate) fn look(room: &RoomCore, i: usize) -> Option<Before>
     ensures value { result ≡ looked room.now i }
     ensures process { IfSome result (λ before. before.process < processes room.now.spec) }
     ensures round { IfSome result (λ before. before.round ≤ room.now.spec.rounds) }

@@ -25,5 +25,7 @@ returns-in-Some-clause-seen c = λ stepped.
     record {
       step = c.in-Some.step;
       is = was.1;
-      told = subst (λ (spec : RoomSpec). c.note.new.self.lacks ≡ false → c.note.new.self ≡ with_step c.args.self.now spec c.in-Some.step) same c.note.ensures;
+      effect = c.effect-effect.result;
+      is_effect = λ one. c.effect-effect.ensures room one c.of-start.ensures was.0 c.take_step-reply.ensures.room;
+      told = subst (λ (spec : RoomSpec). c.note.new.self.lacks ≡ false → c.note.new.self ≡ with_step c.args.self.now spec c.in-Some.step c.effect-effect.result) same c.note.ensures;
     }
