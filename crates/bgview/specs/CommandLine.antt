@@ -1,14 +1,16 @@
 -- What `clap`'s parse reads of the program's command, and what that asks for.
-use Rattle.std.specs.Prelude.{◌≡◌, ◌<◌, ◌^◌, ℕ, pos, true, List, [], Option, None, Some, codes, option_and_then, unwrap_or, if◌then◌else◌}
+use Rattle.std.specs.Prelude.{◌≡◌, ◌<◌, ◌^◌, ℕ, pos, Bool, true, false, List, [], Option, None, Some, codes, option_and_then, unwrap_or, if◌then◌else◌}
 use Rattle.std.specs.Option.{option_map_or}
 use Rattle.std.specs.Str.{bytes_eq}
 use Rattle.std.specs.Str.Parse.{IsNumeral, digits_value, without_leading_plus}
 use Rattle.clap.specs.Lexer.{usize_max}
 use Rattle.clap.specs.Words.{App, Row, Rule, Shape, all_of, first_of, new_app, new_rule, with_rule, with_subcommand}
+use Rattle.clap.specs.declared.builder.action.ArgAction.TheVariants.{SetTrue}
 use Rattle.clap.specs.declared.builder.value_parser.ValueParser.TheVariants.{Signed}
 use Rattle.room_sample.specs.declared.sampling.Plan.{Plan}
+use Rattle.outcome_text.specs.declared.rooms.Search.{Search}
 use Rattle.bgview.specs.declared.command_line.Mode.{Mode}
-use Rattle.bgview.specs.declared.command_line.Mode.TheVariants.{Why, Trace, Draw, Fault, Sample}
+use Rattle.bgview.specs.declared.command_line.Mode.TheVariants.{Why, Trace, Draw, Fault, Sample, Outcomes}
 
 -- the subcommand of a word, which takes a file
 abbrev pub file_app : List ℕ → App
@@ -31,6 +33,20 @@ seed_rule = number_rule (codes "seed") 0 4294967295
 abbrev pub sample_app : App
 sample_app = with_rule (with_rule (with_rule (file_app (codes "sample")) schedules_rule) crashes_rule) seed_rule
 
+abbrev pub stopped_rule : Rule
+stopped_rule = number_rule (codes "crashes") 0 16
+
+abbrev pub states_rule : Rule
+states_rule = number_rule (codes "states") 1 100000000
+
+-- an option that takes no value
+abbrev pub brief_rule : Rule
+brief_rule = record (new_rule (codes "brief")) { long = Some (codes "brief"); action = Some SetTrue }
+
+-- the subcommand `outcomes`, which takes a file, two numbers and a flag
+abbrev pub outcomes_app : App
+outcomes_app = with_rule (with_rule (with_rule (file_app (codes "outcomes")) stopped_rule) states_rule) brief_rule
+
 -- one number at least
 abbrev pub code_rule : Rule
 code_rule = record (new_rule (codes "CODE")) { required = true; range = Some (record { start_inclusive = 1; end_inclusive = usize_max }) }
@@ -47,12 +63,14 @@ plain_app = record { top = plain_shape; subs = [] }
 
 abbrev pub bgview_app : App
 bgview_app =
-    with_subcommand (with_subcommand (with_subcommand (with_subcommand (with_subcommand plain_app (file_app (codes "why")).top) (file_app (codes "trace")).top) (file_app (codes "draw")).top) fault_app.top)
-    sample_app.top
+    with_subcommand
+    (with_subcommand (with_subcommand (with_subcommand (with_subcommand (with_subcommand plain_app (file_app (codes "why")).top) (file_app (codes "trace")).top) (file_app (codes "draw")).top) fault_app.top)
+    sample_app.top)
+    outcomes_app.top
 
 -- the mode of a word, which is that of a subcommand
 abbrev pub mode_of : List ℕ → Mode
-mode_of word = if bytes_eq word (codes "trace") then Trace else if bytes_eq word (codes "draw") then Draw else if bytes_eq word (codes "fault") then Fault else if bytes_eq word (codes "sample") then Sample else Why
+mode_of word = if bytes_eq word (codes "trace") then Trace else if bytes_eq word (codes "draw") then Draw else if bytes_eq word (codes "fault") then Fault else if bytes_eq word (codes "sample") then Sample else if bytes_eq word (codes "outcomes") then Outcomes else Why
 
 -- the mode of the subcommand that was found
 abbrev pub mode_among : Option (List ℕ × List Row) → Mode
@@ -80,3 +98,19 @@ pub record IsPlanAmong (found : Option (List ℕ × List Row)) (plan : Plan) : T
   pub schedules : IsNumber (value_among (codes "schedules") found) 1000 plan.schedules
   pub crashes : IsNumber (value_among (codes "crashes") found) 1 plan.crashes
   pub seed : IsNumber (value_among (codes "seed") found) 1 plan.seed
+
+-- the number that a text gives, or none without a text
+abbrev pub IsNumberIfAny : Option (List ℕ) → Option ℕ → Type 0
+IsNumberIfAny None number = number ≡ None
+IsNumberIfAny (Some text) number = IsNumeral 10 (without_leading_plus text) → digits_value 10 (without_leading_plus text) < 2 ^ 32 → number ≡ Some (digits_value 10 (without_leading_plus text))
+
+-- the flag is given
+abbrev pub is_given : Option (List ℕ) → Bool
+is_given None = false
+is_given (Some text) = bytes_eq text (codes "true")
+
+-- the search that the values of `outcomes` say
+pub record IsSearchAmong (found : Option (List ℕ × List Row)) (search : Search) : Type 0 where
+  pub crashes : IsNumberIfAny (value_among (codes "crashes") found) search.crashes
+  pub states : IsNumber (value_among (codes "states") found) 1000000 search.states
+  pub brief : search.brief ≡ is_given (value_among (codes "brief") found)

@@ -3,6 +3,7 @@ pub mod Draw
 pub mod Ends
 pub mod Faults
 pub mod Notes
+pub mod Outcomes
 pub mod Refusals
 pub mod Modes
 pub mod Sample

@@ -2,18 +2,21 @@
 use Rattle.std.specs.Prelude.{ℕ, List, Result}
 use Rattle.room_files.specs.declared.outcome.Outcome.{Outcome}
 use Rattle.room_sample.specs.declared.sampling.Plan.{Plan}
+use Rattle.outcome_text.specs.declared.rooms.Search.{Search}
 use Rattle.bgview.specs.Draw.{IsDrawAnswer}
+use Rattle.bgview.specs.Outcomes.{IsOutcomesAnswer}
 use Rattle.bgview.specs.Sample.{IsSampleAnswer}
 use Rattle.bgview.specs.Trace.{IsTraced}
 use Rattle.bgview.specs.Why.{IsWhyAnswer}
 use Rattle.bgview.specs.declared.command_line.Mode.{Mode}
-use Rattle.bgview.specs.declared.command_line.Mode.TheVariants.{Why, Trace, Draw, Fault, Sample}
+use Rattle.bgview.specs.declared.command_line.Mode.TheVariants.{Why, Trace, Draw, Fault, Sample, Outcomes}
 use Rattle.bgview.specs.declared.fault.ViewFault.{ViewFault}
 
 -- `fault` reads no input
-abbrev pub IsViewed : Mode → Plan → List ℕ → Result Outcome ViewFault → List ℕ → Type 0
-IsViewed Why plan input result output = IsWhyAnswer input result output
-IsViewed Trace plan input result output = IsTraced input result output
-IsViewed Draw plan input result output = IsDrawAnswer input result output
-IsViewed Fault plan input result output = IsWhyAnswer input result output
-IsViewed Sample plan input result output = IsSampleAnswer plan input result output
+abbrev pub IsViewed : Mode → Plan → Search → List ℕ → Result Outcome ViewFault → List ℕ → Type 0
+IsViewed Why plan search input result output = IsWhyAnswer input result output
+IsViewed Trace plan search input result output = IsTraced input result output
+IsViewed Draw plan search input result output = IsDrawAnswer input result output
+IsViewed Fault plan search input result output = IsWhyAnswer input result output
+IsViewed Sample plan search input result output = IsSampleAnswer plan input result output
+IsViewed Outcomes plan search input result output = IsOutcomesAnswer search input result output

@@ -4,9 +4,10 @@ ghost use Rattle.clap.specs.Kinds.{FailsBy};
 ghost use Rattle.clap.specs.declared.builder.command.Command.TheViews.{out-Command};
 ghost use Rattle.clap.specs.Words.{app_of, fault_of, first_value, found_of, subcommand_of, subcommand_rows_of, with_subcommand};
 ghost use Rattle.clap.specs.Walk.{rule_of};
-ghost use Rattle.bgview.specs.CommandLine.{bgview_app, crashes_rule, fault_app, file_among, file_app, mode_among, mode_of, plain_app, sample_app, schedules_rule, seed_rule, IsNumber, IsPlanAmong};
+ghost use Rattle.bgview.specs.CommandLine.{bgview_app, brief_rule, crashes_rule, fault_app, file_among, file_app, is_given, mode_among, mode_of, outcomes_app, plain_app, sample_app, schedules_rule, seed_rule, states_rule, stopped_rule, IsNumber, IsNumberIfAny, IsPlanAmong, IsSearchAmong};
 
-use clap::{Arg, ArgMatches, Command, Error, value_parser};
+use clap::{Arg, ArgAction, ArgMatches, Command, Error, value_parser};
+use outcome_text::Search;
 use room_sample::Plan;
 use std::alloc::{AllocError, Global};
 use std::convert::AsStr;
@@ -24,6 +25,8 @@ pub enum Mode {
     Fault,
     /// Runs rooms by random schedules.
     Sample,
+    /// Searches all runs of rooms.
+    Outcomes,
 }
 
 impl Mode {
@@ -39,6 +42,8 @@ impl Mode {
             Mode::Fault
         } else if word == "sample" {
             Mode::Sample
+        } else if word == "outcomes" {
+            Mode::Outcomes
         } else {
             Mode::Why
         }
@@ -158,6 +163,58 @@ fn seed_option<'a>(alloc: Global) -> Arg<'a>
         .help("What the schedules are drawn from, 0 to 4294967295; without it, 1")
 }
 
+/// The subcommand `outcomes`, which takes a file, numbers and a flag.
+fn outcomes_command<'a>(alloc: Global) -> Result<Command<'a>, AllocError>
+    ensures app { IfOk result (λ command. app_of command ≡ outcomes_app) }
+    ensures local { IfOk result (λ command. (out-Command command).has_globals ≡ false) }
+{
+    let outcomes = file_command(
+        alloc,
+        "outcomes",
+        "Searches all runs of each room's protocol, and lists all outcomes",
+        "bgview outcomes [--crashes F] [--states N] [--brief] [FILE]",
+        "The rooms; without it, standard input is read",
+    )?;
+    let with_crashes = outcomes.arg(stopped_option(alloc))?;
+    let with_states = with_crashes.arg(states_option(alloc))?;
+    with_states.arg(brief_option(alloc))
+}
+
+/// The option `--crashes F` of `outcomes`.
+fn stopped_option<'a>(alloc: Global) -> Arg<'a>
+    ensures rule { rule_of result ≡ stopped_rule }
+    ensures local { result.global ≡ false }
+{
+    Arg::new(alloc, "crashes")
+        .long("crashes")
+        .value_name("F")
+        .value_parser(value_parser!(u8).range(0..=16))
+        .help("How many processes stop in a run at most, 0 to 16; without it, all but one")
+}
+
+/// The option `--states N`.
+fn states_option<'a>(alloc: Global) -> Arg<'a>
+    ensures rule { rule_of result ≡ states_rule }
+    ensures local { result.global ≡ false }
+{
+    Arg::new(alloc, "states")
+        .long("states")
+        .value_name("N")
+        .value_parser(value_parser!(u32).range(1..=100000000))
+        .help("How many states of a room are searched at most, 1 to 100000000; without it, 1000000")
+}
+
+/// The option `--brief`.
+fn brief_option<'a>(alloc: Global) -> Arg<'a>
+    ensures rule { rule_of result ≡ brief_rule }
+    ensures local { result.global ≡ false }
+{
+    Arg::new(alloc, "brief")
+        .long("brief")
+        .action(ArgAction::SetTrue)
+        .help("Leaves out the transcripts")
+}
+
 /// The subcommand `fault`.
 fn fault_command<'a>(alloc: Global) -> Result<Command<'a>, AllocError>
     ensures app { IfOk result (λ command. app_of command ≡ fault_app) }
@@ -204,7 +261,8 @@ fn command<'a>(alloc: Global) -> Result<Command<'a>, AllocError>
     let with_trace = with_subcommand(with_why, trace_command(alloc))?;
     let with_draw = with_subcommand(with_trace, draw_command(alloc))?;
     let with_fault = with_subcommand(with_draw, fault_command(alloc))?;
-    with_subcommand(with_fault, sample_command(alloc))
+    let with_sample = with_subcommand(with_fault, sample_command(alloc))?;
+    with_subcommand(with_sample, outcomes_command(alloc))
 }
 
 /// What `clap` finds in the words after the program's name.
@@ -259,6 +317,44 @@ pub fn plan_in(matches: &ArgMatches<'_>) -> Plan
             crashes: 1,
             seed: 1,
         },
+    }
+}
+
+/// How outcomes are searched by what the words ask for.
+pub fn search_in(matches: &ArgMatches<'_>) -> Search
+    ensures { IsSearchAmong (subcommand_rows_of matches.now) result }
+{
+    match matches.subcommand() {
+        Some((_, inner)) => Search {
+            crashes: number_if_any(inner, "crashes"),
+            states: number_among(inner, "states", 1000000),
+            brief: is_given(inner, "brief"),
+        },
+        None => Search {
+            crashes: None,
+            states: 1000000,
+            brief: false,
+        },
+    }
+}
+
+/// The number after an option, if the option is there.
+fn number_if_any(matches: &ArgMatches<'_>, name: &str) -> Option<u32>
+    ensures { IsNumberIfAny (first_value (found_of matches.now) name.now) result }
+{
+    match matches.get_str(name) {
+        Some(text) => Some(number_in(text, 0)),
+        None => None,
+    }
+}
+
+/// Whether a flag is given.
+fn is_given(matches: &ArgMatches<'_>, name: &str) -> bool
+    ensures { result ≡ is_given (first_value (found_of matches.now) name.now) }
+{
+    match matches.get_str(name) {
+        Some(text) => text == "true",
+        None => false,
     }
 }
 

@@ -7,6 +7,7 @@ ghost use Rattle.bgview.specs.Draw.{IsDrawAnswer};
 ghost use Rattle.bgview.specs.Faults.{AreFaultsSaid};
 ghost use Rattle.io_text.specs.Reading.{most_bytes};
 ghost use Rattle.bgview.specs.Notes.{AreNotes};
+ghost use Rattle.bgview.specs.Outcomes.{IsOutcomesAnswer};
 ghost use Rattle.bgview.specs.Sample.{IsSampleAnswer};
 ghost use Rattle.bgview.specs.Why.{IsExplanationFor, IsWhyAnswer, MayEndWhy};
 
@@ -16,6 +17,7 @@ use crate::faults::say_faults;
 use crate::notes::notes_on_bad_line;
 use crate::sample::sample_blocks;
 use io_text::{Device, DeviceFault, Text, read_input, write_output};
+use outcome_text::{Search, search_blocks};
 use room_files::{Answer, InputFault, Outcome};
 use room_sample::Plan;
 use script_picture::draw;
@@ -111,6 +113,33 @@ pub fn sample_io<R: Read, W: Write>(
 {
     let input = read_input(alloc, reader)?;
     let answer = sample_blocks(alloc, &input, plan)?;
+    write_output(writer, answer.output.as_bytes())?;
+    Ok(answer.outcome)
+}
+
+/// Searches all runs of each room of the blocks that the reader gives, and writes the lines of the refused blocks and, for each room, all
+/// its outcomes.
+///
+/// # Errors
+///
+/// A device that failed; an input that is too long; or an allocation that failed.
+pub fn outcomes_io<R: Read, W: Write>(
+    alloc: Global,
+    reader: &mut Device<R>,
+    writer: &mut Device<W>,
+    search: &Search,
+) -> Result<Outcome, ViewFault>
+    requires reader { reader.old.failed ≡ false }
+    requires writer { writer.old.failed ≡ false }
+    // What is written is the output for what was read, and the answer goes with it. No write is of nothing.
+    ensures text { IfSome (R.remaining reader.old.inner) (λ input. (output : List ℕ) × IsOutcomesAnswer search.now input result output
+        × Appends (W.contents writer.old.inner) (W.contents writer.new.inner) output
+        × (writer.new.calls ≤ writer.old.calls + length output + failed_writes (is_write_failed result))) }
+    ensures reader { HasRead reader.old reader.new (R.remaining reader.old.inner) (is_read_failed result) }
+    ensures writer { HasWritten writer.old writer.new result (is_write_failed result) }
+{
+    let input = read_input(alloc, reader)?;
+    let answer = search_blocks(alloc, &input, search)?;
     write_output(writer, answer.output.as_bytes())?;
     Ok(answer.outcome)
 }

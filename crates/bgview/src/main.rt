@@ -1,5 +1,5 @@
 //! Shows what bgsim answers: why a transcript is no run, what each step of a script did, a picture of it, which outcomes a room may
-//! have, and what the numbers of faults mean.
+//! have by random schedules, all outcomes of its protocol, and what the numbers of faults mean.
 #![tactic(auto)]
 
 ghost use Rattle.std.specs.Prelude.{◌≡◌, ◌≤◌, Bool, IfSome, List, ℕ, false};
@@ -31,10 +31,11 @@ mod trace;
 
 use clap::ArgMatches;
 use clap::error::ErrorKind;
-use command_line::{Mode, line_in, plan_in, read_words};
-use engine::{draw_io, fault_io, sample_io, why_io};
+use command_line::{Mode, line_in, plan_in, read_words, search_in};
+use engine::{draw_io, fault_io, outcomes_io, sample_io, why_io};
 use fault::ViewFault;
 use io_text::{Device, DeviceFault, Text};
+use outcome_text::Search;
 use room_files::Outcome;
 use room_sample::Plan;
 use std::alloc::Global;
@@ -81,10 +82,11 @@ fn ending(
         return say_faults(rt.alloc(), matches, &mut Device::new(rt.stdout()));
     }
     let plan = plan_in(matches);
+    let search = search_in(matches);
     match line.file {
-        None => answered(rt, rt.stdin(), line.command, &plan, notes),
+        None => answered(rt, rt.stdin(), line.command, &plan, &search, notes),
         Some(path) => match File::open(rt, path) {
-            Ok(input) => answered(rt, input, line.command, &plan, notes),
+            Ok(input) => answered(rt, input, line.command, &plan, &search, notes),
             Err(_) => Err(ViewFault::Device(DeviceFault::Read)),
         },
     }
@@ -115,9 +117,10 @@ fn answered<R: Read + Drop>(
     input: R,
     mode: Mode,
     plan: &Plan,
+    search: &Search,
     notes: &mut Text,
 ) -> Result<Outcome, ViewFault>
-    ensures answer { IfSome (R.remaining input) (λ bytes. (output : List ℕ) × IsViewed mode plan.now bytes result output) }
+    ensures answer { IfSome (R.remaining input) (λ bytes. (output : List ℕ) × IsViewed mode plan.now search.now bytes result output) }
     ensures notes { mode ≡ Why → IfSome (R.remaining input) (λ bytes. AreNotes bytes result notes.old notes.new) }
 {
     let mut reader = Device::new(input);
@@ -127,6 +130,7 @@ fn answered<R: Read + Drop>(
         Mode::Trace => trace_io(rt.alloc(), &mut reader, &mut writer),
         Mode::Draw => draw_io(rt.alloc(), &mut reader, &mut writer),
         Mode::Sample => sample_io(rt.alloc(), &mut reader, &mut writer, plan),
+        Mode::Outcomes => outcomes_io(rt.alloc(), &mut reader, &mut writer, search),
     }
 }
 

@@ -7,4 +7,5 @@ returns c =
     let trace_is = grown _ _ _ c.trace_command.result _ why_is c.trace_command.ensures.app c.trace_command.ensures.local c.in_ok-with_trace.ensures in
     let draw_is = grown _ _ _ c.draw_command.result _ trace_is c.draw_command.ensures.app c.draw_command.ensures.local c.in_ok-with_draw.ensures in
     let fault_is = grown _ _ _ c.fault_command.result _ draw_is c.fault_command.ensures.app c.fault_command.ensures.local c.in_ok-with_fault.ensures in
-    all_grown _ _ _ c.sample_command.result _ fault_is c.sample_command.ensures.app c.sample_command.ensures.local c.with_subcommand-5.ensures
+    let sample_is = grown _ _ _ c.sample_command.result _ fault_is c.sample_command.ensures.app c.sample_command.ensures.local c.in_ok-with_sample.ensures in
+    all_grown _ _ _ c.outcomes_command.result _ sample_is c.outcomes_command.ensures.app c.outcomes_command.ensures.local c.with_subcommand-6.ensures
