@@ -1,5 +1,9 @@
 mod Counting
+mod Drawing
 mod OneMore
+mod Ordering
 mod RoomTexts
 mod Schedules
+mod Stopping
 mod Taking
+mod Uniform

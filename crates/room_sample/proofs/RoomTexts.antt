@@ -7,7 +7,7 @@ use Rattle.std.proofs.lemmas.List.Folds.{concat-append}
 use Rattle.room_spec.specs.Blocks.{block_in}
 use Rattle.room_spec.specs.Rooms.{RoomSpec}
 use Rattle.room_sample.specs.Rooms.{AddsSamples, AreBlocks, AreSampleTexts, IsSampleText, RoomBlocks}
-use Rattle.room_sample.specs.Samples.{Counted, IsSample}
+use Rattle.room_sample.specs.Samples.{AreMostFirst, Counted, IsSample}
 use Rattle.room_sample.specs.Texts.{sample_text}
 use Rattle.room_sample.specs.declared.sampling.Plan.{Plan}
 use Rattle.room_sample.proofs.Taking.{took}
@@ -74,9 +74,9 @@ same_read : (block : List ℕ) (one other : RoomSpec × ℕ) → block_in block 
 same_read block one other read says = cc
 
 -- what was written of the room that a block says
-pub sample_told : (plan : Plan) (block : List ℕ) (spec : RoomSpec) (len : ℕ) (outcomes shown : List Counted) (before after : List ℕ) → block_in block ≡ Ok (spec, len) → IsSample spec plan.schedules plan.crashes outcomes → IsPermutation outcomes shown → after ≡ before ++ sample_text spec.name block plan shown
+pub sample_told : (plan : Plan) (block : List ℕ) (spec : RoomSpec) (len : ℕ) (outcomes shown : List Counted) (before after : List ℕ) → block_in block ≡ Ok (spec, len) → IsSample spec plan outcomes → IsPermutation outcomes shown → AreMostFirst shown → after ≡ before ++ sample_text spec.name block plan shown
     → (said : RoomSpec) → block_in block ≡ Ok (said, length block) → (text : List ℕ) × IsSampleText plan said text × (after ≡ before ++ text)
-sample_told plan block spec len outcomes shown before after read sample permuted is said says =
+sample_told plan block spec len outcomes shown before after read sample permuted first is said says =
     let same : spec ≡ said = ap (λ (one : RoomSpec × ℕ). one.0) (same_read block (spec, len) (said, length block) read says) in
     let told : IsSampleText plan spec (sample_text spec.name block plan shown) = record {
       block = block;
@@ -85,6 +85,7 @@ sample_told plan block spec len outcomes shown before after read sample permuted
       sample = sample;
       shown = shown;
       all_shown = permuted;
+      most_first = first;
       text_is = refl;
     } in
     (sample_text spec.name block plan shown, subst (λ (room : RoomSpec). IsSampleText plan room (sample_text spec.name block plan shown)) same told, is)

@@ -1,17 +1,20 @@
 -- One stretch more.
-use Rattle.std.proofs.Common.{◌≡◌, ℕ, ◌+◌, ◌-◌, ◌<◌, ◌≤◌, List, [], ◌∷◌, ◌++◌, refl, sym, ap, ◌∙◌, subst, arith}
+use Rattle.std.proofs.Common.{◌≡◌, ℕ, zero, suc, ◌+◌, ◌-◌, ◌<◌, ◌≤◌, Bool, true, false, eqb, min, List, [], ◌∷◌, ◌++◌, refl, sym, ap, ◌∙◌, subst, arith, Option, Some, None}
+use Rattle.std.proofs.lemmas.Bool.{eqb-true, eqb-false}
 use Rattle.std.proofs.lemmas.List.Sums.{sum_by-append}
+use Rattle.rand_core.specs.Stream.{Stream}
 use Rattle.room_spec.specs.Rooms.{RoomSpec}
-use Rattle.room_core.specs.Calls.{RoomState, crash_reply, opening_state, room_after_crash, room_after_settle, room_after_steps, step_reply}
+use Rattle.room_core.specs.Calls.{RoomState, opening_state, room_after_crash, room_after_settle, room_after_steps, step_reply}
 use Rattle.room_core.specs.Fields.{Fields}
 use Rattle.room_core.specs.Reading.{AreFieldsOf}
-use Rattle.room_core.specs.declared.reply.CrashReply.TheVariants.{Crashed}
 use Rattle.room_core.specs.declared.reply.StepReply.TheVariants.{Stepped}
 use Rattle.ws_history.specs.Reports.{report_of}
-use Rattle.ws_history.specs.declared.states.Report.{Report}
+use Rattle.ws_history.specs.declared.states.ProcessState.{ProcessState}
+use Rattle.room_sample.specs.Drawn.{Acts, Crashes, IsLed, Walks, Way, burning, burnt, goes_on, sets_out, unburnt, with_steps}
+use Rattle.room_sample.specs.declared.run.Active.{Active}
 use Rattle.room_sample.specs.declared.stretch.Stretch.{Stretch}
 use Rattle.room_sample.specs.declared.stretch.Stretch.TheVariants.{Steps, Crash}
-use Rattle.room_sample.specs.Schedules.{IsOutcome, IsSchedule, IsScheduled, MayCome, crashes_in, room_after_schedule, room_after_stretch}
+use Rattle.room_sample.specs.Schedules.{IsOutcome, IsSchedule, MayCome, crashes_in, room_after_schedule, room_after_stretch}
 
 more_comes : (room : RoomState) (schedule : List Stretch) (stretch : Stretch) → IsSchedule room schedule → MayCome (room_after_schedule room schedule) stretch → IsSchedule room (schedule ++ stretch ∷ [])
 more_comes room [] stretch is may = (may, tt)
@@ -24,35 +27,63 @@ leads_on room (first ∷ schedule) stretch = leads_on (room_after_stretch room f
 more_crashes : (schedule : List Stretch) (stretch : Stretch) → crashes_in (schedule ++ stretch ∷ []) ≡ crashes_in schedule + crashes_in (stretch ∷ [])
 more_crashes schedule stretch = sum_by-append _ schedule (stretch ∷ [])
 
--- a stretch leads on, and charges what it has of crashes
-scheduled_on : (spec : RoomSpec) (crashes : ℕ) (schedule : List Stretch) (room new : RoomState) (left less : ℕ) (stretch : Stretch) → IsScheduled spec crashes schedule room left → MayCome room stretch → new ≡ room_after_stretch room stretch → less + crashes_in (stretch ∷ []) ≤ left → IsScheduled spec crashes (schedule ++ stretch ∷ []) new less
-scheduled_on spec crashes schedule room new left less stretch is may to few = record {
-  may_come = more_comes (opening_state spec) schedule stretch is.may_come (subst (λ (r : RoomState). MayCome r stretch) (sym is.leads) may);
-  leads = leads_on (opening_state spec) schedule stretch ∙ ap (λ (r : RoomState). room_after_stretch r stretch) is.leads ∙ sym to;
-  few = let count = more_crashes schedule stretch in omega (arith, count, is.few, few);
+-- the schedule of a room on its way has led to it
+pub record IsScheduled (spec : RoomSpec) (crashes : ℕ) (way : Way) : Type 0 where
+  pub may_come : IsSchedule (opening_state spec) way.schedule
+  pub leads : room_after_schedule (opening_state spec) way.schedule ≡ way.room
+  pub few : crashes_in way.schedule + way.crashes_left ≤ crashes
+
+module _ (spec : RoomSpec) (crashes : ℕ) where
+  -- a stretch leads on, and charges what it has of crashes
+  scheduled_on : (way : Way) (new : RoomState) (less : ℕ) (stretch : Stretch) → IsScheduled spec crashes way → MayCome way.room stretch → new ≡ room_after_stretch way.room stretch → less + crashes_in (stretch ∷ []) ≤ way.crashes_left
+      → IsScheduled spec crashes (record { room = new; schedule = way.schedule ++ stretch ∷ []; crashes_left = less })
+  scheduled_on way new less stretch is may to few = record {
+    may_come = more_comes (opening_state spec) way.schedule stretch is.may_come (subst (λ (r : RoomState). MayCome r stretch) (sym is.leads) may);
+    leads = leads_on (opening_state spec) way.schedule stretch ∙ ap (λ (r : RoomState). room_after_stretch r stretch) is.leads ∙ sym to;
+    few = let count = more_crashes way.schedule stretch in omega (arith, count, is.few, few);
+  }
+
+  no_crash : (simulator count : ℕ) → crashes_in (Steps simulator count ∷ []) ≡ 0
+  no_crash simulator count = refl
+
+  one_crash : (simulator : ℕ) → crashes_in (Crash simulator ∷ []) ≡ 1
+  one_crash simulator = refl
+
+  steps_by : (b : Bool) (way : Way) (simulator taken : ℕ) → eqb taken 0 ≡ b → IsScheduled spec crashes way → taken ≤ 64 → ((k : ℕ) → k < taken → step_reply (room_after_steps way.room simulator k) simulator ≡ Stepped)
+      → IsScheduled spec crashes (with_steps way simulator taken)
+  steps_by true way simulator taken is so few each =
+      let none : taken ≡ 0 = eqb-true taken 0 is in
+      subst (λ (count : ℕ). IsScheduled spec crashes (with_steps way simulator count)) (sym none) so
+  steps_by false way simulator taken is so few each =
+      let some = eqb-false taken 0 is in
+      let none = no_crash simulator taken in
+      rw is (scheduled_on way (room_after_steps way.room simulator taken) way.crashes_left (Steps simulator taken) so (omega (arith, some), few, each) refl (omega (arith, none)))
+
+  walks_on : (way after : Way) (simulator most taken : ℕ) → IsScheduled spec crashes way → most ≤ 64 → Walks simulator most taken way after → IsScheduled spec crashes after
+  walks_on way after simulator most taken so short walks =
+      subst (IsScheduled spec crashes) (sym walks.leads) (steps_by (eqb taken 0) way simulator taken refl so (omega (arith, walks.few, short)) walks.each)
+
+  crashes_on : (way after : Way) (simulator : ℕ) (crashed : Bool) → IsScheduled spec crashes way → Crashes simulator way crashed after → IsScheduled spec crashes after
+  crashes_on way after simulator true so is =
+      let one = one_crash simulator in
+      subst (IsScheduled spec crashes) (sym is.2) (scheduled_on way (room_after_crash way.room simulator) (way.crashes_left - 1) (Crash simulator) so is.1 refl (omega (arith, one, is.0)))
+  crashes_on way after simulator false so is = subst (IsScheduled spec crashes) (sym is.1) so
+
+  acts_on : (way after : Way) (simulator most : ℕ) (fuse left : Option ℕ) (stays : Bool) → IsScheduled spec crashes way → most ≤ 64 → Acts simulator most way fuse left after stays → IsScheduled spec crashes after
+  acts_on way after simulator most None None stays so short (unburnt taken after' walks) = walks_on way after simulator most taken so short walks
+  acts_on way after simulator most (Some zero) None stays so short (burnt crashed after' is) = crashes_on way after simulator crashed so is
+  acts_on way after simulator most (Some left) (Some less) stays so short (burning left' taken after' some walks) = walks_on way after simulator (min most left) taken so (omega (arith, short)) walks
+  acts_on way after simulator most None (Some less) stays so short acts = elim acts [ ]
+  acts_on way after simulator most (Some (suc left)) None stays so short acts = elim acts [ ]
+
+  pub led_so : (random : Stream) (draws : ℕ) (way : Way) (active : List Active) (later : Stream) → IsLed spec crashes random draws way active later → IsScheduled spec crashes way
+  led_so random draws way active later (sets_out active' later' is) = record { may_come = tt; leads = refl; few = omega arith }
+  led_so random draws way active later (goes_on before from to active' active'' middle later' led drawn) =
+      acts_on from way drawn.one.simulator drawn.most drawn.one.fuse drawn.fuse drawn.stays (led_so random before from active' middle led) drawn.short drawn.acts
+
+pub outcome_of : (spec : RoomSpec) (crashes : ℕ) (way : Way) (states : List ProcessState) → IsScheduled spec crashes way → ((fields : Fields) → AreFieldsOf (room_after_settle way.room) fields → states ≡ (report_of (room_after_settle way.room).spec fields).states.items) → IsOutcome spec crashes way.schedule states
+outcome_of spec crashes way states is reported = record {
+  may_come = is.may_come;
+  few = omega (arith, is.few);
+  reported = subst (λ (room : RoomState). (fields : Fields) → AreFieldsOf (room_after_settle room) fields → states ≡ (report_of (room_after_settle room).spec fields).states.items) (sym is.leads) reported;
 }
-
-no_crash : (simulator count : ℕ) → crashes_in (Steps simulator count ∷ []) ≡ 0
-no_crash simulator count = refl
-
-one_crash : (simulator : ℕ) → crashes_in (Crash simulator ∷ []) ≡ 1
-one_crash simulator = refl
-
-pub steps_on : (spec : RoomSpec) (crashes : ℕ) (schedule : List Stretch) (room new : RoomState) (left simulator count : ℕ) → IsScheduled spec crashes schedule room left → 0 < count → ((k : ℕ) → k < count → step_reply (room_after_steps room simulator k) simulator ≡ Stepped) → new ≡ room_after_steps room simulator count → IsScheduled spec crashes (schedule ++ Steps simulator count ∷ []) new left
-steps_on spec crashes schedule room new left simulator count is some stepped to =
-    let none = no_crash simulator count in
-    scheduled_on spec crashes schedule room new left left (Steps simulator count) is (omega (arith, some), stepped) to (omega (arith, none))
-
-pub crash_on : (spec : RoomSpec) (crashes : ℕ) (schedule : List Stretch) (room new : RoomState) (left simulator : ℕ) → IsScheduled spec crashes schedule room left → 0 < left → crash_reply room simulator ≡ Crashed → new ≡ room_after_crash room simulator → IsScheduled spec crashes (schedule ++ Crash simulator ∷ []) new (left - 1)
-crash_on spec crashes schedule room new left simulator is some crashed to =
-    let one = one_crash simulator in
-    scheduled_on spec crashes schedule room new left (left - 1) (Crash simulator) is crashed to (omega (arith, one, some))
-
-pub outcome_of : (spec : RoomSpec) (crashes : ℕ) (schedule : List Stretch) (room settled : RoomState) (left : ℕ) (report : Report) → IsScheduled spec crashes schedule room left → settled ≡ room_after_settle room → ((fields : Fields) → AreFieldsOf settled fields → report ≡ report_of settled.spec fields) → IsOutcome spec crashes schedule report.states.items
-outcome_of spec crashes schedule room settled left report is to reported =
-    let same : settled ≡ room_after_settle (room_after_schedule (opening_state spec) schedule) = to ∙ ap room_after_settle (sym is.leads) in
-    record {
-      may_come = is.may_come;
-      few = omega (arith, is.few);
-      reported = λ fields are. subst (λ (r : RoomState). AreFieldsOf r fields → report.states.items ≡ (report_of r.spec fields).states.items) same (λ of. ap (λ (said : Report). said.states.items) (reported fields of)) are;
-    }

@@ -1,4 +1,7 @@
+pub mod Chances
+pub mod Drawn
 pub mod Rooms
 pub mod Samples
 pub mod Schedules
 pub mod Texts
+pub mod Ways

@@ -3,18 +3,19 @@ use Rattle.std.specs.Prelude.{◌≡◌, ℕ, List, [], ◌∷◌, ◌++◌, len
 use Rattle.std.specs.List.{concat}
 use Rattle.room_spec.specs.Blocks.{block_in}
 use Rattle.room_spec.specs.Rooms.{RoomSpec}
-use Rattle.room_sample.specs.Samples.{Counted, IsSample}
+use Rattle.room_sample.specs.Samples.{AreMostFirst, Counted, IsSample}
 use Rattle.room_sample.specs.Texts.{sample_text}
 use Rattle.room_sample.specs.declared.sampling.Plan.{Plan}
 
--- The text tells of a sample of the room, in some order of its outcomes, with a block that says the room.
+-- The text tells of a sample of the room, of which those outcomes stand first that came most often, with a block that says the room.
 pub record IsSampleText (plan : Plan) (spec : RoomSpec) (text : List ℕ) : Type 0 where
   pub block : List ℕ
   pub says : block_in block ≡ Ok (spec, length block)
   pub outcomes : List Counted
-  pub sample : IsSample spec plan.schedules plan.crashes outcomes
+  pub sample : IsSample spec plan outcomes
   pub shown : List Counted
   pub all_shown : IsPermutation outcomes shown
+  pub most_first : AreMostFirst shown
   pub text_is : text ≡ sample_text spec.name block plan shown
 
 -- a text for each room, in order

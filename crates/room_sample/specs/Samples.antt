@@ -1,12 +1,16 @@
 -- Runs of a room, counted by their outcomes.
-use Rattle.std.specs.Prelude.{◌≡◌, ℕ, ◌+◌, ◌-◌, ◌^◌, Bool, List, [], ◌∷◌, length, map, min, if◌then◌else◌}
-use Rattle.std.specs.List.{All, fold}
+use Rattle.std.specs.Prelude.{◌≡◌, ◌⊎◌, ℕ, ◌+◌, ◌-◌, ◌^◌, ◌<◌, ◌≤◌, Bool, List, [], ◌∷◌, ◌++◌, length, map, min, slice_index_or, if◌then◌else◌}
+use Rattle.std.specs.List.{fold, sum_by}
 use Rattle.std.specs.Cmp.Lexicographic.{pointwise}
 use Rattle.arrayvec.specs.declared.array_vec.ArrayVec.{ArrayVec}
 use Rattle.room_spec.specs.Rooms.{RoomSpec}
 use Rattle.ws_history.specs.contracts.states.ProcessStatePartialEq.TheImpl.{ghosts}
 use Rattle.ws_history.specs.declared.states.ProcessState.{ProcessState}
-use Rattle.room_sample.specs.Schedules.{IsOutcome}
+use Rattle.rand_core.specs.Stream.{Stream}
+use Rattle.room_sample.specs.Chances.{random_of}
+use Rattle.room_sample.specs.Drawn.{IsThrough, Way, most_draws}
+use Rattle.room_sample.specs.Schedules.{HasStopped, IsOutcome}
+use Rattle.room_sample.specs.declared.sampling.Plan.{Plan}
 use Rattle.room_sample.specs.declared.stretch.Stretch.{Stretch}
 use Rattle.room_sample.specs.declared.tally.Outcome.{Outcome}
 
@@ -39,15 +43,35 @@ counted run (one ∷ others) = if same_states run.states one.states then once_mo
 abbrev pub counted_all : List Sampled → List Counted
 counted_all runs = fold (λ so_far run. counted run so_far) [] runs
 
-abbrev pub IsSampled : RoomSpec → ℕ → Sampled → Type 0
-IsSampled spec crashes run = IsOutcome spec crashes run.schedule run.states
+-- A run of a room by a schedule that is drawn from a stream, in which at most so many simulators crash; and what is left of the stream.
+-- It goes on until each simulator has stopped, unless as many draws are made as may be.
+pub record IsRunFrom (spec : RoomSpec) (crashes : ℕ) (random : Stream) (run : Sampled) (later : Stream) : Type 0 where
+  pub way : Way
+  pub drawn : IsThrough spec crashes random way later
+  pub schedule_is : run.schedule ≡ way.schedule
+  pub outcome : IsOutcome spec crashes run.schedule run.states
+  pub ends : (drawn.draws ≡ most_draws) ⊎ ((i : ℕ) → i < spec.simulators → HasStopped spec run.schedule i)
 
--- The outcomes of so many runs, in each of which at most so many simulators crash.
-pub record IsSample (spec : RoomSpec) (schedules crashes : ℕ) (outcomes : List Counted) : Type 0 where
+-- runs that are drawn from a stream, one after the other, and what is left of it
+pub data AreDrawn (draws : Stream → Sampled → Stream → Type 0) (random : Stream) : List Sampled → Stream → Type 0 where
+  no_run : AreDrawn draws random [] random
+  run_more : (runs : List Sampled) (run : Sampled) (middle later : Stream) → AreDrawn draws random runs middle → draws middle run later → AreDrawn draws random (runs ++ run ∷ []) later
+
+-- the outcomes of so many runs that are drawn from a stream, one after the other
+pub record IsSampleFrom (spec : RoomSpec) (crashes schedules : ℕ) (random : Stream) (outcomes : List Counted) (later : Stream) : Type 0 where
   pub runs : List Sampled
   pub count : length runs ≡ schedules
-  pub each : All (IsSampled spec crashes) runs
+  pub drawn : AreDrawn (IsRunFrom spec crashes) random runs later
   pub outcomes_are : outcomes ≡ counted_all runs
+  pub total : sum_by (λ one. one.times) outcomes ≡ schedules
+
+-- The outcomes of a room by a plan, of which the seed gives the stream.
+abbrev pub IsSample : RoomSpec → Plan → List Counted → Type 0
+IsSample spec plan outcomes = (later : Stream) × IsSampleFrom spec plan.crashes plan.schedules (random_of plan.seed) outcomes later
+
+-- those stand first that came most often
+abbrev pub AreMostFirst : List Counted → Type 0
+AreMostFirst outcomes = (k : ℕ) (d : Counted) → k + 1 < length outcomes → (slice_index_or outcomes (k + 1) d).times ≤ (slice_index_or outcomes k d).times
 
 -- ---- how they are kept
 

@@ -1,5 +1,5 @@
 -- Schedules of a room, and what it comes to by one.
-use Rattle.std.specs.Prelude.{◌≡◌, ℕ, ◌+◌, ◌<◌, ◌≤◌, Bool, true, false, List, [], ◌∷◌, ⊤}
+use Rattle.std.specs.Prelude.{◌≡◌, ◌≢◌, ℕ, ◌<◌, ◌≤◌, Bool, true, false, Contains, List, [], ◌∷◌, ◌++◌, ⊤}
 use Rattle.std.specs.List.{count_by}
 use Rattle.room_spec.specs.Rooms.{RoomSpec}
 use Rattle.room_core.specs.Calls.{RoomState, crash_reply, opening_state, room_after_crash, room_after_settle, room_after_steps, step_reply}
@@ -21,9 +21,13 @@ abbrev pub room_after_schedule : RoomState → List Stretch → RoomState
 room_after_schedule room [] = room
 room_after_schedule room (stretch ∷ stretches) = room_after_schedule (room_after_stretch room stretch) stretches
 
--- the simulator takes all these steps; or it crashes now
+-- the most steps of a stretch
+abbrev pub longest : ℕ
+longest = 64
+
+-- the simulator takes all these steps, of which there are few; or it crashes now
 abbrev pub MayCome : RoomState → Stretch → Type 0
-MayCome room (Steps simulator count) = (1 ≤ count) × ((k : ℕ) → k < count → step_reply (room_after_steps room simulator k) simulator ≡ step_replies.Stepped)
+MayCome room (Steps simulator count) = (1 ≤ count) × (count ≤ longest) × ((k : ℕ) → k < count → step_reply (room_after_steps room simulator k) simulator ≡ step_replies.Stepped)
 MayCome room (Crash simulator) = crash_reply room simulator ≡ crash_replies.Crashed
 
 -- each stretch may come at its place
@@ -34,6 +38,11 @@ IsSchedule room (stretch ∷ stretches) = MayCome room stretch × IsSchedule (ro
 abbrev pub is_crash : Stretch → Bool
 is_crash (Steps simulator count) = false
 is_crash (Crash simulator) = true
+
+-- The simulator has crashed, or there was a moment at which it had no step to take: it was idle, or out of turns.
+pub data HasStopped (spec : RoomSpec) (schedule : List Stretch) (simulator : ℕ) : Type 0 where
+  crashed : Contains schedule (Crash simulator) → HasStopped spec schedule simulator
+  stopped : (before after : List Stretch) → schedule ≡ before ++ after → step_reply (room_after_schedule (opening_state spec) before) simulator ≢ step_replies.Stepped → HasStopped spec schedule simulator
 
 -- how many simulators crash
 abbrev pub crashes_in : List Stretch → ℕ
@@ -48,11 +57,3 @@ pub record IsOutcome (spec : RoomSpec) (crashes : ℕ) (schedule : List Stretch)
   pub may_come : IsSchedule (opening_state spec) schedule
   pub few : crashes_in schedule ≤ crashes
   pub reported : (fields : Fields) → AreFieldsOf (settled_by spec schedule) fields → states ≡ (report_of (settled_by spec schedule).spec fields).states.items
-
--- ---- while a room is run
-
--- A schedule has led to this room, and so many simulators may crash still.
-pub record IsScheduled (spec : RoomSpec) (crashes : ℕ) (schedule : List Stretch) (room : RoomState) (left : ℕ) : Type 0 where
-  pub may_come : IsSchedule (opening_state spec) schedule
-  pub leads : room_after_schedule (opening_state spec) schedule ≡ room
-  pub few : crashes_in schedule + left ≤ crashes

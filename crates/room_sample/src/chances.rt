@@ -1,5 +1,6 @@
 //! What is left to chance.
-ghost use Rattle.std.specs.Prelude.{◌<◌, ◌≤◌};
+ghost use Rattle.std.specs.Prelude.{◌≡◌, ◌<◌, ◌≤◌};
+ghost use Rattle.room_sample.specs.Chances.{below, random_in, random_of};
 
 use rand::RngExt;
 use rand_core::SeedableRng;
@@ -13,7 +14,9 @@ pub(crate) struct Chances {
 
 impl Chances {
     /// The generator of this seed.
-    pub(crate) fn of(seed: u64) -> Chances {
+    pub(crate) fn of(seed: u64) -> Chances
+        ensures { random_in result ≡ random_of seed }
+    {
         Chances {
             random: Xoshiro256PlusPlus::seed_from_u64(seed),
         }
@@ -22,7 +25,8 @@ impl Chances {
     /// A number below `count`.
     pub(crate) fn below(&mut self, count: u32) -> u32
         requires { 0 < count }
-        ensures { result < count }
+        ensures within { result < count }
+        ensures drawn { (result, random_in self.new) ≡ below count (random_in self.old) }
     {
         self.random.random_range(0..count)
     }

@@ -1,7 +1,16 @@
 //! One run of a room, by a random schedule.
-ghost use Rattle.std.specs.Prelude.{◌<◌, ◌≤◌, ℕ, IfOk, OnOk};
+ghost use Rattle.std.specs.Prelude.{◌≡◌, ◌<◌, ◌≤◌, ℕ, IfOk, OnOk, length, slice_set};
+ghost use Rattle.rand_core.specs.Stream.{Stream};
 ghost use Rattle.room_spec.specs.Rooms.{RoomSpec};
-ghost use Rattle.room_sample.specs.Schedules.{IsOutcome, IsScheduled};
+ghost use Rattle.room_core.specs.Calls.{room_after_settle};
+ghost use Rattle.room_core.specs.Fields.{Fields};
+ghost use Rattle.room_core.specs.Reading.{AreFieldsOf};
+ghost use Rattle.ws_history.specs.Reports.{report_of};
+ghost use Rattle.room_sample.specs.Chances.{random_in};
+ghost use Rattle.room_sample.specs.Drawn.{Acts, Crashes, Draws, IsLed, IsThrough, Walks, active_from, fuse_from, length_from, most_steps, opening_way};
+ghost use Rattle.room_sample.specs.Samples.{IsRunFrom};
+ghost use Rattle.room_sample.specs.Schedules.{longest};
+ghost use Rattle.room_sample.specs.Ways.{sampled_of, way_of};
 
 use crate::chances::Chances;
 use crate::stretch::Stretch;
@@ -36,7 +45,7 @@ struct Scheduled {
 impl Scheduled {
     /// A room in which nobody has taken a step.
     fn fresh(alloc: Global, spec: Spec, crashes: u32) -> Result<Scheduled, AllocError>
-        ensures { IfOk result (λ fresh. IsScheduled spec crashes fresh.schedule.items fresh.room fresh.crashes_left) }
+        ensures { IfOk result (λ fresh. way_of fresh ≡ opening_way spec crashes) }
     {
         Ok(Scheduled {
             room: RoomCore::fresh(alloc, spec)?,
@@ -46,12 +55,9 @@ impl Scheduled {
     }
 
     /// Lets a simulator take steps, up to `most` of them. Gives how many it took.
-    #[tactic(auto, using(crate::proofs::Schedules::steps_on))]
     fn steps(&mut self, simulator: u8, most: u16) -> Result<u16, AllocError>
-        ensures scheduled { OnOk result ((spec : RoomSpec) (crashes : ℕ) →
-            IsScheduled spec crashes self.old.schedule.items self.old.room self.old.crashes_left →
-            IsScheduled spec crashes self.new.schedule.items self.new.room self.new.crashes_left) }
-        ensures most { IfOk result (λ taken. taken ≤ most) }
+        ensures walks { IfOk result (λ taken. Walks simulator most taken (way_of self.old) (way_of self.new)) }
+        ensures few { IfOk result (λ taken. taken ≤ most) }
     {
         let count = self.room.steps(usize::from(simulator), u64::from(most)) as u16;
         if count > 0 {
@@ -61,11 +67,8 @@ impl Scheduled {
     }
 
     /// Crashes a simulator, where one may crash still and this one hasn't yet. Gives whether it has crashed now.
-    #[tactic(auto, using(crate::proofs::Schedules::crash_on))]
     fn crash(&mut self, simulator: u8) -> Result<bool, AllocError>
-        ensures { OnOk result ((spec : RoomSpec) (crashes : ℕ) →
-            IsScheduled spec crashes self.old.schedule.items self.old.room self.old.crashes_left →
-            IsScheduled spec crashes self.new.schedule.items self.new.room self.new.crashes_left) }
+        ensures { IfOk result (λ crashed. Crashes simulator (way_of self.old) crashed (way_of self.new)) }
     {
         if self.crashes_left == 0 {
             return Ok(false);
@@ -79,11 +82,10 @@ impl Scheduled {
     }
 
     /// Settles the room, and says where its processes stand.
-    #[tactic(auto, using(crate::proofs::Schedules::outcome_of))]
     fn settled(mut self, alloc: Global) -> Result<Run, AllocError>
-        ensures { IfOk result (λ run. (spec : RoomSpec) (crashes : ℕ) →
-            IsScheduled spec crashes self.schedule.items self.room self.crashes_left →
-            IsOutcome spec crashes run.schedule.items run.states.items) }
+        ensures schedule { IfOk result (λ run. run.schedule.items ≡ self.schedule.items) }
+        ensures states { IfOk result (λ run. (fields : Fields) → AreFieldsOf (room_after_settle self.room) fields →
+            run.states.items ≡ (report_of (room_after_settle self.room).spec fields).states.items) }
     {
         self.room.settle();
         let report = report(alloc, &self.room)?;
@@ -102,7 +104,9 @@ struct Active {
 }
 
 /// All simulators of a room, about half of which have a fuse.
-fn all_active(spec: &Spec, chances: &mut Chances) -> ArrayVec<Active, MAX_SIMULATORS> {
+fn all_active(spec: &Spec, chances: &mut Chances) -> ArrayVec<Active, MAX_SIMULATORS>
+    ensures { (result.items, random_in chances.new) ≡ active_from spec.now spec.now.simulators (random_in chances.old) }
+{
     let mut all = ArrayVec::new();
     for simulator in 0..spec.m() {
         let simulator = simulator as u8;
@@ -112,11 +116,11 @@ fn all_active(spec: &Spec, chances: &mut Chances) -> ArrayVec<Active, MAX_SIMULA
     all
 }
 
-/// A fuse that burns down within the steps which a simulator takes for all processes and rounds, or none. For each process and
-/// round it takes a turn of some n + 10 steps.
-fn random_fuse(spec: &Spec, chances: &mut Chances) -> Option<u32> {
-    let n = spec.n() as u32;
-    let most = n * spec.rounds() as u32 * (n + 10);
+/// A fuse that burns down within the steps which a simulator takes for all processes and rounds, or none.
+fn random_fuse(spec: &Spec, chances: &mut Chances) -> Option<u32>
+    ensures { (result, random_in chances.new) ≡ fuse_from spec.now (random_in chances.old) }
+{
+    let most = most_steps(spec);
     if chances.below(2) == 0 {
         Some(chances.below(most))
     } else {
@@ -124,9 +128,23 @@ fn random_fuse(spec: &Spec, chances: &mut Chances) -> Option<u32> {
     }
 }
 
+/// How many steps a simulator takes if it takes a turn for each process and round. A turn has n + 7 steps and two for each word of
+/// memory, and a scan: one load of a single word, or two collects of several.
+fn most_steps(spec: &Spec) -> u32
+    ensures value { result ≡ most_steps spec.now }
+    ensures some { 0 < result }
+{
+    let n = spec.n() as u32;
+    let words = spec.shape().memory_words() as u32;
+    let scan = if words == 1 { 1 } else { 2 * words };
+    n * spec.rounds() as u32 * (n + 7 + 2 * words + scan)
+}
+
 /// How many steps a simulator is to take: short stretches and long ones.
 fn random_length(chances: &mut Chances) -> u16
-    ensures { 1 ≤ result }
+    ensures drawn { (result, random_in chances.new) ≡ length_from (random_in chances.old) }
+    ensures some { 1 ≤ result }
+    ensures few { result ≤ longest }
 {
     let most = 1 << chances.below(POWERS);
     chances.below(most) as u16 + 1
@@ -135,9 +153,9 @@ fn random_length(chances: &mut Chances) -> u16
 /// Lets a simulator take up to so many steps, or crash where its fuse has burnt down. Gives whether it may
 /// take more.
 fn go_on(scheduled: &mut Scheduled, active: &mut Active, most: u16) -> Result<bool, AllocError>
-    ensures { OnOk result ((spec : RoomSpec) (crashes : ℕ) →
-        IsScheduled spec crashes scheduled.old.schedule.items scheduled.old.room scheduled.old.crashes_left →
-        IsScheduled spec crashes scheduled.new.schedule.items scheduled.new.room scheduled.new.crashes_left) }
+    ensures acts { IfOk result (λ stays.
+        Acts active.old.simulator most (way_of scheduled.old) active.old.fuse active.new.fuse (way_of scheduled.new) stays) }
+    ensures same { OnOk result (active.new.simulator ≡ active.old.simulator) }
 {
     let Some(left) = active.fuse else {
         return Ok(scheduled.steps(active.simulator, most)? == most);
@@ -152,6 +170,58 @@ fn go_on(scheduled: &mut Scheduled, active: &mut Active, most: u16) -> Result<bo
     Ok(taken == most)
 }
 
+/// Puts a simulator in the place of another.
+fn put(active: &mut ArrayVec<Active, MAX_SIMULATORS>, at: usize, one: Active)
+    requires { at < length active.old.items }
+    ensures { active.new.items ≡ slice_set active.old.items at one }
+{
+    active[at] = one;
+}
+
+/// Draws one of those who may act, and for how many steps it does. One that may not act again is struck off.
+fn act_next(
+    scheduled: &mut Scheduled,
+    active: &mut ArrayVec<Active, MAX_SIMULATORS>,
+    chances: &mut Chances,
+) -> Result<(), AllocError>
+    requires { 0 < length active.old.items }
+    ensures { OnOk result (Draws (way_of scheduled.old) active.old.items (random_in chances.old)
+        (way_of scheduled.new) active.new.items (random_in chances.new)) }
+{
+    let at = chances.below(active.len() as u32) as usize;
+    let most = random_length(chances);
+    let Some(next) = active.get(at) else {
+        unreachable!() // it is below their number
+    };
+    let mut one = *next;
+    let stays = go_on(scheduled, &mut one, most)?;
+    put(active, at, one);
+    if stays {
+        return Ok(());
+    }
+    active.swap_remove(at);
+    Ok(())
+}
+
+/// Lets those who may act do so, each as it is drawn, until nobody may or as many draws were made as may be.
+fn act_by_chance(
+    scheduled: &mut Scheduled,
+    active: &mut ArrayVec<Active, MAX_SIMULATORS>,
+    chances: &mut Chances,
+) -> Result<(), AllocError>
+    ensures { OnOk result ((spec : RoomSpec) (crashes : ℕ) (random : Stream) →
+        IsLed spec crashes random 0 (way_of scheduled.old) active.old.items (random_in chances.old) →
+        IsThrough spec crashes random (way_of scheduled.new) (random_in chances.new)) }
+{
+    for _ in 0..MOST_STRETCHES {
+        if active.is_empty() {
+            return Ok(());
+        }
+        act_next(scheduled, active, chances)?;
+    }
+    Ok(())
+}
+
 /// Runs a room of this spec by a random schedule, in which at most so many simulators crash, and settles it.
 pub(crate) fn run_by_chance(
     alloc: Global,
@@ -159,19 +229,10 @@ pub(crate) fn run_by_chance(
     chances: &mut Chances,
     crashes: u32,
 ) -> Result<Run, AllocError>
-    ensures { IfOk result (λ run. IsOutcome spec crashes run.schedule.items run.states.items) }
+    ensures { IfOk result (λ run. IsRunFrom spec crashes (random_in chances.old) (sampled_of run) (random_in chances.new)) }
 {
     let mut active = all_active(&spec, chances);
     let mut scheduled = Scheduled::fresh(alloc, spec, crashes)?;
-    for _ in 0..MOST_STRETCHES {
-        if active.is_empty() {
-            break;
-        }
-        let at = chances.below(active.len() as u32) as usize;
-        let most = random_length(chances);
-        if !go_on(&mut scheduled, &mut active[at], most)? {
-            active.swap_remove(at);
-        }
-    }
+    act_by_chance(&mut scheduled, &mut active, chances)?;
     scheduled.settled(alloc)
 }

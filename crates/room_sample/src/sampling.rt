@@ -1,8 +1,9 @@
 //! Many runs of one room.
 ghost use Rattle.std.specs.Prelude.{◌≡◌, Ok, IfOk, length};
 ghost use Rattle.room_spec.specs.Blocks.{block_in};
-ghost use Rattle.room_sample.specs.Samples.{IsSample};
-ghost use Rattle.room_sample.specs.Schedules.{IsOutcome};
+ghost use Rattle.room_sample.specs.Chances.{random_in};
+ghost use Rattle.room_sample.specs.Samples.{IsRunFrom, IsSample};
+ghost use Rattle.room_sample.specs.Ways.{sampled_of};
 
 use crate::chances::Chances;
 use crate::run::{Run, run_by_chance};
@@ -31,7 +32,7 @@ pub struct Plan {
 #[tactic(auto, using(crate::proofs::OneMore::no_sample, crate::proofs::OneMore::one_more))]
 pub fn sample(alloc: Global, spec: &Spec, block: &[u8], plan: &Plan) -> Result<Tally, AllocError>
     requires { block_in block.now ≡ Ok (spec.now, length block.now) }
-    ensures { IfOk result (IsSample spec.now plan.now.schedules plan.now.crashes) }
+    ensures { IfOk result (IsSample spec.now plan.now) }
 {
     let mut chances = Chances::of(u64::from(plan.seed));
     let mut tally = Tally::new(alloc);
@@ -51,7 +52,7 @@ fn run_anew(
     crashes: u32,
 ) -> Result<Run, AllocError>
     requires { block_in block.now ≡ Ok (spec.now, length block.now) }
-    ensures { IfOk result (λ run. IsOutcome spec.now crashes run.schedule.items run.states.items) }
+    ensures { IfOk result (λ run. IsRunFrom spec.now crashes (random_in chances.old) (sampled_of run) (random_in chances.new)) }
 {
     let Ok((spec, _)) = read_room(alloc, block)? else {
         unreachable!() // it has been read before

@@ -1,6 +1,7 @@
 //! Outcomes, and how often each came.
 ghost use Rattle.std.specs.Prelude.{◌≡◌, [], IsPermutation, OnOk, length, option_map, slice_get};
-ghost use Rattle.room_sample.specs.Samples.{counted, counted_of};
+ghost use Rattle.room_sample.specs.Samples.{AreMostFirst, counted, counted_of};
+ghost use Rattle.room_sample.specs.Ways.{sampled_of};
 
 use crate::run::Run;
 use crate::stretch::Stretch;
@@ -8,6 +9,7 @@ use arrayvec::ArrayVec;
 use indexmap::IndexMap;
 use room_spec::MAX_PROCESSES;
 use std::alloc::{AllocError, Global};
+use std::cmp::Reverse;
 use std::marker::Model;
 use ws_history::ProcessState;
 
@@ -50,7 +52,7 @@ impl Tally {
 
     /// Counts one run more.
     pub(crate) fn count(&mut self, run: Run) -> Result<(), AllocError>
-        ensures { OnOk result (self.new ≡ counted (record { schedule = run.schedule.items; states = run.states.items }) self.old) }
+        ensures { OnOk result (self.new ≡ counted (sampled_of run) self.old) }
     {
         let Some(index) = self.outcomes.get_index_of(&run.states) else {
             let outcome = Outcome {
@@ -69,10 +71,11 @@ impl Tally {
 
     /// Puts those first that came most often.
     pub fn sort_by_times(&mut self) -> Result<(), AllocError>
-        ensures { IsPermutation self.old self.new }
+        ensures sorted { OnOk result (AreMostFirst self.new) }
+        ensures all { IsPermutation self.old self.new }
     {
         self.outcomes
-            .sort_by_key(|_states, outcome| u32::MAX - outcome.times)
+            .sort_by_key(|_states, outcome| Reverse(outcome.times))
     }
 
     /// How many outcomes there are.
