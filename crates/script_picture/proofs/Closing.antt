@@ -43,7 +43,7 @@ closed_on rooms middle panels name report after panels_after first refusal secon
   reply = Closed;
   applies = closes rooms middle after name report first second.applies;
   refusal_is = second.not_refused;
-  draws = (report, first.report report refl, second.draws);
+  draws = (report, (λ room is. ((first.answer (grind arith) room is).0, first.report report refl room is)), second.draws);
 }
 
 pub closed_drawn : (rooms middle : Entries) (panels : List Panel) (name : List ℕ) (report : ReportData) (after : Entries) (panels_after : List Panel)

@@ -10,7 +10,7 @@ use Rattle.service_core.specs.declared.command.Command.TheVariants as commands
 use Rattle.service_core.specs.declared.reply.Reply.{Reply}
 use Rattle.service_core.specs.declared.reply.Reply.TheVariants as replies
 use Rattle.service_core.specs.declared.reply.Refusal.{Refusal}
-use Rattle.service_core.specs.Replies.{OpenRoom, name_in}
+use Rattle.service_core.specs.Replies.{OpenRoom, name_in, reply_to}
 use Rattle.service_core.specs.Rooms.{Applies, Entries, IsReportOf, IsStateOf, room_at, steps_of}
 use Rattle.script_play.specs.Script.{script_says}
 use Rattle.script_play.specs.Script.{Entry as Asked}
@@ -59,9 +59,10 @@ fresh head = record { head = head; marks = []; report = None }
 
 -- ---- one command
 
--- a report is a true one of the room of this name
+-- a report is that of the room of this name, and a true one
 abbrev pub IsReportAt : Entries → List ℕ → ReportData → Type 0
-IsReportAt rooms name report = (room : Option OpenRoom) → IsStateOf (room_at rooms name) room → IsReportOf room report
+IsReportAt rooms name report = (room : Option OpenRoom) → IsStateOf (room_at rooms name) room
+    → (replies.Report report ≡ reply_to room (commands.Report name)) × IsReportOf room report
 
 -- a room that is opened has a panel of its own
 abbrev pub DrawsOpening : RoomSpec → Reply → List Panel → List Panel → Type 0
