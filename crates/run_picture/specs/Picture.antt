@@ -1,5 +1,5 @@
 -- The whole picture.
-use Rattle.std.specs.Prelude.{ℕ, ◌+◌, ◌*◌, ◌==◌, List, [], ◌∷◌, ◌++◌, codes, decimal, length, max, string_bytes, if◌then◌else◌}
+use Rattle.std.specs.Prelude.{ℕ, ◌+◌, ◌*◌, ◌==◌, List, [], ◌∷◌, ◌++◌, codes, decimal, length, max, string_bytes, if◌then◌else◌, min}
 use Rattle.run_picture.specs.declared.mark.Deed.{Deed}
 use Rattle.run_picture.specs.declared.mark.Deed.TheVariants.{StoreWrite, CountWrite, Snapshot, Propose, Enter, Look, Stand, Withdraw, Ask, LoadView, LoadValue, Decide}
 use Rattle.run_picture.specs.declared.column.Scale.{Scale}
@@ -63,8 +63,9 @@ panel_text y panel =
 unfoldable pub panel_height : Panel → ℕ
 panel_height panel = history_y panel.head.simulators + 40 * length (states_in panel.report) + 40
 
+-- a room has up to 16 inputs, of up to 10 digits each
 unfoldable pub head_width : Panel → ℕ
-head_width panel = 8 * length (shown_part (string_bytes panel.head.protocol)) + 60
+head_width panel = max (8 * length (shown_part (string_bytes panel.head.protocol)) + 60) (77 * min (length panel.head.inputs.items) 16 + 382)
 
 unfoldable pub panel_width : Panel → ℕ
 panel_width panel = max (head_width panel) (max (right_of (run_of panel.marks) + 80) (history_right (events_in panel.report) + 200))

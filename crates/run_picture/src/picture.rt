@@ -101,11 +101,13 @@ fn panel_width(panel: &Panel, run: &Run, right: u64) -> u64
     head_width(panel).max((run.right() + 80).max(right + 200))
 }
 
+/// How wide the lines above it are: 7 for each byte of the numbers, where each input has up to 10 digits, and 8 of the protocol.
 #[tactic(auto, unfolding(crate::specs::Picture::head_width))]
 fn head_width(panel: &Panel) -> u64
     ensures { result ≡ head_width panel.now }
 {
-    8 * shown_part(panel.head().protocol.as_bytes()).len() as u64 + 60
+    let protocol = 8 * shown_part(panel.head().protocol.as_bytes()).len() as u64 + 60;
+    protocol.max(77 * panel.head().inputs.len().min(16) as u64 + 382)
 }
 
 #[tactic(auto, unfolding(crate::specs::Picture::panel_start))]
