@@ -1,9 +1,9 @@
 -- What is written of the rooms of a file: all outcomes of each.
-use Rattle.std.specs.Prelude.{◌≡◌, ◌⊎◌, ℕ, ◌-◌, Bool, true, false, ◌&&◌, List, [], ◌∷◌, ◌++◌, length, Option, Some, None, is_none, option_map, Ok}
+use Rattle.std.specs.Prelude.{◌≡◌, ◌⊎◌, ℕ, ◌-◌, Bool, true, false, ◌&&◌, List, [], ◌∷◌, ◌++◌, length, Option, Some, None, is_none, option_map, codes, Ok}
 use Rattle.std.specs.List.{concat}
 use Rattle.room_spec.specs.Blocks.{block_in}
 use Rattle.room_spec.specs.Rooms.{RoomSpec, processes}
-use Rattle.run_search.specs.Reached.{HasMoreStates}
+use Rattle.run_search.specs.Reached.{HasMoreLocals, HasMoreStates}
 use Rattle.outcome_text.specs.declared.listing.AllOutcomes.{AllOutcomes}
 use Rattle.outcome_text.specs.declared.rooms.Search.{Search}
 use Rattle.outcome_text.specs.Listing.{AreAllListed, HasStates, IsTaskAnswer}
@@ -23,11 +23,10 @@ pub record IsFoundText (search : Search) (spec : RoomSpec) (block : List ℕ) (w
   pub well_is : well ≡ is_none all.breaking
   pub text_is : text ≡ found_text spec block search.brief all
 
--- The text says that the runs have more states than the limit, as they have.
+-- The text says that the runs have more states than the limit, or the processes more local states than a search tells apart, as they have.
 pub record IsUnfinishedText (search : Search) (spec : RoomSpec) (well : Bool) (text : List ℕ) : Type 0 where
-  pub more : HasMoreStates spec search.states
+  pub more : (HasMoreStates spec search.states × (text ≡ unfinished_line search.states (codes " states: not searched to the end\n"))) ⊎ (HasMoreLocals spec × (text ≡ unfinished_line 65536 (codes " local states: not searched to the end\n")))
   pub well_is : well ≡ false
-  pub text_is : text ≡ unfinished_line search.states
 
 -- what is written of a room, with a block that says the room
 pub record IsRoomAnswer (search : Search) (spec : RoomSpec) (well : Bool) (text : List ℕ) : Type 0 where

@@ -84,8 +84,8 @@ head_line name crashes = (name ++ codes " outcomes crashes") ++ ((32 ∷ decimal
 abbrev pub complete_line : ℕ → List ℕ
 complete_line states = codes "these are all outcomes:" ++ ((32 ∷ decimal states) ++ codes " states searched\n")
 
-abbrev pub unfinished_line : ℕ → List ℕ
-unfinished_line limit = codes "more than" ++ ((32 ∷ decimal limit) ++ codes " states: not searched to the end\n")
+abbrev pub unfinished_line : ℕ → List ℕ → List ℕ
+unfinished_line limit things = codes "more than" ++ ((32 ∷ decimal limit) ++ things)
 
 abbrev pub found_text : RoomSpec → List ℕ → Bool → AllOutcomes → List ℕ
 found_text spec block brief all =

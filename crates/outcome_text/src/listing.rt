@@ -1,7 +1,7 @@
 //! All outcomes of a room, each with a run that has it.
 ghost use Rattle.std.specs.Prelude.{◌≡◌, ◌<◌, ℕ, IfOk, IsErrOf, Some, length, option_map, slice_get};
 ghost use Rattle.run_search.specs.Outcomes.{IsFoundFor, outcomes_in};
-ghost use Rattle.run_search.specs.Reached.{HasMoreStates};
+ghost use Rattle.run_search.specs.Reached.{HasMoreLocals, HasMoreStates};
 ghost use Rattle.run_search.specs.declared.fault.SearchFault.TheVariants as SearchFault;
 ghost use Rattle.outcome_text.specs.Listing.{AreAllListed, HasRun, HasStates, IsTaskAnswer, listed_ends};
 ghost use Rattle.outcome_text.specs.declared.listing.Listed.{Listed as ListedValue};
@@ -35,17 +35,19 @@ pub struct AllOutcomes {
 ///
 /// # Errors
 ///
-/// `TooManyStates` if the runs have more than `limit` states; `OutOfMemory` if an allocation fails.
+/// `TooManyStates` if the runs have more than `limit` states; `TooManyLocalStates` if the processes have more than 65536 local states;
+/// `OutOfMemory` if an allocation fails.
 pub fn find_all(
     alloc: Global,
     spec: &Spec,
     crashes: usize,
-    limit: usize,
+    limit: u32,
 ) -> Result<AllOutcomes, SearchFault>
     ensures outcomes { IfOk result (λ all. AreAllListed spec.now crashes all.listed.items) }
     ensures states { IfOk result (λ all. HasStates spec.now limit all.states) }
     ensures task { IfOk result (λ all. IsTaskAnswer spec.now (option_map (λ events. events.items) all.breaking)) }
     ensures too_many { IsErrOf result SearchFault.TooManyStates → HasMoreStates spec.now limit }
+    ensures too_many_locals { IsErrOf result SearchFault.TooManyLocalStates → HasMoreLocals spec.now }
 {
     let found = search(alloc, spec, crashes, limit)?;
     let listed = list_all(alloc, spec, &found)?;

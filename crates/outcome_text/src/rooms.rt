@@ -13,6 +13,9 @@ use room_spec::Spec;
 use run_search::SearchFault;
 use std::alloc::{AllocError, Global};
 
+/// How many local states a search tells apart.
+const MAX_LOCAL_STATES: u32 = 65536;
+
 /// How the outcomes of rooms are searched and written.
 #[derive(Clone, Copy, Debug, PartialEq, Eq)]
 pub struct Search {
@@ -70,15 +73,20 @@ fn answer(
     ensures { IfOk result (λ well. (text : List ℕ) × IsRoomAnswer search.now spec.now well text × (output.new ≡ output.old ++ text)) }
 {
     let crashes = crashes_for(spec, search.crashes);
-    let limit = search.states as usize;
     write_head(output, spec.name().as_str().as_bytes(), crashes)?;
-    match find_all(alloc, spec, crashes, limit) {
+    match find_all(alloc, spec, crashes, search.states) {
         Ok(all) => {
             write_found(output, spec, block, search.brief, &all)?;
             Ok(all.breaking.is_none())
         }
         Err(SearchFault::TooManyStates) => {
-            write_unfinished(output, limit)?;
+            let things = b" states: not searched to the end\n";
+            write_unfinished(output, search.states, things)?;
+            Ok(false)
+        }
+        Err(SearchFault::TooManyLocalStates) => {
+            let things = b" local states: not searched to the end\n";
+            write_unfinished(output, MAX_LOCAL_STATES, things)?;
             Ok(false)
         }
         Err(SearchFault::OutOfMemory) => Err(AllocError),

@@ -21,13 +21,13 @@ pub fn write_head(output: &mut Text, name: &[u8], crashes: usize) -> Result<(), 
     output.put(b"\n")
 }
 
-/// Writes the line of a room whose runs have more states than the limit.
-pub fn write_unfinished(output: &mut Text, limit: usize) -> Result<(), AllocError>
-    ensures { OnOk result (output.new ≡ output.old ++ unfinished_line limit) }
+/// Writes the line of a room that has more than this number of some things, too many for the search.
+pub fn write_unfinished(output: &mut Text, limit: u32, things: &[u8]) -> Result<(), AllocError>
+    ensures { OnOk result (output.new ≡ output.old ++ unfinished_line limit things.now) }
 {
     output.put(b"more than")?;
-    output.put_number(limit as u64)?;
-    output.put(b" states: not searched to the end\n")
+    output.put_number(u64::from(limit))?;
+    output.put(things)
 }
 
 /// Writes all outcomes of the room that this block says, those with most decided values first, each with a transcript unless `brief`;
