@@ -9,6 +9,6 @@ returns-clause-output g c =
     let empty : c.is_empty.result ≡ (length c.rooms.inside.refused == 0) = search rules in (
       c.in_ok-output.ensures.workers,
       is_run_text c.rooms.inside.rooms c.rooms.inside.refused c.rooms.inside.line c.in_ok-rooms.field-0 (all_blocks c.args.input.items) c.into_values-specs.result c.rooms.inside.refused
-          c.in_ok-output.output c.outcome_if-outcome.result c.rooms.view_is (c.in_ok-rooms.ensures ∙ ap all_blocks c.deref.ensures.value) c.into_values-specs.ensures refl
+          c.in_ok-output.output c.outcome_if-outcome.result c.rooms.view_is (c.in_ok-rooms.ensures.read ∙ ap all_blocks c.deref.ensures.value) c.into_values-specs.ensures refl
           c.in_ok-output.ensures.reports (c.outcome_if-outcome.ensures ∙ ap outcome_if empty),
     )
