@@ -13,12 +13,13 @@ HasRead old new given is_failed =
     × (old.ended ≡ false → new.asked_past_end ≡ old.asked_past_end)
 
 -- The writer failed exactly where writing ended the call. What was written has left its hands, also where the call ended with a
--- fault, unless that is of the writer.
+-- fault, unless that is of the writer. No write was of nothing.
 abbrev pub HasWritten : {W A E : Type 0} → Device W → Device W → Result A E → Bool → Type 0
 HasWritten old new result is_failed =
     (new.failed ≡ is_failed)
     × OnOk result (new.flushed ≡ true)
     × (is_failed ≡ false → old.flushed ≡ true → new.flushed ≡ true)
+    × (new.empty_write ≡ old.empty_write)
 
 -- how many writes failed, where one that fails ends the call
 abbrev pub failed_writes : Bool → ℕ

@@ -1,5 +1,5 @@
 -- What was read of an input.
-use Rattle.std.specs.Prelude.{◌≡◌, ℕ, ◌+◌, ◌<◌, ◌==◌, Bool, false, ◌&&◌, nat_lt, List, ◌++◌, length, Option, Result, Ok, Err}
+use Rattle.std.specs.Prelude.{◌≡◌, ℕ, ◌+◌, ◌<◌, ◌≤◌, ◌==◌, Bool, false, ◌&&◌, nat_lt, List, ◌++◌, length, Option, Result, Ok, Err}
 use Rattle.std.specs.Global.{Vec}
 use Rattle.std.specs.Io.KnownBytes.{Consumes, IsAtEnd}
 use Rattle.io_text.specs.declared.input.TheConstants.{MAX_INPUT}
@@ -29,11 +29,18 @@ pub record IsTooMuch (old : Option (List ℕ)) (before : List ℕ) : Type 0 wher
   pub consumed : Consumes old new bytes
   pub long : most_bytes < length before + length bytes
 
--- the faults with which a read may end
+-- the reader's next bytes fit behind the text
+pub record IsInRoom (old : Option (List ℕ)) (before : List ℕ) : Type 0 where
+  pub new : Option (List ℕ)
+  pub bytes : List ℕ
+  pub consumed : Consumes old new bytes
+  pub fits : length before + length bytes ≤ most_bytes
+
+-- the faults with which a read may end: memory may be refused to bytes that fit
 abbrev pub MayEnd : Option (List ℕ) → List ℕ → DeviceFault → Type 0
 MayEnd old before TooLong = IsTooMuch old before
 MayEnd old before Read = Unit {0}
-MayEnd old before Memory = Unit {0}
+MayEnd old before Memory = IsInRoom old before
 MayEnd old before Write = ⊥
 
 -- what was read of a whole input, where the reader didn't fail and memory wasn't refused

@@ -1,5 +1,5 @@
 //! Readers and writers that know whether they failed.
-ghost use Rattle.std.specs.Prelude.{◌≡◌, ◌+◌, ◌-◌, ◌^◌, ◌<◌, ◌||◌, min, true, false, is_err, length, IfOk, OnOk};
+ghost use Rattle.std.specs.Prelude.{◌≡◌, ◌+◌, ◌-◌, ◌^◌, ◌<◌, ◌||◌, ◌==◌, min, not, true, false, is_err, length, IfOk};
 ghost use Rattle.std.specs.Io.{ReadsAtMost, WritesAtMost};
 ghost use Rattle.std.specs.Io.KnownBytes.{Appends, Keeps, ReadConsumes, WriteAppends};
 ghost use Rattle.io_text.specs.Reading.{is_end};
@@ -12,7 +12,7 @@ pub struct DeviceFailed;
 
 /// A reader or a writer that counts its reads or writes and remembers whether one failed. Of a reader
 /// it remembers whether it was asked for more after it said that nothing is left, of a writer whether
-/// what was written was flushed.
+/// a write of no bytes was made, and whether what was written was flushed.
 #[derive(Drop)]
 pub struct Device<D> {
     inner: D,
@@ -20,13 +20,14 @@ pub struct Device<D> {
     failed: bool,
     ended: bool,
     asked_past_end: bool,
+    empty_write: bool,
     flushed: bool,
 }
 
 impl<D> Device<D> {
     /// The device before its first call.
     pub fn new(inner: D) -> Device<D>
-        ensures { result ≡ record { inner = inner; calls = 0; failed = false; ended = false; asked_past_end = false; flushed = true } }
+        ensures { result ≡ record { inner = inner; calls = 0; failed = false; ended = false; asked_past_end = false; empty_write = false; flushed = true } }
     {
         Device {
             inner,
@@ -34,6 +35,7 @@ impl<D> Device<D> {
             failed: false,
             ended: false,
             asked_past_end: false,
+            empty_write: false,
             flushed: true,
         }
     }
@@ -57,6 +59,13 @@ impl<D> Device<D> {
         ensures { result ≡ self.now.asked_past_end }
     {
         self.asked_past_end
+    }
+
+    /// Whether a write of no bytes was made.
+    pub fn had_empty_write(&self) -> bool
+        ensures { result ≡ self.now.empty_write }
+    {
+        self.empty_write
     }
 
     /// Whether the device was flushed after its last write.
@@ -115,9 +124,11 @@ impl<W: Write> Device<W> {
         ensures bytes { WriteAppends (W.contents self.old.inner) (W.contents self.new.inner) result bytes.now }
         ensures failed { self.new.failed ≡ (self.old.failed || is_err result) }
         ensures calls { self.new.calls ≡ min (self.old.calls + 1) (2 ^ 64 - 1) }
+        ensures empty { self.new.empty_write ≡ (self.old.empty_write || (length bytes.now == 0)) }
         ensures flushed { self.new.flushed ≡ false }
     {
         self.calls = self.calls.saturating_add(1);
+        self.empty_write |= bytes.is_empty();
         self.flushed = false;
         match self.inner.write(bytes) {
             Ok(count) if count > 0 => Ok(count),
@@ -137,7 +148,8 @@ impl<W: Write> Device<W> {
         ensures bytes { Keeps (W.contents self.old.inner) (W.contents self.new.inner) }
         ensures failed { self.new.failed ≡ (self.old.failed || is_err result) }
         ensures calls { self.new.calls ≡ self.old.calls }
-        ensures flushed { OnOk result (self.new.flushed ≡ true) }
+        ensures empty { self.new.empty_write ≡ self.old.empty_write }
+        ensures flushed { self.new.flushed ≡ (self.old.flushed || not (is_err result)) }
     {
         match self.inner.flush() {
             Ok(()) => {

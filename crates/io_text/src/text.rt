@@ -1,5 +1,5 @@
 //! Text that grows at its end.
-ghost use Rattle.std.specs.Prelude.{◌≡◌, ◌+◌, ◌<◌, ◌≤◌, ◌^◌, ◌==◌, [], ◌∷◌, ◌++◌, OnOk, decimal, length, slice_range, take};
+ghost use Rattle.std.specs.Prelude.{◌≡◌, ◌+◌, ◌<◌, ◌≤◌, ◌^◌, ◌==◌, [], ◌∷◌, ◌++◌, ◌⊎◌, OnErr, OnOk, decimal, length, slice_range, take};
 
 use itoa::write_digits;
 use std::alloc::{AllocError, Global};
@@ -92,29 +92,32 @@ impl Text {
         &self.bytes[..self.len]
     }
 
-    /// Puts more behind the text.
+    /// Puts more behind the text. An `Err` leaves it as it was.
     #[inline(always)]
     pub fn put(&mut self, more: &[u8]) -> Result<(), AllocError>
-        ensures { OnOk result (self.new ≡ self.old ++ more.now) }
+        ensures text { OnOk result (self.new ≡ self.old ++ more.now) }
+        ensures err { OnErr result (self.new ≡ self.old) }
     {
         make_room(&mut self.bytes, self.len, more.len())?;
         self.len = place(&mut self.bytes, self.len, more);
         Ok(())
     }
 
-    /// Puts two pieces behind the text.
+    /// Puts two pieces behind the text. An `Err` leaves it as it was, or with the first piece.
     #[inline(always)]
     pub fn put_two(&mut self, first: &[u8], second: &[u8]) -> Result<(), AllocError>
-        ensures { OnOk result (self.new ≡ self.old ++ (first.now ++ second.now)) }
+        ensures text { OnOk result (self.new ≡ self.old ++ (first.now ++ second.now)) }
+        ensures err { OnErr result ((self.new ≡ self.old) ⊎ (self.new ≡ self.old ++ first.now)) }
     {
         self.put(first)?;
         self.put(second)
     }
 
-    /// Puts a space and a number behind the text.
+    /// Puts a space and a number behind the text. An `Err` leaves it as it was.
     #[inline]
     pub fn put_number(&mut self, value: u64) -> Result<(), AllocError>
-        ensures { OnOk result (self.new ≡ self.old ++ 32 ∷ decimal value) }
+        ensures text { OnOk result (self.new ≡ self.old ++ 32 ∷ decimal value) }
+        ensures err { OnErr result (self.new ≡ self.old) }
     {
         if value < 10 {
             return self.put(&[b' ', b'0' + value as u8]);
@@ -128,17 +131,19 @@ impl Text {
     /// Does the same for a number of any length.
     #[inline(never)]
     fn put_long_number(&mut self, value: u64) -> Result<(), AllocError>
-        ensures { OnOk result (self.new ≡ self.old ++ 32 ∷ decimal value) }
+        ensures text { OnOk result (self.new ≡ self.old ++ 32 ∷ decimal value) }
+        ensures err { OnErr result (self.new ≡ self.old) }
     {
         let mut bytes = [0; 48];
         let start = write_spaced(value, &mut bytes);
         self.put_spaced(&bytes, start)
     }
 
-    /// Puts a space and a number, whose text is there, behind the text.
+    /// Puts a space and a number, whose text is there, behind the text. An `Err` leaves it as it was.
     #[inline(always)]
     pub fn put_numeral(&mut self, numeral: &Numeral) -> Result<(), AllocError>
-        ensures { OnOk result (self.new ≡ self.old ++ 32 ∷ decimal numeral.now.value) }
+        ensures text { OnOk result (self.new ≡ self.old ++ 32 ∷ decimal numeral.now.value) }
+        ensures err { OnErr result (self.new ≡ self.old) }
     {
         self.put_spaced(&numeral.bytes, numeral.start)
     }
@@ -147,7 +152,8 @@ impl Text {
     #[inline(always)]
     fn put_spaced(&mut self, number: &[u8; 48], start: usize) -> Result<(), AllocError>
         requires { start ≤ 24 }
-        ensures { OnOk result (self.new ≡ self.old ++ slice_range number.now start 24) }
+        ensures text { OnOk result (self.new ≡ self.old ++ slice_range number.now start 24) }
+        ensures err { OnErr result (self.new ≡ self.old) }
     {
         make_room(&mut self.bytes, self.len, WIDTH)?;
         self.len = place_spaced(&mut self.bytes, self.len, number, start);

@@ -1,5 +1,5 @@
 -- Pieces that are put behind a text.
-use Rattle.std.proofs.Common.{◌≡◌, ◌∙◌, ℕ, ◌+◌, ◌-◌, List, [], ◌∷◌, ◌++◌, length, map, replicate, sym, ap, append_assoc, arith}
+use Rattle.std.proofs.Common.{◌≡◌, ◌∙◌, ℕ, ◌+◌, ◌-◌, List, [], ◌∷◌, ◌++◌, length, map, max, replicate, sym, ap, append_assoc, arith}
 use Rattle.std.specs.List.{concat, range_with_len}
 use Rattle.std.proofs.lemmas.List.{append-nil, append_assoc}
 use Rattle.std.proofs.lemmas.List.Folds.{concat-append}
@@ -13,13 +13,13 @@ pub put_behind : {T E : Type 0} (result : Result T E) (start middle whole first 
 put_behind (Ok done) start middle whole first second is last = last ∙ ap (λ (xs : List ℕ). xs ++ second) is ∙ append_assoc start first second
 put_behind (Err fault) start middle whole first second is last = tt
 
--- a text, and spaces up to a width
-pub pad_behind : {T E : Type 0} (result : Result T E) (start middle whole text : List ℕ) (width : ℕ) → middle ≡ start ++ text → OnOk result (whole ≡ middle ++ replicate (width - (length middle - length start)) 32)
+-- a text, and spaces up to a width, one at least
+pub pad_behind : {T E : Type 0} (result : Result T E) (start middle whole text : List ℕ) (width : ℕ) → middle ≡ start ++ text → OnOk result (whole ≡ middle ++ replicate (max (width - (length middle - length start)) 1) 32)
     → OnOk result (whole ≡ start ++ padded width text)
 pad_behind (Ok done) start middle whole text width is last =
     let count : length middle ≡ length start + length text = ap length is ∙ length-append start text in
     let missing : length middle - length start ≡ length text = omega (arith, count) in
-    last ∙ ap (λ (n : ℕ). middle ++ replicate (width - n) 32) missing ∙ ap (λ (xs : List ℕ). xs ++ replicate (width - length text) 32) is ∙ append_assoc start text (replicate (width - length text) 32)
+    last ∙ ap (λ (n : ℕ). middle ++ replicate (max (width - n) 1) 32) missing ∙ ap (λ (xs : List ℕ). xs ++ replicate (max (width - length text) 1) 32) is ∙ append_assoc start text (replicate (max (width - length text) 1) 32)
 pad_behind (Err fault) start middle whole text width is last = tt
 
 texts_more : (text : ℕ → List ℕ) (i : ℕ) → concat (map text (range_with_len 0 (i + 1))) ≡ concat (map text (range_with_len 0 i)) ++ text i

@@ -1,9 +1,9 @@
 -- Pieces of text.
-use Rattle.std.specs.Prelude.{ℕ, ◌-◌, List, ◌∷◌, ◌++◌, length, replicate, codes, decimal}
+use Rattle.std.specs.Prelude.{ℕ, ◌-◌, List, ◌∷◌, ◌++◌, length, max, replicate, codes, decimal}
 
--- with spaces behind it, up to a width
+-- with spaces behind it, up to a width; with one where it is wider
 abbrev pub padded : ℕ → List ℕ → List ℕ
-padded width text = text ++ replicate (width - length text) 32
+padded width text = text ++ replicate (max (width - length text) 1) 32
 
 -- a number behind words
 abbrev pub behind : List ℕ → ℕ → List ℕ

@@ -1,5 +1,5 @@
 //! Pieces of text.
-ghost use Rattle.std.specs.Prelude.{◌≡◌, ◌≤◌, ◌-◌, ◌++◌, OnOk, codes, decimal, length, replicate};
+ghost use Rattle.std.specs.Prelude.{◌≡◌, ◌≤◌, ◌-◌, ◌++◌, OnOk, codes, decimal, length, max, replicate};
 ghost use Rattle.step_words.specs.Pieces.{behind, between, further, with_three, with_two};
 
 use io_text::Text;
@@ -14,14 +14,14 @@ pub(crate) fn write_digits(output: &mut Text, number: u64) -> Result<(), AllocEr
     output.put(buffer.format(number).as_bytes())
 }
 
-/// Puts spaces behind what stands behind the first `from` bytes, up to a width of at most 48.
+/// Puts spaces behind what stands behind the first `from` bytes, up to a width of at most 48, and one at least.
 pub(crate) fn pad(output: &mut Text, from: usize, width: usize) -> Result<(), AllocError>
     requires from { from ≤ length output.old }
     requires width { width ≤ 48 }
-    ensures { OnOk result (output.new ≡ output.old ++ replicate (width - (length output.old - from)) 32) }
+    ensures { OnOk result (output.new ≡ output.old ++ replicate (max (width - (length output.old - from)) 1) 32) }
 {
     let spaces = [b' '; 48];
-    let missing = width.saturating_sub(output.as_bytes().len() - from);
+    let missing = width.saturating_sub(output.as_bytes().len() - from).max(1);
     output.put(&spaces[..missing])
 }
 

@@ -12,8 +12,9 @@ loop-rest-preserved g c =
       part_more c.args.output.now written c.loop-rest.rest.now c.in-Ok.count _ c.loop-rest.invariant.1 refl,
       Appends-then _ _ _ written more c.loop-rest.invariant.2 c.in-Ok.ensures.bytes,
       search rules,
-      rw (length-append written more, length-take-le c.in-Ok.count c.loop-rest.rest.now c.in-Ok.ensures.bound) (omega (arith, c.loop-rest.invariant.4, c.in-Ok.ensures.some, c.in-Ok.ensures.calls)),
-      omega (arith, rest_shorter c.loop-rest.rest.now c.in-Ok.count _ refl c.in-Ok.ensures.bound, c.loop-rest.invariant.5, c.in-Ok.ensures.some, c.in-Ok.ensures.calls),
+      search rules,
+      rw (length-append written more, length-take-le c.in-Ok.count c.loop-rest.rest.now c.in-Ok.ensures.bound) (omega (arith, c.loop-rest.invariant.5, c.in-Ok.ensures.some, c.in-Ok.ensures.calls)),
+      omega (arith, rest_shorter c.loop-rest.rest.now c.in-Ok.count _ refl c.in-Ok.ensures.bound, c.loop-rest.invariant.6, c.in-Ok.ensures.some, c.in-Ok.ensures.calls),
     )
 
 pub returns-in_default-clause-part : goal.returns-in_default-clause-part
