@@ -1,5 +1,6 @@
 -- How the program ends.
 use Rattle.std.specs.Prelude.{ℕ, Bool, true, false, Result, Ok, Err, if◌then◌else◌}
+use Rattle.std.specs.declared.alloc.AllocError.{AllocError}
 use Rattle.std.specs.declared.io.ErrorKind.{ErrorKind as WordsFault}
 use Rattle.std.specs.declared.io.ErrorKind.TheVariants as words
 use Rattle.clap.specs.declared.error.kind.ErrorKind.{ErrorKind}
@@ -10,13 +11,14 @@ use Rattle.room_files.specs.declared.fault.InputFault.TheVariants as inputs
 use Rattle.room_files.specs.Verdicts.{outcome_status}
 use Rattle.room_files.specs.declared.outcome.Outcome.{Outcome}
 use Rattle.bgview.specs.declared.fault.ViewFault.{ViewFault}
-use Rattle.bgview.specs.declared.fault.ViewFault.TheVariants.{Device, BadInput}
+use Rattle.bgview.specs.declared.fault.ViewFault.TheVariants.{BadInput, Device, Incomplete}
 
 abbrev pub fault_status : ViewFault → ℕ
 fault_status (Device Memory) = 3
 fault_status (Device Read) = 2
 fault_status (Device Write) = 2
 fault_status (Device TooLong) = 2
+fault_status Incomplete = 3
 fault_status (BadInput line code) = 2
 
 abbrev pub ending_status : Result Outcome ViewFault → ℕ
@@ -40,6 +42,11 @@ abbrev pub input_fault : InputFault → ViewFault
 input_fault (inputs.BadInput line code) = BadInput line code
 input_fault inputs.Memory = Device Memory
 
+-- the end of an answer that was written: memory may have been refused to a part of its script
+abbrev pub written : Result Outcome AllocError → Result Outcome ViewFault
+written (Ok outcome) = Ok outcome
+written (Err refused) = Err Incomplete
+
 -- reading ended the answer
 abbrev pub is_read_failed : {A : Type 0} → Result A ViewFault → Bool
 is_read_failed (Ok value) = false
@@ -47,6 +54,7 @@ is_read_failed (Err (Device Read)) = true
 is_read_failed (Err (Device Write)) = false
 is_read_failed (Err (Device TooLong)) = false
 is_read_failed (Err (Device Memory)) = false
+is_read_failed (Err Incomplete) = false
 is_read_failed (Err (BadInput line code)) = false
 
 -- writing ended the answer
@@ -56,4 +64,5 @@ is_write_failed (Err (Device Read)) = false
 is_write_failed (Err (Device Write)) = true
 is_write_failed (Err (Device TooLong)) = false
 is_write_failed (Err (Device Memory)) = false
+is_write_failed (Err Incomplete) = false
 is_write_failed (Err (BadInput line code)) = false

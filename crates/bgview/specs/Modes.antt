@@ -1,5 +1,5 @@
 -- What each mode answers for an input.
-use Rattle.std.specs.Prelude.{ℕ, List, Result}
+use Rattle.std.specs.Prelude.{ℕ, List, Result, ⊤}
 use Rattle.room_files.specs.declared.outcome.Outcome.{Outcome}
 use Rattle.room_sample.specs.declared.sampling.Plan.{Plan}
 use Rattle.outcome_text.specs.declared.rooms.Search.{Search}
@@ -20,3 +20,12 @@ IsViewed Draw plan search input result output = IsDrawAnswer input result output
 IsViewed Fault plan search input result output = IsWhyAnswer input result output
 IsViewed Sample plan search input result output = IsSampleAnswer plan input result output
 IsViewed Outcomes plan search input result output = IsOutcomesAnswer search input result output
+
+-- of an input's fault this mode says nothing beside the fault itself
+abbrev pub NotesNothing : Mode → Type 0
+NotesNothing Why = ⊥
+NotesNothing Trace = ⊤
+NotesNothing Draw = ⊤
+NotesNothing Fault = ⊥
+NotesNothing Sample = ⊤
+NotesNothing Outcomes = ⊤

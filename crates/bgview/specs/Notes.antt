@@ -5,7 +5,7 @@ use Rattle.room_spec.specs.Texts.{first_line, later_lines}
 use Rattle.fault_words.specs.Words.{words_of}
 use Rattle.bgview.specs.Faults.{words_or_none}
 use Rattle.bgview.specs.declared.fault.ViewFault.{ViewFault}
-use Rattle.bgview.specs.declared.fault.ViewFault.TheVariants.{Device, BadInput}
+use Rattle.bgview.specs.declared.fault.ViewFault.TheVariants.{BadInput, Device, Incomplete}
 
 -- a line behind another, for people
 abbrev pub indented : List ℕ → List ℕ
@@ -39,4 +39,5 @@ bad_line_notes input line code = fault_note code ∷ line_at line input ∷ []
 abbrev pub AreNotes : {A : Type 0} → List ℕ → Result A ViewFault → List ℕ → List ℕ → Type 0
 AreNotes input (Ok value) old new = new ≡ old
 AreNotes input (Err (Device fault)) old new = new ≡ old
+AreNotes input (Err Incomplete) old new = new ≡ old
 AreNotes input (Err (BadInput line code)) old new = new ≡ indented_all (bad_line_notes input line code)

@@ -9,7 +9,7 @@ use Rattle.room_files.specs.declared.outcome.Outcome.{Outcome}
 use Rattle.room_sample.specs.Rooms.{AddsSamples}
 use Rattle.room_sample.specs.declared.sampling.Plan.{Plan}
 use Rattle.bgview.specs.declared.fault.ViewFault.{ViewFault}
-use Rattle.bgview.specs.declared.fault.ViewFault.TheVariants.{Device, BadInput}
+use Rattle.bgview.specs.declared.fault.ViewFault.TheVariants.{BadInput, Device, Incomplete}
 
 -- The lines of the refused blocks, and then a sample of each room; and that it is none but a sample. All is well where no block
 -- was refused.
@@ -32,6 +32,7 @@ abbrev pub IsSampleAnswer : Plan → List ℕ → Result Outcome ViewFault → L
 IsSampleAnswer plan input (Ok outcome) output = (length input ≤ most_bytes) × IsSampleFor plan input outcome output
 IsSampleAnswer plan input (Err (BadInput line code)) output = ⊥
 IsSampleAnswer plan input (Err (Device TooLong)) output = (most_bytes < length input) × (output ≡ [])
+IsSampleAnswer plan input (Err Incomplete) output = ⊥
 IsSampleAnswer plan input (Err (Device Memory)) output = output ≡ []
 IsSampleAnswer plan input (Err (Device Read)) output = output ≡ []
 IsSampleAnswer plan input (Err (Device Write)) output = (length input ≤ most_bytes) × IsSamplePart plan input output

@@ -1,5 +1,5 @@
 -- What `bgview trace` answers for a script: what `play` answers, and notes under each reply.
-use Rattle.std.specs.Prelude.{◌≡◌, ◌⊎◌, ℕ, ◌<◌, ◌≤◌, false, List, [], ◌∷◌, ◌++◌, length, map, Option, Result, Ok, Err, alloc_error}
+use Rattle.std.specs.Prelude.{◌≡◌, ℕ, ◌<◌, ◌≤◌, false, List, [], ◌∷◌, ◌++◌, length, map, Option, Result, Ok, Err, alloc_error}
 use Rattle.std.specs.declared.alloc.AllocError.{AllocError}
 use Rattle.std.specs.List.{flat_map}
 use Rattle.io_text.specs.Reading.{most_bytes}
@@ -18,7 +18,7 @@ use Rattle.script_play.specs.Play.{AreDone, AreReplies, Done, Faulty, IsPlayText
 use Rattle.step_words.specs.Told.{IsTold, Telling, nothing_told}
 use Rattle.bgview.specs.Notes.{fault_note, indented}
 use Rattle.bgview.specs.declared.fault.ViewFault.{ViewFault}
-use Rattle.bgview.specs.declared.fault.ViewFault.TheVariants.{Device, BadInput}
+use Rattle.bgview.specs.declared.fault.ViewFault.TheVariants.{BadInput, Device, Incomplete}
 
 -- ---- notes
 
@@ -81,13 +81,14 @@ IsTraceFor input ending output = (entries : List Entry) × (script_says input �
 abbrev pub IsTracePart : List ℕ → List ℕ → Type 0
 IsTracePart input part = (ending : Result Outcome AllocError) × (rest : List ℕ) × IsTraceFor input ending (part ++ rest)
 
--- The answer to a whole script is an outcome, with its text, or a fault. Want of memory leaves the whole text, with the
--- refusals in it, or none; where writing failed a beginning of it is there; at each other fault there is none.
+-- The answer to a whole script is an outcome, with its text, or a fault. Where memory was refused to a part of the script the whole
+-- text is there, with the refusals in it; where writing failed a beginning of it; at each other fault none.
 abbrev pub IsTraced : List ℕ → Result Outcome ViewFault → List ℕ → Type 0
 IsTraced input (Ok outcome) output = (length input ≤ most_bytes) × IsTraceFor input (Ok outcome) output
 IsTraced input (Err (Device TooLong)) output = (most_bytes < length input) × (output ≡ [])
 IsTraced input (Err (BadInput line code)) output = (length input ≤ most_bytes) × (script_says input ≡ Err (line, code)) × (output ≡ [])
-IsTraced input (Err (Device Memory)) output = (output ≡ []) ⊎ ((length input ≤ most_bytes) × IsTraceFor input (Err alloc_error) output)
+IsTraced input (Err Incomplete) output = (length input ≤ most_bytes) × IsTraceFor input (Err alloc_error) output
+IsTraced input (Err (Device Memory)) output = output ≡ []
 IsTraced input (Err (Device Read)) output = output ≡ []
 IsTraced input (Err (Device Write)) output = (length input ≤ most_bytes) × IsTracePart input output
 

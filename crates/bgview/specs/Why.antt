@@ -19,7 +19,7 @@ use Rattle.bgview.specs.Told.{ToldRoom, IsLineBreak, lines_of}
 use Rattle.bgview.specs.Words.{reason_words}
 use Rattle.bgview.specs.declared.refusals.Refusal.{Refusal}
 use Rattle.bgview.specs.declared.fault.ViewFault.{ViewFault}
-use Rattle.bgview.specs.declared.fault.ViewFault.TheVariants.{Device, BadInput}
+use Rattle.bgview.specs.declared.fault.ViewFault.TheVariants.{BadInput, Device, Incomplete}
 use Rattle.bgview.specs.declared.told.LineBreak.{LineBreak}
 
 -- ---- the reason
@@ -100,6 +100,7 @@ abbrev pub IsWhyAnswer : List ℕ → Result Outcome ViewFault → List ℕ → 
 IsWhyAnswer input (Ok outcome) output = (length input ≤ most_bytes) × IsExplanationFor input outcome output
 IsWhyAnswer input (Err (BadInput line code)) output = (length input ≤ most_bytes) × (input_says input ≡ Err (line, code)) × (output ≡ [])
 IsWhyAnswer input (Err (Device TooLong)) output = (most_bytes < length input) × (output ≡ [])
+IsWhyAnswer input (Err Incomplete) output = ⊥
 IsWhyAnswer input (Err (Device Memory)) output = output ≡ []
 IsWhyAnswer input (Err (Device Read)) output = output ≡ []
 IsWhyAnswer input (Err (Device Write)) output = (length input ≤ most_bytes) × IsPartFor input output
@@ -107,6 +108,7 @@ IsWhyAnswer input (Err (Device Write)) output = (length input ≤ most_bytes) ×
 -- the faults with which the explanation of an input may end
 abbrev pub MayEndWhy : List ℕ → ViewFault → Type 0
 MayEndWhy input (BadInput line code) = input_says input ≡ Err (line, code)
+MayEndWhy input Incomplete = ⊥
 MayEndWhy input (Device Memory) = Unit {0}
 MayEndWhy input (Device Read) = ⊥
 MayEndWhy input (Device Write) = ⊥

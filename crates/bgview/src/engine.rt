@@ -12,7 +12,7 @@ ghost use Rattle.bgview.specs.Sample.{IsSampleAnswer};
 ghost use Rattle.bgview.specs.Why.{IsExplanationFor, IsWhyAnswer, MayEndWhy};
 
 use crate::answer::explain;
-use crate::fault::ViewFault;
+use crate::fault::{ViewFault, written};
 use crate::faults::say_faults;
 use crate::notes::notes_on_bad_line;
 use crate::sample::sample_blocks;
@@ -168,5 +168,5 @@ pub fn draw_io<R: Read, W: Write>(
     let script = read_input(alloc, reader)?;
     let drawn = draw(alloc, &script)?;
     write_output(writer, drawn.output.as_bytes())?;
-    Ok(drawn.ending?)
+    written(drawn.ending)
 }

@@ -1,11 +1,11 @@
 //! How the program ends early.
 ghost use Rattle.std.specs.Prelude.{◌≡◌};
-ghost use Rattle.bgview.specs.Ends.{fault_status, input_fault};
+ghost use Rattle.bgview.specs.Ends.{fault_status, input_fault, written};
 ghost use Rattle.bgview.specs.declared.fault.ViewFault.TheVariants.{Device};
 ghost use Rattle.io_text.specs.declared.fault.DeviceFault.TheVariants.{Memory};
 
 use io_text::DeviceFault;
-use room_files::InputFault;
+use room_files::{InputFault, Outcome};
 use std::alloc::AllocError;
 use thiserror::Error;
 
@@ -15,6 +15,9 @@ pub enum ViewFault {
     /// Reading or writing failed, or memory was refused.
     #[error("{0}")]
     Device(DeviceFault),
+    /// The answer was written, and says where memory was refused.
+    #[error("out of memory")]
+    Incomplete,
     /// The input has a fault of this code on this line, counted from 1.
     #[error("line {line}: fault {code}")]
     BadInput { line: u64, code: u16 },
@@ -26,9 +29,19 @@ impl ViewFault {
         ensures { result ≡ fault_status self }
     {
         match self {
-            ViewFault::Device(DeviceFault::Memory) => 3,
+            ViewFault::Device(DeviceFault::Memory) | ViewFault::Incomplete => 3,
             _ => 2,
         }
+    }
+}
+
+/// How an answer ends that was written whole, whatever came of the script in it.
+pub fn written(ending: Result<Outcome, AllocError>) -> Result<Outcome, ViewFault>
+    ensures { result ≡ written ending }
+{
+    match ending {
+        Ok(outcome) => Ok(outcome),
+        Err(AllocError) => Err(ViewFault::Incomplete),
     }
 }
 

@@ -7,12 +7,14 @@ ghost use Rattle.std.specs.IoError.{error_kind};
 ghost use Rattle.std.specs.Io.KnownBytes.{Appends};
 ghost use Rattle.clap.specs.Values.{kind_of};
 ghost use Rattle.clap.specs.Words.{subcommand_rows_of};
-ghost use Rattle.bgview.specs.CommandLine.{codes_among};
+ghost use Rattle.bgview.specs.CommandLine.{codes_among, mode_among, IsPlanAmong, IsSearchAmong};
 ghost use Rattle.bgview.specs.Ends.{ending_status, fault_status, unread_status, words_status};
 ghost use Rattle.bgview.specs.Faults.{AreFaultsSaid};
-ghost use Rattle.bgview.specs.Modes.{IsViewed};
+ghost use Rattle.outcome_text.specs.declared.rooms.Search.{Search as SearchData};
+ghost use Rattle.room_sample.specs.declared.sampling.Plan.{Plan as PlanData};
+ghost use Rattle.bgview.specs.Modes.{IsViewed, NotesNothing};
 ghost use Rattle.bgview.specs.Notes.{AreNotes};
-ghost use Rattle.bgview.specs.declared.command_line.Mode.TheVariants.{Why};
+ghost use Rattle.bgview.specs.declared.command_line.Mode.TheVariants.{Fault, Why};
 
 mod answer;
 mod choices;
@@ -76,17 +78,18 @@ fn ending(
     rt: &HostRuntime,
     matches: &ArgMatches<'_>,
     notes: &mut Text,
-) -> Result<Outcome, ViewFault> {
+) -> Result<Outcome, ViewFault>
+    ensures { mode_among (subcommand_rows_of matches.now) ≡ Fault →
+        (output : List ℕ) × AreFaultsSaid (codes_among (subcommand_rows_of matches.now)) result output }
+{
     let line = line_in(matches);
     if line.command == Mode::Fault {
         return say_faults(rt.alloc(), matches, &mut Device::new(rt.stdout()));
     }
-    let plan = plan_in(matches);
-    let search = search_in(matches);
     match line.file {
-        None => answered(rt, rt.stdin(), line.command, &plan, &search, notes),
+        None => answered(rt, rt.stdin(), matches, notes),
         Some(path) => match File::open(rt, path) {
-            Ok(input) => answered(rt, input, line.command, &plan, &search, notes),
+            Ok(input) => answered(rt, input, matches, notes),
             Err(_) => Err(ViewFault::Device(DeviceFault::Read)),
         },
     }
@@ -111,26 +114,57 @@ fn say_faults<W: Write>(
     fault_io(alloc, writer, codes)
 }
 
-/// The answer of a mode to an input, whose text goes to standard output. What is said of an input's fault becomes `notes`.
+/// The answer that the words ask for to an input, whose text goes to standard output. What is said of an input's fault becomes `notes`.
 fn answered<R: Read + Drop>(
     rt: &HostRuntime,
     input: R,
+    matches: &ArgMatches<'_>,
+    notes: &mut Text,
+) -> Result<Outcome, ViewFault>
+    // The mode and the plan are those of the words.
+    ensures answer { IfSome (R.remaining input) (λ bytes. (plan : PlanData) × (search : SearchData) × (output : List ℕ) ×
+        IsPlanAmong (subcommand_rows_of matches.now) plan × IsSearchAmong (subcommand_rows_of matches.now) search ×
+        IsViewed (mode_among (subcommand_rows_of matches.now)) plan search bytes result output) }
+    ensures notes { mode_among (subcommand_rows_of matches.now) ≡ Why → IfSome (R.remaining input) (λ bytes. AreNotes bytes result notes.old notes.new) }
+    ensures silent { NotesNothing (mode_among (subcommand_rows_of matches.now)) → notes.new ≡ notes.old }
+{
+    let mut reader = Device::new(input);
+    let mut writer = Device::new(rt.stdout());
+    let mode = line_in(matches).command;
+    write_answer(
+        rt.alloc(),
+        &mut reader,
+        &mut writer,
+        mode,
+        &plan_in(matches),
+        &search_in(matches),
+        notes,
+    )
+}
+
+/// Writes the answer of a mode to what a reader gives. What is said of an input's fault becomes `notes`.
+fn write_answer<R: Read, W: Write>(
+    alloc: Global,
+    reader: &mut Device<R>,
+    writer: &mut Device<W>,
     mode: Mode,
     plan: &Plan,
     search: &Search,
     notes: &mut Text,
 ) -> Result<Outcome, ViewFault>
-    ensures answer { IfSome (R.remaining input) (λ bytes. (output : List ℕ) × IsViewed mode plan.now search.now bytes result output) }
-    ensures notes { mode ≡ Why → IfSome (R.remaining input) (λ bytes. AreNotes bytes result notes.old notes.new) }
+    requires reader { reader.old.failed ≡ false }
+    requires writer { writer.old.failed ≡ false }
+    ensures answer { IfSome (R.remaining reader.old.inner) (λ input. (output : List ℕ) × IsViewed mode plan.now search.now input result output
+        × Appends (W.contents writer.old.inner) (W.contents writer.new.inner) output) }
+    ensures notes { mode ≡ Why → IfSome (R.remaining reader.old.inner) (λ input. AreNotes input result notes.old notes.new) }
+    ensures silent { NotesNothing mode → notes.new ≡ notes.old }
 {
-    let mut reader = Device::new(input);
-    let mut writer = Device::new(rt.stdout());
     match mode {
-        Mode::Why | Mode::Fault => why_io(rt.alloc(), &mut reader, &mut writer, notes),
-        Mode::Trace => trace_io(rt.alloc(), &mut reader, &mut writer),
-        Mode::Draw => draw_io(rt.alloc(), &mut reader, &mut writer),
-        Mode::Sample => sample_io(rt.alloc(), &mut reader, &mut writer, plan),
-        Mode::Outcomes => outcomes_io(rt.alloc(), &mut reader, &mut writer, search),
+        Mode::Why | Mode::Fault => why_io(alloc, reader, writer, notes),
+        Mode::Trace => trace_io(alloc, reader, writer),
+        Mode::Draw => draw_io(alloc, reader, writer),
+        Mode::Sample => sample_io(alloc, reader, writer, plan),
+        Mode::Outcomes => outcomes_io(alloc, reader, writer, search),
     }
 }
 

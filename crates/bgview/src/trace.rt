@@ -12,7 +12,7 @@ ghost use Rattle.script_play.specs.Play.{IsPerformed, refusal_in};
 ghost use Rattle.bgview.specs.Ends.{is_read_failed, is_write_failed};
 ghost use Rattle.bgview.specs.Trace.{HasTraced, IsTraceFor, IsTraced, notes_after};
 
-use crate::fault::ViewFault;
+use crate::fault::{ViewFault, written};
 use crate::notes::write_fault_note;
 use io_text::{Device, Text, read_input, write_output};
 use room_files::{InputFault, Outcome, write_refused, write_refused_code};
@@ -47,7 +47,7 @@ pub fn trace_io<R: Read, W: Write>(
     let script = read_input(alloc, reader)?;
     let traced = trace(alloc, &script)?;
     write_output(writer, traced.output.as_bytes())?;
-    Ok(traced.ending?)
+    written(traced.ending)
 }
 
 /// Judges a script, and tells what it comes to where it has no fault.

@@ -16,4 +16,4 @@ returns c =
     let name = c.name.ensures ∙ ap (λ (told : ToldRoom). told.spec.name) c.told.view_is in
     said c.put-2.result c.args.told.now c.args.reason broken c.in-Some.event.now c.deref.result.now c.args.output.now c.write_indented.new.output c.put.new.self c.write_reason.new.output c.put-2.new.self
     c.in-Err.is (c.requires broken c.in-Err.is) (sym c.in-Some.ensures) (c.deref.ensures.value ∙ c.in_ok-line.ensures.line ∙ ap (λ n. event_line n c.in-Some.event.now) name)
-    c.in_ok-write_indented.ensures c.in_ok-put.ensures c.in_ok-write_reason.ensures c.put-2.ensures
+    c.in_ok-write_indented.ensures c.in_ok-put.ensures.text c.in_ok-write_reason.ensures c.put-2.ensures.text

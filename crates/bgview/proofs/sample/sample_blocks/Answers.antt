@@ -14,7 +14,7 @@ returns c =
     let told : IsSampleOutput c.args.plan.now read c.outcome_if-outcome.result c.put.new.self = record {
       told = c.write_samples.new.output;
       samples = c.in_ok-write_samples.ensures;
-      output_is = c.in_ok-put.ensures;
+      output_is = c.in_ok-put.ensures.text;
       outcome_is = c.outcome_if-outcome.ensures ∙ ap outcome_if empty;
     } in
     subst (λ (setup : Setup). IsSampleOutput c.args.plan.now setup c.outcome_if-outcome.result c.put.new.self) whole told
