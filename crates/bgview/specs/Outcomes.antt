@@ -6,7 +6,7 @@ use Rattle.room_files.specs.declared.outcome.Outcome.{Outcome}
 use Rattle.outcome_text.specs.Blocks.{IsOutcomesFor}
 use Rattle.outcome_text.specs.declared.rooms.Search.{Search}
 use Rattle.bgview.specs.declared.fault.ViewFault.{ViewFault}
-use Rattle.bgview.specs.declared.fault.ViewFault.TheVariants.{Device, BadInput}
+use Rattle.bgview.specs.declared.fault.ViewFault.TheVariants.{BadInput, Device, Incomplete}
 
 -- a beginning of it
 abbrev pub IsOutcomesPart : Search → List ℕ → List ℕ → Type 0
@@ -17,6 +17,7 @@ IsOutcomesPart search input part = (outcome : Outcome) × (rest : List ℕ) × I
 abbrev pub IsOutcomesAnswer : Search → List ℕ → Result Outcome ViewFault → List ℕ → Type 0
 IsOutcomesAnswer search input (Ok outcome) output = (length input ≤ most_bytes) × IsOutcomesFor search input outcome output
 IsOutcomesAnswer search input (Err (BadInput line code)) output = ⊥
+IsOutcomesAnswer search input (Err Incomplete) output = ⊥
 IsOutcomesAnswer search input (Err (Device TooLong)) output = (most_bytes < length input) × (output ≡ [])
 IsOutcomesAnswer search input (Err (Device Memory)) output = output ≡ []
 IsOutcomesAnswer search input (Err (Device Read)) output = output ≡ []
