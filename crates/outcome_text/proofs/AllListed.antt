@@ -1,9 +1,9 @@
 -- Outcomes that are listed one by one.
-use Rattle.std.proofs.Common.{◌≡◌, ◌∙◌, ℕ, ◌+◌, List, [], ◌∷◌, ◌++◌, Some, length, take, sym, ap, subst, arith, inl, inr}
+use Rattle.std.proofs.Common.{Bool, ◌≡◌, ◌∙◌, ℕ, ◌+◌, List, [], ◌∷◌, ◌++◌, Some, length, take, sym, ap, subst, arith, inl, inr}
 use Rattle.std.specs.Prelude.{slice_get}
 use Rattle.std.specs.List.{Contains}
 use Rattle.std.proofs.lemmas.Bool.{cases_lt}
-use Rattle.std.proofs.lemmas.List.{get_or-map, length-map, length_push, map-append, take_more}
+use Rattle.std.proofs.lemmas.List.{length_push, map-append, take_more}
 use Rattle.std.proofs.lemmas.Option.{get_or_from_slice_get, same_Some, slice_get_within}
 use Rattle.room_spec.specs.Rooms.{RoomSpec}
 use Rattle.transcript.proofs.CallerLemmas.{slice_get-append, slice_get-push}
@@ -12,19 +12,19 @@ use Rattle.run_search.specs.Outcomes.{IsRunOutcome}
 use Rattle.outcome_text.specs.declared.listing.Listed.{Listed}
 use Rattle.outcome_text.specs.Listing.{AreAllListed, HasRun, listed_ends}
 
-abbrev pub Runs : RoomSpec → List Listed → Type 0
-Runs spec all = (i : ℕ) (one : Listed) → slice_get all i ≡ Some one → HasRun spec one
+abbrev pub Runs : RoomSpec → Bool → List Listed → Type 0
+Runs spec brief all = (i : ℕ) (one : Listed) → slice_get all i ≡ Some one → HasRun spec brief one
 
-pub no_runs : (spec : RoomSpec) → Runs spec []
-no_runs spec i one is = absurd cc
+pub no_runs : (spec : RoomSpec) (brief : Bool) → Runs spec brief []
+no_runs spec brief i one is = absurd cc
 
-pub one_run_more : (spec : RoomSpec) (all : List Listed) (one : Listed) → Runs spec all → HasRun spec one → Runs spec (all ++ one ∷ [])
-one_run_more spec all one are has i other is = elim (cases_lt i (length all)) [
+pub one_run_more : (spec : RoomSpec) (brief : Bool) (all : List Listed) (one : Listed) → Runs spec brief all → HasRun spec brief one → Runs spec brief (all ++ one ∷ [])
+one_run_more spec brief all one are has i other is = elim (cases_lt i (length all)) [
   | inl below ↦ are i other (sym (slice_get-append all (one ∷ []) i below) ∙ is)
   | inr past ↦
       let inside = slice_get_within (all ++ one ∷ []) i other is in
       let last : length all ≡ i = omega (arith, past, inside, length_push all one) in
-      subst (HasRun spec) (same_Some one other (sym (slice_get-push all one) ∙ ap (slice_get (all ++ one ∷ [])) last ∙ is)) has
+      subst (HasRun spec brief) (same_Some one other (sym (slice_get-push all one) ∙ ap (slice_get (all ++ one ∷ [])) last ∙ is)) has
 ]
 
 -- the outcomes so far, with the next
@@ -36,20 +36,13 @@ ends_more all one outcomes i so_far there =
     ∙ ap (λ (ends : List Ended). take i outcomes ++ ends ∷ []) (sym (get_or_from_slice_get outcomes i one.ends.items one.ends.items there))
     ∙ sym (take_more outcomes i one.ends.items within)
 
--- an outcome that is listed is among those that were found
-listed_there : (all : List Listed) (i : ℕ) (one : Listed) → slice_get all i ≡ Some one → Contains (listed_ends all) one.ends.items
-listed_there all i one is =
-    let within = slice_get_within all i one is in
-    let long = length-map all (λ (o : Listed). o.ends.items) in
-    (i, omega (arith, within, long), get_or-map (λ (o : Listed). o.ends.items) all i one one.ends.items within ∙ ap (λ (o : Listed). o.ends.items) (get_or_from_slice_get all i one one is))
-
-pub all_listed : (spec : RoomSpec) (crashes : ℕ) (all : List Listed) (outcomes : List (List Ended)) → Runs spec all → listed_ends all ≡ outcomes
+pub all_listed : (spec : RoomSpec) (crashes : ℕ) (brief : Bool) (all : List Listed) (outcomes : List (List Ended)) → Runs spec brief all → listed_ends all ≡ outcomes
     → ((outcome : List Ended) → IsRunOutcome spec crashes outcome → Contains outcomes outcome)
     → ((outcome : List Ended) → Contains outcomes outcome → IsRunOutcome spec crashes outcome)
-    → ((i j : ℕ) (outcome : List Ended) → slice_get outcomes i ≡ Some outcome → slice_get outcomes j ≡ Some outcome → i ≡ j) → AreAllListed spec crashes all
-all_listed spec crashes all outcomes runs ends complete sound distinct = record {
+    → ((i j : ℕ) (outcome : List Ended) → slice_get outcomes i ≡ Some outcome → slice_get outcomes j ≡ Some outcome → i ≡ j) → AreAllListed spec crashes brief all
+all_listed spec crashes brief all outcomes runs ends complete sound distinct = record {
   runs = runs;
-  few = λ i one is. (sound one.ends.items (subst (λ (l : List (List Ended)). Contains l one.ends.items) ends (listed_there all i one is))).few;
+  sound = λ outcome there. sound outcome (subst (λ (l : List (List Ended)). Contains l outcome) ends there);
   complete = λ outcome is. subst (λ (l : List (List Ended)). Contains l outcome) (sym ends) (complete outcome is);
   distinct = λ i j outcome first second. distinct i j outcome (ap (λ (l : List (List Ended)). slice_get l i) (sym ends) ∙ first) (ap (λ (l : List (List Ended)). slice_get l j) (sym ends) ∙ second);
 }

@@ -17,11 +17,11 @@ crashes_for spec (Some crashes) = crashes
 -- The text shows all outcomes, and says how many states the runs have, and whether each keeps the room's task.
 pub record IsFoundText (search : Search) (spec : RoomSpec) (block : List ℕ) (well : Bool) (text : List ℕ) : Type 0 where
   pub all : AllOutcomes
-  pub outcomes : AreAllListed spec (crashes_for spec search.crashes) all.listed.items
+  pub outcomes : AreAllListed spec (crashes_for spec search.crashes) search.brief all.listed.items
   pub states : HasStates spec search.states all.states
   pub task : IsTaskAnswer spec (option_map (λ events. events.items) all.breaking)
   pub well_is : well ≡ is_none all.breaking
-  pub text_is : text ≡ found_text spec block search.brief all
+  pub text_is : text ≡ found_text spec block all
 
 -- The text says that the runs have more states than the limit, or the processes more local states than a search tells apart, as they have.
 pub record IsUnfinishedText (search : Search) (spec : RoomSpec) (well : Bool) (text : List ℕ) : Type 0 where

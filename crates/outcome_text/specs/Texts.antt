@@ -1,6 +1,7 @@
 -- What is written of all outcomes of a room.
-use Rattle.std.specs.Prelude.{ℕ, ◌+◌, ◌-◌, ◌==◌, Bool, List, [], ◌∷◌, ◌++◌, length, map, Option, None, Some, if◌then◌else◌, codes, decimal, nat_eq, option_map, slice_index_or}
+use Rattle.std.specs.Prelude.{ℕ, ◌+◌, ◌-◌, ◌==◌, List, [], ◌∷◌, ◌++◌, length, map, Option, None, Some, if◌then◌else◌, codes, decimal, nat_eq, option_map, slice_index_or}
 use Rattle.std.specs.List.{concat, ends_with, flat_map, list_any, range_with_len}
+use Rattle.std.specs.Global.{Vec}
 use Rattle.room_spec.specs.Rooms.{RoomSpec, processes}
 use Rattle.transcript.specs.declared.event.Event.{Event}
 use Rattle.script_play.specs.ReplyTexts.{event_lines}
@@ -32,21 +33,25 @@ whole_block block = if ends_with nat_eq block (codes "\n") then block else block
 abbrev pub transcript_text : List ℕ → List ℕ → List Event → List ℕ
 transcript_text name block events = whole_block block ++ (codes "events\n" ++ event_lines name events)
 
-abbrev pub outcome_text : List ℕ → List ℕ → Bool → Listed → List ℕ
-outcome_text name block brief one = codes "\n" ++ (end_lines name one.ends.items ++ (if brief then [] else transcript_text name block one.events.items))
+abbrev pub transcript_if : List ℕ → List ℕ → Option (Vec Event) → List ℕ
+transcript_if name block None = []
+transcript_if name block (Some events) = transcript_text name block events.items
+
+abbrev pub outcome_text : List ℕ → List ℕ → Listed → List ℕ
+outcome_text name block one = codes "\n" ++ (end_lines name one.ends.items ++ transcript_if name block one.events)
 
 -- ---- all outcomes
 
-abbrev pub text_if : List ℕ → List ℕ → Bool → ℕ → Listed → List ℕ
-text_if name block brief values one = if values_in one.ends.items == values then outcome_text name block brief one else []
+abbrev pub text_if : List ℕ → List ℕ → ℕ → Listed → List ℕ
+text_if name block values one = if values_in one.ends.items == values then outcome_text name block one else []
 
 -- those with this number of decided values
-abbrev pub outcomes_with : List ℕ → List ℕ → Bool → List Listed → ℕ → List ℕ
-outcomes_with name block brief all values = flat_map (text_if name block brief values) all
+abbrev pub outcomes_with : List ℕ → List ℕ → List Listed → ℕ → List ℕ
+outcomes_with name block all values = flat_map (text_if name block values) all
 
 -- those with most decided values first
-abbrev pub outcomes_text : List ℕ → List ℕ → Bool → List Listed → List ℕ
-outcomes_text name block brief all = concat (map (λ fewer. outcomes_with name block brief all (most_values all - fewer)) (range_with_len 0 (most_values all + 1)))
+abbrev pub outcomes_text : List ℕ → List ℕ → List Listed → List ℕ
+outcomes_text name block all = concat (map (λ fewer. outcomes_with name block all (most_values all - fewer)) (range_with_len 0 (most_values all + 1)))
 
 -- ---- what they have in common
 
@@ -87,9 +92,9 @@ complete_line states = codes "these are all outcomes:" ++ ((32 ∷ decimal state
 abbrev pub unfinished_line : ℕ → List ℕ → List ℕ
 unfinished_line limit things = codes "more than" ++ ((32 ∷ decimal limit) ++ things)
 
-abbrev pub found_text : RoomSpec → List ℕ → Bool → AllOutcomes → List ℕ
-found_text spec block brief all =
-    outcomes_text spec.name block brief all.listed.items
+abbrev pub found_text : RoomSpec → List ℕ → AllOutcomes → List ℕ
+found_text spec block all =
+    outcomes_text spec.name block all.listed.items
     ++ (most_line spec.name all.listed.items
     ++ ((spent_lines spec.name (processes spec) all.listed.items ++ none_spent_if spec.name all.listed.items)
     ++ (task_text spec.name block spec.task (option_map (λ events. events.items) all.breaking) ++ complete_line all.states)))

@@ -11,13 +11,13 @@ use run_search::{Ends, Outcomes, SearchFault, search};
 use std::alloc::{AllocError, Global};
 use transcript::Event;
 
-/// An outcome, and a run that has it.
+/// An outcome, and a run that has it, if transcripts are wanted.
 #[derive(Drop)]
 pub struct Listed {
     /// How each process ends.
     pub ends: Ends,
     /// The events of the run.
-    pub events: Vec<Event>,
+    pub events: Option<Vec<Event>>,
 }
 
 /// What a search of all runs of a room found.
@@ -31,7 +31,8 @@ pub struct AllOutcomes {
     pub breaking: Option<Vec<Event>>,
 }
 
-/// Finds all outcomes of a room's runs in which at most `crashes` processes stop, and whether each run keeps the room's task.
+/// Finds all outcomes of a room's runs in which at most `crashes` processes stop, each with a run unless `brief`, and whether each run
+/// keeps the room's task.
 ///
 /// # Errors
 ///
@@ -42,15 +43,16 @@ pub fn find_all(
     spec: &Spec,
     crashes: usize,
     limit: u32,
+    brief: bool,
 ) -> Result<AllOutcomes, SearchFault>
-    ensures outcomes { IfOk result (λ all. AreAllListed spec.now crashes all.listed.items) }
+    ensures outcomes { IfOk result (λ all. AreAllListed spec.now crashes brief all.listed.items) }
     ensures states { IfOk result (λ all. HasStates spec.now limit all.states) }
     ensures task { IfOk result (λ all. IsTaskAnswer spec.now (option_map (λ events. events.items) all.breaking)) }
     ensures too_many { IsErrOf result SearchFault.TooManyStates → HasMoreStates spec.now limit }
     ensures too_many_locals { IsErrOf result SearchFault.TooManyLocalStates → HasMoreLocals spec.now }
 {
     let found = search(alloc, spec, crashes, limit)?;
-    let listed = list_all(alloc, spec, &found)?;
+    let listed = list_all(alloc, spec, &found, brief)?;
     let breaking = found.breaking_run(alloc, spec)?;
     Ok(AllOutcomes {
         listed,
@@ -59,39 +61,46 @@ pub fn find_all(
     })
 }
 
-/// Each outcome that was found, with a run that has it.
-fn list_all(alloc: Global, spec: &Spec, found: &Outcomes) -> Result<Vec<Listed>, AllocError>
+/// Each outcome that was found, with a run that has it unless `brief`.
+fn list_all(
+    alloc: Global,
+    spec: &Spec,
+    found: &Outcomes,
+    brief: bool,
+) -> Result<Vec<Listed>, AllocError>
     requires { IsFoundFor spec.now found.now }
-    ensures runs { IfOk result (λ all. (i : ℕ) (one : ListedValue) → slice_get all.items i ≡ Some one → HasRun spec.now one) }
+    ensures runs { IfOk result (λ all. (i : ℕ) (one : ListedValue) → slice_get all.items i ≡ Some one → HasRun spec.now brief one) }
     ensures ends { IfOk result (λ all. listed_ends all.items ≡ outcomes_in found.now) }
 {
     let mut all = Vec::new(alloc);
     for index in 0..found.len() {
-        all.push(list_one(alloc, spec, found, index)?)?;
+        all.push(list_one(alloc, spec, found, index, brief)?)?;
     }
     Ok(all)
 }
 
-/// The outcome of this index, with a run that has it.
+/// The outcome of this index, with a run that has it unless `brief`.
 fn list_one(
     alloc: Global,
     spec: &Spec,
     found: &Outcomes,
     index: usize,
+    brief: bool,
 ) -> Result<Listed, AllocError>
     requires found { IsFoundFor spec.now found.now }
     requires there { index < length (outcomes_in found.now) }
-    ensures run { IfOk result (HasRun spec.now) }
+    ensures run { IfOk result (HasRun spec.now brief) }
     ensures there { IfOk result (λ one. slice_get (outcomes_in found.now) index ≡ Some one.ends.items) }
 {
-    let events = found.transcript(alloc, spec, index)?;
     let Some(ends) = found.get(index) else {
         unreachable!() // the index is below the number of outcomes
     };
-    Ok(Listed {
-        ends: copied(ends),
-        events,
-    })
+    let ends = copied(ends);
+    if brief {
+        return Ok(Listed { ends, events: None });
+    }
+    let events = Some(found.transcript(alloc, spec, index)?);
+    Ok(Listed { ends, events })
 }
 
 fn copied(ends: &Ends) -> Ends

@@ -74,9 +74,9 @@ fn answer(
 {
     let crashes = crashes_for(spec, search.crashes);
     write_head(output, spec.name().as_str().as_bytes(), crashes)?;
-    match find_all(alloc, spec, crashes, search.states) {
+    match find_all(alloc, spec, crashes, search.states, search.brief) {
         Ok(all) => {
-            write_found(output, spec, block, search.brief, &all)?;
+            write_found(output, spec, block, &all)?;
             Ok(all.breaking.is_none())
         }
         Err(SearchFault::TooManyStates) => {

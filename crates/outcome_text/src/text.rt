@@ -30,20 +30,19 @@ pub fn write_unfinished(output: &mut Text, limit: u32, things: &[u8]) -> Result<
     output.put(things)
 }
 
-/// Writes all outcomes of the room that this block says, those with most decided values first, each with a transcript unless `brief`;
+/// Writes all outcomes of the room that this block says, those with most decided values first, each with its transcript, if there is one;
 /// then what they have in common, and whether each run keeps the room's task.
 pub fn write_found(
     output: &mut Text,
     spec: &Spec,
     block: &[u8],
-    brief: bool,
     all: &AllOutcomes,
 ) -> Result<(), AllocError>
-    ensures { OnOk result (output.new ≡ output.old ++ found_text spec.now block.now brief all.now) }
+    ensures { OnOk result (output.new ≡ output.old ++ found_text spec.now block.now all.now) }
 {
     let name = spec.name().as_str().as_bytes();
     let listed = all.listed.as_slice();
-    write_outcomes(output, name, block, brief, listed)?;
+    write_outcomes(output, name, block, listed)?;
     write_most(output, name, listed)?;
     write_spent(output, name, spec.n(), listed)?;
     write_task(output, name, block, spec.task(), &all.breaking)?;
@@ -55,14 +54,13 @@ fn write_outcomes(
     output: &mut Text,
     name: &[u8],
     block: &[u8],
-    brief: bool,
     all: &[Listed],
 ) -> Result<(), AllocError>
-    ensures { OnOk result (output.new ≡ output.old ++ outcomes_text name.now block.now brief all.now) }
+    ensures { OnOk result (output.new ≡ output.old ++ outcomes_text name.now block.now all.now) }
 {
     let most = most_values(all);
     for fewer in 0..=most {
-        write_outcomes_with(output, name, block, brief, most - fewer, all)?;
+        write_outcomes_with(output, name, block, most - fewer, all)?;
     }
     Ok(())
 }
@@ -72,14 +70,13 @@ fn write_outcomes_with(
     output: &mut Text,
     name: &[u8],
     block: &[u8],
-    brief: bool,
     values: usize,
     all: &[Listed],
 ) -> Result<(), AllocError>
-    ensures { OnOk result (output.new ≡ output.old ++ outcomes_with name.now block.now brief all.now values) }
+    ensures { OnOk result (output.new ≡ output.old ++ outcomes_with name.now block.now all.now values) }
 {
     for one in all {
-        write_if(output, name, block, brief, values, one)?;
+        write_if(output, name, block, values, one)?;
     }
     Ok(())
 }
@@ -89,34 +86,32 @@ fn write_if(
     output: &mut Text,
     name: &[u8],
     block: &[u8],
-    brief: bool,
     values: usize,
     one: &Listed,
 ) -> Result<(), AllocError>
-    ensures { OnOk result (output.new ≡ output.old ++ text_if name.now block.now brief values one.now) }
+    ensures { OnOk result (output.new ≡ output.old ++ text_if name.now block.now values one.now) }
 {
     if values_in(one.ends.as_slice()) != values {
         return Ok(());
     }
-    write_outcome(output, name, block, brief, one)
+    write_outcome(output, name, block, one)
 }
 
-/// Writes how each process ends, and a transcript of a run that ends so, unless `brief`.
+/// Writes how each process ends, and a transcript of a run that ends so, if there is one.
 fn write_outcome(
     output: &mut Text,
     name: &[u8],
     block: &[u8],
-    brief: bool,
     one: &Listed,
 ) -> Result<(), AllocError>
-    ensures { OnOk result (output.new ≡ output.old ++ outcome_text name.now block.now brief one.now) }
+    ensures { OnOk result (output.new ≡ output.old ++ outcome_text name.now block.now one.now) }
 {
     output.put(b"\n")?;
     write_ends(output, name, one.ends.as_slice())?;
-    if brief {
-        return Ok(());
+    match &one.events {
+        None => Ok(()),
+        Some(events) => write_transcript(output, name, block, events.as_slice()),
     }
-    write_transcript(output, name, block, one.events.as_slice())
 }
 
 /// Writes a line for each process, in order of their numbers: how it ends.

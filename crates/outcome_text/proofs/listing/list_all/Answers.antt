@@ -11,6 +11,6 @@ loop-index-preserved c =
     let all = c.loop-index.all.items in
     let one = c.in_ok-list_one.field-0 in
     record {
-      runs = subst (λ (l : List Listed). Runs spec l) (sym c.in_ok-push.ensures.items) (one_run_more spec all one c.loop-index.invariant.runs c.in_ok-list_one.ensures.run);
+      runs = subst (λ (l : List Listed). Runs spec c.args.brief l) (sym c.in_ok-push.ensures.items) (one_run_more spec c.args.brief all one c.loop-index.invariant.runs c.in_ok-list_one.ensures.run);
       ends = ap listed_ends c.in_ok-push.ensures.items ∙ ends_more all one (outcomes_in c.args.found.now) c.loop-index.index c.loop-index.invariant.ends c.in_ok-list_one.ensures.there;
     }

@@ -7,6 +7,6 @@ use Rattle.outcome_text.proofs.listing.list_all.Given as goal
 
 abbrev pub invariant-loop-index : goal.invariant-loop-index
 invariant-loop-index l = record {
-  runs : (i : ℕ) (one : Listed) → slice_get l.all.items i ≡ Some one → HasRun l.spec one;
+  runs : (i : ℕ) (one : Listed) → slice_get l.all.items i ≡ Some one → HasRun l.spec l.brief one;
   ends : listed_ends l.all.items ≡ take l.index (outcomes_in l.found);
 }

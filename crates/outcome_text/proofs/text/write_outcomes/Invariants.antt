@@ -5,4 +5,4 @@ use Rattle.outcome_text.specs.Texts.{outcomes_with}
 use Rattle.outcome_text.proofs.text.write_outcomes.Given as goal
 
 abbrev pub invariant-loop-fewer : goal.invariant-loop-fewer
-invariant-loop-fewer l = l.output ≡ l.initial.output ++ concat (map (λ fewer. outcomes_with l.name l.block l.brief l.all (most_values l.all - fewer)) (range_with_len 0 l.fewer))
+invariant-loop-fewer l = l.output ≡ l.initial.output ++ concat (map (λ fewer. outcomes_with l.name l.block l.all (most_values l.all - fewer)) (range_with_len 0 l.fewer))

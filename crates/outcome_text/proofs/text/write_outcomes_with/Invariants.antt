@@ -3,4 +3,4 @@ use Rattle.outcome_text.specs.Texts.{outcomes_with}
 use Rattle.outcome_text.proofs.text.write_outcomes_with.Given as goal
 
 abbrev pub invariant-loop-one : goal.invariant-loop-one
-invariant-loop-one l = l.output ≡ l.initial.output ++ outcomes_with l.name l.block l.brief (take l.one-index l.all) l.values
+invariant-loop-one l = l.output ≡ l.initial.output ++ outcomes_with l.name l.block (take l.one-index l.all) l.values
