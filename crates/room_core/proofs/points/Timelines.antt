@@ -439,7 +439,7 @@ module _ (spec : RoomSpec) (schedule : List ScheduleEvent) (final : Fields) (lea
           (λ p low. ap (λ (f : Fields). has_out spec f p) after_is)
           (unread_by time (λ a p r reads. no_crash i a (sym is ∙ reads.event_is))))
 
-  -- a decision is behind the last snapshot
+  -- a decision comes after the last snapshot
   decided_passed : (p decision : ℕ) → p < processes spec → decided_in spec final p ≡ Some decision → Passed p (greatest_step spec final p)
   decided_passed p decision low is =
       let out = decided_out spec final p decision is in
