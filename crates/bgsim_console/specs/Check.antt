@@ -7,7 +7,7 @@ use Rattle.room_files.specs.Inputs.{input_says}
 use Rattle.room_files.specs.Verdicts.{IsOutput}
 use Rattle.room_files.specs.declared.outcome.Outcome.{Outcome}
 use Rattle.bgsim_console.specs.declared.fault.IoFault.{IoFault}
-use Rattle.bgsim_console.specs.declared.fault.IoFault.TheVariants.{Read, Write, TooLong, BadInput, Run as RunFailed, Memory}
+use Rattle.bgsim_console.specs.declared.fault.IoFault.TheVariants.{Read, Write, TooLong, BadInput, Incomplete, Run as RunFailed, Memory}
 
 -- the output for an input that has no fault
 abbrev pub IsOutputFor : List ℕ → Outcome → List ℕ → Type 0
@@ -23,6 +23,7 @@ IsAnswer input (Ok outcome) output = (length input ≤ most_bytes) × IsOutputFo
 IsAnswer input (Err TooLong) output = (most_bytes < length input) × (output ≡ [])
 IsAnswer input (Err (BadInput line code)) output = (length input ≤ most_bytes) × (input_says input ≡ Err (line, code)) × (output ≡ [])
 IsAnswer input (Err Memory) output = output ≡ []
+IsAnswer input (Err Incomplete) output = ⊥
 IsAnswer input (Err Read) output = output ≡ []
 IsAnswer input (Err (RunFailed fault)) output = ⊥
 IsAnswer input (Err Write) output = (length input ≤ most_bytes) × IsPartFor input output

@@ -1,5 +1,6 @@
 -- The program's exit statuses.
 use Rattle.std.specs.Prelude.{ℕ, Bool, true, false, Result, Ok, Err, if◌then◌else◌}
+use Rattle.std.specs.declared.alloc.AllocError.{AllocError}
 use Rattle.std.specs.declared.io.ErrorKind.{ErrorKind as WordsFault}
 use Rattle.std.specs.declared.io.ErrorKind.TheVariants as words
 use Rattle.clap.specs.declared.error.kind.ErrorKind.{ErrorKind}
@@ -13,7 +14,7 @@ use Rattle.room_files.specs.declared.fault.InputFault.{InputFault}
 use Rattle.room_files.specs.declared.fault.InputFault.TheVariants as inputs
 use Rattle.room_files.specs.Verdicts.{outcome_status}
 use Rattle.bgsim_console.specs.declared.fault.IoFault.{IoFault}
-use Rattle.bgsim_console.specs.declared.fault.IoFault.TheVariants.{Read, Write, TooLong, BadInput, Run, Memory}
+use Rattle.bgsim_console.specs.declared.fault.IoFault.TheVariants.{Read, Write, TooLong, BadInput, Incomplete, Run, Memory}
 
 -- want of memory ends the run of rooms as it ends an engine
 abbrev pub run_status : RunFault → ℕ
@@ -28,6 +29,7 @@ fault_status TooLong = 2
 fault_status (BadInput line code) = 2
 fault_status (Run fault) = run_status fault
 fault_status Memory = 3
+fault_status Incomplete = 3
 
 abbrev pub ending_status : Result Outcome IoFault → ℕ
 ending_status (Ok outcome) = outcome_status outcome
@@ -57,6 +59,11 @@ abbrev pub input_fault : InputFault → IoFault
 input_fault (inputs.BadInput line code) = BadInput line code
 input_fault inputs.Memory = Memory
 
+-- the end of an answer that was written: memory may have been refused to a part of its script
+abbrev pub written : Result Outcome AllocError → Result Outcome IoFault
+written (Ok outcome) = Ok outcome
+written (Err refused) = Err Incomplete
+
 -- reading ended the run
 abbrev pub is_read_failed : {A : Type 0} → Result A IoFault → Bool
 is_read_failed (Ok value) = false
@@ -66,6 +73,7 @@ is_read_failed (Err TooLong) = false
 is_read_failed (Err (BadInput line code)) = false
 is_read_failed (Err (Run fault)) = false
 is_read_failed (Err Memory) = false
+is_read_failed (Err Incomplete) = false
 
 -- writing ended the run
 abbrev pub is_write_failed : {A : Type 0} → Result A IoFault → Bool
@@ -76,3 +84,4 @@ is_write_failed (Err TooLong) = false
 is_write_failed (Err (BadInput line code)) = false
 is_write_failed (Err (Run fault)) = false
 is_write_failed (Err Memory) = false
+is_write_failed (Err Incomplete) = false

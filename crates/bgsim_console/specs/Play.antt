@@ -1,24 +1,25 @@
 -- What `play` answers for a script.
-use Rattle.std.specs.Prelude.{◌≡◌, ◌⊎◌, ℕ, ◌<◌, ◌≤◌, List, [], ◌++◌, length, Result, Ok, Err, alloc_error}
+use Rattle.std.specs.Prelude.{◌≡◌, ℕ, ◌<◌, ◌≤◌, List, [], ◌++◌, length, Result, Ok, Err, alloc_error}
 use Rattle.std.specs.declared.alloc.AllocError.{AllocError}
 use Rattle.io_text.specs.Reading.{most_bytes}
 use Rattle.script_play.specs.Script.{script_says}
 use Rattle.room_files.specs.declared.outcome.Outcome.{Outcome}
 use Rattle.script_play.specs.Play.{IsPlayFor}
 use Rattle.bgsim_console.specs.declared.fault.IoFault.{IoFault}
-use Rattle.bgsim_console.specs.declared.fault.IoFault.TheVariants.{Read, Write, TooLong, BadInput, Run, Memory}
+use Rattle.bgsim_console.specs.declared.fault.IoFault.TheVariants.{Read, Write, TooLong, BadInput, Incomplete, Run, Memory}
 
 -- a beginning of it
 abbrev pub IsPlayPart : List ℕ → List ℕ → Type 0
 IsPlayPart input part = (ending : Result Outcome AllocError) × (rest : List ℕ) × IsPlayFor input ending (part ++ rest)
 
--- The answer to a whole script is an outcome, with its text, or a fault. Want of memory leaves the whole text, with the
--- refusals in it, or none; where writing failed a beginning of it is there; at each other fault there is none.
+-- The answer to a whole script is an outcome, with its text, or a fault. Where memory was refused to a part of the script the whole
+-- text is there, with the refusals in it; where writing failed a beginning of it; at each other fault none.
 abbrev pub IsPlayed : List ℕ → Result Outcome IoFault → List ℕ → Type 0
 IsPlayed input (Ok outcome) output = (length input ≤ most_bytes) × IsPlayFor input (Ok outcome) output
 IsPlayed input (Err TooLong) output = (most_bytes < length input) × (output ≡ [])
 IsPlayed input (Err (BadInput line code)) output = (length input ≤ most_bytes) × (script_says input ≡ Err (line, code)) × (output ≡ [])
-IsPlayed input (Err Memory) output = (output ≡ []) ⊎ ((length input ≤ most_bytes) × IsPlayFor input (Err alloc_error) output)
+IsPlayed input (Err Memory) output = output ≡ []
+IsPlayed input (Err Incomplete) output = (length input ≤ most_bytes) × IsPlayFor input (Err alloc_error) output
 IsPlayed input (Err Read) output = output ≡ []
 IsPlayed input (Err (Run fault)) output = ⊥
 IsPlayed input (Err Write) output = (length input ≤ most_bytes) × IsPlayPart input output

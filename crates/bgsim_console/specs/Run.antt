@@ -12,7 +12,7 @@ use Rattle.io_text.specs.Reading.{most_bytes}
 use Rattle.room_files.specs.declared.outcome.Outcome.{Outcome}
 use Rattle.script_play.specs.ReplyTexts.{report_text}
 use Rattle.bgsim_console.specs.declared.fault.IoFault.{IoFault}
-use Rattle.bgsim_console.specs.declared.fault.IoFault.TheVariants.{Read, Write, TooLong, BadInput, Run, Memory}
+use Rattle.bgsim_console.specs.declared.fault.IoFault.TheVariants.{Read, Write, TooLong, BadInput, Incomplete, Run, Memory}
 
 -- ---- the text
 
@@ -60,6 +60,7 @@ IsRunFault workers OutOfMemory = AreWorkers workers
 abbrev pub MayEndRun : ℕ → IoFault → Type 0
 MayEndRun workers (Run fault) = IsRunFault workers fault
 MayEndRun workers Memory = Unit {0}
+MayEndRun workers Incomplete = ⊥
 MayEndRun workers Read = ⊥
 MayEndRun workers Write = ⊥
 MayEndRun workers TooLong = ⊥
@@ -73,5 +74,6 @@ IsRan workers input (Err TooLong) output = (most_bytes < length input) × (outpu
 IsRan workers input (Err (BadInput line code)) output = ⊥
 IsRan workers input (Err (Run fault)) output = (length input ≤ most_bytes) × IsRunFault workers fault × (output ≡ [])
 IsRan workers input (Err Memory) output = output ≡ []
+IsRan workers input (Err Incomplete) output = ⊥
 IsRan workers input (Err Read) output = output ≡ []
 IsRan workers input (Err Write) output = (length input ≤ most_bytes) × IsRunPart workers input output

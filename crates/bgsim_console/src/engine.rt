@@ -7,7 +7,7 @@ ghost use Rattle.bgsim_console.specs.Play.{IsPlayed};
 ghost use Rattle.bgsim_console.specs.Run.{IsRan};
 ghost use Rattle.bgsim_console.specs.Ends.{is_read_failed, is_write_failed};
 
-use crate::fault::IoFault;
+use crate::fault::{IoFault, written};
 use crate::judge::judge;
 use crate::run::run_blocks;
 use io_text::{Device, read_input, write_output};
@@ -69,7 +69,7 @@ pub fn play_io<R: Read, W: Write>(
     let script = read_input(alloc, reader)?;
     let played = play(alloc, &script)?;
     write_output(writer, played.output.as_bytes())?;
-    Ok(played.ending?)
+    written(played.ending)
 }
 
 /// Runs the rooms of the blocks that the reader gives, by workers on threads of their own, and writes

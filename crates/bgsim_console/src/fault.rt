@@ -1,10 +1,10 @@
 //! Why an engine ends early.
 ghost use Rattle.std.specs.Prelude.{◌≡◌};
 ghost use Rattle.bgsim_console.specs.declared.fault.IoFault.TheVariants.{Memory, Run};
-ghost use Rattle.bgsim_console.specs.Ends.{device_fault, fault_status, input_fault};
+ghost use Rattle.bgsim_console.specs.Ends.{device_fault, fault_status, input_fault, written};
 
 use io_text::DeviceFault;
-use room_files::InputFault;
+use room_files::{InputFault, Outcome};
 use scheduler::RunFault;
 use std::alloc::AllocError;
 use thiserror::Error;
@@ -30,6 +30,9 @@ pub enum IoFault {
     /// Memory was refused.
     #[error("out of memory")]
     Memory,
+    /// The answer was written, and says where memory was refused.
+    #[error("out of memory")]
+    Incomplete,
 }
 
 impl IoFault {
@@ -38,9 +41,19 @@ impl IoFault {
         ensures { result ≡ fault_status self }
     {
         match self {
-            IoFault::Memory | IoFault::Run(RunFault::OutOfMemory) => 3,
+            IoFault::Memory | IoFault::Incomplete | IoFault::Run(RunFault::OutOfMemory) => 3,
             _ => 2,
         }
+    }
+}
+
+/// How an answer ends that was written whole, whatever came of the script in it.
+pub fn written(ending: Result<Outcome, AllocError>) -> Result<Outcome, IoFault>
+    ensures { result ≡ written ending }
+{
+    match ending {
+        Ok(outcome) => Ok(outcome),
+        Err(AllocError) => Err(IoFault::Incomplete),
     }
 }
 
