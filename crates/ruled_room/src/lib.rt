@@ -3,7 +3,7 @@
 //! All words of a room lie in one table, and each simulator steps through a `&` to it: an execution
 //! of the simulators in the asynchronous shared memory model of E. Borowsky, E. Gafni, N. Lynch and
 //! S. Rajsbaum, "The BG distributed simulation algorithm", Distributed Computing 14(3), 2001. A step
-//! is one atomic operation on one word, and takes no lock.
+//! is one atomic operation on one word, with no handle to wait with, so it can wait for no lock.
 //!
 //! [`RuledRoom::fresh`] gives a room and its [`Keeper`], who has all simulators. The keeper gives a
 //! [`Simulator`] away and takes it back; in between any thread may step it. Once all are at home,
