@@ -1,9 +1,9 @@
 -- What the words say before and after a step is what takes effect at it.
-use Rattle.std.proofs.Common.{◌≡◌, ◌≢◌, ◌⊎◌, ℕ, ◌+◌, ◌-◌, ◌<◌, ◌≤◌, Bool, true, false, not, cond, eqb, leb, ltb, List, [], ◌∷◌, ◌++◌, length, Option, Some, None, inl, inr, refl, sym, ap, ◌∙◌, subst, arith}
+use Rattle.std.proofs.Common.{◌≡◌, ◌≢◌, ◌⊎◌, ℕ, ◌+◌, ◌-◌, ◌<◌, ◌≤◌, Bool, true, false, cond, eqb, leb, ltb, List, [], ◌∷◌, ◌++◌, length, Option, Some, None, inl, inr, refl, sym, ap, ◌∙◌, subst, arith}
 use Rattle.std.specs.Prelude.{◌&&◌, ◌||◌}
 use Rattle.std.specs.List.{find, list_any}
 use Rattle.std.specs.Option.{option_map}
-use Rattle.std.proofs.lemmas.Bool.{and_parts, cases_Bool, cases_eq, eq-eqb, eqb-true, lt-leb, lt-ltb, ltb-false, ltb-true}
+use Rattle.std.proofs.lemmas.Bool.{and_parts, cases_Bool, cases_eq, eq-eqb, eqb-true, lt-leb, ltb-false, ltb-true}
 use Rattle.room_spec.specs.Rooms.{RoomSpec, IsWithinLimits, processes}
 use Rattle.simulator.specs.declared.line.Line.{Line}
 use Rattle.simulator.specs.declared.line.Line.TheVariants.{Rest}
@@ -14,14 +14,14 @@ use Rattle.room_core.specs.Agreements.{decided_in, greatest_step, has_out, is_ou
 use Rattle.room_core.specs.Calls.{RoomState, configuration_of, moved, room_after_step, step_reply, sweep_at}
 use Rattle.room_core.specs.Fields.{Fields, opening_fields, replay_fields}
 use Rattle.room_core.specs.Moments.{fields_at}
-use Rattle.room_core.specs.Points.{Point, Writes, Decides, TakesEffect, write_counted, snapshot_read, decision_stored, is_snap, is_step_of, reads_at, reads_in}
+use Rattle.room_core.specs.Points.{Point, Writes, Decides, write_counted, snapshot_read, decision_stored, is_snap, reads_in}
 use Rattle.room_core.specs.Rooms.{HasLine, IsLegal, IsOneInterleaving, ScheduleEvent, opening, replay, stepped, steps}
 use Rattle.room_core.specs.declared.reply.StepReply.TheVariants.{Stepped}
 use Rattle.room_core.proofs.CallerLemmas.{at_before, at_end, left_alone, length-snoc, moved_data, shapes, taken_line, taken_moves, under_line_at_end}
 use Rattle.ws_history.specs.declared.effects.Effect.{Effect}
-use Rattle.ws_history.specs.declared.effects.Effect.TheVariants.{Write, Snapshot, Decision}
+use Rattle.ws_history.specs.declared.effects.Effect.TheVariants.{Write, Snapshot}
 use Rattle.ws_history.specs.declared.points.Before.{Before}
-use Rattle.ws_history.specs.Effects.{HasNoEffect, IsEffectOf, ReadsNext, TakesEffectNext, decision_by, effect_in, effect_inside, has_read, with_step}
+use Rattle.ws_history.specs.Effects.{HasNoEffect, IsEffectOf, ReadsNext, TakesEffectNext, decision_by, effect_in, effect_inside, has_read}
 use Rattle.ws_history.specs.Noting.{before_step, looked}
 use Rattle.ws_history.specs.Readings.{read_of}
 use Rattle.ws_history.proofs.Agreeing.{same_written}

@@ -1,7 +1,6 @@
 -- What is found from notes is the linearization of the schedule that was noted.
-use Rattle.std.proofs.Common.{◌≡◌, ℕ, zero, suc, ◌+◌, ◌<◌, ◌≤◌, Bool, true, false, cond, eqb, leb, List, [], ◌∷◌, ◌++◌, length, map, fold, get_or, Option, Some, None, Contains, inl, inr, refl, sym, ap, ◌∙◌, subst, arith}
+use Rattle.std.proofs.Common.{◌≡◌, ℕ, zero, suc, ◌+◌, ◌<◌, ◌≤◌, Bool, cond, leb, List, [], ◌∷◌, ◌++◌, length, map, fold, get_or, Option, Contains, inl, inr, refl, sym, ap, ◌∙◌, subst, arith}
 use Rattle.std.specs.List.{range_with_len}
-use Rattle.arrayvec.specs.ArrayVec.{ArrayVec}
 use Rattle.room_spec.specs.Rooms.{RoomSpec, IsWithinLimits, processes}
 use Rattle.sim_memory.proofs.CallerLemmas.{row_length}
 use Rattle.transcript.specs.declared.event.Event.{Event}
@@ -11,7 +10,7 @@ use Rattle.room_core.specs.Agreements.{greatest_step, is_passed, row_at, shown_b
 use Rattle.room_core.specs.Calls.{RoomState, configuration_of, sweep_at}
 use Rattle.room_core.specs.Fields.{Fields, opening_fields, replay_fields}
 use Rattle.room_core.specs.Moments.{fields_at}
-use Rattle.room_core.specs.Points.{AreEffects, Point, Writes, Snaps, Decides, TakesEffect, no_effect, one_effect, write_counted, snapshot_read, decision_stored, points_at}
+use Rattle.room_core.specs.Points.{AreEffects, Point, Writes, Snaps, TakesEffect, no_effect, one_effect, write_counted, snapshot_read, decision_stored, points_at}
 use Rattle.room_core.specs.Reading.{AreFieldsOf}
 use Rattle.room_core.specs.Rooms.{IsOneInterleaving, ScheduleEvent}
 use Rattle.room_core.specs.Timelines.{IsTimeline, timeline_of}
@@ -22,13 +21,13 @@ use Rattle.ws_history.specs.Notes.{AreNotesOf, Notes}
 use Rattle.ws_history.specs.Ordered.{all_points, decision_at, decision_points, events_by_time, points_of, put_event, put_in, read_points, round_points, write_points}
 use Rattle.ws_history.specs.Readings.{read_of}
 use Rattle.ws_history.specs.Sources.{history_of, source_of}
-use Rattle.ws_history.proofs.Agreeing.{same_row, same_value, same_written, shown_low}
+use Rattle.ws_history.proofs.Agreeing.{same_row, same_value, same_written}
 use Rattle.ws_history.proofs.Linearized.{linearization_events, linearization_run}
 use Rattle.ws_history.proofs.NotedPoints.{Effective, from_all, into_all}
 use Rattle.ws_history.proofs.Order.{not_empty}
 use Rattle.ws_history.proofs.Placed.{events_folded, from_folded, placed, rising_folded, to_folded}
 use Rattle.ws_history.proofs.RoomFields.{history_in, low_rows}
-use Rattle.ws_history.proofs.Said.{agree, are_fields, said_count, said_decided, said_passed, said_shown}
+use Rattle.ws_history.proofs.Said.{agree, said_count, said_decided, said_passed, said_shown}
 use Rattle.ws_history.proofs.Walking.{map_same}
 
 -- ---- two that take effect at one step are one

@@ -1,5 +1,5 @@
 -- What a simulator of a room has in mind.
-use Rattle.std.proofs.Common.{◌≡◌, ℕ, ◌+◌, ◌*◌, ◌<◌, ◌≤◌, true, refl, ap, ◌∙◌, subst, arith}
+use Rattle.std.proofs.Common.{◌≡◌, ℕ, ◌<◌, ◌≤◌, true, refl, ap, ◌∙◌, subst, arith}
 use Rattle.std.proofs.Math.ListN.{get_or-map}
 use Rattle.room_spec.specs.Rooms.{RoomSpec}
 use Rattle.room_spec.specs.Sizes.{sizes_in}
@@ -8,7 +8,6 @@ use Rattle.simulator.specs.declared.goal.Goal.{Goal}
 use Rattle.simulator.specs.declared.goal.Goal.TheVariants as goals
 use Rattle.simulator.specs.declared.line.Line.{Line}
 use Rattle.simulator.specs.declared.line.Line.TheVariants.{Rest, Raise, Snap, Show, Enter, Look, Leave, Ask, GetView, Values, Out}
-use Rattle.simulator.specs.declared.operation.Move.{Move}
 use Rattle.simulator.specs.declared.operation.Move.TheVariants.{Load}
 use Rattle.simulator.specs.Minds.{MindState, current_round, goal_at, round_of}
 use Rattle.simulator.specs.Moves.{move_at, move_of}

@@ -1,7 +1,7 @@
 -- Notes stay notes: of the opening room, by a step, and by a crash.
-use Rattle.std.proofs.Common.{◌≡◌, ◌≢◌, ◌⊎◌, ℕ, zero, suc, ◌+◌, ◌*◌, ◌<◌, ◌≤◌, Bool, true, false, not, cond, eqb, ltb, List, [], ◌∷◌, ◌++◌, length, map, get_or, set, Option, Some, None, inl, inr, refl, sym, ap, ◌∙◌, subst, arith, mul_comm}
-use Rattle.std.specs.Prelude.{◌&&◌, ◌||◌, slice_get, slice_index, slice_set, replicate}
-use Rattle.std.proofs.lemmas.Bool.{and_parts, cases_Bool, cases_eq, cases_lt, eq-eqb, eqb-true, lt-leb, lt-ltb, ltb-true, not-true}
+use Rattle.std.proofs.Common.{◌≡◌, ◌≢◌, ◌⊎◌, ℕ, suc, ◌+◌, ◌*◌, ◌<◌, ◌≤◌, Bool, true, false, not, cond, eqb, ltb, List, [], ◌∷◌, ◌++◌, length, get_or, set, Option, Some, None, inl, inr, refl, sym, ap, ◌∙◌, subst, arith, mul_comm}
+use Rattle.std.specs.Prelude.{◌&&◌, ◌||◌, slice_index, slice_set, replicate}
+use Rattle.std.proofs.lemmas.Bool.{and_parts, cases_eq, eq-eqb, eqb-true, lt-leb, lt-ltb, ltb-true, not-true}
 use Rattle.std.proofs.lemmas.List.{append-nil, append_assoc, get_or-set_same, get_or-set_other, length-replicate, length-set}
 use Rattle.std.proofs.Math.ListN.{get_or-replicate}
 use Rattle.std.proofs.lemmas.Nat.{mul-add-lt, same_from_place}
@@ -17,7 +17,7 @@ use Rattle.room_core.specs.Calls.{RoomState, configuration_of, moved, room_after
 use Rattle.room_core.specs.Watching.{AreSeen, Follow, TakenStep}
 use Rattle.room_core.specs.declared.reply.StepReply.TheVariants.{Stepped}
 use Rattle.room_core.specs.Counting.{events_so_far}
-use Rattle.room_core.specs.Fields.{Fields, opening_fields, replay_fields, with_crash}
+use Rattle.room_core.specs.Fields.{Fields, opening_fields, replay_fields}
 use Rattle.room_core.specs.Moments.{fields_at}
 use Rattle.room_core.specs.Points.{is_snap, is_step_of, last_read, last_when, reads_at, reads_in}
 use Rattle.room_core.specs.Rooms.{Configuration, HasLine, IsAlive, IsLegal, IsOneInterleaving, IsShaped, ScheduleEvent, crashed_by, crashes, opening, replay, stepped, steps}

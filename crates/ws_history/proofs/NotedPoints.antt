@@ -1,5 +1,5 @@
 -- What takes effect at the steps of a schedule is what its notes say.
-use Rattle.std.proofs.Common.{◌≡◌, ◌⊎◌, ℕ, zero, suc, ◌+◌, ◌<◌, ◌≤◌, Bool, true, false, not, cond, eqb, leb, ltb, List, [], ◌∷◌, ◌++◌, length, Option, Some, None, Contains, inl, inr, refl, sym, ap, ◌∙◌, subst, arith}
+use Rattle.std.proofs.Common.{◌≡◌, ℕ, zero, suc, ◌+◌, ◌<◌, ◌≤◌, Bool, true, false, not, cond, eqb, leb, ltb, List, [], ◌∷◌, ◌++◌, length, Option, Some, None, Contains, inl, inr, refl, sym, ap, ◌∙◌, subst, arith}
 use Rattle.std.specs.Prelude.{◌&&◌}
 use Rattle.std.proofs.lemmas.Bool.{and_parts, cases_Bool, cases_eq, cases_lt, eq-eqb, eqb-true, lt-ltb, ltb-true, leb-true, le-leb, not-true}
 use Rattle.std.proofs.lemmas.List.Elements.{Contains-append_left, Contains-append_right, Contains-append_cases}
@@ -7,12 +7,12 @@ use Rattle.room_spec.specs.Rooms.{RoomSpec, processes}
 use Rattle.room_core.specs.Agreements.{decided_in, greatest_step, has_out, is_passed, shown_of}
 use Rattle.room_core.specs.Fields.{Fields}
 use Rattle.room_core.specs.Moments.{fields_at}
-use Rattle.room_core.specs.Points.{Point, Writes, Snaps, Decides, HasPassed, TakesEffect, last_read, last_when, write_counted, snapshot_read, decision_stored, points_at, read_time}
+use Rattle.room_core.specs.Points.{Point, Writes, Snaps, Decides, HasPassed, TakesEffect, last_when, write_counted, snapshot_read, decision_stored, points_at, read_time}
 use Rattle.room_core.specs.Rooms.{Configuration, ScheduleEvent}
 use Rattle.room_core.specs.Timelines.{IsTimeline, Moves, nothing, writes, snaps, decides, timeline_of}
 use Rattle.room_core.proofs.CallerLemmas.{decision_stays}
 use Rattle.ws_history.specs.Linearizations.{Timed}
-use Rattle.ws_history.specs.Notes.{AreNotesOf, Notes, counted_at, counts_in, last_by, read_at, stored_at, stores_in}
+use Rattle.ws_history.specs.Notes.{AreNotesOf, Notes, counted_at, counts_in, read_at, stored_at, stores_in}
 use Rattle.ws_history.specs.Ordered.{all_points, decision_at, decision_points, points_of, read_points, round_points, write_points}
 use Rattle.ws_history.proofs.Agreeing.{shown_low}
 use Rattle.ws_history.proofs.Order.{not_empty, cons_cases, cons_first}

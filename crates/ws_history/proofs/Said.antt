@@ -1,9 +1,7 @@
 -- What the words of a room say is what the fields have to which a schedule leads.
-use Rattle.std.proofs.Common.{◌≡◌, ℕ, ◌+◌, ◌<◌, ◌≤◌, Bool, List, Option, refl, ap, arith}
-use Rattle.room_spec.specs.Rooms.{RoomSpec, IsWithinLimits, processes}
+use Rattle.std.proofs.Common.{◌≡◌, ℕ, ◌<◌, ◌≤◌, refl, ap, arith}
+use Rattle.room_spec.specs.Rooms.{IsWithinLimits, processes}
 use Rattle.room_spec.specs.Sizes.{sizes_in}
-use Rattle.simulator.specs.declared.goal.Goal.{Goal}
-use Rattle.simulator.specs.declared.line.Line.{Line}
 use Rattle.simulator.specs.Minds.{MindOf, MindState, current_round}
 use Rattle.room_core.specs.Agreements.{decided_in, greatest_step, has_out, is_passed, shown_of}
 use Rattle.room_core.specs.Calls.{RoomState, configuration_of, sweep_at}

@@ -1,5 +1,5 @@
 -- How a step is noted, by what the room's words say before it and after it. Inside the crate.
-use Rattle.std.specs.Prelude.{ℕ, ◌+◌, ◌*◌, Bool, not, Option, Some, None, slice_set, nat_le, nat_lt, ◌==◌, ◌&&◌, ◌||◌, if◌then◌else◌}
+use Rattle.std.specs.Prelude.{ℕ, ◌+◌, ◌*◌, not, Option, Some, None, slice_set, nat_le, nat_lt, ◌==◌, ◌&&◌, ◌||◌, if◌then◌else◌}
 use Rattle.room_spec.specs.Rooms.{processes}
 use Rattle.simulator.specs.Minds.{current_round}
 use Rattle.simulator.specs.Sweeps.{is_resting}

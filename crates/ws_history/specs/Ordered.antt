@@ -1,5 +1,5 @@
 -- How the events of a linearization are found from notes. Inside the crate.
-use Rattle.std.specs.Prelude.{◌≡◌, ℕ, zero, suc, ◌+◌, List, [], ◌∷◌, ◌++◌, length, map, Option, Some, None, nat_le, if◌then◌else◌}
+use Rattle.std.specs.Prelude.{ℕ, zero, suc, ◌+◌, List, [], ◌∷◌, ◌++◌, Option, Some, None, nat_le, if◌then◌else◌}
 use Rattle.std.specs.List.{fold}
 use Rattle.std.specs.BTreeMap.{insert_entry}
 use Rattle.std.specs.Ordering.{nat_cmp}
@@ -8,11 +8,9 @@ use Rattle.transcript.specs.declared.event.Event.{Event}
 use Rattle.room_core.specs.Agreements.{decided_in, greatest_step, is_passed, shown_of}
 use Rattle.room_core.specs.Calls.{RoomState}
 use Rattle.room_core.specs.Fields.{Fields}
-use Rattle.room_core.specs.Moments.{fields_at}
 use Rattle.room_core.specs.Points.{Writes, Snaps, Decides}
-use Rattle.room_core.specs.Rooms.{ScheduleEvent}
 use Rattle.ws_history.specs.Histories.{Source}
-use Rattle.ws_history.specs.Linearizations.{IsLinearization, Timed, event_of}
+use Rattle.ws_history.specs.Linearizations.{Timed, event_of}
 use Rattle.ws_history.specs.Notes.{Notes, counted_at, read_at, stored_at}
 use Rattle.ws_history.specs.Readings.{read_of}
 use Rattle.ws_history.specs.Sources.{source_of}

@@ -1,5 +1,5 @@
 //! What takes effect at an atomic step, as far as the step itself shows it.
-ghost use Rattle.std.specs.Prelude.{◌≡◌, ◌<◌, ◌≤◌};
+ghost use Rattle.std.specs.Prelude.{◌≡◌, ◌<◌};
 ghost use Rattle.room_spec.specs.Rooms.{processes};
 ghost use Rattle.room_core.specs.Calls.{RoomState, configuration_of, room_after_step, step_reply};
 ghost use Rattle.room_core.specs.Rooms.{IsOneInterleaving};

@@ -1,5 +1,5 @@
 //! The linearization of a room's simulated execution.
-ghost use Rattle.std.specs.Prelude.{◌≡◌, ℕ, ◌<◌, ◌≤◌, List, IfOk, OnOk, IfNone, map};
+ghost use Rattle.std.specs.Prelude.{◌≡◌, ℕ, ◌<◌, List, IfOk, OnOk, map};
 ghost use Rattle.std.specs.List.{fold};
 ghost use Rattle.room_spec.specs.Rooms.{processes};
 ghost use Rattle.room_spec.specs.Sizes.{sizes_in};
@@ -9,14 +9,13 @@ ghost use Rattle.room_core.specs.Agreements.{greatest_step, has_out, row_at, sho
 ghost use Rattle.transcript.specs.declared.event.Event.TheVariants.{Snap};
 ghost use Rattle.room_core.specs.Calls.{configuration_of};
 ghost use Rattle.room_core.specs.Fields.{Fields};
-ghost use Rattle.room_core.specs.Moments.{fields_at};
 ghost use Rattle.room_core.specs.Reading.{AreFieldsOf};
 ghost use Rattle.room_core.specs.Rooms.{ScheduleEvent};
 ghost use Rattle.ws_history.specs.Linearizations.{AreEventsAtSteps, events_of};
 ghost use Rattle.ws_history.specs.Notes.{AreNotesOf};
 ghost use Rattle.ws_history.specs.Ordered.{decision_points, events_by_time, points_of, put_in, read_points, write_points};
 ghost use Rattle.ws_history.specs.Readings.{read_of};
-ghost use Rattle.ws_history.specs.Sources.{history_of, source_of};
+ghost use Rattle.ws_history.specs.Sources.{history_of};
 
 use crate::agreements::{is_passed, shown_by, shown_of, view_at, written};
 use crate::points::Points;

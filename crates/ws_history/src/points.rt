@@ -1,17 +1,17 @@
 //! Notes of the steps at which a room's writes, snapshots and decisions take effect.
-ghost use Rattle.std.specs.Prelude.{◌≡◌, ◌≢◌, ℕ, ◌<◌, ◌≤◌, ◌*◌, ◌+◌, ◌^◌, ◌==◌, ◌&&◌, [], false, true, None, IfOk, IfSome, length, slice_index, slice_set};
-ghost use Rattle.room_spec.specs.Rooms.{IsWithinLimits, processes};
+ghost use Rattle.std.specs.Prelude.{◌≡◌, ◌≢◌, ◌<◌, ◌≤◌, ◌*◌, ◌+◌, ◌^◌, ◌==◌, ◌&&◌, [], false, true, None, IfOk, IfSome, slice_index, slice_set};
+ghost use Rattle.room_spec.specs.Rooms.{processes};
 ghost use Rattle.simulator.specs.Minds.{current_round};
 ghost use Rattle.simulator.specs.Ranges.{IsMind};
 ghost use Rattle.simulator.specs.Sweeps.{is_resting};
 ghost use Rattle.simulator.specs.Turns.{words_in};
-ghost use Rattle.room_core.specs.Calls.{configuration_of, room_after_step, step_reply, sweep_at};
-ghost use Rattle.room_core.specs.Counting.{events_of, events_so_far, total};
+ghost use Rattle.room_core.specs.Calls.{configuration_of, sweep_at};
+ghost use Rattle.room_core.specs.Counting.{events_of, events_so_far};
 ghost use Rattle.room_core.specs.Points.{is_snap};
 ghost use Rattle.room_core.specs.Rooms.{opening};
 ghost use Rattle.room_core.specs.declared.reply.StepReply.TheVariants.{Stepped};
 ghost use Rattle.ws_history.specs.Notes.{AreNotesOf, counted_at, place, read_at, stored_at};
-ghost use Rattle.ws_history.specs.Noting.{before_step, count_noted, looked, noted, noted_if, noted_step, read_noted, store_noted};
+ghost use Rattle.ws_history.specs.Noting.{count_noted, looked, noted, read_noted, store_noted};
 ghost use Rattle.ws_history.specs.Effects.{has_read};
 
 use crate::reading::{

@@ -1,11 +1,10 @@
 -- A step that is taken is a line, and a call that takes none changes no word, mind or mark.
-use Rattle.std.proofs.Common.{◌≡◌, ◌≢◌, ℕ, ◌<◌, Bool, true, false, cond, leb, refl, sym, ap, ◌∙◌, arith}
-use Rattle.std.proofs.lemmas.Bool.{cases_Bool, leb-false}
+use Rattle.std.proofs.Common.{◌≡◌, ◌≢◌, ℕ, Bool, true, false, cond, leb, refl, ap, ◌∙◌}
+use Rattle.std.proofs.lemmas.Bool.{leb-false}
 use Rattle.simulator.specs.declared.sweep.Ready.{Ready}
 use Rattle.simulator.specs.declared.sweep.Ready.TheVariants as ready
-use Rattle.room_core.specs.Calls.{RoomState, configuration_of, has_crashed, moved, ready_at, reply_when, room_after_step, room_when, step_reply, sweep_at, with_sweep, woken}
-use Rattle.room_core.specs.Rooms.{Configuration, HasLine, IsShaped}
-use Rattle.room_core.specs.declared.reply.StepReply.{StepReply}
+use Rattle.room_core.specs.Calls.{RoomState, configuration_of, has_crashed, moved, ready_at, reply_when, room_after_step, room_when, step_reply}
+use Rattle.room_core.specs.Rooms.{HasLine, IsShaped}
 use Rattle.room_core.specs.declared.reply.StepReply.TheVariants.{Stepped, Crashed, NoSimulator}
 use Rattle.room_core.proofs.fields.States.{has_line, woken_data}
 

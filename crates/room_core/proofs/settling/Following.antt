@@ -2,7 +2,6 @@
 use Rattle.std.proofs.Common.{◌≡◌, ◌≢◌, ℕ, zero, suc, Bool, false, cond, List, [], ◌∷◌, ◌++◌, length, refl, sym, ◌∙◌, subst}
 use Rattle.room_core.specs.Calls.{RoomState, configuration_of, room_after_settle, room_after_step, room_after_steps, step_reply}
 use Rattle.room_core.specs.Rooms.{Configuration}
-use Rattle.room_core.specs.Settling.{settled}
 use Rattle.room_core.specs.Watching.{Follow, TakenStep, Traced, is_stepped, steps_of_settling, steps_of_steps, traced_kind}
 use Rattle.room_core.specs.declared.reply.StepReply.{StepReply}
 use Rattle.room_core.specs.declared.reply.StepReply.TheVariants.{Stepped, Idle, OutOfTurns, Crashed, NoSimulator}
