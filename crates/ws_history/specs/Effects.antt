@@ -16,7 +16,7 @@ use Rattle.ws_history.specs.Readings.{read_of}
 abbrev pub with_step : List ScheduleEvent → ℕ → List ScheduleEvent
 with_step schedule i = schedule ++ steps i ∷ []
 
--- By the step of simulator i that follows this schedule this point takes effect, whatever comes after it.
+-- By the step of simulator i that follows this schedule this point takes effect: in the schedule that ends with it.
 abbrev pub TakesEffectNext : RoomSpec → List ScheduleEvent → ℕ → Point → Type 0
 TakesEffectNext spec schedule i point = TakesEffect spec (with_step schedule i) (fields_at spec (with_step schedule i) (length (with_step schedule i))) (length schedule) point
 
