@@ -9,7 +9,7 @@ use Rattle.room_spec.specs.Rooms.{RoomSpec}
 use Rattle.room_files.specs.BlockLists.{IsBlockAt}
 use Rattle.outcome_text.specs.declared.rooms.Search.{Search}
 use Rattle.outcome_text.specs.declared.listing.AllOutcomes.{AllOutcomes}
-use Rattle.outcome_text.specs.Listing.{AreAllListed, HasStates, IsTaskAnswer}
+use Rattle.outcome_text.specs.Listing.{AreAllListed, HasStates, IsTaskOfRuns}
 use Rattle.outcome_text.specs.Rooms.{AddsOutcomes, AreRoomAnswers, IsRoomAnswer, crashes_for}
 use Rattle.outcome_text.specs.Texts.{found_text, head_line}
 
@@ -58,7 +58,7 @@ none_is (Some value) false is = refl
 
 -- what was written of a room that was searched to the end
 pub found_told : (search : Search) (spec : RoomSpec) (block name : List ℕ) (crashes : ℕ) (all : AllOutcomes) (well : Bool) (before head after : List ℕ) → block_in block ≡ Ok (spec, length block) → name ≡ spec.name → crashes ≡ crashes_for spec search.crashes
-    → AreAllListed spec crashes search.brief all.listed.items → HasStates spec search.states all.states → IsTaskAnswer spec (option_map (λ events. events.items) all.breaking) → well ≡ is_none all.breaking
+    → AreAllListed spec crashes search.brief all.listed.items → HasStates spec search.states all.states → IsTaskOfRuns spec (option_map (λ events. events.items) all.breaking) → well ≡ is_none all.breaking
     → head ≡ before ++ head_line name crashes → after ≡ head ++ found_text spec block all → (text : List ℕ) × IsRoomAnswer search spec well text × (after ≡ before ++ text)
 found_told search spec block name crashes all well before head after says named stopped outcomes states task well_is head_is after_is =
     let rest = found_text spec block all in

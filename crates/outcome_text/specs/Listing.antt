@@ -31,6 +31,6 @@ abbrev pub HasStates : RoomSpec → ℕ → ℕ → Type 0
 HasStates spec limit count = (states : List State) × AreAllReachable spec states × (length states ≡ count) × (count ≤ limit)
 
 -- each run keeps the room's task, or these are the events of one that breaks it
-abbrev pub IsTaskAnswer : RoomSpec → Option (List Event) → Type 0
-IsTaskAnswer spec None = (events : List Event) → IsRun spec events → KeepsOwnTask spec events
-IsTaskAnswer spec (Some events) = IsBreakingRun spec events
+abbrev pub IsTaskOfRuns : RoomSpec → Option (List Event) → Type 0
+IsTaskOfRuns spec None = (events : List Event) → IsRun spec events → KeepsOwnTask spec events
+IsTaskOfRuns spec (Some events) = IsBreakingRun spec events

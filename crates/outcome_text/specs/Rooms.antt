@@ -6,7 +6,7 @@ use Rattle.room_spec.specs.Rooms.{RoomSpec, processes}
 use Rattle.run_search.specs.Reached.{HasMoreLocals, HasMoreStates}
 use Rattle.outcome_text.specs.declared.listing.AllOutcomes.{AllOutcomes}
 use Rattle.outcome_text.specs.declared.rooms.Search.{Search}
-use Rattle.outcome_text.specs.Listing.{AreAllListed, HasStates, IsTaskAnswer}
+use Rattle.outcome_text.specs.Listing.{AreAllListed, HasStates, IsTaskOfRuns}
 use Rattle.outcome_text.specs.Texts.{found_text, head_line, unfinished_line}
 
 -- all processes but one may stop, if the number is not said
@@ -19,7 +19,7 @@ pub record IsFoundText (search : Search) (spec : RoomSpec) (block : List ℕ) (w
   pub all : AllOutcomes
   pub outcomes : AreAllListed spec (crashes_for spec search.crashes) search.brief all.listed.items
   pub states : HasStates spec search.states all.states
-  pub task : IsTaskAnswer spec (option_map (λ events. events.items) all.breaking)
+  pub task : IsTaskOfRuns spec (option_map (λ events. events.items) all.breaking)
   pub well_is : well ≡ is_none all.breaking
   pub text_is : text ≡ found_text spec block all
 

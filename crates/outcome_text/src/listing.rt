@@ -3,7 +3,7 @@ ghost use Rattle.std.specs.Prelude.{◌≡◌, ◌<◌, ℕ, IfOk, IsErrOf, Some
 ghost use Rattle.run_search.specs.Outcomes.{IsFoundFor, outcomes_in};
 ghost use Rattle.run_search.specs.Reached.{HasMoreLocals, HasMoreStates};
 ghost use Rattle.run_search.specs.declared.fault.SearchFault.TheVariants as SearchFault;
-ghost use Rattle.outcome_text.specs.Listing.{AreAllListed, HasRun, HasStates, IsTaskAnswer, listed_ends};
+ghost use Rattle.outcome_text.specs.Listing.{AreAllListed, HasRun, HasStates, IsTaskOfRuns, listed_ends};
 ghost use Rattle.outcome_text.specs.declared.listing.Listed.{Listed as ListedValue};
 
 use room_spec::Spec;
@@ -47,7 +47,7 @@ pub fn find_all(
 ) -> Result<AllOutcomes, SearchFault>
     ensures outcomes { IfOk result (λ all. AreAllListed spec.now crashes brief all.listed.items) }
     ensures states { IfOk result (λ all. HasStates spec.now limit all.states) }
-    ensures task { IfOk result (λ all. IsTaskAnswer spec.now (option_map (λ events. events.items) all.breaking)) }
+    ensures task { IfOk result (λ all. IsTaskOfRuns spec.now (option_map (λ events. events.items) all.breaking)) }
     ensures too_many { IsErrOf result SearchFault.TooManyStates → HasMoreStates spec.now limit }
     ensures too_many_locals { IsErrOf result SearchFault.TooManyLocalStates → HasMoreLocals spec.now }
 {
