@@ -84,6 +84,13 @@ all_counted (state ∷ all) =
     let over = sum_by-cons (λ (s : ProcessState). cond {A = ℕ} (is_over s) 1 0) state all in
     omega (arith, rest, one, stopped, over)
 
+module _ (room : RoomState) (fields : Fields) (limits : IsWithinLimits room.spec) (are : AreFieldsOf room fields) where
+  pub reported_outcome : IsRunOutcome room.spec (processes room.spec) (ends_of (states_of room.spec fields))
+  reported_outcome =
+      let count = all_counted (states_of room.spec fields) in
+      let long = length-map-range_with_len (state_of room.spec fields) 0 (processes room.spec) in
+      is_outcome room fields limits are (processes room.spec) (omega (arith, count, long))
+
 module _ (room : RoomState) (fields : Fields) (limits : IsWithinLimits room.spec) (are : AreFieldsOf room fields) (settled : (j : ℕ) → j < processes room.spec → IsSettledFor room.spec fields j) where
   pub settled_outcome : IsRunOutcome room.spec (length (crashed_in room.spec fields)) (ends_of (states_of room.spec fields))
   settled_outcome =

@@ -6,7 +6,7 @@ ghost use Rattle.room_core.specs.Calls.{RoomState};
 ghost use Rattle.room_core.specs.Fields.{Fields};
 ghost use Rattle.room_core.specs.Reading.{AreFieldsOf};
 ghost use Rattle.room_core.specs.Settled.{IsSettledFor};
-ghost use Rattle.ws_history.specs.Reports.{crashed_in, states_of};
+ghost use Rattle.ws_history.specs.Reports.{crashed_in, report_of, states_of};
 ghost use Rattle.ws_history.specs.Sources.{history_of};
 ghost use Rattle.run_search.specs.Outcomes.{IsRunOutcome, is_stopped, outcome_of};
 ghost use Rattle.room_outcomes.specs.Ends.{ends_of};
@@ -19,6 +19,9 @@ pub fn rooms_end()
     ensures outcome { (room : RoomState) (fields : Fields) (crashes : ℕ) →
         IsWithinLimits room.spec → AreFieldsOf room fields → count_by is_stopped (ends_of (states_of room.spec fields)) ≤ crashes →
         IsRunOutcome room.spec crashes (ends_of (states_of room.spec fields)) }
+    // So it is with what a report of the room says of its processes: whatever `play`, `run` and `sample` show is among all outcomes.
+    ensures reported { (room : RoomState) (fields : Fields) →
+        IsWithinLimits room.spec → AreFieldsOf room fields → IsRunOutcome room.spec (processes room.spec) (ends_of (report_of room.spec fields).states.items) }
     // Once each process has settled, no more stop than simulators have crashed.
     ensures settled { (room : RoomState) (fields : Fields) →
         IsWithinLimits room.spec → AreFieldsOf room fields → ((j : ℕ) → j < processes room.spec → IsSettledFor room.spec fields j) →
