@@ -3,7 +3,7 @@
 pub use Rattle.room_core.proofs.settling.Alone.{steps_within}
 pub use Rattle.room_core.proofs.settling.Certified.{never_spent}
 pub use Rattle.room_core.proofs.fields.Decoding.{agrees}
-pub use Rattle.room_core.proofs.fields.FieldCalls.{fields_stand, opening_in_fields, same_spec, step_in_fields}
+pub use Rattle.room_core.proofs.fields.FieldCalls.{calls_in_fields, fields_stand, opening_in_fields, same_spec, step_in_fields}
 pub use Rattle.room_core.proofs.values.Knowing.{fields_known}
 pub use Rattle.room_core.proofs.values.LowValues.{fields_low, out_low}
 pub use Rattle.room_core.proofs.agreements.Promises.{rooms_agree}

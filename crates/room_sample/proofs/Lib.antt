@@ -1,3 +1,4 @@
+mod AmongAll
 mod Counting
 mod Drawing
 mod OneMore

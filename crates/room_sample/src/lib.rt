@@ -2,6 +2,7 @@
 #![tactic(auto)]
 
 mod chances;
+pub mod laws;
 mod run;
 mod sampler;
 mod sampling;

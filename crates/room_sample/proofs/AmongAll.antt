@@ -1,0 +1,58 @@
+-- The outcomes of a sample are outcomes of runs.
+use Rattle.std.proofs.Common.{◌≡◌, ℕ, zero, suc, List, [], ◌∷◌, refl, sym, ap, ◌∙◌, subst}
+use Rattle.room_spec.specs.Rooms.{IsWithinLimits, RoomSpec, processes}
+use Rattle.room_core.specs.Calls.{Call, RoomState, opening_state, room_after_calls, room_after_step, room_after_steps}
+use Rattle.room_core.specs.Calls.{Crash as CrashCall, Settle}
+use Rattle.room_core.specs.Fields.{Fields, fields_after_calls, fields_after_step, opening_fields}
+use Rattle.room_core.specs.Reading.{AreFieldsOf}
+use Rattle.room_core.proofs.CallerLemmas.{calls_in_fields, opening_in_fields, same_spec, same_spec_steps, step_in_fields}
+use Rattle.ws_history.specs.Reports.{states_of}
+use Rattle.ws_history.specs.declared.states.ProcessState.{ProcessState}
+use Rattle.run_search.specs.declared.ended.Ended.{Ended}
+use Rattle.run_search.specs.Outcomes.{IsRunOutcome}
+use Rattle.room_outcomes.specs.Ends.{ends_of}
+use Rattle.room_outcomes.proofs.CallerLemmas.{reported_outcome}
+use Rattle.room_sample.specs.Schedules.{IsOutcome, room_after_schedule, room_after_stretch, settled_by}
+use Rattle.room_sample.specs.declared.stretch.Stretch.{Stretch}
+use Rattle.room_sample.specs.declared.stretch.Stretch.TheVariants.{Steps, Crash}
+
+-- the room has this spec, and fields
+record HasFields (spec : RoomSpec) (room : RoomState) : Type 0 where
+  pub same : room.spec ≡ spec
+  pub fields : Fields
+  pub are : AreFieldsOf room fields
+
+within : (spec : RoomSpec) (room : RoomState) → room.spec ≡ spec → IsWithinLimits spec → IsWithinLimits room.spec
+within spec room same limits = subst IsWithinLimits (sym same) limits
+
+after_call : (spec : RoomSpec) (room : RoomState) (call : Call) → IsWithinLimits spec → HasFields spec room → HasFields spec (room_after_calls room (call ∷ []))
+after_call spec room call limits has = record {
+  same = same_spec room call ∙ has.same;
+  fields = fields_after_calls room.spec has.fields (call ∷ []);
+  are = (calls_in_fields room has.fields (call ∷ []) (within spec room has.same limits) has.are).1;
+}
+
+after_steps : (spec : RoomSpec) (room : RoomState) (i count : ℕ) → IsWithinLimits spec → HasFields spec room → HasFields spec (room_after_steps room i count)
+after_steps spec room i zero limits has = has
+after_steps spec room i (suc count) limits has = after_steps spec (room_after_step room i) i count limits (record {
+  same = same_spec_steps room i 1 ∙ has.same;
+  fields = fields_after_step room.spec has.fields i;
+  are = (step_in_fields room has.fields i (within spec room has.same limits) has.are).1;
+})
+
+after_stretch : (spec : RoomSpec) (room : RoomState) (stretch : Stretch) → IsWithinLimits spec → HasFields spec room → HasFields spec (room_after_stretch room stretch)
+after_stretch spec room (Steps i count) limits has = after_steps spec room i count limits has
+after_stretch spec room (Crash i) limits has = after_call spec room (CrashCall i) limits has
+
+after_schedule : (spec : RoomSpec) (room : RoomState) (schedule : List Stretch) → IsWithinLimits spec → HasFields spec room → HasFields spec (room_after_schedule room schedule)
+after_schedule spec room [] limits has = has
+after_schedule spec room (stretch ∷ schedule) limits has = after_schedule spec (room_after_stretch room stretch) schedule limits (after_stretch spec room stretch limits has)
+
+pub sampled_outcome : (spec : RoomSpec) (crashes : ℕ) (schedule : List Stretch) (states : List ProcessState) → IsWithinLimits spec → IsOutcome spec crashes schedule states → IsRunOutcome spec (processes spec) (ends_of states)
+sampled_outcome spec crashes schedule states limits is =
+    let opened : HasFields spec (opening_state spec) = record { same = refl; fields = opening_fields spec; are = opening_in_fields spec } in
+    let settled = after_call spec (room_after_schedule (opening_state spec) schedule) Settle limits (after_schedule spec (opening_state spec) schedule limits opened) in
+    let room = settled_by spec schedule in
+    let among : IsRunOutcome room.spec (processes room.spec) (ends_of (states_of room.spec settled.fields)) = reported_outcome room settled.fields (within spec room settled.same limits) settled.are in
+    subst (λ (ends : List Ended). IsRunOutcome spec (processes spec) ends) (ap ends_of (sym (is.reported settled.fields settled.are)))
+    (subst (λ (s : RoomSpec). IsRunOutcome s (processes s) (ends_of (states_of room.spec settled.fields))) settled.same among)

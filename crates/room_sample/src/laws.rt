@@ -1,0 +1,15 @@
+//! A law of samples.
+ghost use Rattle.std.specs.Prelude.{ℕ, List};
+ghost use Rattle.room_spec.specs.Rooms.{IsWithinLimits, RoomSpec, processes};
+ghost use Rattle.ws_history.specs.declared.states.ProcessState.{ProcessState};
+ghost use Rattle.run_search.specs.Outcomes.{IsRunOutcome};
+ghost use Rattle.room_outcomes.specs.Ends.{ends_of};
+ghost use Rattle.room_sample.specs.Schedules.{IsOutcome};
+ghost use Rattle.room_sample.specs.declared.stretch.Stretch.{Stretch};
+
+/// What a sample finds is among all outcomes that a search of the room's protocol lists, with those processes stopped that are held or
+/// still going.
+pub fn sampled_outcomes()
+    ensures { (spec : RoomSpec) (crashes : ℕ) (schedule : List Stretch) (states : List ProcessState) →
+        IsWithinLimits spec → IsOutcome spec crashes schedule states → IsRunOutcome spec (processes spec) (ends_of states) }
+{}
