@@ -4,6 +4,7 @@ use room_core::{CrashReply, RoomCore, StepReply};
 use room_spec::{Name, Spec, read_block};
 use std::alloc::Global;
 use std::test::*;
+use transcript::Event;
 use ws_history::{ProcessState, Report};
 
 const ONE: &str =
@@ -303,6 +304,105 @@ fn are_half(rooms: &IndexMap<Name, RoomCore>) -> bool {
 #[test]
 fn rooms_that_are_left(rt: HostRuntime) -> Result<(), Fail> {
     assert!(rt; are_half(&left_rooms(rt.alloc())?));
+    Ok(())
+}
+
+/// Adds a command to each of 200 rooms.
+fn ask_each(alloc: Global, commands: &mut Vec<Command>, ask: Ask) -> Result<(), Fail> {
+    for number in 0..200 {
+        ask_numbered(alloc, commands, number, ask)?;
+    }
+    Ok(())
+}
+
+/// Adds a command to the room `r` and this number.
+fn ask_numbered(
+    alloc: Global,
+    commands: &mut Vec<Command>,
+    number: u64,
+    ask: Ask,
+) -> Result<(), Fail> {
+    let room = format!(in alloc; "r{number}")?;
+    commands.push(asked(alloc, ONE, room.as_str(), ask)?)?;
+    Ok(())
+}
+
+/// Commands by which 200 rooms begin and take all their steps, those with an odd number are closed, and each is asked for its
+/// report.
+fn tenants(alloc: Global) -> Result<Vec<Command>, Fail> {
+    let mut commands = Vec::new(alloc);
+    ask_each(alloc, &mut commands, Ask::Begin)?;
+    for _ in 0..12 {
+        ask_each(alloc, &mut commands, Ask::Step(0, 1))?;
+    }
+    for number in 0..200 {
+        if number % 2 == 1 {
+            ask_numbered(alloc, &mut commands, number, Ask::Close)?;
+        }
+    }
+    ask_each(alloc, &mut commands, Ask::Report)?;
+    Ok(commands)
+}
+
+/// What is replied to the command at this place among them.
+fn tenant_told(place: usize) -> Told {
+    if place < 200 {
+        ("opened", 0)
+    } else if place < 2400 {
+        ("step Stepped", 1)
+    } else if place < 2600 {
+        ("step Idle", 0)
+    } else if place < 2700 {
+        ("closed", 0)
+    } else if place % 2 == 0 {
+        ("history", 3)
+    } else {
+        ("refused", 40)
+    }
+}
+
+/// Whether this reply is the report of a room whose one process has done all, if it is a report.
+fn may_be_done(reply: &Reply) -> bool {
+    match reply {
+        Reply::Report(report) => is_done(report),
+        _ => true,
+    }
+}
+
+fn is_done(report: &Report) -> bool {
+    let events = report.history.events();
+    report.states.as_slice() == [ProcessState::Decided(5)].as_slice()
+        && report.crashed.is_empty()
+        && events.len() == 3
+        && events[0] == (Event::Write { p: 0, v: 5 })
+        && is_snap(&events[1], 0, [Some(5)].as_slice())
+        && events[2] == (Event::Decide { p: 0, v: 5 })
+}
+
+fn is_snap(event: &Event, process: u8, row: &[Option<u32>]) -> bool {
+    match event {
+        Event::Snap { p, row: found } => *p == process && found.as_slice() == row,
+        _ => false,
+    }
+}
+
+/// The place of the first reply that is another one than [`tenant_told`] says.
+fn first_other(replies: &[Reply]) -> Option<usize> {
+    for (place, reply) in replies.iter().enumerate() {
+        if told(reply) != tenant_told(place) || !may_be_done(reply) {
+            return Some(place);
+        }
+    }
+    None
+}
+
+#[test]
+fn two_hundred_tenants(rt: HostRuntime) -> Result<(), Fail> {
+    let replies = Service::run(rt.alloc(), tenants(rt.alloc())?)?;
+    assert_eq!(rt;
+        (first_other(replies.as_slice()), replies.len()),
+        (None, 2900)
+    );
     Ok(())
 }
 
