@@ -1,10 +1,15 @@
 mod AmongAll
+mod Coming
 mod Counting
 mod Drawing
+mod Following
+mod Leading
 mod OneMore
 mod Ordering
 mod RoomTexts
 mod Schedules
+mod ScriptLines
 mod Stopping
 mod Taking
 mod Uniform
+mod WholeBlocks

@@ -5,11 +5,12 @@ use Rattle.std.specs.List.{concat}
 use Rattle.std.proofs.lemmas.List.{append-nil, append_assoc, take_all}
 use Rattle.std.proofs.lemmas.List.Folds.{concat-append}
 use Rattle.room_spec.specs.Blocks.{block_in}
-use Rattle.room_spec.specs.Rooms.{RoomSpec}
+use Rattle.room_spec.specs.Rooms.{IsWithinLimits, RoomSpec}
 use Rattle.room_sample.specs.Rooms.{AddsSamples, AreBlocks, AreSampleTexts, IsSampleText, RoomBlocks}
 use Rattle.room_sample.specs.Samples.{AreMostFirst, Counted, IsSample}
 use Rattle.room_sample.specs.Texts.{sample_text}
 use Rattle.room_sample.specs.declared.sampling.Plan.{Plan}
+use Rattle.room_sample.proofs.Coming.{scripts_lead}
 use Rattle.room_sample.proofs.Taking.{took}
 
 pub one_block_more : (specs : List RoomSpec) (blocks : List (List ℕ)) (spec : RoomSpec) (block : List ℕ) → AreBlocks specs blocks → block_in block ≡ Ok (spec, length block) → AreBlocks (specs ++ spec ∷ []) (blocks ++ block ∷ [])
@@ -74,18 +75,20 @@ same_read : (block : List ℕ) (one other : RoomSpec × ℕ) → block_in block 
 same_read block one other read says = cc
 
 -- what was written of the room that a block says
-pub sample_told : (plan : Plan) (block : List ℕ) (spec : RoomSpec) (len : ℕ) (outcomes shown : List Counted) (before after : List ℕ) → block_in block ≡ Ok (spec, len) → IsSample spec plan outcomes → IsPermutation outcomes shown → AreMostFirst shown → after ≡ before ++ sample_text spec.name block plan shown
+pub sample_told : (plan : Plan) (block : List ℕ) (spec : RoomSpec) (len : ℕ) (outcomes shown : List Counted) (before after : List ℕ) → IsWithinLimits spec → block_in block ≡ Ok (spec, len) → IsSample spec plan outcomes → IsPermutation outcomes shown → AreMostFirst shown → after ≡ before ++ sample_text spec.name block plan shown
     → (said : RoomSpec) → block_in block ≡ Ok (said, length block) → (text : List ℕ) × IsSampleText plan said text × (after ≡ before ++ text)
-sample_told plan block spec len outcomes shown before after read sample permuted first is said says =
+sample_told plan block spec len outcomes shown before after limits read sample permuted first is said says =
     let same : spec ≡ said = ap (λ (one : RoomSpec × ℕ). one.0) (same_read block (spec, len) (said, length block) read says) in
+    let own : block_in block ≡ Ok (spec, length block) = subst (λ (room : RoomSpec). block_in block ≡ Ok (room, length block)) (sym same) says in
     let told : IsSampleText plan spec (sample_text spec.name block plan shown) = record {
       block = block;
-      says = subst (λ (room : RoomSpec). block_in block ≡ Ok (room, length block)) (sym same) says;
+      says = own;
       outcomes = outcomes;
       sample = sample;
       shown = shown;
       all_shown = permuted;
       most_first = first;
+      scripts = scripts_lead plan spec block outcomes shown limits own sample permuted;
       text_is = refl;
     } in
     (sample_text spec.name block plan shown, subst (λ (room : RoomSpec). IsSampleText plan room (sample_text spec.name block plan shown)) same told, is)

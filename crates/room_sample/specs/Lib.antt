@@ -1,5 +1,6 @@
 pub mod Chances
 pub mod Drawn
+pub mod Leads
 pub mod Rooms
 pub mod Samples
 pub mod Schedules

@@ -1,13 +1,15 @@
 -- Rooms that are sampled, and what is written of each.
 use Rattle.std.specs.Prelude.{◌≡◌, ℕ, List, [], ◌∷◌, ◌++◌, length, Ok, IsPermutation, ⊤}
-use Rattle.std.specs.List.{concat}
+use Rattle.std.specs.List.{All, concat}
 use Rattle.room_spec.specs.Blocks.{block_in}
 use Rattle.room_spec.specs.Rooms.{RoomSpec}
+use Rattle.room_sample.specs.Leads.{HasScript}
 use Rattle.room_sample.specs.Samples.{AreMostFirst, Counted, IsSample}
 use Rattle.room_sample.specs.Texts.{sample_text}
 use Rattle.room_sample.specs.declared.sampling.Plan.{Plan}
 
--- The text tells of a sample of the room, of which those outcomes stand first that came most often, with a block that says the room.
+-- The text tells of a sample of the room: those outcomes first that came most often, each with a script that leads to it. The block says the
+-- room.
 pub record IsSampleText (plan : Plan) (spec : RoomSpec) (text : List ℕ) : Type 0 where
   pub block : List ℕ
   pub says : block_in block ≡ Ok (spec, length block)
@@ -16,6 +18,8 @@ pub record IsSampleText (plan : Plan) (spec : RoomSpec) (text : List ℕ) : Type
   pub shown : List Counted
   pub all_shown : IsPermutation outcomes shown
   pub most_first : AreMostFirst shown
+  -- the script of each outcome leads to it
+  pub scripts : All (HasScript spec.name block) shown
   pub text_is : text ≡ sample_text spec.name block plan shown
 
 -- a text for each room, in order

@@ -107,6 +107,7 @@ fn write_room(alloc: Global, block: &[u8], plan: &Plan, output: &mut Text) -> Re
     let Ok((spec, _)) = read_room(alloc, block)? else {
         unreachable!() // it is a room's block
     };
+    let _shape = spec.shape(); // for the proof: a spec is within its limits
     let mut outcomes = sample(alloc, &spec, block, plan)?;
     outcomes.sort_by_times()?;
     let name = spec.name().as_str().as_bytes();

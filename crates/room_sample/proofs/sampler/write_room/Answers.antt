@@ -11,6 +11,6 @@ returns c =
     let named : c.as_bytes-name.result.now ≡ c.in-Ok.spec.name = search rules in
     OnOk-map c.write_sample.result _ _
     (λ is.
-    sample_told c.args.plan.now c.args.block.now c.in-Ok.spec c.in-Ok.field-0-1 c.in_ok-outcomes.outcomes c.sort_by_times.new.self c.args.output.now c.write_sample.new.output read c.in_ok-outcomes.ensures c.sort_by_times.ensures.all c.in_ok-sort_by_times.ensures.sorted
+    sample_told c.args.plan.now c.args.block.now c.in-Ok.spec c.in-Ok.field-0-1 c.in_ok-outcomes.outcomes c.sort_by_times.new.self c.args.output.now c.write_sample.new.output c.shape-shape.ensures.limits read c.in_ok-outcomes.ensures c.sort_by_times.ensures.all c.in_ok-sort_by_times.ensures.sorted
     (is ∙ ap (λ (name : List ℕ). c.args.output.now ++ sample_text name c.args.block.now c.args.plan.now c.sort_by_times.new.self) named))
     c.write_sample.ensures

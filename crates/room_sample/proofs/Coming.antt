@@ -1,0 +1,44 @@
+-- The scripts of a sample's outcomes.
+use Rattle.std.proofs.Common.{All, ◌≡◌, ℕ, suc, Bool, true, false, cond, List, [], ◌∷◌, Ok, length, get_or, sym, subst, arith}
+use Rattle.std.specs.Prelude.{IsPermutation}
+use Rattle.std.proofs.lemmas.List.Elements.{All-cons}
+use Rattle.std.proofs.lemmas.List.Sorted.{All-permutation}
+use Rattle.std.proofs.lemmas.List.Sums.{fold-append}
+use Rattle.rand_core.specs.Stream.{Stream}
+use Rattle.room_spec.specs.Blocks.{block_in}
+use Rattle.room_spec.specs.Rooms.{IsWithinLimits, RoomSpec}
+use Rattle.room_sample.specs.Leads.{HasScript}
+use Rattle.room_sample.specs.Samples.{AreDrawn, Counted, IsRunFrom, IsSample, Sampled, counted, counted_all, first_time, no_run, once_more, run_more, same_states}
+use Rattle.room_sample.specs.Schedules.{IsOutcome}
+use Rattle.room_sample.specs.declared.sampling.Plan.{Plan}
+use Rattle.room_sample.proofs.Leading.{leads}
+
+-- an outcome comes by its schedule
+abbrev Comes : RoomSpec → ℕ → Counted → Type 0
+Comes spec crashes one = IsOutcome spec crashes one.schedule one.states
+
+later_come : (spec : RoomSpec) (crashes : ℕ) (one : Counted) (others : List Counted) → All (Comes spec crashes) (one ∷ others) → All (Comes spec crashes) others
+later_come spec crashes one others all = λ k d below. all (suc k) d (omega (arith, below))
+
+counted_come : (spec : RoomSpec) (crashes : ℕ) (run : Sampled) (outcomes : List Counted) → IsOutcome spec crashes run.schedule run.states → All (Comes spec crashes) outcomes → All (Comes spec crashes) (counted run outcomes)
+counted_come spec crashes run [] is all = All-cons (Comes spec crashes) (first_time run) [] is all
+counted_come spec crashes run (one ∷ others) is all =
+    by (same_states run.states one.states) (counted_come spec crashes run others is (later_come spec crashes one others all))
+  where
+    by : (b : Bool) → All (Comes spec crashes) (counted run others) → All (Comes spec crashes) (cond b (once_more one ∷ others) (one ∷ counted run others))
+    by true later = All-cons (Comes spec crashes) (once_more one) others (all 0 one (omega arith)) (later_come spec crashes one others all)
+    by false later = All-cons (Comes spec crashes) one (counted run others) (all 0 one (omega arith)) later
+
+drawn_come : (spec : RoomSpec) (crashes : ℕ) (random later : Stream) (runs : List Sampled) → AreDrawn (IsRunFrom spec crashes) random runs later → All (Comes spec crashes) (counted_all runs)
+drawn_come spec crashes random later runs no_run = λ k d below. absurd (omega (arith, below))
+drawn_come spec crashes random end all (run_more runs run middle later drawn is) =
+    subst (λ (outcomes : List Counted). All (Comes spec crashes) outcomes) (sym (fold-append (λ (so_far : List Counted) (one : Sampled). counted one so_far) [] runs (run ∷ [])))
+    (counted_come spec crashes run (counted_all runs) is.outcome (drawn_come spec crashes random middle runs drawn))
+
+-- each script leads to its outcome
+pub scripts_lead : (plan : Plan) (spec : RoomSpec) (block : List ℕ) (outcomes shown : List Counted) → IsWithinLimits spec → block_in block ≡ Ok (spec, length block) → IsSample spec plan outcomes → IsPermutation outcomes shown
+    → All (HasScript spec.name block) shown
+scripts_lead plan spec block outcomes shown limits says sample permuted =
+    let come : All (Comes spec plan.crashes) outcomes =
+    subst (λ (all : List Counted). All (Comes spec plan.crashes) all) (sym sample.1.outcomes_are) (drawn_come spec plan.crashes _ sample.0 sample.1.runs sample.1.drawn) in
+    All-permutation (HasScript spec.name block) outcomes shown permuted (λ k d below. leads spec plan.crashes block (get_or outcomes k d).schedule (get_or outcomes k d).states limits says (come k d below))
