@@ -1,5 +1,5 @@
 //! What is drawn of a room.
-ghost use Rattle.std.specs.Prelude.{◌≡◌, ◌++◌, ◌≤◌, [], None, Some, OnOk, is_none, length};
+ghost use Rattle.std.specs.Prelude.{◌≡◌, ◌++◌, ◌≤◌, [], None, Some, OnErr, OnOk, is_none, length};
 ghost use Rattle.run_picture.specs.Panels.{events_in, states_in};
 
 use crate::head::Head;
@@ -63,9 +63,10 @@ impl Panel {
     ///
     /// # Errors
     ///
-    /// Where memory is refused. Nothing is noted then.
+    /// If an allocation fails. The panel is then as it was.
     pub fn note(&mut self, marks: &[Mark]) -> Result<(), AllocError>
-        ensures { OnOk result (self.new ≡ record self.old { marks = self.old.marks ++ marks.now }) }
+        ensures noted { OnOk result (self.new ≡ record self.old { marks = self.old.marks ++ marks.now }) }
+        ensures err { OnErr result (self.new ≡ self.old) }
     {
         self.marks.extend_from_slice(marks)
     }
