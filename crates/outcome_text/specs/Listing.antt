@@ -6,20 +6,20 @@ use Rattle.transcript.specs.declared.event.Event.{Event}
 use Rattle.transcript.specs.Runs.{IsRun}
 use Rattle.transcript.specs.Tasks.{KeepsOwnTask}
 use Rattle.run_search.specs.declared.ended.Ended.{Ended}
-use Rattle.run_search.specs.Outcomes.{IsRunOutcome, outcome_of}
+use Rattle.run_search.specs.Outcomes.{IsRunOutcome, IsShortest, outcome_of}
 use Rattle.run_search.specs.Reached.{AreAllReachable, State}
 use Rattle.run_search.specs.Tasks.{IsBreakingRun}
 use Rattle.outcome_text.specs.declared.listing.Listed.{Listed}
 
--- the events are a run that has the outcome; there are none exactly if it is brief
+-- the events are a shortest run that has the outcome; there are none exactly if it is brief
 pub record HasRun (spec : RoomSpec) (brief : Bool) (one : Listed) : Type 0 where
-  pub run : IfSome one.events (λ events. IsRun spec events.items × (one.ends.items ≡ outcome_of spec events.items))
+  pub run : IfSome one.events (λ events. IsRun spec events.items × IsShortest spec events.items × (one.ends.items ≡ outcome_of spec events.items))
   pub shown : is_none one.events ≡ brief
 
 abbrev pub listed_ends : List Listed → List (List Ended)
 listed_ends all = map (λ one. one.ends.items) all
 
--- all outcomes of the room's runs in which at most `crashes` processes stop, each once, and each with a run that has it unless brief
+-- all outcomes of the room's runs in which at most `crashes` processes stop, each once, and each with a shortest run that has it unless brief
 pub record AreAllListed (spec : RoomSpec) (crashes : ℕ) (brief : Bool) (all : List Listed) : Type 0 where
   pub runs : (i : ℕ) (one : Listed) → slice_get all i ≡ Some one → HasRun spec brief one
   pub sound : (outcome : List Ended) → Contains (listed_ends all) outcome → IsRunOutcome spec crashes outcome

@@ -1,8 +1,9 @@
 -- What is written of all outcomes of a room.
-use Rattle.std.specs.Prelude.{ℕ, ◌+◌, ◌-◌, ◌==◌, List, [], ◌∷◌, ◌++◌, length, map, Option, None, Some, if◌then◌else◌, codes, decimal, nat_eq, option_map, slice_index_or}
-use Rattle.std.specs.List.{concat, ends_with, flat_map, list_any, range_with_len}
+use Rattle.std.specs.Prelude.{ℕ, ◌+◌, ◌-◌, ◌==◌, List, [], ◌∷◌, ◌++◌, length, map, Option, None, Some, if◌then◌else◌, codes, decimal, option_map, slice_index_or}
+use Rattle.std.specs.List.{concat, flat_map, list_any, range_with_len}
 use Rattle.std.specs.Global.{Vec}
 use Rattle.room_spec.specs.Rooms.{RoomSpec, processes}
+use Rattle.room_files.specs.BlockLists.{whole_block}
 use Rattle.transcript.specs.declared.event.Event.{Event}
 use Rattle.script_play.specs.ReplyTexts.{event_lines}
 use Rattle.run_search.specs.declared.ended.Ended.{Ended}
@@ -24,10 +25,6 @@ end_line name p ended = (name ++ codes " process") ++ ((32 ∷ decimal p) ++ end
 -- how each process ends
 abbrev pub end_lines : List ℕ → List Ended → List ℕ
 end_lines name ends = concat (map (λ p. end_line name p (slice_index_or ends p Stopped)) (range_with_len 0 (length ends)))
-
--- a block, and a line end if it has none at its end
-abbrev pub whole_block : List ℕ → List ℕ
-whole_block block = if ends_with nat_eq block (codes "\n") then block else block ++ codes "\n"
 
 -- a transcript of these events
 abbrev pub transcript_text : List ℕ → List ℕ → List Event → List ℕ

@@ -1,4 +1,4 @@
-//! All outcomes of a room, each with a run that has it.
+//! All outcomes of a room, each with a shortest run that has it.
 ghost use Rattle.std.specs.Prelude.{◌≡◌, ◌<◌, ℕ, IfOk, IsErrOf, Some, length, option_map, slice_get};
 ghost use Rattle.run_search.specs.Outcomes.{IsFoundFor, outcomes_in};
 ghost use Rattle.run_search.specs.Reached.{HasMoreLocals, HasMoreStates};
@@ -7,11 +7,11 @@ ghost use Rattle.outcome_text.specs.Listing.{AreAllListed, HasRun, HasStates, Is
 ghost use Rattle.outcome_text.specs.declared.listing.Listed.{Listed as ListedValue};
 
 use room_spec::Spec;
-use run_search::{Ends, Outcomes, SearchFault, search};
+use run_search::{Ends, Outcomes, Progress, SearchFault, search};
 use std::alloc::{AllocError, Global};
 use transcript::Event;
 
-/// An outcome, and a run that has it, if transcripts are wanted.
+/// An outcome, and a shortest run that has it, if transcripts are wanted.
 #[derive(Drop)]
 pub struct Listed {
     /// How each process ends.
@@ -31,19 +31,20 @@ pub struct AllOutcomes {
     pub breaking: Option<Vec<Event>>,
 }
 
-/// Finds all outcomes of a room's runs in which at most `crashes` processes stop, each with a run unless `brief`, and whether each run
-/// keeps the room's task.
+/// Finds all outcomes of a room's runs in which at most `crashes` processes stop, each with a shortest run unless `brief`, and whether
+/// each run keeps the room's task.
 ///
 /// # Errors
 ///
 /// `TooManyStates` if the runs have more than `limit` states; `TooManyLocalStates` if the processes have more than 65536 local states;
 /// `OutOfMemory` if an allocation fails.
-pub fn find_all(
+pub fn find_all<P: Progress>(
     alloc: Global,
     spec: &Spec,
     crashes: usize,
     limit: u32,
     brief: bool,
+    progress: &mut P,
 ) -> Result<AllOutcomes, SearchFault>
     ensures outcomes { IfOk result (λ all. AreAllListed spec.now crashes brief all.listed.items) }
     ensures states { IfOk result (λ all. HasStates spec.now limit all.states) }
@@ -51,7 +52,7 @@ pub fn find_all(
     ensures too_many { IsErrOf result SearchFault.TooManyStates → HasMoreStates spec.now limit }
     ensures too_many_locals { IsErrOf result SearchFault.TooManyLocalStates → HasMoreLocals spec.now }
 {
-    let found = search(alloc, spec, crashes, limit)?;
+    let found = search(alloc, spec, crashes, limit, progress)?;
     let listed = list_all(alloc, spec, &found, brief)?;
     let breaking = found.breaking_run(alloc, spec)?;
     Ok(AllOutcomes {
@@ -61,7 +62,7 @@ pub fn find_all(
     })
 }
 
-/// Each outcome that was found, with a run that has it unless `brief`.
+/// Each outcome that was found, with a shortest run that has it unless `brief`.
 fn list_all(
     alloc: Global,
     spec: &Spec,
@@ -79,7 +80,7 @@ fn list_all(
     Ok(all)
 }
 
-/// The outcome of this index, with a run that has it unless `brief`.
+/// The outcome of this index, with a shortest run that has it unless `brief`.
 fn list_one(
     alloc: Global,
     spec: &Spec,

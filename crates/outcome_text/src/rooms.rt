@@ -10,7 +10,7 @@ use crate::text::{write_found, write_head, write_unfinished};
 use io_text::Text;
 use room_files::{BlockList, read_room};
 use room_spec::Spec;
-use run_search::SearchFault;
+use run_search::{Progress, SearchFault};
 use std::alloc::{AllocError, Global};
 
 /// How many local states a search tells apart.
@@ -29,28 +29,30 @@ pub struct Search {
 
 /// Writes all outcomes of each room, or that its runs have too many states. Gives whether all rooms were searched to the end, and each
 /// run of each keeps its room's task.
-pub fn write_rooms(
+pub fn write_rooms<P: Progress>(
     alloc: Global,
     rooms: &BlockList,
     search: &Search,
     output: &mut Text,
+    progress: &mut P,
 ) -> Result<bool, AllocError>
     ensures { IfOk result (λ well. AddsOutcomes search.now rooms.now.rooms well output.old output.new) }
 {
     let mut well = true;
     for index in 0..rooms.len() {
-        let kept = write_room(alloc, rooms.block(index), search, output)?;
+        let kept = write_room(alloc, rooms.block(index), search, output, progress)?;
         well &= kept;
     }
     Ok(well)
 }
 
 /// Writes all outcomes of the room of a block. Gives whether it was searched to the end, and each run keeps its task.
-fn write_room(
+fn write_room<P: Progress>(
     alloc: Global,
     block: &[u8],
     search: &Search,
     output: &mut Text,
+    progress: &mut P,
 ) -> Result<bool, AllocError>
     requires { (spec : RoomSpec) × (block_in block.now ≡ Ok (spec, length block.now)) }
     ensures { IfOk result (λ well. (spec : RoomSpec) → block_in block.now ≡ Ok (spec, length block.now) →
@@ -59,22 +61,23 @@ fn write_room(
     let Ok((spec, _)) = read_room(alloc, block)? else {
         unreachable!() // it is a room's block
     };
-    answer(alloc, &spec, block, search, output)
+    answer(alloc, &spec, block, search, output, progress)
 }
 
-fn answer(
+fn answer<P: Progress>(
     alloc: Global,
     spec: &Spec,
     block: &[u8],
     search: &Search,
     output: &mut Text,
+    progress: &mut P,
 ) -> Result<bool, AllocError>
     requires { block_in block.now ≡ Ok (spec.now, length block.now) }
     ensures { IfOk result (λ well. (text : List ℕ) × IsRoomAnswer search.now spec.now well text × (output.new ≡ output.old ++ text)) }
 {
     let crashes = crashes_for(spec, search.crashes);
     write_head(output, spec.name().as_str().as_bytes(), crashes)?;
-    match find_all(alloc, spec, crashes, search.states, search.brief) {
+    match find_all(alloc, spec, crashes, search.states, search.brief, progress) {
         Ok(all) => {
             write_found(output, spec, block, &all)?;
             Ok(all.breaking.is_none())

@@ -1,11 +1,12 @@
 //! All outcomes of a room, as text.
 ghost use Rattle.std.specs.Prelude.{◌≡◌, ◌+◌, ◌-◌, ◌∷◌, ◌++◌, OnOk, codes, decimal, option_map};
 ghost use Rattle.std.specs.List.{flat_map, range_with_len};
-ghost use Rattle.outcome_text.specs.Texts.{breaking_text, complete_line, end_line, end_lines, end_words, found_text, head_line, most_line, none_spent_if, outcome_text, outcomes_text, outcomes_with, spent_line, spent_line_if, spent_lines, task_text, text_if, transcript_text, unfinished_line, whole_block};
+ghost use Rattle.outcome_text.specs.Texts.{breaking_text, complete_line, end_line, end_lines, end_words, found_text, head_line, most_line, none_spent_if, outcome_text, outcomes_text, outcomes_with, spent_line, spent_line_if, spent_lines, task_text, text_if, transcript_text, unfinished_line};
 
 use crate::counts::{can_be_spent, is_any_spent, most_values, values_in};
 use crate::listing::{AllOutcomes, Listed};
 use io_text::Text;
+use room_files::write_block;
 use room_spec::Spec;
 use run_search::Ended;
 use script_play::write_events;
@@ -163,17 +164,6 @@ fn write_transcript(
     write_block(output, block)?;
     output.put(b"events\n")?;
     write_events(output, name, events)
-}
-
-/// Writes a block, and a line end if it has none at its end.
-fn write_block(output: &mut Text, block: &[u8]) -> Result<(), AllocError>
-    ensures { OnOk result (output.new ≡ output.old ++ whole_block block.now) }
-{
-    output.put(block)?;
-    if block.ends_with(b"\n") {
-        return Ok(());
-    }
-    output.put(b"\n")
 }
 
 /// Writes how many different values are decided at most.

@@ -1,5 +1,6 @@
 -- Rooms with the blocks that say them.
-use Rattle.std.specs.Prelude.{◌≡◌, ℕ, List, [], ◌∷◌, length, Some, Ok, slice_get, ⊤}
+use Rattle.std.specs.Prelude.{◌≡◌, ℕ, nat_eq, List, [], ◌∷◌, ◌++◌, length, Some, Ok, slice_get, codes, if◌then◌else◌, ⊤}
+use Rattle.std.specs.List.{ends_with}
 use Rattle.room_spec.specs.Blocks.{block_in}
 use Rattle.room_spec.specs.Rooms.{RoomSpec}
 
@@ -19,3 +20,7 @@ pub record IsBlockAt (rooms : List RoomSpec) (index : ℕ) (block : List ℕ) : 
   pub room : RoomSpec
   pub there : slice_get rooms index ≡ Some room
   pub says : block_in block ≡ Ok (room, length block)
+
+-- a block, and a line end if it has none at its end
+abbrev pub whole_block : List ℕ → List ℕ
+whole_block block = if ends_with nat_eq block (codes "\n") then block else block ++ codes "\n"

@@ -3,7 +3,7 @@ ghost use Rattle.std.specs.Prelude.{◌≡◌, ◌<◌, ◌∷◌, ◌++◌, [],
 ghost use Rattle.room_spec.specs.Blocks.{block_in};
 ghost use Rattle.room_spec.specs.Rooms.{RoomSpec};
 ghost use Rattle.history_checker.specs.Verdicts.{has_room};
-ghost use Rattle.room_files.specs.BlockLists.{IsBlockAt};
+ghost use Rattle.room_files.specs.BlockLists.{IsBlockAt, whole_block};
 
 use crate::blocks::Opens;
 use crate::spec_list::SpecList;
@@ -92,4 +92,15 @@ impl Opens for BlockList {
             Err(AllocError) => Err(AddFault::OutOfMemory),
         }
     }
+}
+
+/// Writes a block, and a line end if it has none at its end.
+pub fn write_block(output: &mut Text, block: &[u8]) -> Result<(), AllocError>
+    ensures { OnOk result (output.new ≡ output.old ++ whole_block block.now) }
+{
+    output.put(block)?;
+    if block.ends_with(b"\n") {
+        return Ok(());
+    }
+    output.put(b"\n")
 }

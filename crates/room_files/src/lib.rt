@@ -12,7 +12,7 @@ mod report;
 mod setup;
 mod spec_list;
 
-pub use block_list::BlockList;
+pub use block_list::{BlockList, write_block};
 pub use blocks::{Opens, Refuses, Setup, read_room};
 pub use events::feed_events;
 pub use fault::{BlockFault, InputFault};

@@ -1,5 +1,9 @@
 -- The outcomes of a sample are outcomes of runs.
-use Rattle.std.proofs.Common.{◌≡◌, ℕ, zero, suc, List, [], ◌∷◌, refl, sym, ap, ◌∙◌, subst}
+use Rattle.std.proofs.Common.{◌≡◌, ℕ, zero, suc, ◌++◌, Bool, true, false, cond, List, [], ◌∷◌, refl, sym, ap, ◌∙◌, subst}
+use Rattle.std.specs.List.{AllByRecursion}
+use Rattle.std.proofs.lemmas.List.Elements.{All-from_recursion}
+use Rattle.std.proofs.lemmas.List.Sums.{fold-append}
+use Rattle.rand_core.specs.Stream.{Stream}
 use Rattle.room_spec.specs.Rooms.{IsWithinLimits, RoomSpec, processes}
 use Rattle.room_core.specs.Calls.{Call, RoomState, opening_state, room_after_calls, room_after_step, room_after_steps}
 use Rattle.room_core.specs.Calls.{Crash as CrashCall, Settle}
@@ -13,6 +17,7 @@ use Rattle.run_search.specs.Outcomes.{IsRunOutcome}
 use Rattle.room_outcomes.specs.Ends.{ends_of}
 use Rattle.room_outcomes.proofs.CallerLemmas.{reported_outcome}
 use Rattle.room_sample.specs.Schedules.{IsOutcome, room_after_schedule, room_after_stretch, settled_by}
+use Rattle.room_sample.specs.Samples.{AreAmongAll, AreDrawn, Counted, IsRunFrom, IsSampleFrom, Sampled, counted, counted_all, no_run, once_more, run_more, same_states}
 use Rattle.room_sample.specs.declared.stretch.Stretch.{Stretch}
 use Rattle.room_sample.specs.declared.stretch.Stretch.TheVariants.{Steps, Crash}
 
@@ -56,3 +61,31 @@ sampled_outcome spec crashes schedule states limits is =
     let among : IsRunOutcome room.spec (processes room.spec) (ends_of (states_of room.spec settled.fields)) = reported_outcome room settled.fields (within spec room settled.same limits) settled.are in
     subst (λ (ends : List Ended). IsRunOutcome spec (processes spec) ends) (ap ends_of (sym (is.reported settled.fields settled.are)))
     (subst (λ (s : RoomSpec). IsRunOutcome s (processes s) (ends_of (states_of room.spec settled.fields))) settled.same among)
+
+-- ---- and so are those of a sample
+
+counted_by : (P : List ProcessState → Type 0) (run : Sampled) (one : Counted) (others : List Counted) (b : Bool) → P run.states → P one.states → AllByRecursion (λ (c : Counted). P c.states) others → AllByRecursion (λ (c : Counted). P c.states) (counted run others)
+    → AllByRecursion (λ (c : Counted). P c.states) (cond b (once_more one ∷ others) (one ∷ counted run others))
+counted_by P run one others true here first rest later = (first, rest)
+counted_by P run one others false here first rest later = (first, later)
+
+-- what holds of an outcome and of all others holds when it is counted with them
+counted_keeps : (P : List ProcessState → Type 0) (run : Sampled) (outcomes : List Counted) → P run.states → AllByRecursion (λ (c : Counted). P c.states) outcomes → AllByRecursion (λ (c : Counted). P c.states) (counted run outcomes)
+counted_keeps P run [] here are = (here, tt)
+counted_keeps P run (one ∷ others) here are = counted_by P run one others (same_states run.states one.states) here are.0 are.1 (counted_keeps P run others here are.1)
+
+abbrev is_among : RoomSpec → List ProcessState → Type 0
+is_among spec states = IsRunOutcome spec (processes spec) (ends_of states)
+
+abbrev are_among : RoomSpec → List Counted → Type 0
+are_among spec outcomes = AllByRecursion (λ (c : Counted). is_among spec c.states) outcomes
+
+runs_among : (spec : RoomSpec) (crashes : ℕ) (random later : Stream) (runs : List Sampled) → IsWithinLimits spec → AreDrawn (IsRunFrom spec crashes) random runs later → are_among spec (counted_all runs)
+runs_among spec crashes random later [] limits no_run = tt
+runs_among spec crashes random later all limits (run_more runs run middle end drawn is) =
+    subst (are_among spec) (sym (fold-append (λ (so_far : List Counted) (one : Sampled). counted one so_far) [] runs (run ∷ [])))
+    (counted_keeps (is_among spec) run (counted_all runs) (sampled_outcome spec crashes run.schedule run.states limits is.outcome) (runs_among spec crashes random middle runs limits drawn))
+
+pub sample_among : (spec : RoomSpec) (crashes schedules : ℕ) (random later : Stream) (outcomes : List Counted) → IsWithinLimits spec → IsSampleFrom spec crashes schedules random outcomes later → AreAmongAll spec outcomes
+sample_among spec crashes schedules random later outcomes limits is =
+    All-from_recursion (λ (c : Counted). is_among spec c.states) outcomes (subst (are_among spec) (sym is.outcomes_are) (runs_among spec crashes random later is.runs limits is.drawn))

@@ -27,7 +27,8 @@ use Rattle.script_play.specs.Play.{AreDone, Done, Faulty, Replied, Unread, comma
 use Rattle.script_play.specs.Script.{Ask, Entry, Open, script_says}
 use Rattle.room_sample.specs.Leads.{LeadsTo, reply_to_stretch}
 use Rattle.room_sample.specs.Schedules.{IsOutcome, IsSchedule, MayCome, longest, room_after_stretch}
-use Rattle.room_sample.specs.Texts.{script_text, stretch_line, whole_block}
+use Rattle.room_files.specs.BlockLists.{whole_block}
+use Rattle.room_sample.specs.Texts.{script_text, stretch_line}
 use Rattle.room_sample.specs.declared.stretch.Stretch.{Stretch}
 use Rattle.room_sample.specs.declared.stretch.Stretch.TheVariants.{Steps, Crash}
 use Rattle.room_sample.proofs.Following.{command_of, commands_for, has_simulator, replies_for, replies_to_script, same_spec_after, simulator_of}

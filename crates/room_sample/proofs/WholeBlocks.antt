@@ -12,7 +12,7 @@ use Rattle.room_spec.specs.Rooms.{RoomSpec}
 use Rattle.room_spec.specs.declared.fault.SpecFault.{SpecFault}
 use Rattle.room_spec.proofs.CallerLemmas.{end_at, end_found, with_line_end}
 use Rattle.room_files.specs.Blocks.{block_extent, or_all}
-use Rattle.room_sample.specs.Texts.{whole_block}
+use Rattle.room_files.specs.BlockLists.{whole_block}
 
 -- the text begins with the block and its line end, whatever follows, and says its room
 pub record IsWhole (spec : RoomSpec) (whole : List ℕ) : Type 0 where

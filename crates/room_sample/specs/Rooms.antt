@@ -4,17 +4,18 @@ use Rattle.std.specs.List.{All, concat}
 use Rattle.room_spec.specs.Blocks.{block_in}
 use Rattle.room_spec.specs.Rooms.{RoomSpec}
 use Rattle.room_sample.specs.Leads.{HasScript}
-use Rattle.room_sample.specs.Samples.{AreMostFirst, Counted, IsSample}
+use Rattle.room_sample.specs.Samples.{AreAmongAll, AreMostFirst, Counted, IsSample}
 use Rattle.room_sample.specs.Texts.{sample_text}
 use Rattle.room_sample.specs.declared.sampling.Plan.{Plan}
 
--- The text tells of a sample of the room: those outcomes first that came most often, each with a script that leads to it. The block says the
--- room.
+-- The text shows a sample of the room: those outcomes first that came most often, each with a script that leads to it, and each among the
+-- outcomes of all runs of the room's protocol. The block says the room.
 pub record IsSampleText (plan : Plan) (spec : RoomSpec) (text : List ℕ) : Type 0 where
   pub block : List ℕ
   pub says : block_in block ≡ Ok (spec, length block)
   pub outcomes : List Counted
   pub sample : IsSample spec plan outcomes
+  pub among : AreAmongAll spec outcomes
   pub shown : List Counted
   pub all_shown : IsPermutation outcomes shown
   pub most_first : AreMostFirst shown
@@ -29,21 +30,8 @@ AreSampleTexts plan (spec ∷ specs) (text ∷ texts) = IsSampleText plan spec t
 AreSampleTexts plan [] (text ∷ texts) = ⊥
 AreSampleTexts plan (spec ∷ specs) [] = ⊥
 
--- behind a text stands one for each room
+-- a text for each room was added
 pub record AddsSamples (plan : Plan) (specs : List RoomSpec) (before after : List ℕ) : Type 0 where
   pub texts : List (List ℕ)
   pub each_room : AreSampleTexts plan specs texts
-  pub behind : after ≡ before ++ concat texts
-
--- ---- how the rooms are kept
-
--- rooms, each with the block that said it
-pub record RoomBlocks : Type 0 where
-  pub rooms : List RoomSpec
-  pub blocks : List (List ℕ)
-
-abbrev pub AreBlocks : List RoomSpec → List (List ℕ) → Type 0
-AreBlocks [] [] = ⊤
-AreBlocks (spec ∷ specs) (block ∷ blocks) = (block_in block ≡ Ok (spec, length block)) × AreBlocks specs blocks
-AreBlocks [] (block ∷ blocks) = ⊥
-AreBlocks (spec ∷ specs) [] = ⊥
+  pub after_is : after ≡ before ++ concat texts

@@ -1,12 +1,14 @@
 -- Runs of a room, counted by their outcomes.
 use Rattle.std.specs.Prelude.{◌≡◌, ◌⊎◌, ℕ, ◌+◌, ◌-◌, ◌^◌, ◌<◌, ◌≤◌, Bool, List, [], ◌∷◌, ◌++◌, length, map, min, slice_index_or, if◌then◌else◌}
-use Rattle.std.specs.List.{fold, sum_by}
+use Rattle.std.specs.List.{All, fold, sum_by}
 use Rattle.std.specs.Cmp.Lexicographic.{pointwise}
 use Rattle.arrayvec.specs.declared.array_vec.ArrayVec.{ArrayVec}
-use Rattle.room_spec.specs.Rooms.{RoomSpec}
+use Rattle.room_spec.specs.Rooms.{RoomSpec, processes}
 use Rattle.ws_history.specs.contracts.states.ProcessStatePartialEq.TheImpl.{ghosts}
 use Rattle.ws_history.specs.declared.states.ProcessState.{ProcessState}
 use Rattle.rand_core.specs.Stream.{Stream}
+use Rattle.room_outcomes.specs.Ends.{ends_of}
+use Rattle.run_search.specs.Outcomes.{IsRunOutcome}
 use Rattle.room_sample.specs.Chances.{random_of}
 use Rattle.room_sample.specs.Drawn.{IsThrough, Way, most_draws}
 use Rattle.room_sample.specs.Schedules.{HasStopped, IsOutcome}
@@ -68,6 +70,10 @@ pub record IsSampleFrom (spec : RoomSpec) (crashes schedules : ℕ) (random : St
 -- The outcomes of a room by a plan, of which the seed gives the stream.
 abbrev pub IsSample : RoomSpec → Plan → List Counted → Type 0
 IsSample spec plan outcomes = (later : Stream) × IsSampleFrom spec plan.crashes plan.schedules (random_of plan.seed) outcomes later
+
+-- Each outcome is one of those that a search of all runs lists, with those processes stopped that are held or still going.
+abbrev pub AreAmongAll : RoomSpec → List Counted → Type 0
+AreAmongAll spec outcomes = All (λ one. IsRunOutcome spec (processes spec) (ends_of one.states)) outcomes
 
 -- those stand first that came most often
 abbrev pub AreMostFirst : List Counted → Type 0

@@ -1,6 +1,7 @@
 -- What is written of a room that was sampled.
-use Rattle.std.specs.Prelude.{ℕ, suc, max, not, List, [], ◌∷◌, ◌++◌, ◌&&◌, if◌then◌else◌, nat_eq, codes, decimal}
-use Rattle.std.specs.List.{count_by, ends_with, flat_map, fold, list_any}
+use Rattle.std.specs.Prelude.{ℕ, suc, max, not, List, [], ◌∷◌, ◌++◌, ◌&&◌, if◌then◌else◌, codes, decimal}
+use Rattle.std.specs.List.{count_by, flat_map, fold, list_any}
+use Rattle.room_files.specs.BlockLists.{whole_block}
 use Rattle.ws_history.specs.Reports.{is_decided, is_held}
 use Rattle.ws_history.specs.contracts.states.ProcessStatePartialEq.TheImpl.{ghosts}
 use Rattle.ws_history.specs.declared.states.ProcessState.{ProcessState}
@@ -29,10 +30,6 @@ most_of count outcomes = fold (λ most one. max (count one.states) most) 0 outco
 abbrev pub stretch_line : List ℕ → Stretch → List ℕ
 stretch_line name (Steps simulator count) = codes "step " ++ (name ++ ((32 ∷ decimal simulator) ++ ((32 ∷ decimal count) ++ codes "\n")))
 stretch_line name (Crash simulator) = codes "crash " ++ (name ++ ((32 ∷ decimal simulator) ++ codes "\n"))
-
--- a block, whose last line may end with it
-abbrev pub whole_block : List ℕ → List ℕ
-whole_block block = if ends_with nat_eq block (codes "\n") then block else block ++ codes "\n"
 
 -- what `play` is given so that it comes to the outcome, and reports it
 abbrev pub script_text : List ℕ → List ℕ → List Stretch → List ℕ

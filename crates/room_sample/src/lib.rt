@@ -3,14 +3,14 @@
 
 mod chances;
 pub mod laws;
+mod rooms;
 mod run;
-mod sampler;
 mod sampling;
 mod stretch;
 mod tally;
 mod text;
 
-pub use sampler::SampleRooms;
+pub use rooms::write_samples;
 pub use sampling::{Plan, sample};
 pub use stretch::Stretch;
 pub use tally::{Outcome, States, Tally};

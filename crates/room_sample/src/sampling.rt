@@ -2,7 +2,7 @@
 ghost use Rattle.std.specs.Prelude.{◌≡◌, Ok, IfOk, length};
 ghost use Rattle.room_spec.specs.Blocks.{block_in};
 ghost use Rattle.room_sample.specs.Chances.{random_in};
-ghost use Rattle.room_sample.specs.Samples.{IsRunFrom, IsSample};
+ghost use Rattle.room_sample.specs.Samples.{AreAmongAll, IsRunFrom, IsSample};
 ghost use Rattle.room_sample.specs.Ways.{sampled_of};
 
 use crate::chances::Chances;
@@ -10,6 +10,7 @@ use crate::run::{Run, run_by_chance};
 use crate::tally::Tally;
 use room_files::read_room;
 use room_spec::Spec;
+use run_search::Progress;
 use std::alloc::{AllocError, Global};
 
 /// How a room is sampled.
@@ -24,19 +25,28 @@ pub struct Plan {
 }
 
 /// Runs the room of a block by random schedules, from its beginning each time, and counts where its processes stand once it has
-/// settled. It is no search: an outcome that isn't among them may be possible.
+/// settled. It is no search: an outcome that isn't among them may be possible. Reports how many schedules it has tried.
 ///
 /// # Errors
 ///
 /// Where memory is refused.
 #[tactic(auto, using(crate::proofs::OneMore::no_sample, crate::proofs::OneMore::one_more))]
-pub fn sample(alloc: Global, spec: &Spec, block: &[u8], plan: &Plan) -> Result<Tally, AllocError>
+pub fn sample<P: Progress>(
+    alloc: Global,
+    spec: &Spec,
+    block: &[u8],
+    plan: &Plan,
+    progress: &mut P,
+) -> Result<Tally, AllocError>
     requires { block_in block.now ≡ Ok (spec.now, length block.now) }
-    ensures { IfOk result (IsSample spec.now plan.now) }
+    ensures sample { IfOk result (IsSample spec.now plan.now) }
+    ensures among { IfOk result (AreAmongAll spec.now) }
 {
+    let _shape = spec.shape(); // for the proof: the room is within its limits
     let mut chances = Chances::of(u64::from(plan.seed));
     let mut tally = Tally::new(alloc);
-    for _ in 0..plan.schedules {
+    for done in 0..plan.schedules {
+        progress.reached(u64::from(done));
         let run = run_anew(alloc, spec, block, &mut chances, plan.crashes)?;
         tally.count(run)?;
     }

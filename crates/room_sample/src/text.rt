@@ -4,12 +4,13 @@ ghost use Rattle.std.specs.List.{flat_map, list_any};
 ghost use Rattle.ws_history.specs.Reports.{is_decided};
 ghost use Rattle.ws_history.specs.contracts.states.ProcessStatePartialEq.TheImpl.{ghosts};
 ghost use Rattle.room_sample.specs.Samples.{counted_of};
-ghost use Rattle.room_sample.specs.Texts.{held_in, most_line, most_lines, most_of, outcome_text, plan_line, sample_text, script_text, stretch_line, values_in, whole_block};
+ghost use Rattle.room_sample.specs.Texts.{held_in, most_line, most_lines, most_of, outcome_text, plan_line, sample_text, script_text, stretch_line, values_in};
 
 use crate::sampling::Plan;
 use crate::stretch::Stretch;
 use crate::tally::{Outcome, States, Tally};
 use io_text::Text;
+use room_files::write_block;
 use script_play::write_processes;
 use std::alloc::AllocError;
 use ws_history::ProcessState;
@@ -112,17 +113,6 @@ fn write_script(
     write_stretches(output, name, schedule)?;
     write_command(output, b"settle ", name)?;
     write_command(output, b"report ", name)
-}
-
-/// Writes a block, whose last line may end with it.
-fn write_block(output: &mut Text, block: &[u8]) -> Result<(), AllocError>
-    ensures { OnOk result (output.new ≡ output.old ++ whole_block block.now) }
-{
-    output.put(block)?;
-    if block.ends_with(b"\n") {
-        return Ok(());
-    }
-    output.put(b"\n")
 }
 
 /// Writes a command that has nothing but the room's name.

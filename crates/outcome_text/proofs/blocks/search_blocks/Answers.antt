@@ -5,7 +5,7 @@ use Rattle.outcome_text.specs.Blocks.{AreOutcomesWritten}
 use Rattle.outcome_text.proofs.blocks.search_blocks.Goals as goal
 
 pub returns : goal.returns
-returns c =
+returns g c =
     let same = c.rooms.view_is ∙ c.in_ok-rooms.ensures.read in
     subst (λ (setup : Setup). AreOutcomesWritten c.args.search.now setup c.outcome_if-outcome.result c.write_rooms.new.output) same
     (record {
