@@ -1,6 +1,7 @@
 //! Who does a script's commands, and keeps what is drawn of them.
-ghost use Rattle.std.specs.Prelude.{◌≡◌, [], false, Some, IfOk};
+ghost use Rattle.std.specs.Prelude.{◌≡◌, [], false, None, Some, IfOk};
 ghost use Rattle.service_core.specs.Replies.{name_in};
+ghost use Rattle.service_core.specs.Rooms.{room_at};
 ghost use Rattle.service_core.specs.declared.command.Command.TheVariants.{Begin, Close, Crash as CrashCommand, Report as ReportCommand, Step as StepCommand};
 ghost use Rattle.service_core.specs.declared.reply.Refusal.TheVariants.{NoRoom};
 ghost use Rattle.room_spec.specs.Names.{is_name};
@@ -14,7 +15,7 @@ use run_picture::{Head, Mark, Panel};
 use script_play::{Performs, refusal_in};
 use service_core::{Command, Refusal, Reply, Service};
 use std::alloc::{AllocError, Global};
-use ws_history::Report;
+use ws_history::{Report, report};
 
 /// A service, and a panel for each room that it has opened.
 #[derive(Drop)]
@@ -118,15 +119,22 @@ impl Drawing {
     fn close(&mut self, alloc: Global, name: Name) -> Result<Option<Refusal>, AllocError>
         ensures { IfOk result (λ refusal. IsDrawnOn self.old.service self.old.panels.items (Close name) refusal self.new.service self.new.panels.items) }
     {
-        let room = name.clone()?;
+        let Some(room) = self.service.room(&name) else {
+            return Ok(self.close_none(alloc, name));
+        };
+        let report = report(alloc, room)?;
+        self.close_with(alloc, name, report)
+    }
+
+    /// Has it refused to close a room that is not there.
+    fn close_none(&mut self, alloc: Global, name: Name) -> Option<Refusal>
+        requires { room_at self.old.service name ≡ None }
+        ensures { IsDrawnOn self.old.service self.old.panels.items (Close name) result self.new.service self.new.panels.items }
+    {
         let reply = self
             .service
-            .apply_watched(alloc, Command::Report(room), &mut Unwatched);
-        match reply {
-            Reply::Report(report) => self.close_with(alloc, name, report),
-            Reply::Refused(Refusal::NoRoom) => Ok(Some(Refusal::NoRoom)),
-            _ => Err(AllocError),
-        }
+            .apply_watched(alloc, Command::Close(name), &mut Unwatched);
+        refusal_in(&reply)
     }
 
     /// Closes the room of this name, which has come to this report.
@@ -166,9 +174,18 @@ impl Performs for Drawing {
 
     ghost has_done = { λ drawing all. HasDrawn all drawing.service drawing.panels.items };
 
+    fn open(
+        &mut self,
+        alloc: Global,
+        _block: &[u8],
+        spec: Spec,
+    ) -> Result<Option<Refusal>, AllocError> {
+        self.begin(alloc, spec)
+    }
+
     fn perform(&mut self, alloc: Global, command: Command) -> Result<Option<Refusal>, AllocError> {
         match command {
-            Command::Begin(spec) => self.begin(alloc, spec),
+            Command::Begin(_) => unreachable!(), // a block opens a room
             Command::Step { name, sim, count } => {
                 let room = name.clone()?;
                 self.step_on(alloc, &room, Command::Step { name, sim, count })

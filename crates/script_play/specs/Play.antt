@@ -114,6 +114,14 @@ IsPlayFor input ending output = (entries : List Entry) × (script_says input ≡
 
 -- ---- whoever does the commands
 
+-- a block says this room
+abbrev pub IsBlockOf : RoomSpec → List ℕ → Type 0
+IsBlockOf spec block = (len : ℕ) × (block_in block ≡ Ok (spec, len))
+
+abbrev pub OpensNone : Command → Type 0
+OpensNone (Begin spec) = ⊥
+OpensNone command = ⊤
+
 -- why a command was refused, if it was
 abbrev pub refusal_in : Reply → Option Refusal
 refusal_in (Refused refusal) = Some refusal

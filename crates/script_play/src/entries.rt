@@ -12,7 +12,7 @@ use service_core::Command;
 
 /// The command that a line is, or `None`. A block is opened by other means.
 #[tactic(auto, using(crate::proofs::Commands::is_found))]
-pub(crate) fn read_command(line: &[u8]) -> Option<Command>
+pub fn read_command(line: &[u8]) -> Option<Command>
     // What is read is what the line asks for.
     ensures sound { IfSome result (λ command. IsCommandLine line.now command) }
     // What a line asks for is read.

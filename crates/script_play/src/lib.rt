@@ -8,6 +8,7 @@ mod reply;
 mod script;
 mod steps;
 
+pub use entries::read_command;
 pub use replies::{PlayText, play};
 pub use reply::{
     refusal_in, sim_in, write_events, write_processes, write_reply, write_report, write_steps,

@@ -1,16 +1,16 @@
 //! What comes of a script's entries, one by one.
 ghost use Rattle.std.specs.Prelude.{◌≡◌, ◌<◌, ◌+◌, ◌^◌, [], true, Ok, Some, IfOk, OnOk, is_some};
 ghost use Rattle.service_core.specs.declared.command.Command.{Command as CommandData};
-ghost use Rattle.service_core.specs.declared.command.Command.TheVariants.{Step};
+ghost use Rattle.service_core.specs.declared.command.Command.TheVariants.{Begin, Step};
 ghost use Rattle.room_spec.specs.Names.{is_name};
 ghost use Rattle.script_play.specs.Script.{Entry as Asked, Open, asks_at, command_in, is_asking};
-ghost use Rattle.script_play.specs.Play.{HasPlayed, PlaysCommand, PlaysOn, ending_with, is_lack};
+ghost use Rattle.script_play.specs.Play.{HasPlayed, IsBlockOf, OpensNone, PlaysCommand, PlaysOn, ending_with, is_lack};
 
 use crate::entries::{Entry, read_command};
 use crate::script::Performs;
 use crate::steps::read_steps;
 use room_files::{Outcome, read_room};
-use room_spec::Name;
+use room_spec::{Name, Spec};
 use service_core::{Command, Refusal};
 use std::alloc::{AllocError, Global};
 
@@ -84,7 +84,7 @@ impl<P: Performs> Player<P> {
             (HasPlayed (P.rooms self.new.performer) (P.has_done self.new.performer) self.new.ending)) }
     {
         match read_room(alloc, block) {
-            Ok(Ok((spec, _))) => self.perform(alloc, Command::Begin(spec)),
+            Ok(Ok((spec, _))) => self.begin(alloc, block, spec),
             Ok(Err(fault)) => {
                 self.ending = self.ending.and(Ok(Outcome::SomeRefused));
                 self.performer.refuse(number, fault)
@@ -96,7 +96,21 @@ impl<P: Performs> Player<P> {
         }
     }
 
+    /// Opens the room that a block says.
+    fn begin(&mut self, alloc: Global, block: &[u8], spec: Spec) -> Result<(), AllocError>
+        requires { IsBlockOf spec block.now }
+        ensures { OnOk result (PlaysCommand (Begin spec)
+            (HasPlayed (P.rooms self.old.performer) (P.has_done self.old.performer) self.old.ending)
+            (HasPlayed (P.rooms self.new.performer) (P.has_done self.new.performer) self.new.ending)) }
+    {
+        let refusal = self.performer.open(alloc, block, spec)?;
+        self.ending = ending_with(refusal, self.ending);
+        Ok(())
+    }
+
+    /// Does a command, which opens no room.
     fn perform(&mut self, alloc: Global, command: Command) -> Result<(), AllocError>
+        requires { OpensNone command }
         ensures { OnOk result (PlaysCommand command
             (HasPlayed (P.rooms self.old.performer) (P.has_done self.old.performer) self.old.ending)
             (HasPlayed (P.rooms self.new.performer) (P.has_done self.new.performer) self.new.ending)) }

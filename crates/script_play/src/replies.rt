@@ -3,7 +3,8 @@ ghost use Rattle.std.specs.Prelude.{◌≡◌, ◌≤◌, ◌++◌, [], IsOk, If
 ghost use Rattle.room_files.specs.Blocks.{IsFaultOr};
 ghost use Rattle.script_play.specs.Script.{script_says};
 ghost use Rattle.io_text.specs.Reading.{most_bytes};
-ghost use Rattle.script_play.specs.Play.{IsPlayFor};
+ghost use Rattle.std.specs.List.{flat_map};
+ghost use Rattle.script_play.specs.Play.{IsPerformed, IsPlayFor, done_text};
 ghost use Rattle.script_play.specs.ReplyTexts.{reply_text};
 ghost use Rattle.service_core.specs.declared.reply.Reply.TheVariants.{Refused};
 
@@ -11,7 +12,7 @@ use crate::reply::{refusal_in, sim_in, write_reply, write_steps};
 use crate::script::{Performs, Played, play_script};
 use io_text::Text;
 use room_files::{InputFault, Outcome, write_refused, write_refused_code};
-use room_spec::SpecFault;
+use room_spec::{Spec, SpecFault};
 use service_core::{Command, Refusal, Reply, Service};
 use std::alloc::{AllocError, Global};
 
@@ -59,6 +60,19 @@ impl Replies {
         }
     }
 
+    /// Does a command, and writes the reply to it.
+    fn reply_to(&mut self, alloc: Global, command: Command) -> Result<Option<Refusal>, AllocError>
+        ensures { IfOk result (λ refusal. IsPerformed
+            self.old.service (λ all. self.old.output ≡ flat_map done_text all) command refusal
+            self.new.service (λ all. self.new.output ≡ flat_map done_text all)) }
+    {
+        let name = command.name().clone()?;
+        let sim = sim_in(&command);
+        let reply = self.service.apply(alloc, command);
+        write_reply(&mut self.output, name.as_str().as_bytes(), sim, &reply)?;
+        Ok(refusal_in(&reply))
+    }
+
     /// Writes that the room of this name refused steps of this simulator.
     #[cold]
     #[inline(never)]
@@ -79,12 +93,17 @@ impl Performs for Replies {
 
     ghost has_done = { λ replies all. replies.output ≡ flat_map done_text all };
 
+    fn open(
+        &mut self,
+        alloc: Global,
+        _block: &[u8],
+        spec: Spec,
+    ) -> Result<Option<Refusal>, AllocError> {
+        self.reply_to(alloc, Command::Begin(spec))
+    }
+
     fn perform(&mut self, alloc: Global, command: Command) -> Result<Option<Refusal>, AllocError> {
-        let name = command.name().clone()?;
-        let sim = sim_in(&command);
-        let reply = self.service.apply(alloc, command);
-        write_reply(&mut self.output, name.as_str().as_bytes(), sim, &reply)?;
-        Ok(refusal_in(&reply))
+        self.reply_to(alloc, command)
     }
 
     #[inline]

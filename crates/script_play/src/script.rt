@@ -9,7 +9,7 @@ ghost use Rattle.script_play.specs.Play.{IsPlay};
 use crate::entries::{Entry, next_entry, read_command};
 use crate::player::Player;
 use room_files::{InputFault, Outcome};
-use room_spec::SpecFault;
+use room_spec::{Spec, SpecFault};
 use service_core::{Command, Refusal};
 use std::alloc::{AllocError, Global};
 
@@ -22,9 +22,9 @@ pub trait Performs: Drop {
     ghost use Rattle.std.specs.Prelude.{◌≡◌, ◌≢◌, ℕ, List, Some, true, IfOk, OnOk};
     ghost use Rattle.room_spec.specs.Names.{is_name};
     ghost use Rattle.service_core.specs.Rooms.{Entries};
-    ghost use Rattle.service_core.specs.declared.command.Command.TheVariants.{Step};
+    ghost use Rattle.service_core.specs.declared.command.Command.TheVariants.{Begin, Step};
     ghost use Rattle.service_core.specs.declared.reply.Refusal.TheVariants.{NoRoom};
-    ghost use Rattle.script_play.specs.Play.{Done, DoesMore, Faulty, IsPerformed, Unread};
+    ghost use Rattle.script_play.specs.Play.{Done, DoesMore, Faulty, IsBlockOf, IsPerformed, OpensNone, Unread};
 
     // The rooms that are open.
     ghost rooms: { Self → Entries };
@@ -32,8 +32,19 @@ pub trait Performs: Drop {
     // This is all that was done, in order.
     ghost has_done: { Self → List Done → Type 0 };
 
-    /// Does a command. Gives why it was refused, if it was.
+    /// Opens the room that a block says. Gives why it was refused, if it was.
+    fn open(
+        &mut self,
+        alloc: Global,
+        block: &[u8],
+        spec: Spec,
+    ) -> Result<Option<Refusal>, AllocError>
+        requires { IsBlockOf spec block.now }
+        ensures { IfOk result (λ refusal. IsPerformed (rooms self.old) (has_done self.old) (Begin spec) refusal (rooms self.new) (has_done self.new)) };
+
+    /// Does a command, which opens no room. Gives why it was refused, if it was.
     fn perform(&mut self, alloc: Global, command: Command) -> Result<Option<Refusal>, AllocError>
+        requires { OpensNone command }
         ensures { IfOk result (λ refusal. IsPerformed (rooms self.old) (has_done self.old) command refusal (rooms self.new) (has_done self.new)) };
 
     /// Does the command [`Step`](Command::Step) to the room that these bytes name, with no command made. Where they are no

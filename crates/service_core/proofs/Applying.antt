@@ -1,8 +1,10 @@
 -- What one command makes of the rooms.
-use Rattle.std.proofs.Common.{◌≡◌, ◌≢◌, Bool, true, false, cond, List, ℕ, Option, Some, None, refl, sym, ap, ◌∙◌, subst}
+use Rattle.std.proofs.Common.{◌≡◌, ◌≢◌, Bool, true, false, cond, List, ℕ, length, Option, Some, None, refl, sym, ap, ◌∙◌, subst}
 use Rattle.std.specs.Str.{bytes_eq}
 use Rattle.room_spec.specs.Rooms.{RoomSpec}
+use Rattle.room_core.specs.declared.reply.StepReply.{StepReply}
 use Rattle.room_core.specs.Calls.{RoomState, opening_state}
+use Rattle.room_core.specs.Watching.{steps_of_steps}
 use Rattle.room_core.specs.Fields.{Fields}
 use Rattle.room_core.specs.Reading.{AreFieldsOf}
 use Rattle.room_core.proofs.CallerLemmas.{opening_in_fields}
@@ -10,12 +12,12 @@ use Rattle.ws_history.specs.declared.states.Report.{Report as ReportData}
 use Rattle.service_core.specs.declared.command.Command.{Command}
 use Rattle.service_core.specs.declared.command.Command.TheVariants as commands
 use Rattle.service_core.specs.declared.reply.Reply.{Reply}
-use Rattle.service_core.specs.declared.reply.Reply.TheVariants.{Begun, Closed, Report, Refused}
+use Rattle.service_core.specs.declared.reply.Reply.TheVariants.{Begun, Closed, Report, Refused, Steps}
 use Rattle.service_core.specs.declared.reply.Refusal.TheVariants.{OutOfMemory}
 use Rattle.service_core.specs.declared.room.Act.{Act}
 use Rattle.service_core.specs.declared.room.Act.TheVariants as acts
 use Rattle.service_core.specs.Replies.{OpenRoom, name_in, opened, reply_to, room_after, room_after_open, room_in}
-use Rattle.service_core.specs.Rooms.{Answers, Applies, Entries, IsOpenAs, IsRefusal, IsReportOf, IsStateOf, IsWant, command_for, room_at}
+use Rattle.service_core.specs.Rooms.{Answers, Applies, Entries, IsOpenAs, IsRefusal, IsReportOf, IsStateOf, IsWant, command_for, core_after, room_at, room_left, room_stepped, steps_of}
 use Rattle.ws_history.specs.Reports.{IsTrueReport}
 use Rattle.service_core.proofs.Lookups.{Changes, changed_here, changed_other, same_name}
 
@@ -32,6 +34,8 @@ begins_room spec before after free changes = record {
   report = λ report is. absurd cc;
   want = λ is. absurd cc;
   refused = λ is. absurd is;
+  room = λ granted. changed_here before after spec.name (Some (opening_state spec)) changes ∙ sym (ap (λ (core : Option RoomState). core_after core (commands.Begin spec)) free);
+  taken = λ count last is. absurd cc;
 }
   where
     from : (room : Option OpenRoom) → IsStateOf None room → (Begun ≡ reply_to room (commands.Begin spec)) × IsStateOf (room_at after spec.name) (room_after room (commands.Begin spec))
@@ -46,6 +50,8 @@ closes_room name before after core there changes = record {
   report = λ report is. absurd cc;
   want = λ is. absurd cc;
   refused = λ is. absurd is;
+  room = λ granted. changed_here before after name None changes ∙ sym (ap (λ (core : Option RoomState). core_after core (commands.Close name)) there);
+  taken = λ count last is. absurd cc;
 }
   where
     from : (room : Option OpenRoom) → IsStateOf (Some core) room → (Closed ≡ reply_to room (commands.Close name)) × IsStateOf (room_at after name) (room_after room (commands.Close name))
@@ -56,7 +62,7 @@ closes_room name before after core there changes = record {
 module _ (name : List ℕ) (command : Command) (reply : Reply) (before after : Entries) (core core' : RoomState) (own : name_in command ≡ name) (stays : (room : OpenRoom) → room_after_open room command ≡ Some (room_in room command))
     (there : room_at before name ≡ Some core) (changes : Changes before after name (Some core')) (answers : reply ≢ Refused OutOfMemory → (room : OpenRoom) → IsOpenAs core room → Answers room command reply core')
     (reports : (report : ReportData) → reply ≡ Report report → (fields : Fields) → AreFieldsOf core fields → IsTrueReport core.spec fields report) (wants : reply ≡ Refused OutOfMemory → IsWant (Some core) command)
-    (refused : IsRefusal reply → core' ≡ core) where
+    (refused : IsRefusal reply → core' ≡ core) (left : room_left core command ≡ Some core') (so_many : (count : ℕ) (last : StepReply) → reply ≡ Steps count last → length (steps_of (Some core) command) ≡ count) where
   here : room_at before (name_in command) ≡ Some core
   here = ap (room_at before) own ∙ there
 
@@ -90,6 +96,8 @@ module _ (name : List ℕ) (command : Command) (reply : Reply) (before after : E
     report = λ report is room at. reported report is room (subst (λ (core : Option RoomState). IsStateOf core room) here at);
     want = λ is. subst (λ (core : Option RoomState). IsWant core command) (sym here) (wants is);
     refused = unchanged;
+    room = λ granted. here_after ∙ sym left ∙ sym (ap (λ (core : Option RoomState). core_after core command) here);
+    taken = λ count last is. ap (λ (core : Option RoomState). length (steps_of core command)) here ∙ so_many count last is;
   }
 
 name_for : (name : List ℕ) (what : Act) → name_in (command_for name what) ≡ name
@@ -105,23 +113,25 @@ open_after name acts.Settle room = refl
 -- it does something
 pub asks_room : (name : List ℕ) (what : Act) (reply : Reply) (before after : Entries) (core core' : RoomState) → room_at before name ≡ Some core → Changes before after name (Some core')
     → ((of : List ℕ) (room : OpenRoom) → IsOpenAs core room → Answers room (command_for of what) reply core') → reply ≢ Refused OutOfMemory → ((report : ReportData) → reply ≢ Report report) → (IsRefusal reply → core' ≡ core)
+    → ((of : List ℕ) → room_left core (command_for of what) ≡ Some core') → ((of : List ℕ) (count : ℕ) (last : StepReply) → reply ≡ Steps count last → length (steps_of (Some core) (command_for of what)) ≡ count)
     → Applies before (command_for name what) reply after
-asks_room name what reply before after core core' there changes answers granted none refused =
-    stays_open name (command_for name what) reply before after core core' (name_for name what) (open_after name what) there changes (λ _ room is. answers name room is) (λ report is. absurd (none report is)) (λ is. absurd (granted is)) refused
+asks_room name what reply before after core core' there changes answers granted none refused left so_many =
+    stays_open name (command_for name what) reply before after core core' (name_for name what) (open_after name what) there changes (λ _ room is. answers name room is) (λ report is. absurd (none report is)) (λ is. absurd (granted is)) refused (left name) (so_many name)
 
 -- it takes steps
 pub steps_room : (name : List ℕ) (sim count : ℕ) (reply : Reply) (before after : Entries) (core core' : RoomState) → room_at before name ≡ Some core → Changes before after name (Some core')
     → ((of : List ℕ) (room : OpenRoom) → IsOpenAs core room → Answers room (commands.Step of sim count) reply core') → reply ≢ Refused OutOfMemory → ((report : ReportData) → reply ≢ Report report) → (IsRefusal reply → core' ≡ core)
+    → core' ≡ room_stepped core sim count → ((taken : ℕ) (last : StepReply) → reply ≡ Steps taken last → length (steps_of_steps core sim count) ≡ taken)
     → Applies before (commands.Step name sim count) reply after
-steps_room name sim count reply before after core core' there changes answers granted none refused =
-    stays_open name (commands.Step name sim count) reply before after core core' refl (λ room. refl) there changes (λ _ room is. answers name room is) (λ report is. absurd (none report is)) (λ is. absurd (granted is)) refused
+steps_room name sim count reply before after core core' there changes answers granted none refused left so_many =
+    stays_open name (commands.Step name sim count) reply before after core core' refl (λ room. refl) there changes (λ _ room is. answers name room is) (λ report is. absurd (none report is)) (λ is. absurd (granted is)) refused (ap Some (sym left)) so_many
 
 -- it is reported, and nothing changes
 pub reports_room : (name : List ℕ) (reply : Reply) (entries : Entries) (core : RoomState) → room_at entries name ≡ Some core
     → (reply ≢ Refused OutOfMemory → (of : List ℕ) (room : OpenRoom) → IsOpenAs core room → Answers room (commands.Report of) reply core)
-    → ((report : ReportData) → reply ≡ Report report → (fields : Fields) → AreFieldsOf core fields → IsTrueReport core.spec fields report) → Applies entries (commands.Report name) reply entries
-reports_room name reply entries core there answers reports =
-    stays_open name (commands.Report name) reply entries entries core core refl (λ room. refl) there same (λ granted room is. answers granted name room is) reports (λ is. tt) (λ is. refl)
+    → ((report : ReportData) → reply ≡ Report report → (fields : Fields) → AreFieldsOf core fields → IsTrueReport core.spec fields report) → ((count : ℕ) (last : StepReply) → reply ≢ Steps count last) → Applies entries (commands.Report name) reply entries
+reports_room name reply entries core there answers reports none =
+    stays_open name (commands.Report name) reply entries entries core core refl (λ room. refl) there same (λ granted room is. answers granted name room is) reports (λ is. tt) (λ is. refl) refl (λ count last is. absurd (none count last is))
   where
     same : Changes entries entries name (Some core)
     same other = by (bytes_eq name other) refl

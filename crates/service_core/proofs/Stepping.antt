@@ -1,5 +1,5 @@
 -- What a simulator has done that was let take steps.
-use Rattle.std.proofs.Common.{◌≡◌, ◌≢◌, ℕ, zero, suc, ◌+◌, ◌-◌, ◌<◌, ◌≤◌, Bool, true, false, cond, List, [], ◌∷◌, refl, sym, ap, ◌∙◌, subst, arith}
+use Rattle.std.proofs.Common.{◌≡◌, ◌≢◌, ℕ, zero, suc, ◌+◌, ◌-◌, ◌<◌, ◌≤◌, Bool, true, false, cond, List, [], ◌∷◌, length, refl, sym, ap, ◌∙◌, subst, arith}
 use Rattle.room_spec.specs.Rooms.{RoomSpec, IsWithinLimits}
 use Rattle.room_core.specs.declared.reply.StepReply.{StepReply}
 use Rattle.room_core.specs.declared.reply.StepReply.TheVariants as steps
@@ -9,7 +9,8 @@ use Rattle.room_core.specs.Reading.{AreFieldsOf}
 use Rattle.room_core.specs.Watching.{AreSeen, TakenStep, is_stepped, steps_of_steps}
 use Rattle.room_core.proofs.CallerLemmas.{same_spec, step_in_fields}
 use Rattle.service_core.specs.Replies.{Stepping, one_more, stepping}
-use Rattle.service_core.specs.Rooms.{IsSteppedTo}
+use Rattle.service_core.specs.Rooms.{IsSteppedTo, room_stepped}
+use Rattle.service_core.proofs.Leaving.{left_first}
 
 pub not_stepped : (reply : StepReply) → reply ≢ steps.Stepped → is_stepped reply ≡ false
 not_stepped steps.Stepped other = absurd (other refl)
@@ -100,21 +101,31 @@ module _ {W : Type 0} (sees : W → RoomState → ℕ → W → Type 0) (i count
     pub same : room.spec ≡ start.spec
     pub stands : (fields : Fields) → AreFieldsOf start fields → HasTaken start.spec fields i count taken room
     pub seen : (new : W) → AreSeen sees now (steps_of_steps room i (count - taken)) new → AreSeen sees old (steps_of_steps start i count) new
+    pub left : room_stepped start i count ≡ room_stepped room i (count - taken)
+    pub so_many : length (steps_of_steps start i count) ≡ taken + length (steps_of_steps room i (count - taken))
 
   -- how it ends: so many were taken, with this last answer
   pub record IsOver (reply : ℕ × StepReply) (room : RoomState) (now : W) : Type 0 where
     pub same : room.spec ≡ start.spec
     pub fields : (fields : Fields) → AreFieldsOf start fields → IsSteppedTo (stepping start.spec fields i count) reply room
     pub seen : AreSeen sees old (steps_of_steps start i count) now
+    pub left : room ≡ room_stepped start i count
+    pub so_many : length (steps_of_steps start i count) ≡ reply.0
 
-  abbrev left : ℕ → RoomState → List TakenStep
-  left taken room = steps_of_steps room i (count - taken)
+  abbrev left_over : ℕ → RoomState → List TakenStep
+  left_over taken room = steps_of_steps room i (count - taken)
 
   left_more : (taken : ℕ) (room : RoomState) (b : Bool) → taken < count → is_stepped (step_reply room i) ≡ b
-      → left taken room ≡ cond b ((record { room = room; simulator = i }) ∷ left (taken + 1) (room_after_step room i)) []
+      → left_over taken room ≡ cond b ((record { room = room; simulator = i }) ∷ left_over (taken + 1) (room_after_step room i)) []
   left_more taken room b less is =
       let e : count - taken ≡ suc (count - (taken + 1)) = omega arith in
-      ap (λ (n : ℕ). steps_of_steps room i n) e ∙ ap (λ (c : Bool). cond c ((record { room = room; simulator = i }) ∷ left (taken + 1) (room_after_step room i)) []) is
+      ap (λ (n : ℕ). steps_of_steps room i n) e ∙ ap (λ (c : Bool). cond c ((record { room = room; simulator = i }) ∷ left_over (taken + 1) (room_after_step room i)) []) is
+
+  room_more : (taken : ℕ) (room : RoomState) (b : Bool) → taken < count → is_stepped (step_reply room i) ≡ b
+      → room_stepped room i (count - taken) ≡ cond b (room_stepped (room_after_step room i) i (count - (taken + 1))) (room_after_step room i)
+  room_more taken room b less is =
+      let e : count - taken ≡ suc (count - (taken + 1)) = omega arith in
+      ap (λ (n : ℕ). room_stepped room i n) e ∙ left_first room i (count - (taken + 1)) b is
 
 module _ {W : Type 0} (sees : W → RoomState → ℕ → W → Type 0) (i count : ℕ) (start : RoomState) (old : W) where
   pub sets_out : IsOnTheWay sees i count start old 0 start old
@@ -122,6 +133,8 @@ module _ {W : Type 0} (sees : W → RoomState → ℕ → W → Type 0) (i count
     same = refl;
     stands = λ fields are. record { now = fields; are = are; is = all_taken start.spec fields i count 0 (omega arith) (λ k none. absurd (omega (arith, none))) };
     seen = λ new are. let e : count - 0 ≡ count = omega arith in subst (λ (n : ℕ). AreSeen sees old (steps_of_steps start i n) new) e are;
+    left = let e : count ≡ count - 0 = omega arith in ap (λ (n : ℕ). room_stepped start i n) e;
+    so_many = let e : count ≡ count - 0 = omega arith in let all = ap (λ (n : ℕ). length (steps_of_steps start i n)) e in omega (arith, all);
   }
 
   pub goes_on : (taken : ℕ) (room after : RoomState) (now next : W) → IsWithinLimits start.spec → taken < count → IsOnTheWay sees i count start old taken room now → step_reply room i ≡ steps.Stepped → after ≡ room_after_step room i → sees now room i next
@@ -135,6 +148,8 @@ module _ {W : Type 0} (sees : W → RoomState → ℕ → W → Type 0) (i count
             let both = replied start.spec room so_far.now i limits on.same so_far.are in
             takes start.spec fields i count taken room (room_after_step room i) less so_far (ap is_stepped (both.0 ∙ stepped)) both.1;
         seen = λ new are. on.seen new (subst (λ (steps : List TakenStep). AreSeen sees now steps new) (sym (left_more sees i count start old taken room true less (ap is_stepped stepped))) (next, saw, are));
+        left = on.left ∙ room_more sees i count start old taken room true less (ap is_stepped stepped);
+        so_many = let one = ap length (left_more sees i count start old taken room true less (ap is_stepped stepped)) in let all = on.so_many in omega (arith, one, all);
       })
 
   pub all_done : (room : RoomState) (now : W) → IsOnTheWay sees i count start old count room now → IsOver sees i count start old (count, steps.Stepped) room now
@@ -144,6 +159,8 @@ module _ {W : Type 0} (sees : W → RoomState → ℕ → W → Type 0) (i count
         let so_far = on.stands fields are in
         subst (λ (all : Stepping). IsSteppedTo all (count, steps.Stepped) room) (sym (ends start.spec fields i count room so_far)) (record { taken = refl; last = refl; fields = so_far.are });
     seen = let e : 0 ≡ count - count = omega arith in on.seen now (subst (λ (n : ℕ). AreSeen sees now (steps_of_steps room i n) now) e refl);
+    left = let e : count - count ≡ 0 = omega arith in sym (on.left ∙ ap (λ (n : ℕ). room_stepped room i n) e);
+    so_many = let e : count - count ≡ 0 = omega arith in let none = ap (λ (n : ℕ). length (steps_of_steps room i n)) e in let all = on.so_many in omega (arith, none, all);
   }
 
   pub stops_at : (taken : ℕ) (room after : RoomState) (now last : W) (reply : StepReply) → IsWithinLimits start.spec → taken < count → IsOnTheWay sees i count start old taken room now → reply ≡ step_reply room i → reply ≢ steps.Stepped
@@ -159,4 +176,6 @@ module _ {W : Type 0} (sees : W → RoomState → ℕ → W → Type 0) (i count
             subst (λ (all : Stepping). IsSteppedTo all (taken, reply) (room_after_step room i)) (sym (stops start.spec fields i count taken room reply less so_far (is ∙ sym both.0) none))
             (record { taken = refl; last = refl; fields = both.1 });
         seen = on.seen last (subst (λ (steps : List TakenStep). AreSeen sees now steps last) (sym (left_more sees i count start old taken room false less (ap is_stepped (sym is) ∙ none))) (sym blind));
+        left = sym (on.left ∙ room_more sees i count start old taken room false less (ap is_stepped (sym is) ∙ none));
+        so_many = let stop = ap length (left_more sees i count start old taken room false less (ap is_stepped (sym is) ∙ none)) in let all = on.so_many in omega (arith, stop, all);
       })

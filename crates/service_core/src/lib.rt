@@ -6,6 +6,7 @@
 #![tactic(auto)]
 
 mod command;
+pub mod laws;
 mod reply;
 mod room;
 mod service;

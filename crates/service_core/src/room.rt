@@ -1,15 +1,17 @@
 //! What a command does to one open room.
-ghost use Rattle.std.specs.Prelude.{◌≡◌, ◌≢◌, ℕ, List, Some, nat_lt};
+ghost use Rattle.std.specs.Prelude.{◌≡◌, ◌≢◌, ℕ, List, Err, Some, length, nat_lt};
 ghost use Rattle.service_core.specs.declared.command.Command.TheVariants.{Crash, Report, Step};
+ghost use Rattle.room_core.specs.Calls.{room_after_crash};
 ghost use Rattle.room_core.specs.Fields.{Fields};
 ghost use Rattle.room_core.specs.Reading.{AreFieldsOf};
+ghost use Rattle.room_core.specs.declared.reply.StepReply.{StepReply as StepReplyData};
 ghost use Rattle.room_core.specs.Watching.{AreSeen, steps_of_steps};
 ghost use Rattle.service_core.specs.Replies.{OpenRoom, reply_to_steps, stepping};
 ghost use Rattle.ws_history.specs.declared.states.Report.{Report as ReportData};
-ghost use Rattle.service_core.specs.Rooms.{Answers, IsOpenAs, IsRefusal, IsSteppedTo, command_for, steps_of};
+ghost use Rattle.service_core.specs.Rooms.{Answers, IsOpenAs, IsRefusal, IsSteppedTo, command_for, room_left, room_stepped, steps_of};
 ghost use Rattle.ws_history.specs.Reports.{IsTrueReport};
-ghost use Rattle.service_core.specs.declared.reply.Reply.TheVariants.{Refused, Report as ReportReply};
-ghost use Rattle.service_core.specs.declared.reply.Refusal.TheVariants.{OutOfMemory};
+ghost use Rattle.service_core.specs.declared.reply.Reply.TheVariants.{Refused, Report as ReportReply, Steps};
+ghost use Rattle.service_core.specs.declared.reply.Refusal.TheVariants.{NoRoom, OutOfMemory};
 
 use crate::reply::{Refusal, Reply};
 use room_core::{RoomCore, StepReply, Watch};
@@ -28,6 +30,7 @@ pub(crate) enum Act {
 pub(crate) fn answer_report(alloc: Global, room: &RoomCore) -> Reply
     // What it answers rests on the room alone.
     ensures reply { result ≢ Refused OutOfMemory → (name : List ℕ) (state : OpenRoom) → IsOpenAs room.now state → Answers state (Report name) result room.now }
+    ensures no_steps { (number : ℕ) (last : StepReplyData) → result ≢ Steps number last }
     ensures report { (report : ReportData) → result ≡ ReportReply report →
         (fields : Fields) → AreFieldsOf room.now fields → IsTrueReport room.now.spec fields report }
 {
@@ -45,6 +48,9 @@ pub(crate) fn answer<W: Watch>(room: &mut RoomCore, what: Act, watch: &mut W) ->
     ensures no_report { (report : ReportData) → result ≢ ReportReply report }
     ensures refused { IsRefusal result → room.new ≡ room.old }
     ensures spec { room.new.spec ≡ room.old.spec }
+    ensures left { (name : List ℕ) → room_left room.old (command_for name what) ≡ Some room.new }
+    ensures taken { (name : List ℕ) (number : ℕ) (last : StepReplyData) →
+        result ≡ Steps number last → length (steps_of (Some room.old) (command_for name what)) ≡ number }
     ensures seen { (name : List ℕ) → AreSeen W.sees watch.old (steps_of (Some room.old) (command_for name what)) watch.new }
 {
     match what {
@@ -75,12 +81,15 @@ fn has_simulator(room: &RoomCore, sim: u8) -> bool
 
 /// Lets a simulator take steps. It takes no memory.
 pub(crate) fn step(room: &mut RoomCore, sim: u8, count: u16) -> Result<(u16, StepReply), Refusal>
+    ensures there { result ≢ Err NoRoom }
     // What it does rests on the room alone.
     ensures reply { (name : List ℕ) (state : OpenRoom) → IsOpenAs room.old state → Answers state (Step name sim count) (reply_to_steps result) room.new }
     ensures granted { reply_to_steps result ≢ Refused OutOfMemory }
     ensures no_report { (report : ReportData) → reply_to_steps result ≢ ReportReply report }
     ensures refused { IsRefusal (reply_to_steps result) → room.new ≡ room.old }
     ensures spec { room.new.spec ≡ room.old.spec }
+    ensures left { room.new ≡ room_stepped room.old sim count }
+    ensures taken { (number : ℕ) (last : StepReplyData) → reply_to_steps result ≡ Steps number last → length (steps_of_steps room.old sim count) ≡ number }
 {
     if !has_simulator(room, sim) {
         return Err(Refusal::NoSimulator);
@@ -100,6 +109,8 @@ fn step_watched<W: Watch>(
     ensures no_report { (report : ReportData) → reply_to_steps result ≢ ReportReply report }
     ensures refused { IsRefusal (reply_to_steps result) → room.new ≡ room.old }
     ensures spec { room.new.spec ≡ room.old.spec }
+    ensures left { room.new ≡ room_stepped room.old sim count }
+    ensures taken { (number : ℕ) (last : StepReplyData) → reply_to_steps result ≡ Steps number last → length (steps_of_steps room.old sim count) ≡ number }
     ensures seen { AreSeen W.sees watch.old (steps_of_steps room.old sim count) watch.new }
 {
     if !has_simulator(room, sim) {
@@ -114,6 +125,8 @@ fn crash(room: &mut RoomCore, sim: u8) -> Reply
     ensures no_report { (report : ReportData) → result ≢ ReportReply report }
     ensures refused { IsRefusal result → room.new ≡ room.old }
     ensures spec { room.new.spec ≡ room.old.spec }
+    ensures left { room.new ≡ room_after_crash room.old sim }
+    ensures no_steps { (number : ℕ) (last : StepReplyData) → result ≢ Steps number last }
 {
     if !has_simulator(room, sim) {
         return Reply::Refused(Refusal::NoSimulator);
@@ -126,6 +139,8 @@ fn crash(room: &mut RoomCore, sim: u8) -> Reply
 fn steps(room: &mut RoomCore, i: usize, count: u16) -> (u16, StepReply)
     ensures fields { (fields : Fields) → AreFieldsOf room.old fields → IsSteppedTo (stepping room.old.spec fields i count) result room.new }
     ensures spec { room.new.spec ≡ room.old.spec }
+    ensures left { room.new ≡ room_stepped room.old i count }
+    ensures taken { length (steps_of_steps room.old i count) ≡ result.0 }
 {
     let taken = room.steps(i, u64::from(count)) as u16;
     if taken == count {
@@ -143,6 +158,8 @@ fn steps_watched<W: Watch>(
 ) -> (u16, StepReply)
     ensures fields { (fields : Fields) → AreFieldsOf room.old fields → IsSteppedTo (stepping room.old.spec fields i count) result room.new }
     ensures spec { room.new.spec ≡ room.old.spec }
+    ensures left { room.new ≡ room_stepped room.old i count }
+    ensures taken { length (steps_of_steps room.old i count) ≡ result.0 }
     ensures seen { AreSeen W.sees watch.old (steps_of_steps room.old i count) watch.new }
 {
     let _shape = room.spec().shape(); // for the proof: a spec is within its limits

@@ -1,15 +1,16 @@
 //! The service: rooms by their names.
-ghost use Rattle.std.specs.Prelude.{◌≡◌, ◌≢◌, ◌≤◌, ℕ, List, [], Option, None, Some, Err, true, false, length, IfOk, OnOk, OnErr, if◌then◌else◌};
+ghost use Rattle.std.specs.Prelude.{◌≡◌, ◌≢◌, ◌≤◌, ℕ, List, [], Option, None, Some, Err, true, false, length, IfOk, MatchOption, OnOk, OnErr, if◌then◌else◌};
 ghost use Rattle.std.specs.Vec.{vec_capacity, vec_len};
 ghost use Rattle.std.specs.Str.{bytes_eq};
 ghost use Rattle.indexmap.specs.IndexMap.{get};
 ghost use Rattle.room_core.specs.Calls.{opening_state};
 ghost use Rattle.room_core.specs.Watching.{AreSeen};
+ghost use Rattle.room_core.specs.declared.reply.StepReply.{StepReply as StepReplyData};
 ghost use Rattle.ws_history.specs.declared.states.Report.{Report as ReportData};
 ghost use Rattle.service_core.specs.declared.command.Command.TheVariants.{Begin, Close, Report, Step};
-ghost use Rattle.service_core.specs.declared.reply.Reply.TheVariants.{Report as ReportReply};
+ghost use Rattle.service_core.specs.declared.reply.Reply.TheVariants.{Report as ReportReply, Steps};
 ghost use Rattle.service_core.specs.Replies.{OpenRoom, name_in, part, replies_from, reply_to, reply_to_steps, room_after};
-ghost use Rattle.service_core.specs.Rooms.{Applies, HasOwnNames, IsRefusal, IsReportOf, IsStateOf, IsWant, command_for, room_at, steps_of};
+ghost use Rattle.service_core.specs.Rooms.{Applies, HasOwnNames, IsRefusal, IsReportOf, IsStateOf, IsWant, command_for, core_after, room_at, steps_of};
 ghost use Rattle.service_core.specs.Runs.{AreTrueReports, AreWants, HasNoWant, granted, replies_of, without_wants};
 ghost use Rattle.service_core.specs.declared.reply.Reply.TheVariants.{Refused};
 ghost use Rattle.service_core.specs.declared.reply.Refusal.TheVariants.{NoRoom, OutOfMemory};
@@ -68,6 +69,10 @@ impl Service {
             (room : Option OpenRoom) → IsStateOf (room_at self.old (name_in command)) room → IsReportOf room report }
         ensures want { result ≡ Refused OutOfMemory → IsWant (room_at self.old (name_in command)) command }
         ensures refused { IsRefusal result → (name : List ℕ) → room_at self.new name ≡ room_at self.old name }
+        // What is left of the room itself.
+        ensures room { result ≢ Refused OutOfMemory → room_at self.new (name_in command) ≡ core_after (room_at self.old (name_in command)) command }
+        ensures taken { (number : ℕ) (last : StepReplyData) →
+            result ≡ Steps number last → length (steps_of (room_at self.old (name_in command)) command) ≡ number }
     {
         match command {
             Command::Step { name, sim, count } => {
@@ -108,6 +113,7 @@ impl Service {
         ensures reply { Applies self.old (Step name.now sim count) (reply_to_steps result) self.new }
         // Where there is a room the bytes are a name.
         ensures name { result ≢ Err NoRoom → is_name name.now ≡ true }
+        ensures none { result ≡ Err NoRoom → room_at self.old name.now ≡ None }
     {
         let Some(index) = self.rooms.get_index_of(Spelled { bytes: name }) else {
             return Err(Refusal::NoRoom);
@@ -139,6 +145,13 @@ impl Service {
     {
         let replies = run_all(alloc, commands)?;
         Ok(replies)
+    }
+
+    /// The room that is open under this name, if one is.
+    pub fn room(&self, name: &Name) -> Option<&RoomCore>
+        ensures { MatchOption result (room_at self.now name.now ≡ None) (λ room. room_at self.now name.now ≡ Some room.now) }
+    {
+        self.rooms.get(name)
     }
 
     /// The rooms that are open, each under its own name. Their order is left open.

@@ -1,11 +1,11 @@
-use Rattle.std.proofs.Common.{◌∙◌, ap, sym, subst}
+use Rattle.std.proofs.Common.{◌∙◌, Some, length, ap, sym, subst}
 use Rattle.room_core.specs.Calls.{RoomState, Settle}
 use Rattle.room_core.proofs.CallerLemmas.{same_spec}
 use Rattle.service_core.specs.declared.command.Command.{Command}
 use Rattle.service_core.specs.declared.command.Command.TheVariants as commands
 use Rattle.service_core.specs.declared.reply.Reply.{Reply}
 use Rattle.service_core.specs.declared.reply.Reply.TheVariants as replies
-use Rattle.service_core.specs.Rooms.{Answers, command_for}
+use Rattle.service_core.specs.Rooms.{Answers, command_for, steps_of}
 use Rattle.service_core.proofs.Answering.{settle_answers}
 use Rattle.service_core.proofs.room.answer.Goals as goal
 
@@ -26,3 +26,11 @@ returns-in-Settle-clause-reply g c = λ name state is.
 
 pub returns-in-Settle-clause-spec : goal.returns-in-Settle-clause-spec
 returns-in-Settle-clause-spec g c = ap (λ (r : RoomState). r.spec) c.settle_watched.ensures.room ∙ same_spec c.args.room.now Settle
+
+pub returns-in-Step-clause-taken : goal.returns-in-Step-clause-taken
+returns-in-Step-clause-taken g c = λ name number last is.
+    ap (λ (command : Command). length (steps_of (Some c.args.room.now) command)) (ap (command_for name) c.in-Step.is)
+    ∙ c.step_watched.ensures.taken number last (sym c.reply_to_steps.ensures ∙ is)
+
+pub returns-in-Crash-clause-taken : goal.returns-in-Crash-clause-taken
+returns-in-Crash-clause-taken g c = λ name number last is. absurd (c.crash.ensures.no_steps number last is)

@@ -1,7 +1,9 @@
-use Rattle.std.proofs.Common.{◌∙◌, ℕ, sym, subst}
+use Rattle.std.proofs.Common.{◌∙◌, ℕ, length, ap, sym, subst}
+use Rattle.room_core.specs.Watching.{steps_of_steps}
 use Rattle.service_core.specs.Replies.{stepping}
-use Rattle.service_core.specs.Rooms.{IsSteppedTo}
+use Rattle.service_core.specs.Rooms.{IsSteppedTo, room_stepped}
 use Rattle.service_core.proofs.Answering.{step_answers}
+use Rattle.service_core.proofs.Leaving.{taken_by}
 use Rattle.service_core.proofs.room.step_watched.Goals as goal
 
 pub returns-clause-reply : goal.returns-clause-reply
@@ -9,3 +11,10 @@ returns-clause-reply g c = λ name state is.
     let room = c.args.room.now in
     let stepped = subst (λ (i : ℕ). IsSteppedTo (stepping room.spec state.fields i c.args.count) c.steps_watched.result c.steps_watched.new.room) c.from.ensures (c.steps_watched.ensures.fields state.fields is.fields) in
     step_answers room c.steps_watched.new.room state name c.args.sim c.args.count c.steps_watched.result is (sym c.has_simulator.ensures ∙ c.if-not-has_simulator.false) c.steps_watched.ensures.spec stepped
+
+pub returns-clause-left : goal.returns-clause-left
+returns-clause-left g c = c.steps_watched.ensures.left ∙ ap (λ (i : ℕ). room_stepped c.args.room.now i c.args.count) c.from.ensures
+
+pub returns-clause-taken : goal.returns-clause-taken
+returns-clause-taken g c = λ number last is.
+    ap (λ (i : ℕ). length (steps_of_steps c.args.room.now i c.args.count)) (sym c.from.ensures) ∙ c.steps_watched.ensures.taken ∙ taken_by c.steps_watched.result.0 c.steps_watched.result.1 number last is

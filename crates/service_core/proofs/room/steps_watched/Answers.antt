@@ -14,7 +14,7 @@ returns-in_default g c =
     let limits = subst IsWithinLimits c.spec.ensures.value c.shape-shape.ensures.limits in
     let over = stops_at g.W.Watch.sees c.args.i c.args.count c.args.room.now c.args.watch.now c.loop-taken.taken c.loop-taken.room c.step.new.room c.loop-taken.watch c.step.new.self c.step.result
     limits (omega arith) c.loop-taken.invariant c.step.ensures.reply c.in_default.not-Stepped c.step.ensures.room (c.step.ensures.blind c.in_default.not-Stepped) in
-    record { fields = over.fields; spec = over.same; seen = over.seen }
+    record { fields = over.fields; spec = over.same; left = over.left; taken = over.so_many; seen = over.seen }
 
 pub returns-clause-fields : goal.returns-clause-fields
 returns-clause-fields g c =

@@ -7,7 +7,7 @@ use Rattle.service_core.proofs.service.reply_to_all.Goals as goal
 pub loop-command-preserved : goal.loop-command-preserved
 loop-command-preserved c =
     let ran = c.loop-command.invariant.2 in
-    let applies : Applies c.loop-command.service c.in-Some.command c.apply-reply.result c.apply-reply.new.self = record { answer = c.apply-reply.ensures.reply; others = c.apply-reply.ensures.others; report = c.apply-reply.ensures.report; want = c.apply-reply.ensures.want; refused = c.apply-reply.ensures.refused } in (
+    let applies : Applies c.loop-command.service c.in-Some.command c.apply-reply.result c.apply-reply.new.self = record { answer = c.apply-reply.ensures.reply; others = c.apply-reply.ensures.others; report = c.apply-reply.ensures.report; want = c.apply-reply.ensures.want; refused = c.apply-reply.ensures.refused; room = c.apply-reply.ensures.room; taken = c.apply-reply.ensures.taken } in (
       tt,
       tt,
       subst (λ (all : List Reply). Ran (c.loop-command.yielded ++ c.in-Some.command ∷ []) all c.apply-reply.new.self) (sym c.push_reserved.ensures.items)

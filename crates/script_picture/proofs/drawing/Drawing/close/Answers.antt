@@ -1,12 +1,11 @@
-use Rattle.std.proofs.Common.{ℕ, List, subst}
-use Rattle.service_core.specs.declared.command.Command.TheVariants as commands
-use Rattle.service_core.specs.declared.reply.Reply.TheVariants.{Report}
-use Rattle.service_core.specs.Rooms.{Applies}
 use Rattle.script_picture.proofs.Closing.{closed_drawn}
+use Rattle.script_picture.proofs.Finishing.{report_at}
 use Rattle.script_picture.proofs.drawing.Drawing.close.Goals as goal
 
-pub returns-in-Report : goal.returns-in-Report
-returns-in-Report c =
-    let first : Applies c.args.self.now.service (commands.Report c.args.name) (Report c.in-Report.report) c.apply_watched-reply.new.self =
-    subst (λ (n : List ℕ). Applies c.args.self.now.service (commands.Report n) (Report c.in-Report.report) c.apply_watched-reply.new.self) c.in_ok-room.ensures.cases c.in-Report.ensures.applies
-    in closed_drawn _ _ _ _ _ _ _ first c.close_with.result c.close_with.ensures
+pub returns : goal.returns
+returns c =
+    let rooms = c.args.self.now.service in
+    let report = c.in_ok-report.report in
+    closed_drawn rooms c.args.self.now.panels.items c.args.name report _ _
+    (report_at rooms c.args.name c.in-Some.room.now report c.in-Some.ensures c.in_ok-report.ensures.fields c.in_ok-report.ensures.truth)
+    c.close_with.result c.close_with.ensures

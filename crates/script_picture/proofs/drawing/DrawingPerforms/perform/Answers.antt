@@ -1,9 +1,6 @@
 use Rattle.script_picture.proofs.Performing.{performed, settled, stepped}
 use Rattle.script_picture.proofs.drawing.DrawingPerforms.perform.Goals as goal
 
-pub returns-in-Begin : goal.returns-in-Begin
-returns-in-Begin c = rw c.in-Begin.is (performed _ _ _ _ _ c.begin.result c.begin.ensures)
-
 pub returns-in-Crash : goal.returns-in-Crash
 returns-in-Crash c = rw c.in-Crash.is (performed _ _ _ _ _ c.crash.result c.crash.ensures)
 

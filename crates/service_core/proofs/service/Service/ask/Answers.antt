@@ -30,4 +30,4 @@ returns-clause-applies g c =
     let entries = c.self.inside.rooms.entries in
     subst (λ (before : Entries). Applies before (command_for c.args.name.now c.args.what) c.answer.result (set_value_at entries c.in-Some.index c.answer.new.room)) c.self.view_is
     (asks_room c.args.name.now c.args.what c.answer.result entries (set_value_at entries c.in-Some.index c.answer.new.room) c.in-Some-get_index_mut.room.now c.answer.new.room (was_there g c) (changes g c)
-    c.answer.ensures.reply c.answer.ensures.granted c.answer.ensures.no_report c.answer.ensures.refused)
+    c.answer.ensures.reply c.answer.ensures.granted c.answer.ensures.no_report c.answer.ensures.refused c.answer.ensures.left c.answer.ensures.taken)

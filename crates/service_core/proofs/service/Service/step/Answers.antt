@@ -32,7 +32,7 @@ returns-clause-reply c =
     let entries = c.self.inside.rooms.entries in
     subst (λ (before : Entries). Applies before (commands.Step c.args.name.now c.args.sim c.args.count) (reply_to_steps c.step.result) (set_value_at entries c.in-Some.index c.step.new.room)) c.self.view_is
     (steps_room c.args.name.now c.args.sim c.args.count (reply_to_steps c.step.result) entries (set_value_at entries c.in-Some.index c.step.new.room) c.in-Some-get_index_mut.core.now c.step.new.room (was_there c) (changes c)
-    c.step.ensures.reply c.step.ensures.granted c.step.ensures.no_report c.step.ensures.refused)
+    c.step.ensures.reply c.step.ensures.granted c.step.ensures.no_report c.step.ensures.refused c.step.ensures.left c.step.ensures.taken)
 
 pub returns-clause-name : goal.returns-clause-name
 returns-clause-name c = λ other.
