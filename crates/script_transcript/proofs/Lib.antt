@@ -1,0 +1,6 @@
+mod Lookups
+mod Following
+mod Noting
+mod Performing
+mod Writing
+mod Looking
