@@ -1,0 +1,84 @@
+-- Lines that are passed one by one.
+use Rattle.std.proofs.Common.{◌≡◌, ◌∙◌, ℕ, zero, suc, ◌+◌, ◌-◌, ◌<◌, ◌≤◌, ◌==◌, false, List, [], ◌∷◌, ◌++◌, length, codes, decimal, refl, sym, ap, subst, arith}
+use Rattle.std.specs.Prelude.{Result, Ok, Err, OnOk}
+use Rattle.std.proofs.Math.Dec.{eqb-suc-zero}
+use Rattle.std.proofs.lemmas.Fmt.{decimal_digit, decimal_step}
+use Rattle.std.proofs.lemmas.List.{append-nil, append_assoc}
+use Rattle.std.specs.List.{count_by, flat_map}
+use Rattle.std.proofs.lemmas.List.Splits.{length-slice_split}
+use Rattle.room_spec.specs.Texts.{is_line_end, later_lines, lines_of}
+use Rattle.room_files.specs.Blocks.{refused_line, why_text}
+use Rattle.room_files.specs.declared.fault.BlockFault.{BlockFault}
+use Rattle.room_files.specs.declared.fault.BlockFault.TheVariants.{NameTaken}
+use Rattle.fault_text.specs.Lines.{behind_lines, last_of}
+use Rattle.fault_text.specs.Blocks.{line_fault}
+use Rattle.fault_text.specs.Refusals.{refusal_line, said_refusal, why_said}
+use Rattle.fault_text.specs.declared.refusals.Refusal.{Refusal}
+
+one_left : (count at : ℕ) → at < count → count - at ≡ suc (count - (at + 1))
+one_left count at within = omega (arith, within)
+
+none_left : (count at : ℕ) → count ≤ at → count - at ≡ 0
+none_left count at all = omega (arith, all)
+
+-- ---- so many lines
+
+pub none_passed : (text : List ℕ) → text ≡ behind_lines 0 text
+unfolding behind_lines
+none_passed text = refl
+
+pub passed_one : (count at : ℕ) (rest text : List ℕ) → at < count → behind_lines (count - at) rest ≡ behind_lines count text → behind_lines (count - (at + 1)) (later_lines rest) ≡ behind_lines count text
+unfolding behind_lines
+passed_one count at rest text within so_far = ap (λ n. behind_lines n rest) (sym (one_left count at within)) ∙ so_far
+
+pub passed_all : (count at : ℕ) (rest text : List ℕ) → count ≤ at → behind_lines (count - at) rest ≡ behind_lines count text → rest ≡ behind_lines count text
+unfolding behind_lines
+passed_all count at rest text all so_far = ap (λ n. behind_lines n rest) (sym (none_left count at all)) ∙ so_far
+
+passed_some : (some more : ℕ) (text : List ℕ) → behind_lines more (behind_lines some text) ≡ behind_lines (some + more) text
+unfolding behind_lines
+passed_some zero more text = ap (λ n. behind_lines n text) (let e : more ≡ zero + more = omega arith in e)
+passed_some (suc some) more text = passed_some some more (later_lines text) ∙ ap (λ n. behind_lines n text) (let e : suc (some + more) ≡ suc some + more = omega arith in e)
+
+pub passed_more : (passed lines : ℕ) (rest input : List ℕ) → passed ≤ lines → rest ≡ behind_lines passed input → behind_lines (lines - passed) rest ≡ behind_lines lines input
+passed_more passed lines rest input within is = ap (behind_lines (lines - passed)) is ∙ passed_some passed (lines - passed) input ∙ ap (λ n. behind_lines n input) (omega (arith, within))
+
+-- ---- refused blocks
+
+not_empty : (byte : ℕ) (bytes : List ℕ) → (length (byte ∷ bytes) == 0) ≡ false
+not_empty byte bytes = eqb-suc-zero (length bytes)
+
+pub none_refused : (all : List Refusal) → (length all == 0) ≡ (length (flat_map refusal_line all) == 0)
+none_refused [] = refl
+none_refused (refusal ∷ all) = eqb-suc-zero (length all) ∙ sym (not_empty 108 (codes "ine " ++ ((decimal refusal.line ++ (codes " refused " ++ (why_text refusal.fault ++ codes "\n"))) ++ flat_map refusal_line all)))
+
+taken_code : decimal 41 ≡ codes "41"
+taken_code = decimal_step 41 (omega arith) (omega arith) ∙ ap (λ digits. digits ++ 49 ∷ []) (decimal_digit 4 (omega arith))
+
+-- a block whose room's name is taken
+pub taken_said : {T E : Type 0} (result : Result T E) (text output first last : List ℕ) (refusal : Refusal) → refusal.fault ≡ NameTaken → first ≡ output ++ refused_line refusal.line (decimal 41)
+    → OnOk result (last ≡ first ++ line_fault refusal.line text 2 41) → OnOk result (last ≡ output ++ said_refusal text refusal)
+taken_said (Err fault) text output first last refusal is first_is last_is = tt
+taken_said (Ok done) text output first last refusal is first_is last_is =
+    let line = refused_line refusal.line (codes "41") in
+    let notes = line_fault refusal.line text 2 41 in
+    subst (λ (fault : BlockFault). last ≡ output ++ (refused_line refusal.line (why_text fault) ++ why_said refusal.line text fault)) (sym is)
+    (last_is ∙ ap (λ t. t ++ notes) (first_is ∙ ap (λ d. output ++ refused_line refusal.line d) taken_code) ∙ append_assoc output line notes)
+
+-- ---- one text after another
+
+pub both_said : {T E : Type 0} (result : Result T E) (old middle new first second said : List ℕ) → middle ≡ old ++ first → second ≡ said → OnOk result (new ≡ middle ++ second) → OnOk result (new ≡ old ++ (first ++ said))
+both_said (Err fault) old middle new first second said middle_is same is = tt
+both_said (Ok done) old middle new first second said middle_is same is =
+    is ∙ ap (λ t. t ++ second) middle_is ∙ append_assoc old first second ∙ ap (λ t. old ++ (first ++ t)) same
+
+-- ---- the last line
+
+last_behind : (line : List ℕ) (n : ℕ) (lines : List (List ℕ)) → length lines ≡ n + 1 → last_of (line ∷ lines) ≡ last_of lines
+last_behind line n [] some = absurd (omega (arith, some))
+last_behind line n (next ∷ lines) some = refl
+
+-- it is among the lines behind the first
+pub last_passed : (line later rest text : List ℕ) → lines_of rest ≡ line ∷ lines_of later → last_of (lines_of rest) ≡ last_of (lines_of text) → last_of (lines_of later) ≡ last_of (lines_of text)
+last_passed line later rest text pieces so_far =
+    sym (last_behind line (count_by is_line_end later) (lines_of later) (length-slice_split is_line_end later)) ∙ ap last_of (sym pieces) ∙ so_far

@@ -1,0 +1,39 @@
+-- What could follow a part of a protocol's text.
+use Rattle.std.specs.Prelude.{ℕ, suc, ◌==◌, Bool, true, false, List, [], ◌∷◌, ◌++◌, length, map, Option, Some, None, Result, Ok, Err, nat_lt, codes, if◌then◌else◌}
+use Rattle.std.specs.List.{flat_map}
+use Rattle.std.specs.Str.{bytes_eq}
+use Rattle.protocol_lang.specs.FirstFaults.{place_of}
+use Rattle.protocol_lang.specs.Reading.{reading}
+use Rattle.protocol_lang.specs.declared.fault.ParseFault.{ParseFault}
+use Rattle.protocol_lang.specs.declared.protocol.Protocol.{Protocol}
+use Rattle.fault_text.specs.declared.choices.TheConstants.{TOKENS}
+
+-- a fault is at a place, and that is behind this one
+abbrev pub is_fault_behind : ℕ → Option ℕ → Bool
+is_fault_behind place None = false
+is_fault_behind place (Some at) = nat_lt place at
+
+abbrev pub is_taken : ℕ → Result Protocol ParseFault → Bool
+is_taken place (Ok protocol) = true
+is_taken place (Err fault) = is_fault_behind place (place_of fault)
+
+-- a token can stand behind these bytes of a protocol's text: put there, behind a space, it has no fault, nor has what stands before
+abbrev pub can_stand : List ℕ → List ℕ → Bool
+can_stand before token = is_taken (suc (length before)) (reading (before ++ 32 ∷ token))
+
+-- 0 stands for all numbers
+abbrev pub choice_words : List ℕ → List ℕ
+choice_words token = if bytes_eq token (codes "0") then codes " NUMBER" else codes " " ++ token
+
+abbrev pub choice_if : List ℕ → List ℕ → List ℕ
+choice_if before token = if can_stand before token then choice_words token else []
+
+-- the tokens that can stand there
+unfoldable pub choices : List ℕ → List ℕ
+choices before = flat_map (choice_if before) (map (λ token. token.now) TOKENS)
+
+abbrev pub choices_words : List ℕ → List ℕ
+choices_words words = if length words == 0 then codes "nothing could stand there" else codes "what could stand there:" ++ words
+
+abbrev pub choices_note : List ℕ → List ℕ
+choices_note before = choices_words (choices before)

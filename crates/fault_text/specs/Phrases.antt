@@ -1,0 +1,88 @@
+-- What is said of a line that has not the form that it should have.
+use Rattle.std.specs.Prelude.{ℕ, ◌+◌, ◌==◌, ◌&&◌, ◌||◌, Bool, false, not, min, List, [], ◌∷◌, ◌++◌, length, take, drop, max, nat_le, nat_lt, Option, Some, None, codes, decimal, if◌then◌else◌}
+use Rattle.std.specs.List.{prefix_len}
+use Rattle.fault_text.specs.Forms.{misfit_from, range_of}
+use Rattle.fault_text.specs.Hints.{line_hints}
+use Rattle.fault_text.specs.Lines.{indented_all, word_len}
+use Rattle.fault_text.specs.Places.{place_notes}
+
+-- ---- forms in words
+
+abbrev pub shown_letter : ℕ → List ℕ
+shown_letter byte =
+    if byte == 78 then codes "NAME"
+    else if byte == 87 then codes " V .."
+    else if byte == 70 then codes " E .."
+    else if byte == 66 then codes "V"
+    else if byte == 74 then codes "I"
+    else byte ∷ []
+
+-- as documents write the form
+unfoldable pub shown_form : List ℕ → List ℕ
+shown_form [] = []
+shown_form (byte ∷ form) = shown_letter byte ++ shown_form form
+
+abbrev pub is_literal : ℕ → Bool
+is_literal byte = not (nat_le 65 byte && nat_le byte 90 || byte == 32)
+
+abbrev pub literal_len : List ℕ → ℕ
+literal_len form = prefix_len is_literal form
+
+abbrev pub range_words : Option (ℕ × ℕ) → List ℕ → List ℕ
+range_words None left = codes "`" ++ (take (literal_len left) left ++ codes "`")
+range_words (Some range) left = codes "a number from" ++ ((32 ∷ decimal range.0) ++ (codes " to" ++ (32 ∷ decimal range.1)))
+
+-- what a line should have where this is left of its form
+abbrev pub wanted : List ℕ → List ℕ
+wanted [] = codes "the end of the line"
+wanted (byte ∷ left) =
+    if byte == 78 then codes "a name: 1 to 32 of a to z, 0 to 9, _ and -"
+    else if byte == 87 then codes "a number from 0 to 4294967295"
+    else if byte == 69 || byte == 70 then codes "a number from 0 to 4294967295, or `.`"
+    else if byte == 32 then codes "a space"
+    else range_words (range_of byte) (byte ∷ left)
+
+-- the same, unless the form begins there with a word
+abbrev pub wanted_if : List ℕ → List ℕ → List ℕ
+wanted_if form left = if (length left == length form) && nat_lt 0 (literal_len left) then [] else codes ", here " ++ wanted left
+
+abbrev pub expects : List ℕ → List ℕ → List ℕ
+expects form left = codes "expected `" ++ (shown_form form ++ (codes "`" ++ wanted_if form left))
+
+-- ---- the forms that a line may have
+
+-- the last of the places at which it leaves them
+unfoldable pub furthest : List ℕ → List (List ℕ) → ℕ
+furthest line [] = 0
+furthest line (form ∷ forms) = max (misfit_from 0 form line).0 (furthest line forms)
+
+abbrev pub fits : List ℕ → List ℕ → Bool
+fits line form = (length (misfit_from 0 form line).1 == 0) && ((misfit_from 0 form line).0 == length line)
+
+-- the line has one of them
+unfoldable pub fits_one : List ℕ → List (List ℕ) → Bool
+fits_one line [] = false
+fits_one line (form ∷ forms) = fits line form || fits_one line forms
+
+-- after the first word and the space after that
+abbrev pub value_place : List ℕ → ℕ
+value_place line = min (word_len line + 1) (length line)
+
+-- the place of a line that has one of these forms, or should
+abbrev pub place_in : List ℕ → List (List ℕ) → ℕ
+place_in line forms = if fits_one line forms then value_place line else furthest line forms
+
+-- what the form has at this place, if the line leaves it there
+abbrev pub expected_if : ℕ → List ℕ → List ℕ → List (List ℕ)
+expected_if at line form = if (misfit_from 0 form line).0 == at then expects form (misfit_from 0 form line).1 ∷ [] else []
+
+unfoldable pub expected_notes : ℕ → List ℕ → List (List ℕ) → List (List ℕ)
+expected_notes at line [] = []
+expected_notes at line (form ∷ forms) = expected_if at line form ++ expected_notes at line forms
+
+-- The sentence about a line that has one of these forms, or should, with its place: its first value if it has one, or else the first byte
+-- at which it leaves the one that it follows furthest; what is expected there; and what may help.
+unfoldable pub form_fault : ℕ → List ℕ → List ℕ → List (List ℕ) → List ℕ
+form_fault number sentence line forms =
+    indented_all (place_notes number sentence (take (place_in line forms) line) (drop (place_in line forms) line))
+    ++ (indented_all (expected_notes (place_in line forms) line forms) ++ line_hints line (drop (place_in line forms) line))

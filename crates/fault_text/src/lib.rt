@@ -1,0 +1,18 @@
+//! Faults of an input for people: the line of each and its place, what was expected there, and what may help.
+#![tactic(auto)]
+
+mod blocks;
+mod choices;
+mod forms;
+mod hints;
+mod lines;
+mod phrases;
+mod places;
+mod refusals;
+
+pub use blocks::{later_line, write_block_fault};
+pub use hints::{NO_COMMAND, NO_EVENT, write_advice};
+pub use lines::{sentence, sentence_or_none, split_line, write_fault_note, write_indented};
+pub use phrases::{COMMANDS, EVENTS, write_form_fault};
+pub use places::{write_heading, write_place};
+pub use refusals::{Refusal, Refusals};

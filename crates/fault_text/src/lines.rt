@@ -1,0 +1,82 @@
+//! Lines of a text, and lines for people.
+ghost use Rattle.std.specs.Prelude.{◌≡◌, ◌++◌, ◌<◌, OnOk, drop, length, option_map, take};
+ghost use Rattle.room_spec.specs.Texts.{first_line, later_lines};
+ghost use Rattle.fault_text.specs.Lines.{behind_lines, indented, line_at, sentence, sentence_or_none};
+
+use fault_words::fault_words;
+use io_text::Text;
+use room_spec::cut;
+use std::alloc::AllocError;
+
+/// Writes a line after another, for people.
+pub fn write_indented(output: &mut Text, line: &[u8]) -> Result<(), AllocError>
+    ensures { OnOk result (output.new ≡ output.old ++ indented line.now) }
+{
+    output.put(b"    ")?;
+    output.put_two(line, b"\n")
+}
+
+/// Writes the sentence of the fault of this number.
+pub fn write_fault_note(output: &mut Text, code: u16) -> Result<(), AllocError>
+    ensures { OnOk result (output.new ≡ output.old ++ indented (sentence code)) }
+{
+    write_indented(output, sentence(code).as_bytes())
+}
+
+/// What the fault of this number says.
+#[tactic(auto, unfolding(crate::specs::Lines::sentence))]
+pub fn sentence(code: u16) -> &'static str
+    ensures { result.now ≡ sentence code }
+{
+    sentence_or_none(fault_words(code))
+}
+
+/// What a fault says, or that there is none.
+pub fn sentence_or_none(words: Option<&'static str>) -> &'static str
+    ensures { result.now ≡ sentence_or_none (option_map (λ words. words.now) words.entry) }
+{
+    words.unwrap_or("no fault has this number")
+}
+
+/// A text's line of this number, counted from 1.
+pub(crate) fn line_at(text: &[u8], number: u64) -> &[u8]
+    ensures { result.now ≡ line_at number text.now }
+{
+    let (line, _) = split_line(behind_lines(text, number.saturating_sub(1)));
+    line
+}
+
+/// What comes after this many lines of a text.
+pub(crate) fn behind_lines(text: &[u8], lines: u64) -> &[u8]
+    ensures { result.now ≡ behind_lines lines text.now }
+{
+    let mut rest = text;
+    for _ in 0..lines {
+        (_, rest) = split_line(rest);
+    }
+    rest
+}
+
+/// The first line of a text, and what comes after it.
+pub fn split_line(text: &[u8]) -> (&[u8], &[u8])
+    ensures first { result.0.now ≡ first_line text.now }
+    ensures later { result.1.now ≡ later_lines text.now }
+    ensures shorter { 0 < length text.now → length result.1.now < length text.now }
+{
+    match cut(text, b'\n') {
+        (line, Some(later)) => (line, later),
+        (line, None) => (line, &[]),
+    }
+}
+
+/// What comes before a place of a text, and what comes after it.
+pub(crate) fn split_text(text: &[u8], place: usize) -> (&[u8], &[u8])
+    ensures before { result.0.now ≡ take place text.now }
+    ensures behind { result.1.now ≡ drop place text.now }
+{
+    if place < text.len() {
+        (&text[..place], &text[place..])
+    } else {
+        (text, &[])
+    }
+}

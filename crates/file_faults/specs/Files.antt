@@ -1,0 +1,30 @@
+-- What is said of all faults of a file of rooms, and of a transcript.
+use Rattle.std.specs.Prelude.{◌≡◌, ℕ, List, [], ◌++◌, Result, Ok, Err}
+use Rattle.std.specs.List.{flat_map}
+use Rattle.room_files.specs.Blocks.{Setup}
+use Rattle.room_files.specs.Inputs.{all_blocks, blocks_in}
+use Rattle.fault_text.specs.Lines.{indented, sentence}
+use Rattle.fault_text.specs.Places.{heading}
+use Rattle.fault_text.specs.Refusals.{refusal_line, noted_refusals}
+use Rattle.fault_text.specs.declared.refusals.Refusal.{Refusal}
+use Rattle.file_faults.specs.Events.{event_faults}
+use Rattle.file_faults.specs.declared.files.TheConstants.{NO_EVENTS}
+
+-- what is said of blocks that are refused by these lines
+abbrev pub AreRefusalsSaid : List ℕ → List ℕ → List ℕ → Type 0
+AreRefusalsSaid input refused said = (refusals : List Refusal) × (refused ≡ flat_map refusal_line refusals) × (said ≡ noted_refusals input refusals)
+
+-- of all blocks of a file of rooms that are refused
+abbrev pub AreRoomFaults : List ℕ → List ℕ → Type 0
+AreRoomFaults input said = AreRefusalsSaid input (all_blocks input).refused said
+
+abbrev pub AddsRoomFaults : List ℕ → List ℕ → List ℕ → Type 0
+AddsRoomFaults input old new = (said : List ℕ) × AreRoomFaults input said × (new ≡ old ++ said)
+
+-- of the refused blocks and the event lines of a transcript; if it has no line `events`, of its blocks, and that it ends too early
+abbrev pub AreFaultsAfter : List ℕ → Result (Setup × List ℕ) (ℕ × ℕ) → List ℕ → Type 0
+AreFaultsAfter input (Ok read) said = (refused : List ℕ) × AreRefusalsSaid input read.0.refused refused × (said ≡ refused ++ event_faults read.0.rooms read.0.line read.1)
+AreFaultsAfter input (Err fault) said = (refused : List ℕ) × AreRoomFaults input refused × (said ≡ refused ++ (indented (heading fault.0 (sentence 61)) ++ indented NO_EVENTS.now))
+
+unfoldable pub AreTranscriptFaults : List ℕ → List ℕ → Type 0
+AreTranscriptFaults input said = AreFaultsAfter input (blocks_in input) said

@@ -1,0 +1,4 @@
+pub mod Walks
+pub mod Scripts
+pub mod Events
+pub mod Files

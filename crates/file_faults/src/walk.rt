@@ -1,0 +1,33 @@
+//! A file gone through part by part, with what is said of each, as long as not too much is said.
+ghost use Rattle.std.specs.Prelude.{◌≡◌, ◌++◌, IfOk, OnOk};
+ghost use Rattle.file_faults.specs.Walks.{left_after, said_if_left};
+
+use io_text::Text;
+use std::alloc::AllocError;
+
+/// Of how many parts the faults are explained.
+pub(crate) const MOST_EXPLAINED: usize = 100;
+
+/// Says that no more is said.
+const ENOUGH: &[u8] = b"    further faults are not explained\n";
+
+/// Writes what is said of a part, if it is said of some and there are parts left that may be explained. Gives how many are left, or that the
+/// walk ends.
+pub(crate) fn write_part(
+    output: &mut Text,
+    left: usize,
+    said: &[u8],
+) -> Result<Option<usize>, AllocError>
+    ensures left { IfOk result (λ fewer. fewer ≡ left_after left said.now) }
+    ensures text { OnOk result (output.new ≡ output.old ++ said_if_left left said.now) }
+{
+    if said.is_empty() {
+        return Ok(Some(left));
+    }
+    if left == 0 {
+        output.put(ENOUGH)?;
+        return Ok(None);
+    }
+    output.put(said)?;
+    Ok(Some(left - 1))
+}
