@@ -6,8 +6,11 @@ use Rattle.simulator.specs.Minds.{MindState, goal_at, round_of}
 use Rattle.simulator.specs.Moves.{IsOperation, move_of}
 use Rattle.simulator.specs.Sweeps.{is_resting, works_on}
 use Rattle.simulator.specs.declared.goal.Goal.{Goal}
+use Rattle.simulator.specs.declared.goal.Goal.TheVariants as goals
 use Rattle.simulator.specs.declared.operation.Move.{Move}
 use Rattle.simulator.specs.declared.operation.Move.TheVariants.{Load, Store, Add, Sub, Finished, OutOfTurns}
+use Rattle.simulator.specs.declared.turn.Turn.{Turn}
+use Rattle.simulator.specs.declared.turn.Turn.TheVariants.{Still, Useful, Quiet}
 use Rattle.room_core.specs.Calls.{RoomState, room_after_step, sweep_at}
 use Rattle.room_steps.specs.declared.step.AtomicStep.{AtomicStep}
 
@@ -31,6 +34,15 @@ turn_number mind = if is_resting mind.line then mind.turns + 1 else mind.turns
 -- what is left to do for the process where no turn is open any more
 abbrev pub end_in : MindState → ℕ → Option Goal
 end_in mind process = if is_resting mind.line then Some (goal_at mind.goals process) else None
+
+-- How a step ended its turn, by what it left to do for the process: the turn goes on; or it was quiet, and the process still asks for its
+-- snapshot; or it was useful.
+abbrev pub turn_of : Option Goal → Turn
+turn_of None = Still
+turn_of (Some (goals.Ask round)) = Quiet
+turn_of (Some (goals.Write round value)) = Useful
+turn_of (Some goals.Done) = Useful
+turn_of (Some goals.Spent) = Useful
 
 -- The step that simulator i takes next in a room: the operation that its mind wants, on which word, and what that word was.
 pub record IsNextStep (room : RoomState) (i : ℕ) (step : AtomicStep) : Type 0 where

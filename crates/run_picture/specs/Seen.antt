@@ -1,15 +1,12 @@
 -- Atomic steps as they are drawn.
 use Rattle.std.specs.Prelude.{ℕ, Bool, true, false, Option, Some, None, ◌&&◌, min, nat_lt, if◌then◌else◌}
-use Rattle.simulator.specs.declared.goal.Goal.{Goal}
-use Rattle.simulator.specs.declared.goal.Goal.TheVariants as goals
 use Rattle.simulator.specs.declared.line.Line.{Line}
 use Rattle.simulator.specs.declared.line.Line.TheVariants as lines
 use Rattle.simulator.specs.declared.operation.Move.{Move}
 use Rattle.simulator.specs.declared.operation.Move.TheVariants.{Load}
-use Rattle.simulator.specs.declared.turn.Turn.{Turn}
-use Rattle.simulator.specs.declared.turn.Turn.TheVariants.{Still, Useful, Quiet}
 use Rattle.view_table.specs.declared.place.Place.{Place}
 use Rattle.view_table.specs.declared.place.Place.TheVariants.{Memory, View}
+use Rattle.room_steps.specs.Steps.{turn_of}
 use Rattle.room_steps.specs.declared.step.AtomicStep.{AtomicStep}
 use Rattle.run_picture.specs.declared.mark.Deed.{Deed}
 use Rattle.run_picture.specs.declared.mark.Deed.TheVariants.{StoreWrite, CountWrite, Snapshot, Propose, Enter, Look, Stand, Withdraw, Ask, LoadView, LoadValue, Decide}
@@ -50,14 +47,6 @@ is_on_snapshot line = false
 abbrev pub word_of : ℕ → Line → Place → Option ℕ
 word_of words line place = if nat_lt 1 words && is_on_snapshot line then word_in place else None
 
--- A turn was quiet where its process's snapshot is still asked for.
-abbrev pub end_of : Option Goal → Turn
-end_of None = Still
-end_of (Some (goals.Ask round)) = Quiet
-end_of (Some (goals.Write round value)) = Useful
-end_of (Some goals.Done) = Useful
-end_of (Some goals.Spent) = Useful
-
 -- what is drawn of a step in a room with so many memory words
 abbrev pub step_mark : ℕ → AtomicStep → StepMark
 step_mark words step = record {
@@ -67,5 +56,5 @@ step_mark words step = record {
   round = step.round;
   word = word_of words step.line step.place;
   deed = deed_of step.line step.operation;
-  end = end_of step.end;
+  end = turn_of step.end;
 }

@@ -1,6 +1,7 @@
 //! Atomic steps as they are drawn.
 ghost use Rattle.std.specs.Prelude.{◌≡◌, min};
-ghost use Rattle.run_picture.specs.Seen.{deed_of, end_of, is_on_snapshot, step_mark, word_in, word_of};
+ghost use Rattle.room_steps.specs.Steps.{turn_of};
+ghost use Rattle.run_picture.specs.Seen.{deed_of, is_on_snapshot, step_mark, word_in, word_of};
 
 use crate::mark::{Deed, Step};
 use room_steps::AtomicStep;
@@ -82,7 +83,7 @@ fn word_in(place: Place) -> Option<u8>
 
 /// Whether a step ended its turn, behind which this is left to do: an ask for the same snapshot where the turn was quiet.
 fn end_of(left: Option<Goal>) -> Turn
-    ensures { result ≡ end_of left }
+    ensures { result ≡ turn_of left }
 {
     match left {
         None => Turn::Still,
