@@ -5,3 +5,4 @@ mod Rounds
 mod Returning
 mod Dealing
 mod Ending
+mod Minds

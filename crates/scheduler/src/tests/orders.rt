@@ -1,12 +1,16 @@
 //! Rooms that are stepped in one order, over shared words and over words of their own.
-ghost use Rattle.std.specs.Prelude.{◌≡◌, IfOk};
+ghost use Rattle.std.specs.Prelude.{◌≡◌, ◌<◌, IfOk};
+ghost use Rattle.simulator.specs.Ranges.{IsMind};
 
+use super::rooms::is_snap;
 use super::{PAIR, close, fresh, give, settle, spec, steps, tells, word_at};
 use history_checker::check;
 use room_core::{RoomCore, StepReply};
 use ruled_room::{Gone, Keeper, RuledRoom, Simulator, Stop};
+use simulator::{Mind, Move};
 use std::alloc::Global;
 use std::test::*;
+use transcript::Event;
 use view_table::words;
 use ws_history::{ProcessState, Report, report};
 
@@ -153,23 +157,43 @@ fn comes_to(
     Ok(())
 }
 
-/// What the two simulators of the pair have loaded, once they have followed an order.
-fn loaded(alloc: Global, order: &[Stretch]) -> Result<(Option<u64>, Option<u64>), Fail> {
-    let room = shared(alloc, PAIR, order)?;
-    Ok((word_at(&room, 3), word_at(&room, 6)))
+/// What a simulator of the room has in mind.
+#[tactic(auto, using(crate::proofs::Minds::mind_is))]
+fn mind_of(room: &RoomCore, i: usize) -> &Mind
+    requires { i < room.now.spec.simulators }
+    ensures { IsMind room.now.spec result.now }
+{
+    room.mind(i)
+}
+
+/// What a simulator of the room wants next, and how many steps it has taken.
+fn next_of(room: &RoomCore, i: usize) -> Option<(Move, u64)> {
+    if i >= room.spec().m() {
+        return None;
+    }
+    let mind = mind_of(room, i);
+    Some((mind.next_move(room.spec()), mind.steps_taken()))
+}
+
+/// What the two simulators of the pair want next, if each has taken three steps.
+pub(super) fn third_moves(room: &RoomCore) -> Option<(Move, Move)> {
+    let (zero, taken) = next_of(room, 0)?;
+    let (one, others) = next_of(room, 1)?;
+    if taken == 3 && others == 3 {
+        Some((zero, one))
+    } else {
+        None
+    }
 }
 
 #[test]
 fn three_steps_each(rt: HostRuntime) -> Result<(), Fail> {
-    // The fourth step of each stores what it loaded with the third.
+    // The third step of each loads the step numbers, which it then proposes.
     for (first, zero, one) in [(0, 1, 9), (1, 9, 8)] {
-        let order = [
-            (first, 3, Stop::Idle),
-            (1 - first, 3, Stop::Idle),
-            (0, 1, Stop::Idle),
-            (1, 1, Stop::Idle),
-        ];
-        assert_eq!(rt; loaded(rt.alloc(), &order)?, (Some(zero), Some(one)));
+        let order = [(first, 3, Stop::Idle), (1 - first, 3, Stop::Idle)];
+        let room = shared(rt.alloc(), PAIR, &order)?;
+        let next = (Move::Store(3, zero), Move::Store(6, one));
+        assert!(rt; third_moves(&room) == Some(next));
     }
     Ok(())
 }
@@ -188,14 +212,13 @@ fn the_smallest_room(rt: HostRuntime) -> Result<(), Fail> {
 
 #[test]
 fn a_late_proposer(rt: HostRuntime) -> Result<(), Fail> {
-    comes_to(
-        rt.alloc(),
-        PAIR,
-        &[(0, 100, Stop::Idle), (1, 100, Stop::Idle)],
-        &[ProcessState::Decided(7), ProcessState::Decided(3)],
-        &[],
-        6,
-    )
+    let order = [(0, 100, Stop::Idle), (1, 100, Stop::Idle)];
+    let states = [ProcessState::Decided(7), ProcessState::Decided(3)];
+    comes_to(rt.alloc(), PAIR, &order, &states, &[], 6)?;
+    // In both agreements simulator 0 stays at level 2, and simulator 1 is at level 0 again.
+    let room = shared(rt.alloc(), PAIR, &order)?;
+    assert_eq!(rt; (word_at(&room, 1), word_at(&room, 2)), (Some(2), Some(2)));
+    Ok(())
 }
 
 #[test]
@@ -272,19 +295,17 @@ fn two_crashes_in_one_agreement(rt: HostRuntime) -> Result<(), Fail> {
 
 #[test]
 fn a_whole_word(rt: HostRuntime) -> Result<(), Fail> {
-    comes_to(
-        rt.alloc(),
-        FULL,
-        &[
-            (0, 1000, Stop::Idle),
-            (1, 1000, Stop::Idle),
-            (2, 1000, Stop::Idle),
-            (3, 1000, Stop::Idle),
-        ],
-        &[ProcessState::Spent; 8],
-        &[],
-        48,
-    )
+    let order = [
+        (0, 1000, Stop::Idle),
+        (1, 1000, Stop::Idle),
+        (2, 1000, Stop::Idle),
+        (3, 1000, Stop::Idle),
+    ];
+    comes_to(rt.alloc(), FULL, &order, &[ProcessState::Spent; 8], &[], 48)?;
+    // Each simulator has counted three writes of each process, so each bit of the memory is 1.
+    let room = shared(rt.alloc(), FULL, &order)?;
+    assert_eq!(rt; word_at(&room, 0), Some(u64::MAX));
+    Ok(())
 }
 
 /// Whether a room has the same report before it settles and after.
@@ -320,10 +341,10 @@ fn first_home(room: &RuledRoom, keeper: &mut Keeper) -> Result<Simulator, Fail>
     Ok(other)
 }
 
-/// Tries to close a room of which simulator 1 is still out, and simulator 0 has crashed.
+/// Tries to close a room of which simulator 1 is still out, and simulator 0 has crashed. Room and keeper stay as they were.
 fn stays_open(alloc: Global, room: RuledRoom, keeper: Keeper) -> Result<(RuledRoom, Keeper), Fail>
     requires { keeper.room ≡ room }
-    ensures { IfOk result (λ r. (r.0 ≡ room) × (r.1.room ≡ r.0)) }
+    ensures { IfOk result (λ r. (r.0 ≡ room) × (r.1 ≡ keeper)) }
 {
     match room.close(alloc, keeper) {
         Err((room, keeper, gone)) => {
@@ -361,10 +382,20 @@ fn told_late(alloc: Global) -> Result<Report, Fail> {
     Ok(report(alloc, &core)?)
 }
 
+/// Whether process 0 has written alone, and process 1 has done all.
+fn has_one_held(events: &[Event]) -> bool {
+    events.len() == 4
+        && events[0] == (Event::Write { p: 0, v: 7 })
+        && events[1] == (Event::Write { p: 1, v: 3 })
+        && is_snap(&events[2], 1, [Some(7), Some(3)].as_slice())
+        && events[3] == (Event::Decide { p: 1, v: 3 })
+}
+
 #[test]
 fn a_room_with_one_still_out(rt: HostRuntime) -> Result<(), Fail> {
     let report = told_late(rt.alloc())?;
     let states = [ProcessState::Held(0), ProcessState::Decided(3)];
     assert!(rt; tells(&report, &states, &[0]));
+    assert!(rt; has_one_held(report.history.events()));
     Ok(())
 }

@@ -157,7 +157,7 @@ pub(super) fn run_one<R: Threads + Wait + Sync, G: Gate + Sync>(
     only(run_rooms(rt, alloc, specs, workers, gate))
 }
 
-fn is_snap(event: &Event, process: u8, row: &[Option<u32>]) -> bool {
+pub(super) fn is_snap(event: &Event, process: u8, row: &[Option<u32>]) -> bool {
     match event {
         Event::Snap { p, row: found } => *p == process && found.as_slice() == row,
         _ => false,
@@ -306,6 +306,21 @@ fn a_half_done_agreement(rt: HostRuntime) -> Result<(), Fail> {
     let states = [ProcessState::Held(0), ProcessState::Decided(3)];
     assert!(rt; tells(&report, &states, &[0]));
     assert!(rt; report.history.events().len() == 4);
+    Ok(())
+}
+
+#[test]
+fn a_worker_goes_round_its_simulators(rt: HostRuntime) -> Result<(), Fail> {
+    let text =
+        "bgsim 1\nroom pair\ninputs 7 3\nsimulators 2\nrounds 1\nturns 100\ncrash 1 after 5\nprotocol\nfirst input;\nelse decide min;\nend\n";
+    // Simulator 1 has its first visit after one of simulator 0, and crashes in the agreement of process 1, which that one has not
+    // come to. Had simulator 0 gone on until it stopped, process 1 would have decided; had simulator 1 begun, process 0 would
+    // have seen 3.
+    let report = run_one(&rt, rt.alloc(), text, 1, &FreeGate)?;
+    let states = [ProcessState::Decided(7), ProcessState::Held(1)];
+    assert!(rt; tells(&report, &states, &[1]));
+    let events = report.history.events();
+    assert!(rt; events.len() > 1 && is_snap(&events[1], 0, [Some(7), None].as_slice()));
     Ok(())
 }
 

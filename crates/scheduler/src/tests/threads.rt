@@ -2,13 +2,14 @@
 ghost use Rattle.std.specs.Prelude.{◌≡◌, IfOk};
 ghost use Rattle.std.specs.List.{All};
 
-use super::driving::have_taken;
-use super::{PAIR, WIDE, close, fresh, give, settle, word_at};
+use super::orders::third_moves;
+use super::{PAIR, WIDE, close, fresh, give, settle};
 use crate::{FreeGate, Fuse, drive};
 use history_checker::check;
 use room_core::RoomCore;
 use room_spec::Spec;
 use ruled_room::{Keeper, RuledRoom, Simulator, Stop};
+use simulator::Move;
 use std::alloc::{AllocError, Global};
 use std::test::*;
 use std::thread;
@@ -172,25 +173,21 @@ pub(super) fn next(state: &mut u64) -> u64 {
     *state
 }
 
-/// What the two simulators of the pair have loaded, where each takes four steps on a thread.
-fn loaded<R: Threads + Sync>(rt: &R, alloc: Global) -> Result<(Option<u64>, Option<u64>), Fail> {
-    let room = run(rt, alloc, PAIR, [Fuse::after(4); 2].as_slice())?;
-    if !have_taken(&room, &[4, 4]) {
-        return Err(Fail::from("four steps each"));
-    }
-    Ok((word_at(&room, 3), word_at(&room, 6)))
+/// What the two simulators of the pair want next, where each takes three steps on a thread.
+fn moves<R: Threads + Sync>(rt: &R, alloc: Global) -> Result<Option<(Move, Move)>, Fail> {
+    let room = run(rt, alloc, PAIR, [Fuse::after(3); 2].as_slice())?;
+    Ok(third_moves(&room))
 }
 
 #[test]
 fn three_steps_each(rt: HostRuntime) -> Result<(), Fail> {
+    // The simulator that loads last sees what both have counted.
+    let first = (Move::Store(3, 1), Move::Store(6, 9));
+    let second = (Move::Store(3, 9), Move::Store(6, 8));
+    let both = (Move::Store(3, 9), Move::Store(6, 9));
     for _ in 0..200 {
-        // The fourth step of each stores what it loaded with the third.
-        let loaded = loaded(&rt, rt.alloc())?;
-        // Whoever loads last sees both.
-        let first = (Some(1), Some(9));
-        let second = (Some(9), Some(8));
-        let both = (Some(9), Some(9));
-        assert!(rt; loaded == first || loaded == second || loaded == both);
+        let moves = moves(&rt, rt.alloc())?;
+        assert!(rt; moves == Some(first) || moves == Some(second) || moves == Some(both));
     }
     Ok(())
 }
