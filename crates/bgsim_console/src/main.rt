@@ -1,17 +1,18 @@
 //! Simulates rooms of protocols on write-snapshot memory, and judges their transcripts.
 #![tactic(auto)]
 
-ghost use Rattle.std.specs.Prelude.{◌≡◌, ◌≤◌, Bool, List, ℕ, IfSome};
+ghost use Rattle.std.specs.Prelude.{◌≡◌, ◌≤◌, Bool, IfSome, false, map, option_map};
 ghost use Rattle.std.specs.IoError.{error_kind};
 ghost use Rattle.clap.specs.Values.{kind_of};
+ghost use Rattle.bgsim_console.specs.Endings.{IsAnswered, IsReadOrNot, IsStatusFor, input_named};
 ghost use Rattle.bgsim_console.specs.Ends.{ending_status, fault_status, unread_status, words_status};
-ghost use Rattle.bgsim_console.specs.Modes.{IsAnswerIn};
 
 mod command_line;
 #[cfg(test)]
 mod device_tests;
 mod engine;
 mod fault;
+mod inputs;
 mod judge;
 #[cfg(test)]
 mod protocol_tests;
@@ -28,32 +29,30 @@ mod text_tests;
 use clap::error::ErrorKind;
 use command_line::{Line, Mode, line};
 use fault::IoFault;
+use inputs::Inputs;
 use io_text::Device;
 use room_files::Outcome;
 use scheduler::FreeGate;
-use std::fs::File;
+use std::alloc::Global;
+use std::convert::AsStr;
 use std::io;
-use std::io::Read;
+use std::io::{Read, Write};
 use std::process::ExitCode;
 use std::sync::Wait;
 use std::thread::Threads;
 
 fn main(rt: HostRuntime) -> ExitCode {
-    ExitCode::from(status(&rt, &rt))
-}
-
-/// `threads` is the runtime too, as it starts threads.
-fn status<H: Threads + Wait + Sync>(rt: &HostRuntime, threads: &H) -> u8
-    ensures { result ≤ 3 }
-{
-    let words = match words(rt) {
-        Ok(words) => words,
-        Err(error) => return unread_status(rt, &error),
+    let status = match words(&rt) {
+        Ok(words) => status(
+            &rt,
+            &rt,
+            &rt,
+            &mut Device::new(rt.stdout()),
+            words.as_slice(),
+        ),
+        Err(error) => unread_status(&rt, &error),
     };
-    match line(rt.alloc(), words.as_slice()) {
-        Ok(line) => ending_status(rt, ending(rt, threads, &line)),
-        Err(error) => words_status(rt, &error),
-    }
+    ExitCode::from(status)
 }
 
 /// The words after the program's name. One that is not UTF-8 is an error.
@@ -61,43 +60,64 @@ fn words(rt: &HostRuntime) -> io::Result<Vec<String>> {
     Ok(std::env::args(rt)?.skip(1).collect(rt.alloc())?)
 }
 
-/// How the engine ends that the words ask for, on the file or on standard input.
-fn ending<H: Threads + Wait + Sync>(
+/// The exit status for these words, after what they ask for is done. `threads` is the runtime too, as it starts threads.
+fn status<H: Threads + Wait + Sync, I: Inputs, W: Write, S: AsStr>(
     rt: &HostRuntime,
     threads: &H,
+    inputs: &I,
+    writer: &mut Device<W>,
+    words: &[S],
+) -> u8
+    requires { writer.old.failed ≡ false }
+    ensures value { IsStatusFor (I.standard_bytes inputs.now) (I.file_bytes inputs.now) (map S.text words.entry.now)
+        (record { before = W.contents writer.old.inner; after = W.contents writer.new.inner }) result }
+    ensures small { result ≤ 3 }
+{
+    match line(rt.alloc(), words) {
+        Ok(line) => ending_status(rt, ending(threads, rt.alloc(), inputs, writer, &line)),
+        Err(error) => words_status(rt, &error),
+    }
+}
+
+/// How the engine ends that the words ask for, on the file or on standard input.
+fn ending<H: Threads + Wait + Sync, I: Inputs, W: Write>(
+    threads: &H,
+    alloc: Global,
+    inputs: &I,
+    writer: &mut Device<W>,
     line: &Line<'_>,
-) -> Result<Outcome, IoFault> {
+) -> Result<Outcome, IoFault>
+    requires { writer.old.failed ≡ false }
+    ensures { IsReadOrNot line.now.command line.now.workers
+        (input_named (I.standard_bytes inputs.now) (I.file_bytes inputs.now) (option_map (λ file. file.now) line.now.file)) result
+        (record { before = W.contents writer.old.inner; after = W.contents writer.new.inner }) }
+{
     match line.file {
-        None => answer(rt, threads, line, rt.stdin()),
-        Some(path) => match File::open(rt, path) {
-            Ok(input) => answer(rt, threads, line, input),
+        None => answer(threads, alloc, inputs.standard(), writer, line),
+        Some(path) => match inputs.open(path) {
+            Ok(input) => answer(threads, alloc, input, writer, line),
             Err(_) => Err(IoFault::Read),
         },
     }
 }
 
-/// The answer that the line asks for to an input, whose text goes to standard output.
-fn answer<H: Threads + Wait + Sync, R: Read + Drop>(
-    rt: &HostRuntime,
+/// The answer that the line asks for to an input, which is written.
+fn answer<H: Threads + Wait + Sync, R: Read + Drop, W: Write>(
     threads: &H,
-    line: &Line<'_>,
+    alloc: Global,
     input: R,
+    writer: &mut Device<W>,
+    line: &Line<'_>,
 ) -> Result<Outcome, IoFault>
-    ensures { IfSome (R.remaining input) (λ bytes. (output : List ℕ) × IsAnswerIn line.now.command line.now.workers bytes result output) }
+    requires { writer.old.failed ≡ false }
+    ensures { IfSome (R.remaining input) (λ bytes. IsAnswered line.now.command line.now.workers bytes result
+        (record { before = W.contents writer.old.inner; after = W.contents writer.new.inner })) }
 {
     let mut reader = Device::new(input);
-    let mut writer = Device::new(rt.stdout());
     match line.command {
-        Mode::Check => engine::check_io(rt.alloc(), &mut reader, &mut writer),
-        Mode::Play => engine::play_io(rt.alloc(), &mut reader, &mut writer),
-        Mode::Run => engine::run_io(
-            threads,
-            rt.alloc(),
-            &mut reader,
-            &mut writer,
-            line.workers,
-            &FreeGate,
-        ),
+        Mode::Check => engine::check_io(alloc, &mut reader, writer),
+        Mode::Play => engine::play_io(alloc, &mut reader, writer),
+        Mode::Run => engine::run_io(threads, alloc, &mut reader, writer, line.workers, &FreeGate),
     }
 }
 

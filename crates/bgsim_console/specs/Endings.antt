@@ -1,0 +1,53 @@
+-- How the program ends, by the words that it is given and the input that they name.
+use Rattle.std.specs.Prelude.{◌≡◌, ◌≢◌, ◌⊎◌, ℕ, Bool, List, [], Option, Some, None, Result, Err, IfSome}
+use Rattle.std.specs.Io.KnownBytes.{Appends}
+use Rattle.clap.specs.Kinds.{IsAmong}
+use Rattle.clap.specs.Words.{subcommand_of}
+use Rattle.clap.specs.declared.error.kind.ErrorKind.{ErrorKind}
+use Rattle.clap.specs.declared.error.kind.ErrorKind.TheVariants.{OutOfMemory}
+use Rattle.room_files.specs.declared.outcome.Outcome.{Outcome}
+use Rattle.bgsim_console.specs.CommandLine.{IsAsked, IsPlainly, IsWorkers, bgsim_app, words_fault, workers_among}
+use Rattle.bgsim_console.specs.Ends.{ending_status, words_status}
+use Rattle.bgsim_console.specs.Modes.{IsAnswerIn}
+use Rattle.bgsim_console.specs.declared.command_line.words.Mode.{Mode}
+use Rattle.bgsim_console.specs.declared.command_line.words.Mode.TheVariants.{Run}
+use Rattle.bgsim_console.specs.declared.fault.IoFault.{IoFault}
+use Rattle.bgsim_console.specs.declared.fault.IoFault.TheVariants.{Read}
+
+-- What a writer has before and after.
+pub record Writes : Type 0 where
+  pub before : Option (List ℕ)
+  pub after : Option (List ℕ)
+
+abbrev pub HasAppended : Writes → List ℕ → Type 0
+HasAppended writes output = Appends writes.before writes.after output
+
+-- what the words ask for; `run` alone takes a number of workers
+pub record Asked : Type 0 where
+  pub mode : Mode
+  pub file : Option (List ℕ)
+  pub workers : ℕ
+
+pub record AreAsked (words : List (List ℕ)) (asked : Asked) : Type 0 where
+  pub is_asked : IsAsked words asked.mode asked.file
+  pub number : asked.mode ≡ Run → IsWorkers (workers_among (subcommand_of bgsim_app words)) asked.workers
+  pub default : asked.mode ≢ Run → asked.workers ≡ 2
+
+-- the mode's answer to an input is written
+abbrev pub IsAnswered : Mode → ℕ → List ℕ → Result Outcome IoFault → Writes → Type 0
+IsAnswered mode workers input result writes = (output : List ℕ) × IsAnswerIn mode workers input result output × HasAppended writes output
+
+-- what the input gives that the words name, if it is known: a file, or standard input if they name none
+abbrev pub input_named : Option (List ℕ) → (List ℕ → Option (List ℕ)) → Option (List ℕ) → Option (List ℕ)
+input_named standard file None = standard
+input_named standard file (Some path) = file path
+
+-- it was not opened, and nothing is written; or it is answered, if what it gives is known
+abbrev pub IsReadOrNot : Mode → ℕ → Option (List ℕ) → Result Outcome IoFault → Writes → Type 0
+IsReadOrNot mode workers input result writes = ((result ≡ Err Read) × HasAppended writes []) ⊎ IfSome input (λ bytes. IsAnswered mode workers bytes result writes)
+
+-- The exit status for these words: that of what they ask for; or they ask for nothing, for a reason of this kind. Words that are plainly
+-- a mode and a file are refused only if memory ends.
+pub data IsStatusFor (standard : Option (List ℕ)) (file : List ℕ → Option (List ℕ)) (words : List (List ℕ)) (writes : Writes) (status : ℕ) : Type 0 where
+  done : (asked : Asked) (result : Result Outcome IoFault) → words_fault words ≡ [] → AreAsked words asked → IsReadOrNot asked.mode asked.workers (input_named standard file asked.file) result writes → status ≡ ending_status result → IsStatusFor standard file words writes status
+  refused : (kind : ErrorKind) (is_printed : Bool) → (kind ≡ OutOfMemory) ⊎ IsAmong kind (words_fault words) → ((mode : Mode) → IsPlainly words mode → kind ≡ OutOfMemory) → status ≡ words_status kind is_printed → IsStatusFor standard file words writes status
