@@ -17,10 +17,10 @@ use Rattle.room_files.specs.Inputs.{events_behind, fed_from}
 use Rattle.room_files.specs.Lines.{text_lines}
 use Rattle.room_files.specs.Verdicts.{IsJustified, Judged, is_well, outcome_if}
 use Rattle.room_files.specs.declared.outcome.Outcome.{Outcome}
-use Rattle.bgview.specs.Refusals.{refusal_line, said_refusals}
+use Rattle.fault_text.specs.Refusals.{refusal_line, said_refusals}
 use Rattle.bgview.specs.Told.{IsLineBreak, IsTold, ToldRoom, lines_of}
 use Rattle.bgview.specs.Why.{Explained, IsExplained, IsExplanation, IsReasonFor, IsRoomSaid, explained_lines, told_of, verdict_of}
-use Rattle.bgview.specs.declared.refusals.Refusal.{Refusal}
+use Rattle.fault_text.specs.declared.refusals.Refusal.{Refusal}
 use Rattle.bgview.specs.declared.told.LineBreak.{LineBreak}
 use Rattle.bgview.proofs.Telling.{fed_at}
 

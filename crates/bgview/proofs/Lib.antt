@@ -4,7 +4,6 @@ mod Explaining
 mod Finding
 mod Hearing
 mod Reasoning
-mod Passing
 mod RoomLists
 mod Subcommands
 mod Telling

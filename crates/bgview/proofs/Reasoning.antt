@@ -4,7 +4,7 @@ use Rattle.std.specs.Prelude.{codes, slice_get, Result, Ok, Err, OnOk}
 use Rattle.std.proofs.lemmas.List.{append-nil, append_assoc}
 use Rattle.transcript.specs.Grammar.{event_line}
 use Rattle.transcript.specs.declared.event.Event.{Event}
-use Rattle.bgview.specs.Notes.{indented, indented_all}
+use Rattle.fault_text.specs.Lines.{indented, indented_all}
 use Rattle.bgview.specs.Told.{IsLineBreak, ToldRoom}
 use Rattle.bgview.specs.Words.{reason_words}
 use Rattle.bgview.specs.Why.{IsReasonFor, verdict_of}

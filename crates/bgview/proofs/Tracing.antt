@@ -1,11 +1,11 @@
 -- What is noted of what was done, one by one.
-use Rattle.std.proofs.Common.{◌≡◌, ◌≢◌, ◌∙◌, ℕ, Bool, true, false, List, [], ◌∷◌, ◌++◌, Option, Some, None, Result, Ok, Err, refl, sym, ap, ap₂, subst}
+use Rattle.std.proofs.Common.{◌≡◌, ◌≢◌, ◌∙◌, ℕ, ◌+◌, Bool, true, false, List, [], ◌∷◌, ◌++◌, length, Option, Some, None, Result, Ok, Err, refl, sym, ap, ap₂, subst, arith}
 use Rattle.std.specs.Result.{OnOk}
 use Rattle.std.specs.declared.alloc.AllocError.{AllocError}
 use Rattle.std.proofs.lemmas.Grind.{flat_map-append}
 use Rattle.std.proofs.lemmas.List.{append-nil, append_assoc, map-append}
 use Rattle.room_core.specs.Calls.{RoomState}
-use Rattle.room_core.specs.Watching.{AreSeen}
+use Rattle.room_core.specs.Watching.{AreSeen, TakenStep}
 use Rattle.room_core.specs.declared.reply.StepReply.{StepReply}
 use Rattle.room_files.specs.declared.outcome.Outcome.{Outcome}
 use Rattle.service_core.specs.declared.command.Command.{Command}
@@ -19,7 +19,7 @@ use Rattle.script_play.specs.Play.{Done, DoesMore, IsPerformed, IsPlay, Replied,
 use Rattle.script_play.specs.ReplyTexts.{reply_to_command}
 use Rattle.step_words.specs.Told.{IsTold, Telling, nothing_told}
 use Rattle.bgview.specs.Trace.{AreNoted, AreNotesOn, HasTraced, IsNoted, IsTraceFor, Noted, noted_text, notes_after}
-use Rattle.bgview.specs.Notes.{fault_note, indented}
+use Rattle.fault_text.specs.Lines.{indented, sentence}
 
 noted-push : (rooms between after : Entries) (noted : List Noted) (one : Noted) → AreNoted rooms noted between → IsNoted one.done one.notes between after → AreNoted rooms (noted ++ one ∷ []) after
 noted-push rooms between after [] one is more = (after, subst (λ (r : Entries). IsNoted one.done one.notes r after) (sym is) more, refl)
@@ -39,15 +39,27 @@ traced-push rooms after output now notes done is text all traced =
 pub nothing_traced : (rooms : Entries) (output : List ℕ) → rooms ≡ [] → output ≡ [] → HasTraced rooms output []
 nothing_traced rooms output none empty = record { noted = []; each = refl; output_is = empty; are_noted = sym none }
 
+-- as many steps are told as there are
+counted : (steps : List TakenStep) (old new : Telling) → AreSeen IsTold old steps new → new.lacks ≡ false → (old.lacks ≡ false) × (new.number ≡ old.number + length steps)
+counted [] old new seen whole = (ap (λ (t : Telling). t.lacks) seen ∙ whole, let same = ap (λ (t : Telling). t.number) seen in omega (arith, same))
+counted (step ∷ steps) old new seen whole =
+    let later = counted steps seen.0 new seen.2 whole in
+    let is = seen.1.told later.0 in
+    let one = ap (λ (t : Telling). t.number) is in
+    (sym (ap (λ (t : Telling). t.lacks) is) ∙ later.0, omega (arith, one, later.1))
+
+as_many : (steps : List TakenStep) (telling : Telling) → AreSeen IsTold nothing_told steps telling → telling.lacks ≡ false → telling.number ≡ length steps
+as_many steps telling told whole = let all = (counted steps nothing_told telling told whole).1 in omega (arith, all)
+
 -- the notes under a reply
 notes_on : (room : Option RoomState) (command : Command) (reply : Reply) (telling : Telling) → AreSeen IsTold nothing_told (steps_of room command) telling → (refusal_in reply ≡ None → telling.lacks ≡ false)
     → AreNotesOn room command reply (notes_after reply telling)
-notes_on room command Begun telling told whole = record { telling = telling; told = told; whole = whole refl; lines_are = refl }
-notes_on room command (Steps taken last) telling told whole = record { telling = telling; told = told; whole = whole refl; lines_are = refl }
-notes_on room command (Crash answer) telling told whole = record { telling = telling; told = told; whole = whole refl; lines_are = refl }
-notes_on room command Settled telling told whole = record { telling = telling; told = told; whole = whole refl; lines_are = refl }
-notes_on room command (Report report) telling told whole = record { telling = telling; told = told; whole = whole refl; lines_are = refl }
-notes_on room command Closed telling told whole = record { telling = telling; told = told; whole = whole refl; lines_are = refl }
+notes_on room command Begun telling told whole = record { telling = telling; told = told; whole = whole refl; count = as_many (steps_of room command) telling told (whole refl); lines_are = refl }
+notes_on room command (Steps taken last) telling told whole = record { telling = telling; told = told; whole = whole refl; count = as_many (steps_of room command) telling told (whole refl); lines_are = refl }
+notes_on room command (Crash answer) telling told whole = record { telling = telling; told = told; whole = whole refl; count = as_many (steps_of room command) telling told (whole refl); lines_are = refl }
+notes_on room command Settled telling told whole = record { telling = telling; told = told; whole = whole refl; count = as_many (steps_of room command) telling told (whole refl); lines_are = refl }
+notes_on room command (Report report) telling told whole = record { telling = telling; told = told; whole = whole refl; count = as_many (steps_of room command) telling told (whole refl); lines_are = refl }
+notes_on room command Closed telling told whole = record { telling = telling; told = told; whole = whole refl; count = as_many (steps_of room command) telling told (whole refl); lines_are = refl }
 notes_on room command (Refused refusal) telling told whole = refl
 
 -- a command was done
@@ -65,13 +77,13 @@ traced_command rooms after output middle now command reply telling applies told 
 
 -- a command was refused
 pub refused_command : (rooms after : Entries) (output middle now : List ℕ) (command : Command) (refusal : Refusal) → Applies rooms command (Refused refusal) after → middle ≡ output ++ reply_to_command command (Refused refusal)
-    → now ≡ middle ++ indented (fault_note (refusal_code refusal)) → IsPerformed rooms (HasTraced rooms output) command (Some refusal) after (HasTraced after now)
+    → now ≡ middle ++ indented (sentence (refusal_code refusal)) → IsPerformed rooms (HasTraced rooms output) command (Some refusal) after (HasTraced after now)
 refused_command rooms after output middle now command refusal applies first second = record {
   reply = Refused refusal;
   applies = applies;
   refusal_is = refl;
-  done = traced-push rooms after output now (indented (fault_note (refusal_code refusal))) (Replied command (Refused refusal)) (applies, refl)
-      (second ∙ ap (λ (t : List ℕ). t ++ indented (fault_note (refusal_code refusal))) first ∙ append_assoc output (reply_to_command command (Refused refusal)) (indented (fault_note (refusal_code refusal))));
+  done = traced-push rooms after output now (indented (sentence (refusal_code refusal))) (Replied command (Refused refusal)) (applies, refl)
+      (second ∙ ap (λ (t : List ℕ). t ++ indented (sentence (refusal_code refusal))) first ∙ append_assoc output (reply_to_command command (Refused refusal)) (indented (sentence (refusal_code refusal))));
 }
 
 -- a block was refused

@@ -3,6 +3,7 @@ use Rattle.std.specs.Prelude.{◌≡◌, ℕ, List, [], ◌++◌, Option, Some, 
 use Rattle.std.specs.List.{flat_map, list_all}
 use Rattle.std.specs.Option.{option_map}
 use Rattle.protocol_lang.specs.Numbers.{number_of}
+use Rattle.fault_text.specs.Lines.{sentence_or_none}
 use Rattle.fault_words.specs.Words.{words_of}
 use Rattle.io_text.specs.declared.fault.DeviceFault.TheVariants.{Read, Write, TooLong, Memory}
 use Rattle.room_files.specs.Verdicts.{outcome_if}
@@ -14,12 +15,8 @@ use Rattle.bgview.specs.declared.fault.ViewFault.TheVariants.{BadInput, Device, 
 abbrev pub said_by : List ℕ → Option (List ℕ)
 said_by text = option_and_then words_of (option_map (λ n. min n (2 ^ 32)) (number_of text))
 
-abbrev pub words_or_none : Option (List ℕ) → List ℕ
-words_or_none None = codes "no fault has this number"
-words_or_none (Some words) = words
-
 abbrev pub fault_line : List ℕ → List ℕ
-fault_line text = text ++ (codes ": " ++ (words_or_none (said_by text) ++ codes "\n"))
+fault_line text = text ++ (codes ": " ++ (sentence_or_none (said_by text) ++ codes "\n"))
 
 -- all is well where each text is the number of a fault
 abbrev pub faults_outcome : List (List ℕ) → Outcome

@@ -1,13 +1,15 @@
 pub mod CommandLine
 pub mod Draw
+pub mod Endings
 pub mod Ends
 pub mod Faults
 pub mod Notes
+pub mod Page
 pub mod Outcomes
-pub mod Refusals
 pub mod Modes
 pub mod Sample
 pub mod Told
 pub mod Why
 pub mod Words
 pub mod Trace
+pub mod Transcript

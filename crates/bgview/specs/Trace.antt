@@ -16,7 +16,7 @@ use Rattle.script_play.specs.Script.{Entry, script_says}
 use Rattle.room_files.specs.declared.outcome.Outcome.{Outcome}
 use Rattle.script_play.specs.Play.{AreDone, AreReplies, Done, Faulty, IsPlayText, Replied, Unread, commands_of, done_text, ending_of, replies_in}
 use Rattle.step_words.specs.Told.{IsTold, Telling, nothing_told}
-use Rattle.bgview.specs.Notes.{fault_note, indented}
+use Rattle.fault_text.specs.Lines.{indented, sentence}
 use Rattle.bgview.specs.declared.fault.ViewFault.{ViewFault}
 use Rattle.bgview.specs.declared.fault.ViewFault.TheVariants.{BadInput, Device, Incomplete}
 
@@ -27,18 +27,20 @@ pub record AreLinesOf (steps : List TakenStep) (lines : List ℕ) : Type 0 where
   pub telling : Telling
   pub told : AreSeen IsTold nothing_told steps telling
   pub whole : telling.lacks ≡ false
+  -- as many were told as were taken, so as many as a reply to `step` says
+  pub count : telling.number ≡ length steps
   pub lines_are : lines ≡ telling.lines
 
 -- under a reply: why the command was refused, or the steps that it took in the room of its name as it was then
 abbrev pub AreNotesOn : Option RoomState → Command → Reply → List ℕ → Type 0
-AreNotesOn room command (Refused refusal) notes = notes ≡ indented (fault_note (refusal_code refusal))
+AreNotesOn room command (Refused refusal) notes = notes ≡ indented (sentence (refusal_code refusal))
 AreNotesOn room command reply notes = AreLinesOf (steps_of room command) notes
 
 -- What was done to these rooms has such notes, and leads to those.
 abbrev pub IsNoted : Done → List ℕ → Entries → Entries → Type 0
 IsNoted (Replied command reply) notes rooms after = Applies rooms command reply after × AreNotesOn (room_at rooms (name_in command)) command reply notes
-IsNoted (Faulty line fault) notes rooms after = (after ≡ rooms) × (notes ≡ indented (fault_note (code_of fault)))
-IsNoted (Unread line) notes rooms after = (after ≡ rooms) × (notes ≡ indented (fault_note 8))
+IsNoted (Faulty line fault) notes rooms after = (after ≡ rooms) × (notes ≡ indented (sentence (code_of fault)))
+IsNoted (Unread line) notes rooms after = (after ≡ rooms) × (notes ≡ indented (sentence 8))
 
 -- ---- a whole script
 
@@ -96,5 +98,5 @@ IsTraced input (Err (Device Write)) output = (length input ≤ most_bytes) × Is
 
 -- what is noted under a reply by somebody who was told of the steps
 abbrev pub notes_after : Reply → Telling → List ℕ
-notes_after (Refused refusal) telling = indented (fault_note (refusal_code refusal))
+notes_after (Refused refusal) telling = indented (sentence (refusal_code refusal))
 notes_after reply telling = telling.lines

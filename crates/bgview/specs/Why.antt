@@ -13,11 +13,11 @@ use Rattle.room_files.specs.Blocks.{Setup}
 use Rattle.room_files.specs.Inputs.{input_says}
 use Rattle.room_files.specs.Verdicts.{Judged, IsJustified, IsOutput, judged_line, is_well}
 use Rattle.room_files.specs.declared.outcome.Outcome.{Outcome}
-use Rattle.bgview.specs.Notes.{indented_all}
-use Rattle.bgview.specs.Refusals.{refusal_line, said_refusals}
+use Rattle.fault_text.specs.Lines.{indented_all}
+use Rattle.fault_text.specs.Refusals.{refusal_line, said_refusals}
 use Rattle.bgview.specs.Told.{ToldRoom, IsLineBreak, lines_of}
 use Rattle.bgview.specs.Words.{reason_words}
-use Rattle.bgview.specs.declared.refusals.Refusal.{Refusal}
+use Rattle.fault_text.specs.declared.refusals.Refusal.{Refusal}
 use Rattle.bgview.specs.declared.fault.ViewFault.{ViewFault}
 use Rattle.bgview.specs.declared.fault.ViewFault.TheVariants.{BadInput, Device, Incomplete}
 use Rattle.bgview.specs.declared.told.LineBreak.{LineBreak}

@@ -6,15 +6,14 @@ ghost use Rattle.io_text.specs.Reading.{most_bytes};
 ghost use Rattle.room_files.specs.Blocks.{IsFaultOr};
 ghost use Rattle.room_files.specs.Inputs.{MayLackMemory, input_says};
 ghost use Rattle.bgview.specs.Told.{AreTold, IsLineBreak, IsTold, specs_of};
-ghost use Rattle.bgview.specs.Notes.{indented_all};
-ghost use Rattle.bgview.specs.Refusals.{refusal_line};
+ghost use Rattle.fault_text.specs.Lines.{indented_all};
+ghost use Rattle.fault_text.specs.Refusals.{refusal_line};
 ghost use Rattle.bgview.specs.Why.{IsExplanation, IsExplanationFor, IsReasonFor, IsRoomSaid, verdict_of};
 
-use crate::notes::write_indented;
 use crate::reasons::write_reason;
-use crate::refusals::Refusals;
 use crate::rooms::{ToldRooms, tell_events};
 use crate::told::{LineBreak, Told};
+use fault_text::{Refusals, write_indented};
 use history_checker::Verdict;
 use io_text::Text;
 use room_files::{

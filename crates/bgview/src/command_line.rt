@@ -21,6 +21,10 @@ pub enum Mode {
     Trace,
     /// Draws the rooms of a script.
     Draw,
+    /// Makes a page that steps through a script.
+    Page,
+    /// Writes the rooms of a script as a transcript.
+    Transcript,
     /// Says faults in words.
     Fault,
     /// Runs rooms by random schedules.
@@ -38,6 +42,10 @@ impl Mode {
             Mode::Trace
         } else if word == "draw" {
             Mode::Draw
+        } else if word == "page" {
+            Mode::Page
+        } else if word == "transcript" {
+            Mode::Transcript
         } else if word == "fault" {
             Mode::Fault
         } else if word == "sample" {
@@ -106,6 +114,34 @@ fn draw_command<'a>(alloc: Global) -> Result<Command<'a>, AllocError>
         "draw",
         "Plays a script, and draws each of its rooms, as SVG",
         "bgview draw [FILE]",
+        "The script; without it, standard input is read",
+    )
+}
+
+/// The subcommand `page`.
+fn page_command<'a>(alloc: Global) -> Result<Command<'a>, AllocError>
+    ensures app { IfOk result (λ command. app_of command ≡ file_app (codes "page")) }
+    ensures local { IfOk result (λ command. (out-Command command).has_globals ≡ false) }
+{
+    file_command(
+        alloc,
+        "page",
+        "Plays a script, and makes a page that steps through it in a browser, as HTML",
+        "bgview page [FILE]",
+        "The script; without it, standard input is read",
+    )
+}
+
+/// The subcommand `transcript`.
+fn transcript_command<'a>(alloc: Global) -> Result<Command<'a>, AllocError>
+    ensures app { IfOk result (λ command. app_of command ≡ file_app (codes "transcript")) }
+    ensures local { IfOk result (λ command. (out-Command command).has_globals ≡ false) }
+{
+    file_command(
+        alloc,
+        "transcript",
+        "Plays a script, and writes its rooms as a transcript, with events in the order in which they took effect",
+        "bgview transcript [FILE]",
         "The script; without it, standard input is read",
     )
 }
@@ -260,7 +296,9 @@ fn command<'a>(alloc: Global) -> Result<Command<'a>, AllocError>
     let with_why = with_subcommand(plain_command(alloc), why_command(alloc))?;
     let with_trace = with_subcommand(with_why, trace_command(alloc))?;
     let with_draw = with_subcommand(with_trace, draw_command(alloc))?;
-    let with_fault = with_subcommand(with_draw, fault_command(alloc))?;
+    let with_page = with_subcommand(with_draw, page_command(alloc))?;
+    let with_transcript = with_subcommand(with_page, transcript_command(alloc))?;
+    let with_fault = with_subcommand(with_transcript, fault_command(alloc))?;
     let with_sample = with_subcommand(with_fault, sample_command(alloc))?;
     with_subcommand(with_sample, outcomes_command(alloc))
 }
@@ -302,8 +340,29 @@ pub fn line_in<'a>(matches: &ArgMatches<'a>) -> Line<'a>
     }
 }
 
+/// What is requested of an input.
+#[derive(Clone, Copy, Debug, PartialEq, Eq)]
+pub struct Request {
+    pub mode: Mode,
+    pub plan: Plan,
+    pub search: Search,
+}
+
+/// What the words request of an input.
+pub fn request_in(matches: &ArgMatches<'_>) -> Request
+    ensures mode { result.mode ≡ mode_among (subcommand_rows_of matches.now) }
+    ensures plan { IsPlanAmong (subcommand_rows_of matches.now) result.plan }
+    ensures search { IsSearchAmong (subcommand_rows_of matches.now) result.search }
+{
+    Request {
+        mode: line_in(matches).command,
+        plan: plan_in(matches),
+        search: search_in(matches),
+    }
+}
+
 /// How rooms are sampled by what the words ask for.
-pub fn plan_in(matches: &ArgMatches<'_>) -> Plan
+fn plan_in(matches: &ArgMatches<'_>) -> Plan
     ensures { IsPlanAmong (subcommand_rows_of matches.now) result }
 {
     match matches.subcommand() {
@@ -321,7 +380,7 @@ pub fn plan_in(matches: &ArgMatches<'_>) -> Plan
 }
 
 /// How outcomes are searched by what the words ask for.
-pub fn search_in(matches: &ArgMatches<'_>) -> Search
+fn search_in(matches: &ArgMatches<'_>) -> Search
     ensures { IsSearchAmong (subcommand_rows_of matches.now) result }
 {
     match matches.subcommand() {

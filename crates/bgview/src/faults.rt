@@ -2,8 +2,9 @@
 ghost use Rattle.std.specs.Prelude.{◌≡◌, ◌++◌, IfOk, OnOk, is_some, map, option_map};
 ghost use Rattle.std.specs.List.{flat_map};
 ghost use Rattle.fault_words.specs.Words.{words_of};
-ghost use Rattle.bgview.specs.Faults.{fault_line, faults_outcome, said_by, words_or_none};
+ghost use Rattle.bgview.specs.Faults.{fault_line, faults_outcome, said_by};
 
+use fault_text::sentence_or_none;
 use fault_words::fault_words;
 use io_text::Text;
 use protocol_lang::read_number;
@@ -34,16 +35,9 @@ fn write_fault(output: &mut Text, text: &[u8]) -> Result<bool, AllocError>
     let words = words_for(text);
     output.put(text)?;
     output.put(b": ")?;
-    output.put(words_or_none(words).as_bytes())?;
+    output.put(sentence_or_none(words).as_bytes())?;
     output.put(b"\n")?;
     Ok(words.is_some())
-}
-
-/// What a fault says, or that there is none.
-pub fn words_or_none(words: Option<&'static str>) -> &'static str
-    ensures { result.now ≡ words_or_none (option_map (λ words. words.now) words.entry) }
-{
-    words.unwrap_or("no fault has this number")
 }
 
 /// What the fault says that a text is the number of.

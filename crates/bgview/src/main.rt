@@ -1,31 +1,27 @@
-//! Shows what bgsim answers: why a transcript is no run, what each step of a script did, a picture of it, which outcomes a room may
+//! Shows what bgsim answers: why a transcript is no run, what each step of a script did, a picture of it, its rooms as a transcript, which outcomes a room may
 //! have by random schedules, all outcomes of its protocol, and what the numbers of faults mean.
 #![tactic(auto)]
 
-ghost use Rattle.std.specs.Prelude.{◌≡◌, ◌≤◌, Bool, IfSome, List, ℕ, false};
+ghost use Rattle.std.specs.Prelude.{◌≡◌, ◌≤◌, Bool, IfSome, List, ℕ, false, map};
 ghost use Rattle.std.specs.IoError.{error_kind};
 ghost use Rattle.std.specs.Io.KnownBytes.{Appends};
 ghost use Rattle.clap.specs.Values.{kind_of};
 ghost use Rattle.clap.specs.Words.{subcommand_rows_of};
-ghost use Rattle.bgview.specs.CommandLine.{codes_among, mode_among, IsPlanAmong, IsSearchAmong};
+ghost use Rattle.bgview.specs.CommandLine.{codes_among, file_among, mode_among};
+ghost use Rattle.bgview.specs.Endings.{IsAnswered, IsEnding, IsStatusFor, input_named};
 ghost use Rattle.bgview.specs.Ends.{ending_status, fault_status, unread_status, words_status};
 ghost use Rattle.bgview.specs.Faults.{AreFaultsSaid};
-ghost use Rattle.outcome_text.specs.declared.rooms.Search.{Search as SearchData};
-ghost use Rattle.room_sample.specs.declared.sampling.Plan.{Plan as PlanData};
-ghost use Rattle.bgview.specs.Modes.{IsViewed, NotesNothing};
-ghost use Rattle.bgview.specs.Notes.{AreNotes};
-ghost use Rattle.bgview.specs.declared.command_line.Mode.TheVariants.{Fault, Why};
+ghost use Rattle.bgview.specs.Modes.{AreNotesIn, IsViewed};
 
 mod answer;
-mod choices;
 mod command_line;
 mod engine;
 mod fault;
 mod faults;
-mod notes;
-mod places;
+mod inputs;
+mod page;
+mod progress;
 mod reasons;
-mod refusals;
 mod rooms;
 mod sample;
 mod told;
@@ -33,39 +29,28 @@ mod trace;
 
 use clap::ArgMatches;
 use clap::error::ErrorKind;
-use command_line::{Mode, line_in, plan_in, read_words, search_in};
-use engine::{draw_io, fault_io, outcomes_io, sample_io, why_io};
+use command_line::{Mode, Request, line_in, read_words, request_in};
+use engine::{draw_io, fault_io, outcomes_io, sample_io, transcript_io, why_io};
 use fault::ViewFault;
+use inputs::Inputs;
 use io_text::{Device, DeviceFault, Text};
-use outcome_text::Search;
+use page::page_io;
+use progress::{Counter, has_terminal};
 use room_files::Outcome;
-use room_sample::Plan;
+use run_search::Progress;
 use std::alloc::Global;
-use std::fs::File;
+use std::convert::AsStr;
 use std::io;
 use std::io::{Read, Write};
 use std::process::ExitCode;
 use trace::trace_io;
 
 fn main(rt: HostRuntime) -> ExitCode {
-    ExitCode::from(status(&rt))
-}
-
-fn status(rt: &HostRuntime) -> u8
-    ensures { result ≤ 3 }
-{
-    let words = match words(rt) {
-        Ok(words) => words,
-        Err(error) => return unread_status(rt, &error),
+    let status = match words(&rt) {
+        Ok(words) => status(&rt, &rt, &mut Device::new(rt.stdout()), words.as_slice()),
+        Err(error) => unread_status(&rt, &error),
     };
-    match read_words(rt.alloc(), words.as_slice()) {
-        Ok(matches) => {
-            let mut notes = Text::new(rt.alloc());
-            let ending = ending(rt, &matches, &mut notes);
-            ending_status(rt, ending, &notes)
-        }
-        Err(error) => words_status(rt, &error),
-    }
+    ExitCode::from(status)
 }
 
 /// The words after the program's name. One that is not UTF-8 is an error.
@@ -73,23 +58,60 @@ fn words(rt: &HostRuntime) -> io::Result<Vec<String>> {
     Ok(std::env::args(rt)?.skip(1).collect(rt.alloc())?)
 }
 
-/// How the program ends that does what the words ask for. What is said of the fault of an input becomes `notes`.
-fn ending(
+/// The exit status for these words, after what they ask for is done.
+fn status<I: Inputs, W: Write, S: AsStr>(
     rt: &HostRuntime,
+    inputs: &I,
+    writer: &mut Device<W>,
+    words: &[S],
+) -> u8
+    requires { writer.old.failed ≡ false }
+    ensures value { IsStatusFor (I.standard_bytes inputs.now) (I.file_bytes inputs.now) (map S.text words.entry.now)
+        (record { before = W.contents writer.old.inner; after = W.contents writer.new.inner }) result }
+    ensures small { result ≤ 3 }
+{
+    match read_words(rt.alloc(), words) {
+        Ok(matches) => {
+            let mut notes = Text::new(rt.alloc());
+            let terminal = has_terminal(rt).then(|| rt.stderr());
+            let mut counter = Counter::new(terminal);
+            let ending = ending(
+                rt.alloc(),
+                inputs,
+                writer,
+                &matches,
+                &mut notes,
+                &mut counter,
+            );
+            counter.clear();
+            ending_status(rt, ending, &notes)
+        }
+        Err(error) => words_status(rt, &error),
+    }
+}
+
+/// How the program ends that does what the words ask for. What is said of the fault of an input becomes `notes`.
+fn ending<I: Inputs, W: Write, P: Progress>(
+    alloc: Global,
+    inputs: &I,
+    writer: &mut Device<W>,
     matches: &ArgMatches<'_>,
     notes: &mut Text,
+    progress: &mut P,
 ) -> Result<Outcome, ViewFault>
-    ensures { mode_among (subcommand_rows_of matches.now) ≡ Fault →
-        (output : List ℕ) × AreFaultsSaid (codes_among (subcommand_rows_of matches.now)) result output }
+    requires { writer.old.failed ≡ false }
+    ensures { IsEnding (subcommand_rows_of matches.now)
+        (input_named (I.standard_bytes inputs.now) (I.file_bytes inputs.now) (file_among (subcommand_rows_of matches.now))) result
+        (record { before = W.contents writer.old.inner; after = W.contents writer.new.inner }) }
 {
     let line = line_in(matches);
     if line.command == Mode::Fault {
-        return say_faults(rt.alloc(), matches, &mut Device::new(rt.stdout()));
+        return say_faults(alloc, matches, writer);
     }
     match line.file {
-        None => answered(rt, rt.stdin(), matches, notes),
-        Some(path) => match File::open(rt, path) {
-            Ok(input) => answered(rt, input, matches, notes),
+        None => answered(alloc, inputs.standard(), writer, matches, notes, progress),
+        Some(path) => match inputs.open(path) {
+            Ok(input) => answered(alloc, input, writer, matches, notes, progress),
             Err(_) => Err(ViewFault::Device(DeviceFault::Read)),
         },
     }
@@ -114,57 +136,49 @@ fn say_faults<W: Write>(
     fault_io(alloc, writer, codes)
 }
 
-/// The answer that the words ask for to an input, whose text goes to standard output. What is said of an input's fault becomes `notes`.
-fn answered<R: Read + Drop>(
-    rt: &HostRuntime,
+/// The answer that the words ask for to an input, which is written. What is said of an input's faults becomes `notes`.
+fn answered<R: Read + Drop, W: Write, P: Progress>(
+    alloc: Global,
     input: R,
+    writer: &mut Device<W>,
     matches: &ArgMatches<'_>,
     notes: &mut Text,
+    progress: &mut P,
 ) -> Result<Outcome, ViewFault>
-    // The mode and the plan are those of the words.
-    ensures answer { IfSome (R.remaining input) (λ bytes. (plan : PlanData) × (search : SearchData) × (output : List ℕ) ×
-        IsPlanAmong (subcommand_rows_of matches.now) plan × IsSearchAmong (subcommand_rows_of matches.now) search ×
-        IsViewed (mode_among (subcommand_rows_of matches.now)) plan search bytes result output) }
-    ensures notes { mode_among (subcommand_rows_of matches.now) ≡ Why → IfSome (R.remaining input) (λ bytes. AreNotes bytes result notes.old notes.new) }
-    ensures silent { NotesNothing (mode_among (subcommand_rows_of matches.now)) → notes.new ≡ notes.old }
+    requires { writer.old.failed ≡ false }
+    // The mode, the plan and the search are those of the words.
+    ensures answer { IfSome (R.remaining input) (λ bytes. IsAnswered (subcommand_rows_of matches.now) bytes result
+        (record { before = W.contents writer.old.inner; after = W.contents writer.new.inner })) }
+    ensures notes { IfSome (R.remaining input) (λ bytes. AreNotesIn (mode_among (subcommand_rows_of matches.now)) bytes result notes.old notes.new) }
 {
     let mut reader = Device::new(input);
-    let mut writer = Device::new(rt.stdout());
-    let mode = line_in(matches).command;
-    write_answer(
-        rt.alloc(),
-        &mut reader,
-        &mut writer,
-        mode,
-        &plan_in(matches),
-        &search_in(matches),
-        notes,
-    )
+    let request = request_in(matches);
+    write_answer(alloc, &mut reader, writer, &request, notes, progress)
 }
 
-/// Writes the answer of a mode to what a reader gives. What is said of an input's fault becomes `notes`.
-fn write_answer<R: Read, W: Write>(
+/// Writes the answer to what a reader gives that is requested. What is said of an input's faults becomes `notes`.
+fn write_answer<R: Read, W: Write, P: Progress>(
     alloc: Global,
     reader: &mut Device<R>,
     writer: &mut Device<W>,
-    mode: Mode,
-    plan: &Plan,
-    search: &Search,
+    request: &Request,
     notes: &mut Text,
+    progress: &mut P,
 ) -> Result<Outcome, ViewFault>
     requires reader { reader.old.failed ≡ false }
     requires writer { writer.old.failed ≡ false }
-    ensures answer { IfSome (R.remaining reader.old.inner) (λ input. (output : List ℕ) × IsViewed mode plan.now search.now input result output
+    ensures answer { IfSome (R.remaining reader.old.inner) (λ input. (output : List ℕ) × IsViewed request.now.mode request.now.plan request.now.search input result output
         × Appends (W.contents writer.old.inner) (W.contents writer.new.inner) output) }
-    ensures notes { mode ≡ Why → IfSome (R.remaining reader.old.inner) (λ input. AreNotes input result notes.old notes.new) }
-    ensures silent { NotesNothing mode → notes.new ≡ notes.old }
+    ensures notes { IfSome (R.remaining reader.old.inner) (λ input. AreNotesIn request.now.mode input result notes.old notes.new) }
 {
-    match mode {
+    match request.mode {
         Mode::Why | Mode::Fault => why_io(alloc, reader, writer, notes),
-        Mode::Trace => trace_io(alloc, reader, writer),
-        Mode::Draw => draw_io(alloc, reader, writer),
-        Mode::Sample => sample_io(alloc, reader, writer, plan),
-        Mode::Outcomes => outcomes_io(alloc, reader, writer, search),
+        Mode::Trace => trace_io(alloc, reader, writer, notes),
+        Mode::Draw => draw_io(alloc, reader, writer, notes),
+        Mode::Page => page_io(alloc, reader, writer, notes),
+        Mode::Transcript => transcript_io(alloc, reader, writer, notes),
+        Mode::Sample => sample_io(alloc, reader, writer, &request.plan, notes, progress),
+        Mode::Outcomes => outcomes_io(alloc, reader, writer, &request.search, notes, progress),
     }
 }
 
@@ -172,7 +186,10 @@ fn ending_status(rt: &HostRuntime, ending: Result<Outcome, ViewFault>, notes: &T
     ensures { result ≡ ending_status ending }
 {
     match ending {
-        Ok(outcome) => outcome.status(),
+        Ok(outcome) => {
+            let _ = rt.stderr().write_all(notes.as_bytes());
+            outcome.status()
+        }
         Err(fault) => fault_status(rt, fault, notes.as_bytes()),
     }
 }

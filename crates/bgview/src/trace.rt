@@ -10,13 +10,15 @@ ghost use Rattle.service_core.specs.declared.command.Command.TheVariants.{Step};
 ghost use Rattle.service_core.specs.declared.reply.Refusal.TheVariants.{NoRoom};
 ghost use Rattle.script_play.specs.Play.{IsPerformed, refusal_in};
 ghost use Rattle.bgview.specs.Ends.{is_read_failed, is_write_failed};
+ghost use Rattle.bgview.specs.Notes.{AreScriptNotes};
 ghost use Rattle.bgview.specs.Trace.{HasTraced, IsTraceFor, IsTraced, notes_after};
 
 use crate::fault::{ViewFault, written};
-use crate::notes::write_fault_note;
+use fault_text::write_fault_note;
+use file_faults::script_faults;
 use io_text::{Device, Text, read_input, write_output};
 use room_files::{InputFault, Outcome, write_refused, write_refused_code};
-use room_spec::{Name, SpecFault};
+use room_spec::{Name, Spec, SpecFault};
 use script_play::{Performs, PlayText, Played, play_script, refusal_in, sim_in, write_reply};
 use service_core::{Command, Refusal, Reply, Service};
 use std::alloc::{AllocError, Global};
@@ -24,7 +26,8 @@ use std::io::{Read, Write};
 use step_words::StepTexts;
 
 /// Plays the script that the reader gives, and writes the replies, and under each, behind four spaces, the atomic steps that its
-/// command took, or why it was refused. The whole script is read and judged before anything is written.
+/// command took, or why it was refused. The whole script is read and judged before anything is written. What is said of its faults becomes
+/// `notes`.
 ///
 /// # Errors
 ///
@@ -34,6 +37,7 @@ pub fn trace_io<R: Read, W: Write>(
     alloc: Global,
     reader: &mut Device<R>,
     writer: &mut Device<W>,
+    notes: &mut Text,
 ) -> Result<Outcome, ViewFault>
     requires reader { reader.old.failed ≡ false }
     requires writer { writer.old.failed ≡ false }
@@ -43,15 +47,17 @@ pub fn trace_io<R: Read, W: Write>(
         × (writer.new.calls ≤ writer.old.calls + length output + failed_writes (is_write_failed result))) }
     ensures reader { HasRead reader.old reader.new (R.remaining reader.old.inner) (is_read_failed result) }
     ensures writer { HasWritten writer.old writer.new result (is_write_failed result) }
+    ensures notes { IfSome (R.remaining reader.old.inner) (λ input. AreScriptNotes input result notes.new) }
 {
     let script = read_input(alloc, reader)?;
+    *notes = script_faults(alloc, &script)?;
     let traced = trace(alloc, &script)?;
     write_output(writer, traced.output.as_bytes())?;
     written(traced.ending)
 }
 
 /// Judges a script, and tells what it comes to where it has no fault.
-fn trace(alloc: Global, script: &[u8]) -> Result<PlayText, InputFault>
+pub(crate) fn trace(alloc: Global, script: &[u8]) -> Result<PlayText, InputFault>
     requires { length script.now ≤ most_bytes }
     ensures text { IfOk result (λ traced. IsTraceFor script.now traced.ending traced.output) }
     // Want of memory hides no bad line.
@@ -82,6 +88,20 @@ impl Tracer {
         }
     }
 
+    /// Does a command, and writes the reply to it and the steps that it took, or why it was refused.
+    fn tell(&mut self, alloc: Global, command: Command) -> Result<Option<Refusal>, AllocError>
+        ensures { IfOk result (λ refusal. IsPerformed self.old.service (HasTraced self.old.service self.old.output)
+            command refusal self.new.service (HasTraced self.new.service self.new.output)) }
+    {
+        let name = command.name().clone()?;
+        let sim = sim_in(&command);
+        let mut steps = StepTexts::new(alloc);
+        let reply = self.service.apply_watched(alloc, command, &mut steps);
+        write_reply(&mut self.output, name.as_str().as_bytes(), sim, &reply)?;
+        write_notes(&mut self.output, &reply, steps)?;
+        Ok(refusal_in(&reply))
+    }
+
     /// Has steps refused where the bytes are no name.
     fn refuse_steps(
         &mut self,
@@ -110,14 +130,17 @@ impl Performs for Tracer {
 
     ghost has_done = { λ tracer. HasTraced tracer.service tracer.output };
 
+    fn open(
+        &mut self,
+        alloc: Global,
+        _block: &[u8],
+        spec: Spec,
+    ) -> Result<Option<Refusal>, AllocError> {
+        self.tell(alloc, Command::Begin(spec))
+    }
+
     fn perform(&mut self, alloc: Global, command: Command) -> Result<Option<Refusal>, AllocError> {
-        let name = command.name().clone()?;
-        let sim = sim_in(&command);
-        let mut steps = StepTexts::new(alloc);
-        let reply = self.service.apply_watched(alloc, command, &mut steps);
-        write_reply(&mut self.output, name.as_str().as_bytes(), sim, &reply)?;
-        write_notes(&mut self.output, &reply, steps)?;
-        Ok(refusal_in(&reply))
+        self.tell(alloc, command)
     }
 
     fn step(
@@ -128,7 +151,7 @@ impl Performs for Tracer {
         count: u16,
     ) -> Result<Option<Refusal>, AllocError> {
         match Name::read(name) {
-            Some(name) => self.perform(alloc, Command::Step { name, sim, count }),
+            Some(name) => self.tell(alloc, Command::Step { name, sim, count }),
             None => self.refuse_steps(name, sim, count),
         }
     }

@@ -3,7 +3,7 @@ use Rattle.std.specs.Prelude.{slice_get}
 use Rattle.std.proofs.lemmas.List.{length-map}
 use Rattle.history_checker.specs.Verdicts.{fed_to}
 use Rattle.std.specs.List.{flat_map}
-use Rattle.bgview.specs.Refusals.{refusal_line, said_refusals}
+use Rattle.fault_text.specs.Refusals.{refusal_line, said_refusals}
 use Rattle.bgview.specs.Told.{ToldRoom, specs_of}
 use Rattle.bgview.proofs.Explaining.{all_said, one_more}
 use Rattle.bgview.proofs.RoomLists.{spec_there, told_there}

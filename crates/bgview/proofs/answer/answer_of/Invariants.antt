@@ -1,7 +1,7 @@
 use Rattle.std.proofs.Common.{List}
 use Rattle.history_checker.specs.Verdicts.{FedEvent}
 use Rattle.std.specs.List.{flat_map}
-use Rattle.bgview.specs.Refusals.{refusal_line, said_refusals}
+use Rattle.fault_text.specs.Refusals.{refusal_line, said_refusals}
 use Rattle.bgview.specs.Told.{AreTold, specs_of}
 use Rattle.bgview.proofs.Explaining.{SoFar}
 use Rattle.bgview.proofs.answer.answer_of.Given as goal

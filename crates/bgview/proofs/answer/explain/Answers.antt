@@ -3,7 +3,7 @@ use Rattle.room_spec.specs.Rooms.{RoomSpec}
 use Rattle.room_files.specs.Blocks.{Setup}
 use Rattle.room_files.specs.Inputs.{blocks_in}
 use Rattle.std.specs.List.{flat_map}
-use Rattle.bgview.specs.Refusals.{refusal_line}
+use Rattle.fault_text.specs.Refusals.{refusal_line}
 use Rattle.bgview.specs.Told.{specs_of}
 use Rattle.bgview.specs.Why.{IsExplanation}
 use Rattle.std.proofs.lemmas.Result.{err_from_is_err_and}

@@ -3,7 +3,7 @@ use Rattle.std.proofs.lemmas.List.{append_assoc}
 use Rattle.history_checker.specs.Verdicts.{IsVerdict}
 use Rattle.history_checker.specs.declared.verdict.Verdict.{Verdict}
 use Rattle.room_files.specs.Reports.{task_line, verdict_line}
-use Rattle.bgview.specs.Notes.{indented_all}
+use Rattle.fault_text.specs.Lines.{indented_all}
 use Rattle.bgview.specs.Told.{ToldRoom}
 use Rattle.bgview.specs.Why.{IsReasonFor}
 use Rattle.bgview.proofs.Explaining.{is_verdict, told_is}

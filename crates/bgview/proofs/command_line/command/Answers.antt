@@ -6,6 +6,8 @@ returns c =
     let why_is = grown _ _ _ c.why_command.result _ c.plain_command.ensures c.why_command.ensures.app c.why_command.ensures.local c.in_ok-with_why.ensures in
     let trace_is = grown _ _ _ c.trace_command.result _ why_is c.trace_command.ensures.app c.trace_command.ensures.local c.in_ok-with_trace.ensures in
     let draw_is = grown _ _ _ c.draw_command.result _ trace_is c.draw_command.ensures.app c.draw_command.ensures.local c.in_ok-with_draw.ensures in
-    let fault_is = grown _ _ _ c.fault_command.result _ draw_is c.fault_command.ensures.app c.fault_command.ensures.local c.in_ok-with_fault.ensures in
+    let page_is = grown _ _ _ c.page_command.result _ draw_is c.page_command.ensures.app c.page_command.ensures.local c.in_ok-with_page.ensures in
+    let transcript_is = grown _ _ _ c.transcript_command.result _ page_is c.transcript_command.ensures.app c.transcript_command.ensures.local c.in_ok-with_transcript.ensures in
+    let fault_is = grown _ _ _ c.fault_command.result _ transcript_is c.fault_command.ensures.app c.fault_command.ensures.local c.in_ok-with_fault.ensures in
     let sample_is = grown _ _ _ c.sample_command.result _ fault_is c.sample_command.ensures.app c.sample_command.ensures.local c.in_ok-with_sample.ensures in
-    all_grown _ _ _ c.outcomes_command.result _ sample_is c.outcomes_command.ensures.app c.outcomes_command.ensures.local c.with_subcommand-6.ensures
+    all_grown _ _ _ c.outcomes_command.result _ sample_is c.outcomes_command.ensures.app c.outcomes_command.ensures.local c.with_subcommand-8.ensures

@@ -7,7 +7,7 @@ use Rattle.bgview.specs.Sample.{IsSampleOutput}
 use Rattle.bgview.proofs.sample.sample_blocks.Goals as goal
 
 pub returns : goal.returns
-returns c =
+returns g c =
     let read : Setup = record { rooms = c.rooms.inside.rooms.rooms; refused = c.rooms.inside.refused; line = c.rooms.inside.line } in
     let whole : read ≡ all_blocks c.args.input.now = c.rooms.view_is ∙ c.in_ok-rooms.ensures.read in
     let empty : c.is_empty.result ≡ (length c.rooms.inside.refused == 0) = search rules in

@@ -1,7 +1,0 @@
-use Rattle.std.proofs.Common.{sym}
-use Rattle.std.proofs.lemmas.List.{append-nil}
-use Rattle.bgview.proofs.Passing.{none_passed}
-use Rattle.bgview.proofs.refusals.Refusals.write.Goals as goal
-
-pub loop-refusal-init : goal.loop-refusal-init
-loop-refusal-init c = (none_passed c.args.input.now, sym (append-nil c.args.output.now))

@@ -1,0 +1,60 @@
+-- How the program ends, by the words that it is given and the input that they name.
+use Rattle.std.specs.Prelude.{◌≡◌, ◌≢◌, ◌⊎◌, ℕ, Bool, List, [], Option, Some, None, Result, Err, IfSome}
+use Rattle.std.specs.Io.KnownBytes.{Appends}
+use Rattle.clap.specs.Kinds.{IsAmong}
+use Rattle.clap.specs.Words.{Row, fault_of, subcommand_of}
+use Rattle.clap.specs.declared.error.kind.ErrorKind.{ErrorKind}
+use Rattle.clap.specs.declared.error.kind.ErrorKind.TheVariants.{OutOfMemory}
+use Rattle.io_text.specs.declared.fault.DeviceFault.TheVariants.{Read}
+use Rattle.outcome_text.specs.declared.rooms.Search.{Search}
+use Rattle.room_files.specs.declared.outcome.Outcome.{Outcome}
+use Rattle.room_sample.specs.declared.sampling.Plan.{Plan}
+use Rattle.bgview.specs.CommandLine.{IsPlanAmong, IsSearchAmong, bgview_app, codes_among, file_among, mode_among}
+use Rattle.bgview.specs.Ends.{ending_status, words_status}
+use Rattle.bgview.specs.Faults.{AreFaultsSaid}
+use Rattle.bgview.specs.Modes.{IsViewed}
+use Rattle.bgview.specs.declared.command_line.Mode.TheVariants.{Fault}
+use Rattle.bgview.specs.declared.fault.ViewFault.{ViewFault}
+use Rattle.bgview.specs.declared.fault.ViewFault.TheVariants.{Device}
+
+-- the subcommand that was found in the words, with its values
+abbrev pub Found : Type 0
+Found = Option (List ℕ × List Row)
+
+-- What a writer has before and after.
+pub record Writes : Type 0 where
+  pub before : Option (List ℕ)
+  pub after : Option (List ℕ)
+
+abbrev pub HasAppended : Writes → List ℕ → Type 0
+HasAppended writes output = Appends writes.before writes.after output
+
+-- An input is answered in the mode that the words say, by the plan and the search that they say.
+pub record IsAnswered (found : Found) (input : List ℕ) (result : Result Outcome ViewFault) (writes : Writes) : Type 0 where
+  pub plan : Plan
+  pub planned : IsPlanAmong found plan
+  pub search : Search
+  pub searched : IsSearchAmong found search
+  pub output : List ℕ
+  pub viewed : IsViewed (mode_among found) plan search input result output
+  pub appended : HasAppended writes output
+
+-- what the input gives that the words name, if it is known: a file, or standard input if they name none
+abbrev pub input_named : Option (List ℕ) → (List ℕ → Option (List ℕ)) → Option (List ℕ) → Option (List ℕ)
+input_named standard file None = standard
+input_named standard file (Some path) = file path
+
+-- it was not opened, and nothing is written; or it is answered, if what it gives is known
+abbrev pub IsReadOrNot : Found → Option (List ℕ) → Result Outcome ViewFault → Writes → Type 0
+IsReadOrNot found input result writes = ((result ≡ Err (Device Read)) × HasAppended writes []) ⊎ IfSome input (λ bytes. IsAnswered found bytes result writes)
+
+-- What was done is what the words ask for: faults are said, or the input that they name is answered.
+pub record IsEnding (found : Found) (input : Option (List ℕ)) (result : Result Outcome ViewFault) (writes : Writes) : Type 0 where
+  pub faults : mode_among found ≡ Fault → (output : List ℕ) × AreFaultsSaid (codes_among found) result output × HasAppended writes output
+  pub answer : mode_among found ≢ Fault → IsReadOrNot found input result writes
+
+-- The exit status for these words: that of what they ask for; or they ask for nothing, for a reason of this kind.
+pub data IsStatusFor (standard : Option (List ℕ)) (file : List ℕ → Option (List ℕ)) (words : List (List ℕ)) (writes : Writes) (status : ℕ) : Type 0 where
+  done : (result : Result Outcome ViewFault) → fault_of bgview_app words ≡ []
+      → IsEnding (subcommand_of bgview_app words) (input_named standard file (file_among (subcommand_of bgview_app words))) result writes → status ≡ ending_status result → IsStatusFor standard file words writes status
+  refused : (kind : ErrorKind) (is_printed : Bool) → (kind ≡ OutOfMemory) ⊎ IsAmong kind (fault_of bgview_app words) → status ≡ words_status kind is_printed → IsStatusFor standard file words writes status
