@@ -1,9 +1,13 @@
 //! An agreement whose levels stand in one word: that of simulator `i` in the two bits from bit `2 * i`.
-ghost use Rattle.std.specs.Prelude.{◌≡◌, ◌==◌, ◌<◌, ◌≤◌, IfSome, position};
-ghost use Rattle.level_cells.specs.Fields.{levels_of};
+ghost use Rattle.std.specs.Prelude.{◌≡◌, ℕ, ◌*◌, ◌%◌, ◌==◌, ◌<◌, ◌≤◌, IfSome, ◌↔◌, position};
+ghost use Rattle.std.specs.Int.{bit_at};
+ghost use Rattle.level_cells.specs.Fields.{level_of, levels_of};
 ghost use Rattle.safe_agreement.specs.Levels.{has_level, is_clean, resolved_of};
 
-use level_cells::{MAX_LEVELS, field};
+use level_cells::MAX_LEVELS;
+
+/// The lower of the two bits of each simulator.
+const LOWER_BITS: u64 = 0x5555;
 
 /// The least of the first `m` simulators that is at this level. `m` is at most [`MAX_LEVELS`].
 pub fn least_at(word: u64, m: usize, level: u8) -> Option<usize>
@@ -11,21 +15,45 @@ pub fn least_at(word: u64, m: usize, level: u8) -> Option<usize>
     ensures value { result ≡ position (λ one. one == level) (levels_of word m) }
     ensures below { IfSome result (λ simulator. simulator < m) }
 {
-    for simulator in 0..m {
-        if field(word, 2 * simulator, 2) as u8 == level {
-            return Some(simulator);
-        }
+    let all = all_at(word, m, level);
+    if all == 0 {
+        None
+    } else {
+        Some(all.trailing_zeros() as usize / 2)
     }
-    None
+}
+
+/// All of the first `m` simulators that are at this level, as the lower of the two bits of each: so all of
+/// them are looked at in one go. `m` is at most [`MAX_LEVELS`].
+#[inline(always)]
+fn all_at(word: u64, m: usize, level: u8) -> u64
+    requires { m ≤ MAX_LEVELS }
+    ensures each { (i : ℕ) → i < m → (bit_at result (2 * i) ≡ 1) ↔ (level_of word i ≡ level) }
+    ensures no_other { (at : ℕ) → bit_at result at ≡ 1 → (at % 2 ≡ 0) × (at < 2 * m) }
+{
+    if level > 3 {
+        return 0;
+    }
+    let lower = bits_that_are(word, level % 2);
+    let upper = bits_that_are(word, level / 2);
+    lower & upper >> 1 & LOWER_BITS & ((1 << (2 * m)) - 1)
+}
+
+/// The bits of a word that are `bit`, which is 0 or 1.
+#[inline(always)]
+fn bits_that_are(word: u64, bit: u8) -> u64
+    requires { bit ≤ 1 }
+    ensures { (at : ℕ) → at < 64 → (bit_at result at ≡ 1) ↔ (bit_at word at ≡ bit) }
+{
+    if bit == 1 { word } else { !word }
 }
 
 /// Whether one of the first `m` simulators is at this level. `m` is at most [`MAX_LEVELS`].
-#[tactic(auto, using(crate::proofs::Clean::some_level))]
 pub fn has_level(word: u64, m: usize, level: u8) -> bool
     requires { m ≤ MAX_LEVELS }
     ensures { result ≡ has_level level (levels_of word m) }
 {
-    least_at(word, m, level).is_some()
+    all_at(word, m, level) != 0
 }
 
 /// Whether the agreement of the first `m` simulators is clean: some level is 2, and none is 1. `m`

@@ -1,14 +1,15 @@
-use Rattle.std.proofs.Common.{◌≡◌, sym, subst, arith}
-use Rattle.level_cells.specs.Fields.{level_of}
-use Rattle.safe_agreement.proofs.PackedLevels.{IsNoneBefore, least_found, none_found}
+use Rattle.std.proofs.Common.{sym, arith}
+use Rattle.safe_agreement.proofs.PackedLevels.{least_of, none_at}
 use Rattle.safe_agreement.proofs.packed.least_at.Goals as goal
 
-pub returns-then-field-level-clause-value : goal.returns-then-field-level-clause-value
-returns-then-field-level-clause-value c =
-    let here : level_of c.args.word c.loop-simulator.simulator ≡ c.args.level = omega (arith, c.field.ensures.value, c.field.ensures.range, c.if-field-level.true) in
-    sym (least_found c.args.word c.args.m c.args.level c.loop-simulator.simulator c.loop-simulator-test.true c.loop-simulator.invariant here)
+pub returns-then-all-eq0-clause-value : goal.returns-then-all-eq0-clause-value
+returns-then-all-eq0-clause-value c =
+    sym (none_at c.args.word c.args.m c.args.level c.all_at-all.result (record { each = c.all_at-all.ensures.each; no_other = c.all_at-all.ensures.no_other }) c.if-all-eq0.true)
 
-pub returns-clause-value : goal.returns-clause-value
-returns-clause-value c =
-    let all : c.loop-simulator.simulator ≡ c.args.m = omega arith in
-    sym (none_found c.args.word c.args.m c.args.level (subst (λ i. IsNoneBefore c.args.word c.args.level i) all c.loop-simulator.invariant))
+pub returns-else-all-eq0-clause-value : goal.returns-else-all-eq0-clause-value
+returns-else-all-eq0-clause-value c =
+    sym (least_of c.args.word c.args.m c.args.level c.all_at-all.result (record { each = c.all_at-all.ensures.each; no_other = c.all_at-all.ensures.no_other }) (omega (arith, c.if-all-eq0.false)) (omega arith)).1
+
+pub returns-else-all-eq0-clause-below : goal.returns-else-all-eq0-clause-below
+returns-else-all-eq0-clause-below c =
+    (least_of c.args.word c.args.m c.args.level c.all_at-all.result (record { each = c.all_at-all.ensures.each; no_other = c.all_at-all.ensures.no_other }) (omega (arith, c.if-all-eq0.false)) (omega arith)).0
