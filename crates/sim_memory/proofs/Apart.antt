@@ -61,10 +61,10 @@ digit y shifted mask width room q less is =
     ∙ or_mod (y / 2 ^ at) (shifted / 2 ^ at) width
 
 -- the shifted word, of which a whole room is read
-shifted_at : (y s at width : ℕ) → at + width ≤ 64 → y * 2 ^ s % 2 ^ 64 / 2 ^ at % 2 ^ width ≡ y * 2 ^ s / 2 ^ at % 2 ^ width
+pub shifted_at : (y s at width : ℕ) → at + width ≤ 64 → y * 2 ^ s % 2 ^ 64 / 2 ^ at % 2 ^ width ≡ y * 2 ^ s / 2 ^ at % 2 ^ width
 shifted_at y s at width inside = within (y * 2 ^ s) at width 64 inside
 
-shift_back : (y s at : ℕ) → s ≤ at → y * 2 ^ s / 2 ^ at ≡ y / 2 ^ (at - s)
+pub shift_back : (y s at : ℕ) → s ≤ at → y * 2 ^ s / 2 ^ at ≡ y / 2 ^ (at - s)
 shift_back y s at less =
     let e : at ≡ s + (at - s) = omega arith in
     ap (λ k. y * 2 ^ s / 2 ^ k) e ∙ sym (shr-shr (y * 2 ^ s) s (at - s)) ∙ ap (λ x. x / 2 ^ (at - s)) (shl-shr y s)

@@ -6,3 +6,5 @@ mod Merging
 mod Rows
 mod Words
 mod Worked
+mod TwoWords
+mod WholeRows

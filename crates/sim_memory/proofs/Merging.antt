@@ -1,10 +1,8 @@
 -- The last writes of all processes, one simulator after the other.
-use Rattle.std.proofs.Common.{◌≡◌, ◌≢◌, ◌⊎◌, ℕ, zero, suc, ◌+◌, ◌*◌, ◌/◌, ◌%◌, ◌^◌, ◌<◌, ◌≤◌, max, min, cond, ltb, Bool, true, false, inl, inr, List, map, get_or, set, length, replicate, refl, sym, ap, ◌∙◌, subst, arith, w8}
+use Rattle.std.proofs.Common.{◌≡◌, ◌⊎◌, ℕ, zero, suc, ◌+◌, ◌*◌, ◌/◌, ◌%◌, ◌^◌, ◌<◌, ◌≤◌, max, min, cond, ltb, Bool, true, false, inl, inr, List, map, get_or, length, replicate, refl, sym, ap, ◌∙◌, subst, arith, w8}
 use lib.Lanes.{zip2, sel_l, top}
-use mathlib.Core.Logic.{dite}
-use native.Mathlib.Decide.{ℕ_discrete}
 use Rattle.std.proofs.lemmas.Bool.{cases_lt, lt-ltb, le-ltb}
-use Rattle.std.proofs.lemmas.List.{get_or-replicate, get_or-set_same, get_or-set_other, length-set}
+use Rattle.std.proofs.lemmas.List.{get_or-replicate}
 use Rattle.std.proofs.Math.Nat.{zero-div, zero-mod}
 use Rattle.std.proofs.lemmas.Nat.{shr-shr, div-mul-add, mod-mul-add, div-add-mod'}
 use Rattle.std.proofs.Math.Nat.{add-mul}
@@ -151,33 +149,6 @@ last_in_range sizes words holders rounds some last p below =
     let holds = (holder_of_is sizes.m (step_in sizes words) p some).below in
     let most = merged_below sizes.m (step_in sizes words) p sizes.rounds (λ i _. omega arith) in
     (omega arith, omega arith)
-
--- ---- the step numbers of one simulator, one after the other
-
-pub record AreFirstSteps (sizes : Sizes) (words : List ℕ) (i count : ℕ) (steps : List ℕ) : Type 0 where
-  pub long : length steps ≡ 16
-  pub own : (p : ℕ) → p < count → get_or steps p 0 ≡ step_in sizes words i p
-  pub behind : (p : ℕ) → count ≤ p → p < 16 → get_or steps p 0 ≡ 0
-
-pub no_first_steps : (sizes : Sizes) (words : List ℕ) (i : ℕ) → AreFirstSteps sizes words i 0 (replicate 16 0)
-no_first_steps sizes words i = record {
-  long = refl;
-  own = λ p below. absurd (omega arith);
-  behind = λ p _ within. get_or-replicate 16 p 0 0 within;
-}
-
-pub one_more_step : (sizes : Sizes) (words : List ℕ) (i p step : ℕ) (steps : List ℕ) → p < 16 → AreFirstSteps sizes words i p steps → step ≡ step_in sizes words i p → AreFirstSteps sizes words i (p + 1) (set steps p step)
-one_more_step sizes words i p step steps within so_far is = record {
-  long = length-set steps p step ∙ so_far.long;
-  own = λ q below.
-      dite (ℕ_discrete q p)
-      (λ (e : q ≡ p). ap (λ k. get_or (set steps p step) k 0) e ∙ get_or-set_same steps p step 0 (let long = so_far.long in omega arith) ∙ is ∙ ap (λ k. step_in sizes words i k) (sym e))
-      (λ (n : q ≢ p). get_or-set_other steps p q step 0 n ∙ so_far.own q (omega arith));
-  behind = λ q more q_within. get_or-set_other steps p q step 0 (λ (e : q ≡ p). absurd (omega arith)) ∙ so_far.behind q (omega arith) q_within;
-}
-
-pub all_steps : (sizes : Sizes) (words : List ℕ) (i count : ℕ) (steps : List ℕ) → count ≤ sizes.n → sizes.n ≤ count → AreFirstSteps sizes words i count steps → AreSteps sizes words i steps
-all_steps sizes words i count steps most all are = record { own = λ p below. are.own p (omega arith); behind = λ p after within. are.behind p (omega arith) within }
 
 pub none_of : (sizes : Sizes) (words holders rounds : List ℕ) → sizes.n ≤ 16 → holders ≡ replicate 16 0 → rounds ≡ replicate 16 0 → AreLast sizes words 0 holders rounds
 none_of sizes words holders rounds few holders_are rounds_are =

@@ -20,7 +20,7 @@ mod writes;
 
 use level_cells::field;
 use room_spec::Shape;
-pub use writes::{LastWrites, last_writes};
+pub use writes::{LastWrites, last_writes, note_last};
 
 /// Where the step number of simulator `i` for process `p` stands: in which memory word, and from which
 /// bit on. The field has `shape.bits` bits, and lies within the word.

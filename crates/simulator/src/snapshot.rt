@@ -6,7 +6,7 @@ ghost use Rattle.simulator.specs.Minds.{no_words};
 ghost use Rattle.simulator.specs.Moves.{entry_in, holder_in};
 
 use room_spec::{MAX_MEMORY_WORDS, MAX_PROCESSES, Spec};
-use sim_memory::{LastWrites, last_write, last_writes, shows_none};
+use sim_memory::{LastWrites, last_write, note_last, shows_none};
 use std::marker::Model;
 
 /// As many memory words as any room has; those behind the room's own are 0. Beside them the last
@@ -78,7 +78,7 @@ impl Snapshot {
         ensures { self.new ≡ self.old }
     {
         let shape = spec.shape();
-        self.last = last_writes(&shape, &self.words);
+        note_last(&shape, &self.words, &mut self.last);
         self.n = shape.n as u8;
         self.m = shape.m as u8;
         self.rounds = shape.rounds as u8;

@@ -3,5 +3,5 @@ use Rattle.room_spec.specs.Shapes.{sizes_of}
 use Rattle.room_spec.proofs.CallerLemmas.{are_memory_words}
 use Rattle.simulator.proofs.snapshot.Snapshot.note.Goals as goal
 
-pub last_writes-self-inside-requires : goal.last_writes-self-inside-requires
-last_writes-self-inside-requires c = let few = (are_memory_words (sizes_of c.shape-shape.result) c.shape-shape.result.limits).few in omega (arith, few)
+pub note_last-requires : goal.note_last-requires
+note_last-requires c = let few = (are_memory_words (sizes_of c.shape-shape.result) c.shape-shape.result.limits).few in omega (arith, few)

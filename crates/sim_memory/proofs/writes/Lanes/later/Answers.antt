@@ -1,7 +1,7 @@
 use Rattle.std.proofs.Common.{cond, ltb, get_or, replicate, refl, ap, ◌∙◌, arith}
 use Rattle.std.proofs.lemmas.List.{get_or-replicate}
 use Rattle.sim_memory.proofs.Merging.{greater_of, selected}
-use Rattle.sim_memory.proofs.writes.LastWrites.later.Goals as goal
+use Rattle.sim_memory.proofs.writes.Lanes.later.Goals as goal
 
 pub returns-clause-holders : goal.returns-clause-holders
 returns-clause-holders c p below =
