@@ -5,7 +5,8 @@ use Rattle.simulator.specs.declared.operation.Move.{Move}
 use Rattle.simulator.specs.declared.turn.Turn.{Turn}
 use Rattle.simulator.specs.declared.turn.Turn.TheVariants.{Still}
 use Rattle.simulator.specs.Minds.{MindState}
-use Rattle.simulator.specs.Moves.{move_of, taken}
+use Rattle.simulator.specs.Moves.{IsOperation, move_of, taken}
+use Rattle.simulator.specs.Ranges.{IsMind}
 
 -- the mind after these answers
 abbrev pub taken_along : RoomSpec → MindState → List ℕ → MindState
@@ -33,3 +34,14 @@ pub record Runs {M : Type 0} (does : M → Move → ℕ → M → Type 0) (spec 
   pub mind_is : after ≡ taken_along spec mind answers
   pub asked : Asked does spec memory mind answers last
   pub turn_is : LeavesTurn spec mind answers turn
+
+-- The memory serves the mind, which wants an operation next unless the turn has ended.
+pub record Wants {M C : Type 0} (serves : M → C → RoomSpec → MindState → Type 0) (context : C) (spec : RoomSpec) (memory : M) (mind : MindState) (turn : Turn) : Type 0 where
+  pub is_mind : IsMind spec mind
+  pub operation : turn ≡ Still → IsOperation (move_of spec mind)
+  pub served : serves memory context spec mind
+
+-- From wherever so many atomic steps led to this memory and mind, so many lead on to those others.
+abbrev pub Continues : {M : Type 0} → (M → Move → ℕ → M → Type 0) → RoomSpec → ℕ → M → MindState → Turn → ℕ → M → MindState → Turn → Type 0
+Continues does spec count memory mind turn later_count later_memory later_mind later_turn =
+    (first : _) (start : MindState) → Runs does spec first start count memory mind turn → Runs does spec first start later_count later_memory later_mind later_turn

@@ -1,10 +1,10 @@
 //! The lines of a turn: the operation of each done by a memory, and taken in.
-ghost use Rattle.std.specs.Prelude.{◌≡◌, ◌≢◌, ◌⊎◌, ◌+◌, ◌*◌, ◌<◌, ◌≤◌};
+ghost use Rattle.std.specs.Prelude.{◌≡◌, ◌≢◌, ◌⊎◌, ◌+◌, ◌*◌, ◌<◌, ◌≤◌, true, false};
 ghost use Rattle.room_spec.specs.Rooms.{processes};
 ghost use Rattle.simulator.specs.declared.turn.Turn.TheVariants.{Still};
 ghost use Rattle.simulator.specs.Moves.{IsOperation, move_at, move_of, taken, taken_at};
 ghost use Rattle.simulator.specs.Ranges.{IsMind, at_line, turn_limit};
-ghost use Rattle.simulator.specs.Runs.{Runs};
+ghost use Rattle.simulator.specs.Runs.{Continues, Runs, Wants};
 ghost use Rattle.simulator.specs.Turns.{counted};
 
 use crate::goal::Goal;
@@ -22,6 +22,33 @@ struct Taken {
     answer: u64,
     turn: Turn,
     line: Line,
+}
+
+/// The atomic steps of a run so far: how many, what has become of the turn, and the line that comes then.
+#[derive(Clone, Copy)]
+struct Run {
+    count: u64,
+    turn: Turn,
+    line: Line,
+}
+
+impl Run {
+    /// Whether it takes another step, of at most this many.
+    #[inline(always)]
+    fn goes_on(self, most: u64) -> bool
+        ensures on { result ≡ true → (self.count < most) × (self.turn ≡ Still) }
+        ensures off { result ≡ false → (most ≤ self.count) ⊎ (self.turn ≢ Still) }
+    {
+        self.count < most && matches!(self.turn, Turn::Still)
+    }
+
+    /// Whether it takes another step, of at most this many, and is at this line, whatever the line carries.
+    #[inline(always)]
+    fn goes_on_at(self, line: Line, most: u64) -> bool
+        ensures { result ≡ true → (self.count < most) × (self.turn ≡ Still) }
+    {
+        self.goes_on(most) && self.line.is_like(line)
+    }
 }
 
 impl Mind {
@@ -50,22 +77,108 @@ impl Mind {
         ensures serves { M.serves memory.new context.now spec.now self.new }
         ensures goes_on { result.1 ≡ Still → IsOperation (move_of spec.now self.new) }
     {
-        let mut line = self.current_line(); // The mind's own is behind it until the end.
-        let mut count = 0;
-        while count < most {
-            let taken = self.take_step(spec, line, context, memory);
-            line = taken.line;
-            count += 1;
-            match taken.turn {
-                Turn::Still => {}
-                ended => {
-                    self.stand_at(line);
-                    return (count, ended);
-                }
-            }
+        let mut run = Run {
+            count: 0,
+            turn: Turn::Still,
+            line: self.current_line(), // The mind's own is an earlier one until the end.
+        };
+        while run.goes_on(most) {
+            run = self.step(spec, run, context, memory);
+            run = self.in_a_row(spec, most, run, context, memory);
         }
-        self.stand_at(line);
-        (most, Turn::Still)
+        self.stand_at(run.line);
+        (run.count, run.turn)
+    }
+
+    /// Takes the steps of the lines that follow each other in most turns. Each is named here, so that the compiler
+    /// goes from one to the next without a look-up of the line in `take_step`; any other line is looked up there.
+    #[inline(always)]
+    fn in_a_row<C, M: Memory<C>>(
+        &mut self,
+        spec: &Spec,
+        most: u64,
+        so_far: Run,
+        context: &C,
+        memory: &mut M,
+    ) -> Run
+        requires wants { Wants M.serves context.now spec.now memory.old (at_line so_far.line self.old) so_far.turn }
+        ensures wants { Wants M.serves context.now spec.now memory.new (at_line result.line self.new) result.turn }
+        ensures continues { Continues M.does spec.now so_far.count memory.old (at_line so_far.line self.old) so_far.turn result.count memory.new (at_line result.line self.new) result.turn }
+        ensures more { so_far.count ≤ result.count }
+        ensures most { so_far.count ≤ most → result.count ≤ most }
+    {
+        let mut run = so_far;
+        run = self.along(spec, most, run, Line::Raise, context, memory);
+        run = self.along(spec, most, run, Line::Snap, context, memory);
+        run = self.along(spec, most, run, Line::Show, context, memory);
+        run = self.along(spec, most, run, Line::Enter, context, memory);
+        run = self.along(spec, most, run, Line::Look, context, memory);
+        run = self.along(
+            spec,
+            most,
+            run,
+            Line::Leave { saw_two: false },
+            context,
+            memory,
+        );
+        run = self.along(spec, most, run, Line::Ask, context, memory);
+        run = self.along(
+            spec,
+            most,
+            run,
+            Line::GetView { chosen: 0 },
+            context,
+            memory,
+        );
+        self.along(spec, most, run, Line::Values, context, memory)
+    }
+
+    /// Takes steps as long as the run is at this line, whatever the line carries.
+    #[inline(always)]
+    fn along<C, M: Memory<C>>(
+        &mut self,
+        spec: &Spec,
+        most: u64,
+        so_far: Run,
+        line: Line,
+        context: &C,
+        memory: &mut M,
+    ) -> Run
+        requires wants { Wants M.serves context.now spec.now memory.old (at_line so_far.line self.old) so_far.turn }
+        ensures wants { Wants M.serves context.now spec.now memory.new (at_line result.line self.new) result.turn }
+        ensures continues { Continues M.does spec.now so_far.count memory.old (at_line so_far.line self.old) so_far.turn result.count memory.new (at_line result.line self.new) result.turn }
+        ensures more { so_far.count ≤ result.count }
+        ensures most { so_far.count ≤ most → result.count ≤ most }
+    {
+        let mut run = so_far;
+        while run.goes_on_at(line, most) {
+            run = self.step(spec, run, context, memory);
+        }
+        run
+    }
+
+    /// Takes one step more.
+    #[inline(always)]
+    fn step<C, M: Memory<C>>(
+        &mut self,
+        spec: &Spec,
+        so_far: Run,
+        context: &C,
+        memory: &mut M,
+    ) -> Run
+        requires wants { Wants M.serves context.now spec.now memory.old (at_line so_far.line self.old) so_far.turn }
+        requires still { so_far.turn ≡ Still }
+        requires room { so_far.count < u64.MAX }
+        ensures wants { Wants M.serves context.now spec.now memory.new (at_line result.line self.new) result.turn }
+        ensures continues { Continues M.does spec.now so_far.count memory.old (at_line so_far.line self.old) so_far.turn result.count memory.new (at_line result.line self.new) result.turn }
+        ensures count { result.count ≡ so_far.count + 1 }
+    {
+        let taken = self.take_step(spec, so_far.line, context, memory);
+        Run {
+            count: so_far.count + 1,
+            turn: taken.turn,
+            line: taken.line,
+        }
     }
 
     /// Takes in what the atomic step answered, and says what has become of the turn. The answer

@@ -1,18 +1,14 @@
 use Rattle.std.proofs.Common.{◌-◌, ◌≤◌}
-use Rattle.simulator.specs.Moves.{IsOperation, move_of}
-use Rattle.simulator.specs.Ranges.{IsMind, at_line}
-use Rattle.simulator.specs.Runs.{Runs}
-use Rattle.simulator.specs.declared.turn.Turn.TheVariants.{Still}
+use Rattle.simulator.specs.Ranges.{at_line}
+use Rattle.simulator.specs.Runs.{Runs, Wants}
 use Rattle.simulator.proofs.mind.Mind.run_with.Given as goal
 
-abbrev pub invariant-loop-count : goal.invariant-loop-count
-invariant-loop-count g l = record {
-  is_mind : IsMind l.spec (at_line l.line l.self);
-  operation : IsOperation (move_of l.spec (at_line l.line l.self));
-  serves : g.M.Memory.serves l.memory l.context l.spec (at_line l.line l.self);
-  most : l.count ≤ l.most;
-  runs : Runs g.M.Memory.does l.spec l.initial.memory l.initial.self l.count l.memory (at_line l.line l.self) Still;
+abbrev pub invariant-loop-self : goal.invariant-loop-self
+invariant-loop-self g l = record {
+  wants : Wants g.M.Memory.serves l.context l.spec l.memory (at_line l.run.line l.self) l.run.turn;
+  most : l.run.count ≤ l.most;
+  runs : Runs g.M.Memory.does l.spec l.initial.memory l.initial.self l.run.count l.memory (at_line l.run.line l.self) l.run.turn;
 }
 
-abbrev pub decreases-loop-count : goal.decreases-loop-count
-decreases-loop-count g l = l.most - l.count
+abbrev pub decreases-loop-self : goal.decreases-loop-self
+decreases-loop-self g l = l.most - l.run.count
