@@ -1,8 +1,8 @@
 //! What a simulator has in mind.
-ghost use Rattle.std.specs.Prelude.{◌≡◌, ◌<◌, nat_lt};
+ghost use Rattle.std.specs.Prelude.{◌≡◌, ◌<◌, length, nat_lt};
 ghost use Rattle.room_spec.specs.Sizes.{sizes_in};
 ghost use Rattle.view_table.specs.Places.{words_of};
-ghost use Rattle.simulator.specs.Minds.{goal_at, opening_mind, unfinished_in};
+ghost use Rattle.simulator.specs.Minds.{goal_at, next_process, opening_mind, unfinished_in};
 ghost use Rattle.simulator.specs.Moves.{IsWithin, move_of};
 ghost use Rattle.simulator.specs.Ranges.{IsMind};
 ghost use Rattle.simulator.specs.Sweeps.{is_resting, works_on};
@@ -159,10 +159,19 @@ impl Mind {
         ensures { result ≡ works_on self.now }
     {
         if self.resting() {
-            next_process(self.goals.as_slice(), self.process())
+            self.next_process()
         } else {
             Some(self.process())
         }
+    }
+
+    /// The process of the turn that would begin.
+    #[inline(always)]
+    pub(crate) fn next_process(&self) -> Option<usize>
+        requires { self.now.process < length self.now.goals }
+        ensures { result ≡ next_process self.now.goals self.now.process }
+    {
+        next_process(self.goals.as_slice(), self.process())
     }
 
     /// Which simulator it is.

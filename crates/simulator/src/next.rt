@@ -187,7 +187,8 @@ impl Mind {
     }
 }
 
-fn first_move_at(spec: &Spec, simulator: usize, process: usize, goal: Goal) -> Move
+#[inline(always)]
+pub(crate) fn first_move_at(spec: &Spec, simulator: usize, process: usize, goal: Goal) -> Move
     requires simulator { simulator < spec.now.simulators }
     requires process { process < processes spec.now }
     requires round { IsGoal spec.now.rounds goal }

@@ -1,16 +1,19 @@
 //! The lines of a turn: the operation of each done by a memory, and taken in.
-ghost use Rattle.std.specs.Prelude.{◌≡◌, ◌≢◌, ◌⊎◌, ◌+◌, ◌*◌, ◌<◌, ◌≤◌, true, false};
+ghost use Rattle.std.specs.Prelude.{Some, ◌≡◌, ◌≢◌, ◌⊎◌, ◌+◌, ◌*◌, ◌<◌, ◌≤◌, true, false};
 ghost use Rattle.room_spec.specs.Rooms.{processes};
+ghost use Rattle.simulator.specs.declared.line.Line.TheVariants.{Rest};
 ghost use Rattle.simulator.specs.declared.turn.Turn.TheVariants.{Still};
+ghost use Rattle.simulator.specs.Minds.{goal_at, next_process};
 ghost use Rattle.simulator.specs.Moves.{IsOperation, move_at, move_of, taken, taken_at};
 ghost use Rattle.simulator.specs.Ranges.{IsMind, at_line, turn_limit};
 ghost use Rattle.simulator.specs.Runs.{Continues, Runs, Wants};
-ghost use Rattle.simulator.specs.Turns.{counted};
+ghost use Rattle.simulator.specs.Turns.{begun, counted};
 
 use crate::goal::Goal;
 use crate::line::Line;
 use crate::memory::{Memory, Told};
 use crate::mind::Mind;
+use crate::next::first_move_at;
 use crate::turn::Turn;
 use crate::words::chosen_in;
 use room_spec::Spec;
@@ -235,11 +238,7 @@ impl Mind {
         ensures turn { result.turn ≡ (taken_at line spec.now (counted self.old) result.answer).turn }
     {
         match line {
-            Line::Rest => {
-                let answer = self.asked_of(spec, line, context, memory);
-                let turn = self.open(spec, answer);
-                self.stands(answer, turn)
-            }
+            Line::Rest => self.begin(spec, context, memory),
             Line::Raise => {
                 let answer = self.asked_of(spec, line, context, memory);
                 goes_on(answer, Line::Snap)
@@ -288,6 +287,59 @@ impl Mind {
                 self.stands(answer, turn)
             }
         }
+    }
+
+    /// Begins the next turn, with its first step: one search finds the process for both.
+    #[inline(always)]
+    fn begin<C, M: Memory<C>>(&mut self, spec: &Spec, context: &C, memory: &mut M) -> Taken
+        requires is_mind { IsMind spec.now (at_line Rest self.old) }
+        requires operation { IsOperation (move_at Rest spec.now self.old) }
+        requires serves { M.serves memory.old context.now spec.now (at_line Rest self.old) }
+        ensures does { M.does memory.old (move_at Rest spec.now self.old) result.answer memory.new }
+        ensures mind { at_line result.line self.new ≡ (taken_at Rest spec.now (counted self.old) result.answer).mind }
+        ensures turn { result.turn ≡ (taken_at Rest spec.now (counted self.old) result.answer).turn }
+    {
+        let Some(process) = self.next_process() else {
+            return goes_on(0, Line::Rest);
+        };
+        match self.goal(process) {
+            Goal::Write { round, value } => {
+                let goal = Goal::Write { round, value };
+                let answer = self.first_of(spec, process, goal, context, memory);
+                goes_on(answer, Line::Raise)
+            }
+            Goal::Ask { round } => {
+                let goal = Goal::Ask { round };
+                let answer = self.first_of(spec, process, goal, context, memory);
+                let turn = self.ask(chosen_in(spec, answer));
+                self.stands(answer, turn)
+            }
+            Goal::Done | Goal::Spent => goes_on(0, Line::Rest),
+        }
+    }
+
+    /// Takes the first step of a turn on this process, for which this is left to do.
+    #[inline(always)]
+    fn first_of<C, M: Memory<C>>(
+        &mut self,
+        spec: &Spec,
+        process: usize,
+        goal: Goal,
+        context: &C,
+        memory: &mut M,
+    ) -> u64
+        requires is_mind { IsMind spec.now (at_line Rest self.old) }
+        requires operation { IsOperation (move_at Rest spec.now self.old) }
+        requires serves { M.serves memory.old context.now spec.now (at_line Rest self.old) }
+        requires process { next_process self.old.goals self.old.process ≡ Some process }
+        requires goal { goal_at self.old.goals process ≡ goal }
+        ensures does { M.does memory.old (move_at Rest spec.now self.old) result memory.new }
+        ensures mind { self.new ≡ begun process (counted self.old) }
+    {
+        let first = first_move_at(spec, self.number(), process, goal);
+        self.count_step();
+        self.begin_on(process);
+        memory.operate(context, first)
     }
 
     /// Lets the memory do the operation of this line, counts it, and answers it.

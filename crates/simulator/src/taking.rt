@@ -4,11 +4,10 @@ ghost use Rattle.protocol_lang.specs.Numbers.{greatest};
 ghost use Rattle.protocol_lang.specs.declared.meaning.TheConstants.{MAX_PROCESSES};
 ghost use Rattle.room_spec.specs.Rooms.{processes};
 ghost use Rattle.room_spec.specs.declared.spec.TheConstants.{MAX_MEMORY_WORDS};
-ghost use Rattle.simulator.specs.Minds.{goal_at, next_process};
-ghost use Rattle.simulator.specs.Moves.{chosen_in, entry_in, is_again, loaded};
-ghost use Rattle.simulator.specs.Turns.{acted, after_write, asked, collected, counted, ended, gathered, gathered_all, goes_on, got_value, got_view, most_collects, opened, padded, scanned, showed, snapped, words_in};
+ghost use Rattle.simulator.specs.Moves.{entry_in, is_again, loaded};
+ghost use Rattle.simulator.specs.Turns.{acted, after_write, asked, begun, collected, counted, ended, gathered, gathered_all, goes_on, got_value, got_view, most_collects, padded, scanned, showed, snapped, words_in};
 
-use crate::goal::{Goal, next_process};
+use crate::goal::Goal;
 use crate::line::Line;
 use crate::mind::Mind;
 use crate::snapshot::Snapshot;
@@ -27,23 +26,14 @@ impl Mind {
         self.turn_steps += 1;
     }
 
-    /// Begins the next turn, with its first step.
-    pub(crate) fn open(&mut self, spec: &Spec, answer: u64) -> Turn
-        requires process { self.old.process < length self.old.goals }
+    /// A turn begins, on this process.
+    pub(crate) fn begin_on(&mut self, process: usize)
+        requires process { process < MAX_PROCESSES }
         requires turns { self.old.turns < u16.MAX }
-        ensures mind { self.new ≡ (opened (next_process self.old.goals self.old.process) (chosen_in spec.now answer) self.old).mind }
-        ensures turn { result ≡ (opened (next_process self.old.goals self.old.process) (chosen_in spec.now answer) self.old).turn }
+        ensures { self.new ≡ begun process self.old }
     {
-        let Some(process) = next_process(self.goals.as_slice(), self.process()) else {
-            return self.go_on(Line::Rest);
-        };
         self.process = process as u8;
         self.turns += 1;
-        match self.goals[process] {
-            Goal::Write { .. } => self.go_on(Line::Raise),
-            Goal::Ask { .. } => self.ask(chosen_in(spec, answer)),
-            Goal::Done | Goal::Spent => self.go_on(Line::Rest),
-        }
     }
 
     pub(crate) fn go_on(&mut self, line: Line) -> Turn
