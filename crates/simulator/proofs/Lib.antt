@@ -13,3 +13,4 @@ mod Worked
 mod WorkedTurns
 mod Limits
 mod Onward
+mod Longer

@@ -1,8 +1,9 @@
 -- What was noted of memory words.
 use Rattle.std.specs.Prelude.{◌≡◌, ℕ, ◌<◌, ◌≤◌, List, slice_index}
-use Rattle.room_spec.specs.Rooms.{bits_of}
+use Rattle.room_spec.specs.Rooms.{RoomSpec, bits_of, processes}
 use Rattle.room_spec.specs.Sizes.{Sizes}
 use Rattle.sim_memory.specs.Steps.{holder_of, merged_of, step_in}
+use Rattle.simulator.specs.Moves.{entry_in, holder_in}
 
 -- the sizes of a room of which these numbers were noted
 abbrev pub noted_sizes : ℕ → ℕ → ℕ → Sizes
@@ -12,3 +13,8 @@ noted_sizes n m rounds = record { n = n; m = m; bits = bits_of rounds; rounds = 
 abbrev pub IsNote : ℕ → ℕ → ℕ → List ℕ → List ℕ → List ℕ → Type 0
 IsNote n m rounds words holders last =
     (p : ℕ) → p < n → (slice_index holders p ≡ holder_of m (step_in (noted_sizes n m rounds) words) p) × (slice_index last p ≡ merged_of m (step_in (noted_sizes n m rounds) words) p) × (slice_index holders p < m) × (slice_index last p ≤ rounds)
+
+-- of each process of the room the last write that the words show
+abbrev pub AreLastWrites : RoomSpec → List ℕ → List ℕ → List ℕ → Type 0
+AreLastWrites spec words holders rounds =
+    (p : ℕ) → p < processes spec → (slice_index holders p ≡ holder_in spec words p) × (slice_index rounds p ≡ entry_in spec words p) × (slice_index holders p < spec.simulators) × (slice_index rounds p ≤ spec.rounds)

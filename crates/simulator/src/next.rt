@@ -1,12 +1,14 @@
 //! The lines of a turn: the operation of each.
 ghost use Rattle.std.specs.Prelude.{◌≡◌, ◌+◌, ◌<◌, ◌≤◌, true, length, slice_index};
 ghost use Rattle.room_spec.specs.Rooms.{processes};
+ghost use Rattle.room_spec.specs.Shapes.{sizes_of};
 ghost use Rattle.room_spec.specs.Sizes.{sizes_in};
 ghost use Rattle.view_table.specs.Places.{words_of};
 ghost use Rattle.view_table.specs.declared.place.Place.TheVariants as places;
 ghost use Rattle.simulator.specs.declared.operation.Move.TheVariants as moves;
 ghost use Rattle.simulator.specs.Minds.{current_goal, current_round, is_unfinished, next_process};
 ghost use Rattle.simulator.specs.Moves.{first_move, first_move_at, index_in, leave_by, level_unit, levels_index, memory_index, move_at, entry_in, step_index, step_unit, value_index, view_index};
+ghost use Rattle.simulator.specs.Notes.{AreLastWrites};
 ghost use Rattle.simulator.specs.Ranges.{IsGoal, IsMind, IsMindSomewhere, at_line};
 ghost use Rattle.simulator.specs.Turns.{words_in};
 
@@ -16,9 +18,9 @@ use crate::mind::Mind;
 use crate::operation::Move;
 use crate::words::index_in;
 use level_cells::one_at;
-use room_spec::Spec;
-use sim_memory::place;
-use view_table::Place;
+use room_spec::{Shape, Spec};
+use sim_memory::{LastWrites, place};
+use view_table::{Place, index};
 
 impl Mind {
     /// The atomic step at this line.
@@ -135,6 +137,25 @@ impl Mind {
             round,
         };
         Move::Load(index_in(spec, value))
+    }
+
+    /// The same by the room's numbers and the last writes that the snapshot shows, which are the same for all values.
+    #[inline(always)]
+    pub(crate) fn value_move_by(&self, spec: &Spec, shape: &Shape, last: &LastWrites) -> Move
+        requires is_mind { IsMindSomewhere spec.now self.now }
+        requires left { length self.now.entries < processes spec.now }
+        requires shown { 1 ≤ entry_in spec.now self.now.snapshot (length self.now.entries) }
+        requires shape { sizes_of shape.now ≡ sizes_in spec.now }
+        requires last { AreLastWrites spec.now self.now.snapshot last.now.holders last.now.rounds }
+        ensures { result ≡ moves.Load (value_index spec.now self.now (length self.now.entries)) }
+    {
+        let process = self.entries.len();
+        let value = Place::Value {
+            simulator: usize::from(last.holders[process]),
+            process,
+            round: usize::from(last.rounds[process]),
+        };
+        Move::Load(index(shape, value))
     }
 
     fn out_move(&self, spec: &Spec, decision: u32) -> Move

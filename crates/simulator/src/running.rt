@@ -1,10 +1,13 @@
 //! The lines of a turn: the operation of each done by a memory, and taken in.
 ghost use Rattle.std.specs.Prelude.{Some, ◌≡◌, ◌≢◌, ◌⊎◌, ◌+◌, ◌*◌, ◌<◌, ◌≤◌, true, false};
 ghost use Rattle.room_spec.specs.Rooms.{processes};
-ghost use Rattle.simulator.specs.declared.line.Line.TheVariants.{Rest};
+ghost use Rattle.room_spec.specs.Shapes.{sizes_of};
+ghost use Rattle.room_spec.specs.Sizes.{sizes_in};
+ghost use Rattle.simulator.specs.declared.line.Line.TheVariants.{Rest, Values};
 ghost use Rattle.simulator.specs.declared.turn.Turn.TheVariants.{Still};
 ghost use Rattle.simulator.specs.Minds.{goal_at, next_process};
 ghost use Rattle.simulator.specs.Moves.{IsOperation, move_at, move_of, taken, taken_at};
+ghost use Rattle.simulator.specs.Notes.{AreLastWrites};
 ghost use Rattle.simulator.specs.Ranges.{IsMind, at_line, turn_limit};
 ghost use Rattle.simulator.specs.Runs.{Continues, Runs, Wants};
 ghost use Rattle.simulator.specs.Turns.{begun, counted};
@@ -16,8 +19,9 @@ use crate::mind::Mind;
 use crate::next::first_move_at;
 use crate::turn::Turn;
 use crate::words::chosen_in;
-use room_spec::Spec;
+use room_spec::{Shape, Spec};
 use safe_agreement::has_level;
+use sim_memory::LastWrites;
 
 /// What an atomic step was answered, what has become of the turn, and the line that comes then.
 #[derive(Clone, Copy)]
@@ -51,6 +55,14 @@ impl Run {
         ensures { result ≡ true → (self.count < most) × (self.turn ≡ Still) }
     {
         self.goes_on(most) && self.line.is_like(line)
+    }
+
+    /// Whether it takes another step, of at most this many, and is at the line of values.
+    #[inline(always)]
+    fn is_at_value(self, most: u64) -> bool
+        ensures { result ≡ true → (self.count < most) × (self.turn ≡ Still) × (self.line ≡ Values) }
+    {
+        self.goes_on(most) && matches!(self.line, Line::Values)
     }
 }
 
@@ -133,7 +145,7 @@ impl Mind {
             context,
             memory,
         );
-        self.along(spec, most, run, Line::Values, context, memory)
+        self.along_values(spec, most, run, context, memory)
     }
 
     /// Takes steps as long as the run is at this line, whatever the line carries.
@@ -158,6 +170,65 @@ impl Mind {
             run = self.step(spec, run, context, memory);
         }
         run
+    }
+
+    /// Takes steps as long as the run is at the line of values. What they all ask of the room and of the snapshot is
+    /// looked up once.
+    #[inline(always)]
+    fn along_values<C, M: Memory<C>>(
+        &mut self,
+        spec: &Spec,
+        most: u64,
+        so_far: Run,
+        context: &C,
+        memory: &mut M,
+    ) -> Run
+        requires wants { Wants M.serves context.now spec.now memory.old (at_line so_far.line self.old) so_far.turn }
+        ensures wants { Wants M.serves context.now spec.now memory.new (at_line result.line self.new) result.turn }
+        ensures continues { Continues M.does spec.now so_far.count memory.old (at_line so_far.line self.old) so_far.turn result.count memory.new (at_line result.line self.new) result.turn }
+        ensures more { so_far.count ≤ result.count }
+        ensures most { so_far.count ≤ most → result.count ≤ most }
+    {
+        if !so_far.is_at_value(most) {
+            return so_far;
+        }
+        let shape = spec.shape();
+        let last = self.snapshot.last_writes(spec);
+        let mut run = so_far;
+        while run.is_at_value(most) {
+            run = self.step_value(spec, &shape, &last, run, context, memory);
+        }
+        run
+    }
+
+    /// Takes one step more, at the line of values.
+    #[inline(always)]
+    fn step_value<C, M: Memory<C>>(
+        &mut self,
+        spec: &Spec,
+        shape: &Shape,
+        last: &LastWrites,
+        so_far: Run,
+        context: &C,
+        memory: &mut M,
+    ) -> Run
+        requires wants { Wants M.serves context.now spec.now memory.old (at_line so_far.line self.old) so_far.turn }
+        requires still { so_far.turn ≡ Still }
+        requires line { so_far.line ≡ Values }
+        requires room { so_far.count < u64.MAX }
+        requires shape { sizes_of shape.now ≡ sizes_in spec.now }
+        requires last { AreLastWrites spec.now self.old.snapshot last.now.holders last.now.rounds }
+        ensures wants { Wants M.serves context.now spec.now memory.new (at_line result.line self.new) result.turn }
+        ensures continues { Continues M.does spec.now so_far.count memory.old (at_line so_far.line self.old) so_far.turn result.count memory.new (at_line result.line self.new) result.turn }
+        ensures count { result.count ≡ so_far.count + 1 }
+        ensures snapshot { self.new.snapshot ≡ self.old.snapshot }
+    {
+        let taken = self.take_value(spec, shape, last, context, memory);
+        Run {
+            count: so_far.count + 1,
+            turn: taken.turn,
+            line: taken.line,
+        }
     }
 
     /// Takes one step more.
@@ -278,7 +349,8 @@ impl Mind {
             }
             Line::Values => {
                 let answer = self.asked_of(spec, line, context, memory);
-                let turn = self.get_value(spec, answer);
+                let last = self.snapshot.last_writes(spec);
+                let turn = self.get_value(spec, &last, answer);
                 self.stands(answer, turn)
             }
             Line::Out { .. } => {
@@ -287,6 +359,32 @@ impl Mind {
                 self.stands(answer, turn)
             }
         }
+    }
+
+    /// Takes the atomic step of the line of values.
+    #[inline(always)]
+    fn take_value<C, M: Memory<C>>(
+        &mut self,
+        spec: &Spec,
+        shape: &Shape,
+        last: &LastWrites,
+        context: &C,
+        memory: &mut M,
+    ) -> Taken
+        requires is_mind { IsMind spec.now (at_line Values self.old) }
+        requires serves { M.serves memory.old context.now spec.now (at_line Values self.old) }
+        requires shape { sizes_of shape.now ≡ sizes_in spec.now }
+        requires last { AreLastWrites spec.now self.old.snapshot last.now.holders last.now.rounds }
+        ensures does { M.does memory.old (move_at Values spec.now self.old) result.answer memory.new }
+        ensures mind { at_line result.line self.new ≡ (taken_at Values spec.now (counted self.old) result.answer).mind }
+        ensures turn { result.turn ≡ (taken_at Values spec.now (counted self.old) result.answer).turn }
+        ensures snapshot { self.new.snapshot ≡ self.old.snapshot }
+    {
+        let load = self.value_move_by(spec, shape, last);
+        self.count_step();
+        let answer = memory.operate(context, load);
+        let turn = self.get_value(spec, last, answer);
+        self.stands(answer, turn)
     }
 
     /// Begins the next turn, with its first step: one search finds the process for both.

@@ -1,12 +1,13 @@
 //! The memory words that a simulator has loaded, and what they show.
-ghost use Rattle.std.specs.Prelude.{◌≡◌, ℕ, ◌<◌, ◌≤◌, ◌==◌, slice_index, slice_set, true, false};
+ghost use Rattle.std.specs.Prelude.{◌≡◌, ℕ, ◌<◌, ◌≤◌, slice_index, slice_set, true};
 ghost use Rattle.room_spec.specs.Rooms.{bits_of, processes};
 ghost use Rattle.room_spec.specs.Sizes.{sizes_in};
 ghost use Rattle.simulator.specs.Minds.{no_words};
 ghost use Rattle.simulator.specs.Moves.{entry_in, holder_in};
+ghost use Rattle.simulator.specs.Notes.{AreLastWrites};
 
 use room_spec::{MAX_MEMORY_WORDS, MAX_PROCESSES, Spec};
-use sim_memory::{LastWrites, last_write, note_last, shows_none};
+use sim_memory::{LastWrites, last_write, last_writes, note_last};
 use std::marker::Model;
 
 /// As many memory words as any room has; those behind the room's own are 0. Beside them the last
@@ -115,23 +116,24 @@ impl Snapshot {
         last_write(&spec.shape(), &self.words, process)
     }
 
-    /// Whether a write of the process is noted. Where none is, the words may show one all the same.
-    pub(crate) fn notes_some(&self, spec: &Spec, process: usize) -> bool
-        requires { process < processes spec.now }
-        ensures { result ≡ true → (entry_in spec.now self.now process == 0) ≡ false }
-    {
-        are_of(self.n, self.m, self.rounds, spec) && self.last.rounds[process] != 0
-    }
-
-    /// Whether the words show no write of the process.
-    pub(crate) fn shows_none(&self, spec: &Spec, process: usize) -> bool
-        requires { process < processes spec.now }
-        ensures { result ≡ (entry_in spec.now self.now process == 0) }
+    /// The last writes of all processes that the words show.
+    #[inline(always)]
+    pub(crate) fn last_writes(&self, spec: &Spec) -> LastWrites
+        ensures { AreLastWrites spec.now self.now result.holders result.rounds }
     {
         if !are_of(self.n, self.m, self.rounds, spec) {
-            return shows_none(&spec.shape(), &self.words, process);
+            return self.last_writes_anew(spec);
         }
-        self.last.rounds[process] == 0
+        self.last
+    }
+
+    /// The same, by the words.
+    #[cold]
+    #[inline(never)]
+    fn last_writes_anew(&self, spec: &Spec) -> LastWrites
+        ensures { AreLastWrites spec.now self.now result.holders result.rounds }
+    {
+        last_writes(&spec.shape(), &self.words)
     }
 }
 

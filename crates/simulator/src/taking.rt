@@ -1,20 +1,21 @@
 //! The lines of a turn: what the answer of each makes of the mind.
-ghost use Rattle.std.specs.Prelude.{◌≡◌, ◌+◌, ◌-◌, ◌<◌, ◌≤◌, [], ◌∷◌, ◌++◌, Some, length, min, nat_lt};
+ghost use Rattle.std.specs.Prelude.{List, ℕ, ◌≡◌, ◌+◌, ◌-◌, ◌<◌, ◌≤◌, [], ◌∷◌, ◌++◌, Some, length, min, nat_lt};
 ghost use Rattle.protocol_lang.specs.Numbers.{greatest};
 ghost use Rattle.protocol_lang.specs.declared.meaning.TheConstants.{MAX_PROCESSES};
 ghost use Rattle.room_spec.specs.Rooms.{processes};
 ghost use Rattle.room_spec.specs.declared.spec.TheConstants.{MAX_MEMORY_WORDS};
 ghost use Rattle.simulator.specs.Moves.{entry_in, is_again, loaded};
+ghost use Rattle.simulator.specs.Notes.{AreLastWrites};
 ghost use Rattle.simulator.specs.Turns.{acted, after_write, asked, begun, collected, counted, ended, gathered, gathered_all, goes_on, got_value, got_view, most_collects, padded, scanned, showed, snapped, words_in};
 
 use crate::goal::Goal;
 use crate::line::Line;
 use crate::mind::Mind;
-use crate::snapshot::Snapshot;
 use crate::turn::Turn;
 use crate::words::chosen_in;
 use protocol_lang::{Action, View, next};
 use room_spec::Spec;
+use sim_memory::LastWrites;
 
 impl Mind {
     pub(crate) fn count_step(&mut self)
@@ -178,47 +179,37 @@ impl Mind {
         self.word = 0;
         self.snapshot.note(spec);
         self.entries.clear();
-        self.gather(spec)
+        let last = self.snapshot.last_writes(spec);
+        self.gather(spec, &last)
     }
 
-    pub(crate) fn get_value(&mut self, spec: &Spec, value: u64) -> Turn
+    /// Takes in the value of the next process, beside the last writes that its snapshot shows.
+    #[inline(always)]
+    pub(crate) fn get_value(&mut self, spec: &Spec, last: &LastWrites, value: u64) -> Turn
         requires process { self.old.process < length self.old.goals }
         requires goals { length self.old.goals ≡ processes spec.now }
         requires entries { length self.old.entries < processes spec.now }
         requires few { processes spec.now ≤ MAX_PROCESSES }
+        requires last { AreLastWrites spec.now self.old.snapshot last.now.holders last.now.rounds }
         ensures mind { self.new ≡ (got_value (entry_in spec.now self.old.snapshot) spec.now value self.old).mind }
         ensures turn { result ≡ (got_value (entry_in spec.now self.old.snapshot) spec.now value self.old).turn }
     {
         let value = value.min(u64::from(u32::MAX)) as u32;
         self.entries.push(Some(value));
-        self.gather(spec)
+        self.gather(spec, last)
     }
 
     /// Goes on to the next value that the snapshot shows, or after the last to what the process does.
-    fn gather(&mut self, spec: &Spec) -> Turn
+    #[inline(always)]
+    fn gather(&mut self, spec: &Spec, last: &LastWrites) -> Turn
         requires process { self.old.process < length self.old.goals }
         requires goals { length self.old.goals ≡ processes spec.now }
         requires entries { length self.old.entries ≤ processes spec.now }
+        requires last { AreLastWrites spec.now self.old.snapshot last.now.holders last.now.rounds }
         ensures mind { self.new ≡ (gathered (entry_in spec.now self.old.snapshot) spec.now self.old.entries self.old).mind }
         ensures turn { result ≡ (gathered (entry_in spec.now self.old.snapshot) spec.now self.old.entries self.old).turn }
     {
-        let process = self.entries.len();
-        if process < spec.n() && self.snapshot.notes_some(spec, process) {
-            return self.go_on(Line::Values);
-        }
-        self.gather_padded(spec)
-    }
-
-    /// The same, where the snapshot may show nothing of the next processes.
-    #[inline(never)]
-    fn gather_padded(&mut self, spec: &Spec) -> Turn
-        requires process { self.old.process < length self.old.goals }
-        requires goals { length self.old.goals ≡ processes spec.now }
-        requires entries { length self.old.entries ≤ processes spec.now }
-        ensures mind { self.new ≡ (gathered (entry_in spec.now self.old.snapshot) spec.now self.old.entries self.old).mind }
-        ensures turn { result ≡ (gathered (entry_in spec.now self.old.snapshot) spec.now self.old.entries self.old).turn }
-    {
-        pad(&mut self.entries, &self.snapshot, spec);
+        pad(&mut self.entries, last, spec);
         if self.entries.len() < spec.n() {
             return self.go_on(Line::Values);
         }
@@ -274,12 +265,14 @@ fn after_write(spec: &Spec, round: u8, value: u32) -> Goal
     }
 }
 
-/// Adds nothing for each next process of which the memory words show no write.
-fn pad(entries: &mut View, snapshot: &Snapshot, spec: &Spec)
-    requires { length entries.old.items ≤ processes spec.now }
-    ensures { entries.new.items ≡ padded (entry_in spec.now snapshot.now) (processes spec.now) entries.old.items }
+/// Adds nothing for each next process of which no write is shown.
+#[inline(always)]
+fn pad(entries: &mut View, last: &LastWrites, spec: &Spec)
+    requires few { length entries.old.items ≤ processes spec.now }
+    ensures { (words : List ℕ) → AreLastWrites spec.now words last.now.holders last.now.rounds →
+        entries.new.items ≡ padded (entry_in spec.now words) (processes spec.now) entries.old.items }
 {
-    while entries.len() < spec.n() && snapshot.shows_none(spec, entries.len()) {
+    while entries.len() < spec.n() && last.rounds[entries.len()] == 0 {
         entries.push(None);
     }
 }

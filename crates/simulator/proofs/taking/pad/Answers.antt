@@ -1,6 +1,5 @@
-use Rattle.std.proofs.Common.{◌≡◌, ◌∙◌, ℕ, ◌-◌, eqb, length, subst, ap, sym, arith}
-use Rattle.std.proofs.Math.Dec.{T}
-use Rattle.std.proofs.Math.Facts.{eqb_yes}
+use Rattle.std.proofs.Common.{◌≡◌, ◌∙◌, ℕ, ◌-◌, ◌<◌, false, eqb, get_or, length, ap, sym, arith}
+use Rattle.std.proofs.lemmas.Bool.{ne_eqb}
 use Rattle.room_spec.specs.Rooms.{processes}
 use Rattle.simulator.specs.Moves.{entry_in}
 use Rattle.simulator.proofs.Gathering.{padded_ends, padded_on}
@@ -8,13 +7,22 @@ use Rattle.simulator.proofs.taking.pad.Goals as goal
 
 pub loop-entries-preserved : goal.loop-entries-preserved
 loop-entries-preserved c =
-    let row : ℕ → ℕ = entry_in c.args.spec.now c.args.snapshot.now in
-    let none : row c.len-in-loop-entries.result ≡ 0 = eqb_yes (subst T (sym (sym c.shows_none.ensures ∙ c.if-shows_none.true)) tt) in
-    let one = padded_on row (processes c.args.spec.now) c.loop-entries.entries.items c.push.new.self.items (omega arith) (ap row (sym c.len-in-loop-entries.ensures.value) ∙ none) c.push.ensures.items in
-    (one.0, one.1 ∙ c.loop-entries.invariant.1)
+    let n = processes c.args.spec.now in
+    let entries = c.loop-entries.entries.items in
+    let less : length entries < n = omega arith in (
+      omega arith,
+      λ words are.
+          let row : ℕ → ℕ = entry_in c.args.spec.now words in
+          let none : row (length entries) ≡ 0 = sym (are (length entries) less).1 ∙ ap (λ p. get_or c.args.last.now.rounds p 0) (sym c.len-in-loop-entries.ensures.value) ∙ c.if-last-len-eq0.true in
+          (padded_on row n entries c.push.new.self.items less none c.push.ensures.items).1 ∙ c.loop-entries.invariant.1 words are,
+    )
 
-pub returns-else-shows_none : goal.returns-else-shows_none
-returns-else-shows_none c =
-    let row : ℕ → ℕ = entry_in c.args.spec.now c.args.snapshot.now in
-    let shown = ap (λ p. eqb (row p) 0) (sym c.len-in-loop-entries.ensures.value) ∙ sym c.shows_none.ensures ∙ c.if-shows_none.false in
-    padded_ends row (processes c.args.spec.now - length c.loop-entries.entries.items) c.loop-entries.entries.items (omega arith) shown ∙ c.loop-entries.invariant.1
+pub returns-else-last-len-eq0 : goal.returns-else-last-len-eq0
+returns-else-last-len-eq0 c words are =
+    let n = processes c.args.spec.now in
+    let entries = c.loop-entries.entries.items in
+    let row : ℕ → ℕ = entry_in c.args.spec.now words in
+    let less : length entries < n = omega arith in
+    let at : row (length entries) ≡ get_or c.args.last.now.rounds c.len-in-loop-entries.result 0 = sym (are (length entries) less).1 ∙ ap (λ p. get_or c.args.last.now.rounds p 0) (sym c.len-in-loop-entries.ensures.value) in
+    let shown : eqb (row (length entries)) 0 ≡ false = ne_eqb _ _ (λ none. absurd (omega (arith, none, at, c.if-last-len-eq0.false))) in
+    padded_ends row (n - length entries) entries (omega arith) shown ∙ c.loop-entries.invariant.1 words are

@@ -1,41 +1,19 @@
-use Rattle.std.proofs.Common.{◌≡◌, ◌∙◌, List, ℕ, sym, ap, subst}
+use Rattle.std.proofs.Common.{◌+◌, subst, sym}
 use Rattle.simulator.specs.declared.turn.Turn.{Turn}
-use Rattle.simulator.specs.Minds.{MindState}
-use Rattle.simulator.specs.Moves.{IsOperation, move_of, taken}
-use Rattle.simulator.specs.Ranges.{IsMind, at_line}
-use Rattle.simulator.specs.Runs.{Runs}
-use Rattle.simulator.specs.Turns.{TakenOf}
-use Rattle.simulator.proofs.Keeping.{kept}
-use Rattle.simulator.proofs.Onward.{move_aside, moves_on, runs_more, taken_aside}
+use Rattle.simulator.specs.Ranges.{at_line}
+use Rattle.simulator.specs.Runs.{Continues, Wants}
+use Rattle.simulator.proofs.Longer.{continues_on, wants_on}
 use Rattle.simulator.proofs.mind.Mind.step.Goals as goal
 
 pub returns-clause-wants : goal.returns-clause-wants
 returns-clause-wants g c =
-    let spec = c.args.spec.now in
     let line = c.args.so_far.line in
-    let mind : MindState = at_line line c.args.self.now in
-    let answer = c.take_step-taken.result.answer in
-    let wants = c.requires.wants in
-    let aside = taken_aside line line spec c.args.self.now answer in
-    let operation = wants.operation c.requires.still in
-    let is : at_line c.take_step-taken.result.line c.take_step-taken.new.self ≡ (taken spec mind answer).mind = c.take_step-taken.ensures.mind ∙ ap (λ (t : TakenOf (List ℕ)). t.mind) (sym aside) in
-    let turn : c.take_step-taken.result.turn ≡ (taken spec mind answer).turn = c.take_step-taken.ensures.turn ∙ ap (λ (t : TakenOf (List ℕ)). t.turn) (sym aside) in
-    let done = subst (λ next. g.M.Memory.does c.args.memory.now next answer c.take_step-taken.new.memory) (sym (move_aside line spec c.args.self.now)) c.take_step-taken.ensures.does in
-    record {
-      is_mind = subst (IsMind spec) (sym is) (kept spec mind answer wants.is_mind operation);
-      operation = λ still. subst (λ (m : MindState). IsOperation (move_of spec m)) (sym is) (moves_on spec mind answer operation (sym turn ∙ still));
-      served = rw is (g.met.M.Memory.goes_on _ _ _ _ _ _ wants.served wants.is_mind operation done);
-    }
+    let wants = subst (λ (t : Turn). Wants g.M.Memory.serves c.args.context.now c.args.spec.now c.args.memory.now (at_line line c.args.self.now) t) c.requires.still c.requires.wants in
+    wants_on g.M.Memory.serves g.M.Memory.does g.met.M.Memory.goes_on c.args.context.now c.args.spec.now c.args.memory.now c.take_step-taken.new.memory c.args.self.now c.take_step-taken.new.self line c.take_step-taken.result.line c.take_step-taken.result.answer c.take_step-taken.result.turn wants c.take_step-taken.ensures.does c.take_step-taken.ensures.mind c.take_step-taken.ensures.turn
 
 pub returns-clause-continues : goal.returns-clause-continues
-returns-clause-continues g c first start runs =
-    let spec = c.args.spec.now in
+returns-clause-continues g c =
     let line = c.args.so_far.line in
-    let mind : MindState = at_line line c.args.self.now in
-    let answer = c.take_step-taken.result.answer in
-    let aside = taken_aside line line spec c.args.self.now answer in
-    let is : at_line c.take_step-taken.result.line c.take_step-taken.new.self ≡ (taken spec mind answer).mind = c.take_step-taken.ensures.mind ∙ ap (λ (t : TakenOf (List ℕ)). t.mind) (sym aside) in
-    let turn : c.take_step-taken.result.turn ≡ (taken spec mind answer).turn = c.take_step-taken.ensures.turn ∙ ap (λ (t : TakenOf (List ℕ)). t.turn) (sym aside) in
-    let done = subst (λ next. g.M.Memory.does c.args.memory.now next answer c.take_step-taken.new.memory) (sym (move_aside line spec c.args.self.now)) c.take_step-taken.ensures.does in
-    let before = subst (λ (t : Turn). Runs g.M.Memory.does spec first start c.args.so_far.count c.args.memory.now mind t) c.requires.still runs in
-    rw (is, turn) (runs_more _ _ _ _ _ _ _ _ _ before done)
+    let wants = subst (λ (t : Turn). Wants g.M.Memory.serves c.args.context.now c.args.spec.now c.args.memory.now (at_line line c.args.self.now) t) c.requires.still c.requires.wants in
+    subst (λ (t : Turn). Continues g.M.Memory.does c.args.spec.now c.args.so_far.count c.args.memory.now (at_line line c.args.self.now) t (c.args.so_far.count + 1) c.take_step-taken.new.memory (at_line c.take_step-taken.result.line c.take_step-taken.new.self) c.take_step-taken.result.turn) (sym c.requires.still)
+    (continues_on g.M.Memory.serves g.M.Memory.does g.met.M.Memory.goes_on c.args.context.now c.args.spec.now c.args.memory.now c.take_step-taken.new.memory c.args.self.now c.take_step-taken.new.self line c.take_step-taken.result.line c.take_step-taken.result.answer c.take_step-taken.result.turn wants c.take_step-taken.ensures.does c.take_step-taken.ensures.mind c.take_step-taken.ensures.turn c.args.so_far.count)

@@ -1,0 +1,16 @@
+use Rattle.std.proofs.Common.{◌≡◌, ◌-◌, ◌≤◌}
+use Rattle.simulator.specs.Ranges.{at_line}
+use Rattle.simulator.specs.Runs.{Continues, Wants}
+use Rattle.simulator.proofs.mind.Mind.along_values.Given as goal
+
+abbrev pub invariant-loop-shape : goal.invariant-loop-shape
+invariant-loop-shape g l = record {
+  wants : Wants g.M.Memory.serves l.context l.spec l.memory (at_line l.run.line l.self) l.run.turn;
+  more : l.fn.so_far.count ≤ l.run.count;
+  most : l.fn.so_far.count ≤ l.most → l.run.count ≤ l.most;
+  continues : Continues g.M.Memory.does l.spec l.fn.so_far.count l.fn.memory (at_line l.fn.so_far.line l.fn.self) l.fn.so_far.turn l.run.count l.memory (at_line l.run.line l.self) l.run.turn;
+  snapshot : l.self.snapshot ≡ l.fn.self.snapshot;
+}
+
+abbrev pub decreases-loop-shape : goal.decreases-loop-shape
+decreases-loop-shape g l = l.most - l.run.count
