@@ -5,12 +5,13 @@ use Rattle.std.proofs.lemmas.List.{length-map}
 use Rattle.std.proofs.lemmas.Option.{slice_get_within}
 use Rattle.room_spec.specs.Rooms.{RoomSpec}
 use Rattle.transcript.specs.declared.event.Event.{Event}
+use Rattle.transcript.specs.declared.event.Event.TheVariants.{Write}
 use Rattle.transcript.specs.Tasks.{IsFirstExcess, KeepsTask}
 use Rattle.transcript.proofs.CallerLemmas.{slice_get-append, slice_get-push}
 use Rattle.history_checker.specs.Tasks.{IsTally, HasDecided, TallyState}
 use Rattle.history_checker.specs.Verdicts.{FedEvent, ExceedsOn, TallyStands, TaskStands, events_of}
 use Rattle.history_checker.proofs.Feeding.{events-push}
-use Rattle.history_checker.proofs.Tallies.{KeepsTask-nil, no_tally, keeps_push, excess_append, excess_push}
+use Rattle.history_checker.proofs.Tallies.{KeepsTask-nil, no_tally, follows_other, keeps_push, excess_append, excess_push}
 
 exceeds_still : (spec : RoomSpec) (most : ℕ) (fed : List FedEvent) (one : FedEvent) (line : ℕ) → ExceedsOn spec most fed line → ExceedsOn spec most (fed ++ one ∷ []) line
 exceeds_still spec most fed one line exceeds = record {
@@ -58,3 +59,13 @@ task_begins spec most = (KeepsTask-nil spec most, no_tally most)
 -- a room that has a task, whose tally is fed
 pub counts_on : (spec : RoomSpec) (most : ℕ) (fed more : List FedEvent) (old new : TallyState) → Some most ≡ spec.task → (TallyStands spec most fed old.decided old.excess → TallyStands spec most more new.decided new.excess) → TaskStands spec fed spec.task (Some old) → TaskStands spec more spec.task (Some new)
 counts_on spec most fed more old new is step stands = subst (λ (task : Option ℕ). TaskStands spec more task (Some new)) is (step (subst (λ (task : Option ℕ). TaskStands spec fed task (Some old)) (sym is) stands))
+
+tally_kept : (spec : RoomSpec) (most : ℕ) (fed : List FedEvent) (one : FedEvent) (p v : ℕ) (decided : List ℕ) (excess : Option ℕ) → one.event ≡ Write p v → TallyStands spec most fed decided excess → TallyStands spec most (fed ++ one ∷ []) decided excess
+tally_kept spec most fed one p v decided None is stands = keeps_on spec most decided decided None fed one (Write p v) refl is (follows_other spec most decided (Write p v) refl) stands
+tally_kept spec most fed one p v decided (Some line) is stands = exceeds_still spec most fed one line stands
+
+-- a write counts for no task
+pub write_uncounted : (spec : RoomSpec) (fed : List FedEvent) (one : FedEvent) (p v : ℕ) (task : Option ℕ) (tally : Option TallyState) → one.event ≡ Write p v → TaskStands spec fed task tally → TaskStands spec (fed ++ one ∷ []) task tally
+write_uncounted spec fed one p v None tally is stands = stands
+write_uncounted spec fed one p v (Some most) None is stands = stands
+write_uncounted spec fed one p v (Some most) (Some tally) is stands = tally_kept spec most fed one p v tally.decided tally.excess is stands

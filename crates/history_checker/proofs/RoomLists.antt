@@ -42,6 +42,12 @@ specs-with_room (entry ∷ entries) (suc i) old new there same = ap (λ ss. entr
 pub IsKeyed-with_room : (entries : Entries) (i : ℕ) (old new : RoomState) → slice_get (rooms_in entries) i ≡ Some old → new.spec ≡ old.spec → IsKeyed entries → IsKeyed (with_room entries i new)
 IsKeyed-with_room entries i old new there same keyed = keys-with_room entries i new ∙ keyed ∙ ap names_of (sym (specs-with_room entries i old new there same))
 
+-- a room that is put where it is changes nothing
+pub same-with_room : (entries : Entries) (i : ℕ) (old new : RoomState) → slice_get (rooms_in entries) i ≡ Some old → new ≡ old → rooms_in (with_room entries i new) ≡ rooms_in entries
+same-with_room [] i old new there same = refl
+same-with_room (entry ∷ entries) zero old new there same = ap (λ room. room ∷ rooms_in entries) (same ∙ sym (some_room entry.1 old there))
+same-with_room (entry ∷ entries) (suc i) old new there same = ap (λ rooms. entry.1 ∷ rooms) (same-with_room entries i old new there same)
+
 -- ---- which rooms there are
 
 found_any : (name : List ℕ) (entries : Entries) → is_some (lookup (bytes_eq name) entries) ≡ list_any (bytes_eq name) (keys_in entries)

@@ -1,19 +1,18 @@
 -- What a line says, by its parts.
 use Rattle.std.proofs.Common.{◌≡◌, ◌≤◌, ◌∙◌, ℕ, Bool, true, false, cond, List, [], ◌∷◌, ◌++◌, Option, Result, Ok, Err, length, map, refl, sym, ap, arith}
-use Rattle.std.specs.Prelude.{codes}
 use Rattle.std.specs.List.{join_with_byte}
 use Rattle.std.proofs.lemmas.List.{append-nil}
-use Rattle.std.proofs.lemmas.Slice.Eq.{bytes_eq-Decides}
 use Rattle.arrayvec.specs.ArrayVec.{ArrayVec}
 use Rattle.room_spec.specs.Names.{is_name}
 use Rattle.transcript.specs.declared.event.Event.{Event}
-use Rattle.transcript.specs.declared.event.Event.TheVariants.{Snap}
+use Rattle.transcript.specs.declared.event.Event.TheVariants.{Snap, Write}
+use Rattle.transcript.specs.declared.word.EventWord.TheVariants as words
+use Rattle.room_spec.specs.Texts.{fields_of}
 use Rattle.transcript.specs.declared.fault.LineFault.{LineFault}
 use Rattle.transcript.specs.declared.fault.LineFault.TheVariants.{BadName}
-use Rattle.transcript.specs.Faults.{is_snap}
 use Rattle.transcript.specs.Grammar.{entry_text}
 use Rattle.protocol_lang.specs.Results.{◌>>=◌}
-use Rattle.transcript.specs.Lines.{of_room, event_said, line_said, LineParts}
+use Rattle.transcript.specs.Lines.{of_room, event_said, line_said, value_in, LineParts}
 use Rattle.transcript.proofs.CallerLemmas.{row_spelled}
 use Rattle.history_checker.specs.Shown.{SaysRow, spaced}
 
@@ -53,8 +52,12 @@ behind_space values [] is = absurd cc
 behind_space values (entry ∷ entries) is = let same : values ≡ entry_text entry ++ spaced entries = cc in same ∙ sym (joined (entry_text entry) entries)
 
 -- a snapshot whose entries, each behind a space, are these
-pub says_snap : (line : LineParts) (row : ArrayVec (Option ℕ)) → is_snap line.word ≡ true → SaysRow (32 ∷ line.values) row.items → length row.items ≤ 16 → event_said line ≡ Ok (Snap line.process row)
+pub says_snap : (line : LineParts) (row : ArrayVec (Option ℕ)) → line.word ≡ words.Snap → SaysRow (32 ∷ line.values) row.items → length row.items ≤ 16 → event_said line ≡ Ok (Snap line.process row)
 says_snap line row snap says few =
-    let word : line.word ≡ codes "snap" = (bytes_eq-Decides line.word (codes "snap")).0 snap in
     let entries = row_spelled line.values row.items (record { some = some_entries line.values row.items says.text_is; few = few; values = says.values }) (behind_space line.values row.items says.text_is) in
-    rw (word, entries) refl
+    rw (snap, entries) refl
+
+-- ---- writes
+
+pub says_write : (line : LineParts) (v : ℕ) → line.word ≡ words.Write → Ok v ≡ value_in (fields_of line.values) → event_said line ≡ Ok (Write line.process v)
+says_write line v write value = rw (write, sym value) refl

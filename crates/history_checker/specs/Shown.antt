@@ -5,9 +5,9 @@ use Rattle.protocol_lang.specs.Limits.{IsEntry}
 use Rattle.protocol_lang.specs.declared.meaning.TheConstants.{MAX_PROCESSES}
 use Rattle.room_spec.specs.Rooms.{RoomSpec}
 use Rattle.transcript.specs.Grammar.{entry_text}
-use Rattle.transcript.specs.Lines.{LineParts, line_said}
+use Rattle.transcript.specs.Lines.{LineParts, event_said, line_said}
 use Rattle.transcript.specs.declared.event.Event.{Event}
-use Rattle.history_checker.specs.Verdicts.{FedEvent, HasProcessed, RoomState, has_room, specs_of}
+use Rattle.history_checker.specs.Verdicts.{FedEvent, HasProcessed, IsAfter, RoomState, StaysSo, has_room, specs_of}
 use Rattle.history_checker.specs.declared.fault.FeedFault.{FeedFault}
 use Rattle.history_checker.specs.declared.fault.FeedFault.TheVariants.{BadLine, NoRoom}
 
@@ -33,6 +33,12 @@ pub record IsShown (entries : List (Option ℕ)) (text widths : List ℕ) : Type
   pub says : SaysRow text entries
   pub widths_are : widths ≡ map width entries
   pub few : length entries ≤ MAX_PROCESSES
+
+-- the line with these parts and this number says an event that the room has then processed
+pub record Feeds (line : LineParts) (number : ℕ) (old new : RoomState) : Type 0 where
+  pub event : Event
+  pub said : event_said line ≡ Ok event
+  pub processed : StaysSo event number (λ fed. IsAfter fed old) (λ fed. IsAfter fed new)
 
 -- the line with these parts and this number says an event of one of the rooms, which they have then processed
 pub record HasFed (line : LineParts) (number : ℕ) (old new : List RoomState) : Type 0 where

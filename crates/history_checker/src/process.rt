@@ -178,7 +178,8 @@ pub fn follow(processes: &mut [Process], spec: &Spec, event: &Event) -> Result<(
     }
 }
 
-fn follow_write(processes: &mut [Process], spec: &Spec, p: usize, v: u32) -> Result<(), Rule>
+#[inline(always)]
+pub fn follow_write(processes: &mut [Process], spec: &Spec, p: usize, v: u32) -> Result<(), Rule>
     ensures { Follows spec.now (Write p v) processes.old result processes.new }
 {
     if p >= processes.len() {

@@ -1,16 +1,21 @@
 //! One room, whose events come one by one.
-ghost use Rattle.std.specs.Prelude.{◌≡◌, List, [], IfOk};
+ghost use Rattle.std.specs.Prelude.{◌≡◌, ◌∷◌, ◌≤◌, List, [], Err, IfErr, IfOk, IfSome, OnErr, OnOk, length};
+ghost use Rattle.protocol_lang.specs.declared.meaning.TheConstants.{MAX_PROCESSES};
+ghost use Rattle.transcript.specs.Lines.{event_said};
+ghost use Rattle.transcript.specs.declared.event.Event.TheVariants.{Write};
+ghost use Rattle.history_checker.specs.Shown.{Feeds, SaysRow};
 ghost use Rattle.history_checker.specs.Verdicts.{FedEvent, HasProcessedOwn, IsAfter, StandsAfter, TaskStands, IsVerdict, IsTaskAnswer, StaysSo};
 
 use crate::history::open;
-use crate::process::{Process, follow};
+use crate::process::{Process, follow, follow_write};
 use crate::row::Row;
 use crate::tally::Tally;
 use crate::verdict::{TaskVerdict, Verdict};
+use protocol_lang::View;
 use room_spec::Spec;
 use std::alloc::{AllocError, Global};
 use std::marker::Model;
-use transcript::Event;
+use transcript::{Event, EventLine, EventWord, LineFault};
 
 /// A room and its events so far.
 #[derive(Drop)]
@@ -19,7 +24,7 @@ pub(crate) struct Room {
     processes: Vec<Process>,
     broken: Option<u64>,
     /// In a room of few processes there is none: its snapshots are read quickly.
-    pub(crate) row: Option<Box<Row>>,
+    row: Option<Box<Row>>,
     /// In a room without a task there is none.
     tally: Option<Box<Tally>>,
 }
@@ -65,6 +70,76 @@ impl Room {
         self.follow(event, line);
     }
 
+    /// Processes the event that a line says, which has this number. A line that says none changes nothing.
+    #[inline(always)]
+    pub(crate) fn feed_line(&mut self, line: &EventLine<'_>, number: u64) -> Result<(), LineFault>
+        ensures spec { self.new.spec ≡ self.old.spec }
+        ensures fed { OnOk result (Feeds line.now number self.old self.new) }
+        ensures fault { IfErr result (λ fault. event_said line.now ≡ Err fault) }
+        ensures err { OnErr result (self.new ≡ self.old) }
+    {
+        match line.word() {
+            EventWord::Write => {
+                let v = line.value()?;
+                self.feed_write(usize::from(line.process()), v, number);
+                Ok(())
+            }
+            EventWord::Snap => self.feed_snap(line, number),
+            EventWord::Decide => self.feed_read(line, number),
+        }
+    }
+
+    /// Processes a write, which stands on this line. It counts for no task.
+    #[inline(always)]
+    fn feed_write(&mut self, p: usize, v: u32, line: u64)
+        ensures spec { self.new.spec ≡ self.old.spec }
+        ensures processed { StaysSo (Write p v) line (λ fed. IsAfter fed self.old) (λ fed. IsAfter fed self.new) }
+    {
+        self.follow_write(p, v, line);
+    }
+
+    /// Processes the snapshot that a line says. Most snapshots of a run are right: one that the room's row shows is not read entry
+    /// by entry.
+    fn feed_snap(&mut self, line: &EventLine<'_>, number: u64) -> Result<(), LineFault>
+        requires { line.now.word ≡ EventWord.Snap }
+        ensures spec { self.new.spec ≡ self.old.spec }
+        ensures fed { OnOk result (Feeds line.now number self.old self.new) }
+        ensures fault { IfErr result (λ fault. event_said line.now ≡ Err fault) }
+        ensures err { OnErr result (self.new ≡ self.old) }
+    {
+        let Some(row) = self.row_said(line.values()) else {
+            return self.feed_read(line, number);
+        };
+        let p = line.process();
+        self.feed(&Event::Snap { p, row }, number);
+        Ok(())
+    }
+
+    /// Processes the event that a line says, with all of it read.
+    #[inline(never)]
+    fn feed_read(&mut self, line: &EventLine<'_>, number: u64) -> Result<(), LineFault>
+        ensures spec { self.new.spec ≡ self.old.spec }
+        ensures fed { OnOk result (Feeds line.now number self.old self.new) }
+        ensures fault { IfErr result (λ fault. event_said line.now ≡ Err fault) }
+        ensures err { OnErr result (self.new ≡ self.old) }
+    {
+        let event = line.event()?;
+        self.feed(&event, number);
+        Ok(())
+    }
+
+    /// What the room's row shows, if it has one that the text says.
+    fn row_said(&self, text: &[u8]) -> Option<View>
+        ensures { IfSome result (λ row. SaysRow (32 ∷ text.now) row.items × (length row.items ≤ MAX_PROCESSES)) }
+    {
+        let row = self.row.as_ref()?;
+        if row.is_said_by(text) {
+            row.entries().ok()
+        } else {
+            None
+        }
+    }
+
     /// Counts what the event decides, if the room has a task. A room that is no run has its task judged all the same.
     fn count(&mut self, event: &Event, line: u64)
         ensures others { self.new ≡ record self.old { tally = self.new.tally } }
@@ -86,26 +161,51 @@ impl Room {
         ensures tally { self.new.tally ≡ self.old.tally }
         ensures processed { StaysSo event.now line (λ fed. StandsAfter self.old fed self.old.broken) (λ fed. StandsAfter self.new fed self.new.broken) }
     {
+        match event {
+            Event::Write { p, v } => self.follow_write(usize::from(*p), *v, line),
+            Event::Snap { .. } | Event::Decide { .. } => self.follow_other(event, line),
+        }
+    }
+
+    /// The same for a write, after which the row shows its value.
+    #[inline(always)]
+    fn follow_write(&mut self, p: usize, v: u32, line: u64)
+        ensures spec { self.new.spec ≡ self.old.spec }
+        ensures tally { self.new.tally ≡ self.old.tally }
+        ensures processed { StaysSo (Write p v) line (λ fed. StandsAfter self.old fed self.old.broken) (λ fed. StandsAfter self.new fed self.new.broken) }
+    {
+        if self.broken.is_some() {
+            return;
+        }
+        let followed = follow_write(&mut self.processes, &self.spec, p, v);
+        if followed.is_err() {
+            self.broken = Some(line);
+            return;
+        }
+        self.show(p, v);
+    }
+
+    /// The same for a snapshot or a decision.
+    fn follow_other(&mut self, event: &Event, line: u64)
+        ensures spec { self.new.spec ≡ self.old.spec }
+        ensures tally { self.new.tally ≡ self.old.tally }
+        ensures processed { StaysSo event.now line (λ fed. StandsAfter self.old fed self.old.broken) (λ fed. StandsAfter self.new fed self.new.broken) }
+    {
         if self.broken.is_some() {
             return;
         }
         let followed = follow(&mut self.processes, &self.spec, event);
         if followed.is_err() {
             self.broken = Some(line);
-            return;
         }
-        self.show(event);
     }
 
-    /// Has the row show what the event writes.
-    fn show(&mut self, event: &Event)
+    /// Has the row show what process `p` has written.
+    fn show(&mut self, p: usize, v: u32)
         ensures { self.new ≡ self.old }
     {
-        let Event::Write { p, v } = event else {
-            return;
-        };
         if let Some(row) = &mut self.row {
-            row.write(usize::from(*p), *v);
+            row.write(p, v);
         }
     }
 

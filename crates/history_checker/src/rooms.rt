@@ -1,19 +1,16 @@
 //! Verdicts on many rooms, whose events come mixed.
-ghost use Rattle.std.specs.Prelude.{◌≡◌, ◌↔◌, ◌≤◌, List, true, false, length, [], ◌∷◌, ◌++◌, IsTrue, IsFalse, IsOk, IfErr, IsErrOf, OnOk, OnErr, None, Some, MatchOption, IfSome, IsSomeAnd, is_some, option_map, slice_get};
+ghost use Rattle.std.specs.Prelude.{◌≡◌, ◌↔◌, List, true, false, length, [], ◌∷◌, ◌++◌, IsTrue, IsFalse, IsOk, IfErr, IsErrOf, OnOk, OnErr, None, Some, MatchOption, IfSome, IsSomeAnd, is_some, option_map, slice_get};
 ghost use Rattle.std.specs.List.{position};
 ghost use Rattle.std.specs.Str.{bytes_eq};
-ghost use Rattle.protocol_lang.specs.declared.meaning.TheConstants.{MAX_PROCESSES};
 ghost use Rattle.room_spec.specs.Names.{is_name};
 ghost use Rattle.room_spec.specs.Rooms.{RoomSpec};
-ghost use Rattle.transcript.specs.Lines.{event_said};
 ghost use Rattle.history_checker.specs.Verdicts.{FedEvent, HasProcessed, IsVerdict, IsTaskAnswer, specs_of, names_of, has_room, fed_to};
-ghost use Rattle.history_checker.specs.Shown.{HasFed, IsUnfed, SaysRow};
+ghost use Rattle.history_checker.specs.Shown.{HasFed, IsUnfed};
 
 use crate::fault::{AddFault, FeedFault, NoRoom};
 use crate::room::Room;
 use crate::verdict::{TaskVerdict, Verdict};
 use indexmap::IndexMap;
-use protocol_lang::View;
 use room_spec::{Name, Spec, Spelled};
 use std::alloc::{AllocError, Global};
 use std::marker::Model;
@@ -112,28 +109,13 @@ impl Rooms {
         let Some(index) = self.index_spelled(name) else {
             return Err(fault_of_stray(line));
         };
-        let event = match self.event_of(index, line) {
-            Ok(event) => event,
-            Err(fault) => return Err(FeedFault::BadLine(fault)),
+        let Some(room) = self.rooms.get_index_mut(index) else {
+            unreachable!() // the name was found at this index
         };
-        self.feed_at(index, name, &event, number);
-        Ok(())
-    }
-
-    /// The event that a line says of the room of this index. Most snapshots of a run are right: one that the room's row shows is not
-    /// read entry by entry.
-    fn event_of(&self, index: usize, line: &EventLine<'_>) -> Result<Event, LineFault>
-        ensures { result ≡ event_said line.now }
-    {
-        if line.is_snap() {
-            if let Some(row) = self.row_said(index, line.values()) {
-                return Ok(Event::Snap {
-                    p: line.process(),
-                    row,
-                });
-            }
+        if let Err(fault) = room.feed_line(line, number) {
+            return Err(FeedFault::BadLine(fault));
         }
-        line.event()
+        Ok(())
     }
 
     /// The index of the room of this name.
@@ -171,19 +153,6 @@ impl Rooms {
             unreachable!() // the name was found at this index
         };
         room.feed(event, line);
-    }
-
-    /// The row of the room of this index, if it has one that the text says.
-    fn row_said(&self, index: usize, text: &[u8]) -> Option<View>
-        ensures { IfSome result (λ row. SaysRow (32 ∷ text.now) row.items × (length row.items ≤ MAX_PROCESSES)) }
-    {
-        let (_, room) = self.rooms.get_index(index)?;
-        let row = room.row.as_ref()?;
-        if row.is_said_by(text) {
-            row.entries().ok()
-        } else {
-            None
-        }
     }
 
     /// How many rooms there are.

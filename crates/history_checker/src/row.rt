@@ -1,5 +1,5 @@
 //! What a snapshot of a room shows now, as values and as the text that says them.
-ghost use Rattle.std.specs.Prelude.{◌≡◌, ◌∷◌, ◌++◌, ◌+◌, ◌≤◌, ◌<◌, IsTrue, IfOk, OnOk, length, map, sum, take, drop, decimal, [], Some, slice_set};
+ghost use Rattle.std.specs.Prelude.{◌≡◌, ◌∷◌, ◌++◌, ◌+◌, ◌≤◌, ◌<◌, IsTrue, IfOk, OnErr, OnOk, length, map, sum, take, drop, decimal, [], Some, slice_set};
 ghost use Rattle.history_checker.specs.Shown.{IsShown, SaysRow, before};
 
 use arrayvec::ArrayVec;
@@ -108,12 +108,41 @@ impl Row {
         let end = start + usize::from(self.widths[p]);
         let mut buffer = Buffer::new();
         let digits = buffer.format(value).as_bytes();
-        splice(&mut self.next, self.text.as_slice(), start, end, digits)?;
-        swap(&mut self.text, &mut self.next);
+        put_digits(&mut self.text, &mut self.next, start, end, digits)?;
         self.widths[p] = digits.len() as u8 + 1;
         self.last[p] = Some(value);
         Ok(())
     }
+}
+
+/// Puts a space and digits in place of some bytes of a text. Digits that fill their place go there, others by way of `next`.
+fn put_digits(
+    text: &mut Vec<u8>,
+    next: &mut Vec<u8>,
+    start: usize,
+    end: usize,
+    digits: &[u8],
+) -> Result<(), AllocError>
+    requires { (start ≤ end) × (end ≤ length text.old.items) }
+    ensures put { OnOk result (text.new.items ≡ take start text.old.items ++ 32 ∷ (digits.now ++ drop end text.old.items)) }
+    ensures err { OnErr result (text.new.items ≡ text.old.items) }
+{
+    if end - start == digits.len() + 1 {
+        overwrite(text, start, digits);
+        return Ok(());
+    }
+    splice(next, text.as_slice(), start, end, digits)?;
+    swap(text, next);
+    Ok(())
+}
+
+/// Puts a space and digits in place of as many bytes of a text.
+fn overwrite(text: &mut [u8], start: usize, digits: &[u8])
+    requires { start + length digits.now < length text.old }
+    ensures { text.new ≡ take start text.old ++ 32 ∷ (digits.now ++ drop (start + length digits.now + 1) text.old) }
+{
+    text[start] = b' ';
+    text[start + 1..start + 1 + digits.len()].copy_from_slice(digits);
 }
 
 /// Puts a text together that has a space and other digits in place of some bytes.

@@ -120,7 +120,7 @@ fn find_end(text: &[u8]) -> Option<BlockEnd>
 fn is_end(line: &[u8]) -> bool
     ensures { result ≡ is_end line.now }
 {
-    line == b"end".as_slice()
+    matches!(line, [b'e', b'n', b'd'])
 }
 
 /// Reads the room block at the front of `text`, and gives its length too. The fault is that of the

@@ -73,12 +73,13 @@ fn read_version(text: &[u8]) -> Result<(Version, &[u8]), SpecFault>
 fn version_of(line: &[u8]) -> Result<Version, SpecFault>
     ensures { result ≡ version_of line.now }
 {
-    if line == b"bgsim 1".as_slice() {
-        Ok(Version::One)
-    } else if line == b"bgsim 2".as_slice() {
-        Ok(Version::Two)
-    } else {
-        Err(SpecFault::BadLine(1))
+    let [b'b', b'g', b's', b'i', b'm', b' ', version @ ..] = line else {
+        return Err(SpecFault::BadLine(1));
+    };
+    match version {
+        [b'1'] => Ok(Version::One),
+        [b'2'] => Ok(Version::Two),
+        _ => Err(SpecFault::BadLine(1)),
     }
 }
 
@@ -86,9 +87,9 @@ fn read_name(text: &[u8]) -> Result<(Name, &[u8]), SpecFault>
     ensures { Gives (λ read. (read.0, read.1.now)) result (name_line text.now) }
 {
     let (line, rest) = split_line(text);
-    let value = line
-        .strip_prefix(b"room ".as_slice())
-        .ok_or(SpecFault::BadLine(2))?;
+    let [b'r', b'o', b'o', b'm', b' ', value @ ..] = line else {
+        return Err(SpecFault::BadLine(2));
+    };
     let name = Name::read(value).ok_or(SpecFault::BadName)?;
     Ok((name, rest))
 }

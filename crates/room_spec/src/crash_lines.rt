@@ -50,7 +50,7 @@ fn read_fuse(
     ensures { result ≡ said_next first simulators fuses.now line.now }
 {
     let number = first + fuses.len();
-    let Some(words) = line.strip_prefix(b"crash ".as_slice()) else {
+    let [b'c', b'r', b'a', b's', b'h', b' ', words @ ..] = line else {
         return read_protocol_line(line, number);
     };
     let fuse = read_fuse_of_simulator(words, number, simulators)?;
@@ -101,9 +101,9 @@ fn fuse_from(words: &[u8]) -> Option<(u64, u64)>
     if rest.is_some() {
         return None;
     }
-    if word != b"after".as_slice() {
+    let [b'a', b'f', b't', b'e', b'r'] = word else {
         return None;
-    }
+    };
     let simulator = read_number(simulator)?;
     let steps = read_number(steps)?;
     Some((simulator, steps))

@@ -1,10 +1,11 @@
 //! Texts cut at a byte, into lines or fields.
-ghost use Rattle.std.specs.Prelude.{◌≡◌, ◌==◌, ◌∷◌, ◌<◌, ◌≤◌, ◌+◌, [], IfSome, MatchOption, length};
+ghost use Rattle.std.specs.Prelude.{◌≡◌, ◌==◌, ◌∷◌, ◌<◌, ◌≤◌, ◌+◌, [], IfSome, MatchOption, length, take};
 ghost use Rattle.std.specs.Option.{option_copied};
-ghost use Rattle.std.specs.List.{before_first, after_first, position, slice_split};
+ghost use Rattle.std.specs.List.{before_first, after_first, position, position_or_len, slice_split};
 ghost use Rattle.room_spec.specs.Texts.{first_line, later_lines, pieces_of};
 
 use memchr::memchr;
+use std::simd::prelude::*;
 
 /// What stands before the first `byte` of `text`, and what stands behind it. Where there is none,
 /// all of `text` and `None`.
@@ -61,8 +62,41 @@ fn near_place_of(text: &[u8], byte: u8) -> Option<usize>
     Some(near + far)
 }
 
-#[tactic(auto, using(crate::proofs::Places::is_position))]
+/// How many bytes are compared at once.
+const LANES: usize = 16;
+
+#[inline(always)]
 fn place_of(text: &[u8], byte: u8) -> Option<usize>
+    ensures { result ≡ position (λ b. b == byte) text.now }
+{
+    if text.len() >= LANES {
+        let place = first_lane(text, byte);
+        if place < LANES {
+            return Some(place);
+        }
+    }
+    far_place_of(text, byte)
+}
+
+/// The place of the byte among the first ones, or how many these are.
+#[inline(always)]
+fn first_lane(text: &[u8], byte: u8) -> usize
+    requires { LANES ≤ length text.now }
+    ensures { result ≡ position_or_len (λ b. b == byte) (take LANES text.now) }
+{
+    let places = u8x16::from_slice(text)
+        .simd_eq(u8x16::splat(byte))
+        .to_bitmask();
+    if places == 0 {
+        LANES
+    } else {
+        places.trailing_zeros() as usize
+    }
+}
+
+#[inline(never)]
+#[tactic(auto, using(crate::proofs::Places::is_position))]
+fn far_place_of(text: &[u8], byte: u8) -> Option<usize>
     ensures { result ≡ position (λ b. b == byte) text.now }
 {
     memchr(byte, text)

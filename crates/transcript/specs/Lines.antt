@@ -1,11 +1,13 @@
 -- How an event line is read: by its fields, up to the first fault.
-use Rattle.std.specs.Prelude.{◌≡◌, ◌≤◌, ℕ, List, [], ◌∷◌, length, Option, Some, None, Result, Ok, Err, nat_le, nat_lt, if◌then◌else◌, codes, decimal}
+use Rattle.std.specs.Prelude.{◌≡◌, ◌≤◌, ℕ, List, [], ◌∷◌, ◌++◌, length, Option, Some, None, Result, Ok, Err, nat_le, nat_lt, if◌then◌else◌, codes, decimal}
 use Rattle.std.specs.Str.{bytes_eq}
 use Rattle.protocol_lang.specs.Results.{◌>>=◌}
 use Rattle.protocol_lang.specs.Numbers.{greatest, number_of}
 use Rattle.room_spec.specs.Names.{is_name}
 use Rattle.room_spec.specs.Texts.{fields_of}
 use Rattle.transcript.specs.declared.event.Event.{Event}
+use Rattle.transcript.specs.declared.word.EventWord.{EventWord}
+use Rattle.transcript.specs.declared.word.EventWord.TheVariants as words
 use Rattle.transcript.specs.declared.event.Event.TheVariants.{Write, Snap, Decide}
 use Rattle.transcript.specs.declared.fault.LineFault.{LineFault}
 use Rattle.transcript.specs.declared.fault.LineFault.TheVariants.{BadName, BadWord, BadNumber, BadLength, TooLong}
@@ -76,22 +78,32 @@ line_in line = if nat_lt MAX_LINE (length line) then Err TooLong else named_even
 
 -- ---- the same in two steps: a line is cut into its parts, and these are read
 
--- the first field, the number of the process, the word, and what stands behind it
+-- the word of an event line, as text
+abbrev pub word_text : EventWord → List ℕ
+word_text words.Write = codes "write"
+word_text words.Snap = codes "snap"
+word_text words.Decide = codes "decide"
+
+-- the text doesn't begin with one of them and a space
+abbrev pub IsStray : List ℕ → Type 0
+IsStray text = (word : EventWord) (values : List ℕ) → text ≡ word_text word ++ 32 ∷ values → ⊥
+
+-- the first field, the number of the process, the word, and what follows it
 pub record LineParts : Type 0 where
   pub name : List ℕ
   pub process : ℕ
-  pub word : List ℕ
+  pub word : EventWord
   pub values : List ℕ
 
 -- the line's fields are those of its parts
 pub record IsCutInto (line : List ℕ) (parts : LineParts) : Type 0 where
   pub short : length line ≤ MAX_LINE
-  pub fields : fields_of line ≡ parts.name ∷ decimal parts.process ∷ parts.word ∷ fields_of parts.values
+  pub fields : fields_of line ≡ parts.name ∷ decimal parts.process ∷ word_text parts.word ∷ fields_of parts.values
   pub process : parts.process ≤ MAX_PROCESS
 
 -- the event that they say, whatever the name is
 abbrev pub event_said : LineParts → Result Event LineFault
-event_said parts = event_of parts.word (fields_of parts.values) parts.process
+event_said parts = event_of (word_text parts.word) (fields_of parts.values) parts.process
 
 -- the same with the name, which has to be one
 abbrev pub line_said : LineParts → Result (List ℕ × Event) LineFault

@@ -1,17 +1,17 @@
 //! Event lines, cut into their parts.
-ghost use Rattle.std.specs.Prelude.{◌≡◌, ◌∷◌, ◌≤◌, decimal, length, IfOk, IfErr, IfSome, codes, ◌++◌, if◌then◌else◌, Err};
-ghost use Rattle.std.specs.List.{count_by};
+ghost use Rattle.std.specs.Prelude.{◌≡◌, ◌∷◌, ◌≤◌, decimal, length, IfOk, IfErr, IfSome, MatchOption, Some, true, ◌++◌, List, ℕ, codes, if◌then◌else◌, Err};
+ghost use Rattle.std.specs.List.{count_by, list_all};
 ghost use Rattle.std.specs.Option.{option_copied};
-ghost use Rattle.std.specs.Str.{bytes_eq};
 ghost use Rattle.room_spec.specs.Names.{is_name};
 ghost use Rattle.room_spec.specs.Texts.{is_space, fields_of, pieces_of};
-ghost use Rattle.transcript.specs.Faults.{is_snap};
+ghost use Rattle.protocol_lang.specs.Numbers.{is_digit, number_of, value_of_digits};
 ghost use Rattle.protocol_lang.specs.Results.{Gives};
-ghost use Rattle.transcript.specs.Lines.{number_in, entry_in, entries_in, value_in, row_in, event_of, event_in, line_in, event_said, line_said, IsCutInto};
+ghost use Rattle.transcript.specs.Lines.{word_text, IsStray, number_in, entry_in, entries_in, value_in, row_in, event_of, event_in, line_in, event_said, line_said, IsCutInto};
 ghost use Rattle.transcript.specs.declared.fault.LineFault.TheVariants.{BadName};
 
 use crate::event::Event;
 use crate::fault::LineFault;
+use crate::word::EventWord;
 use protocol_lang::{View, read_number};
 use room_spec::{MAX_PROCESSES, Name, cut_near};
 use std::marker::Model;
@@ -22,12 +22,12 @@ pub(crate) const MAX_LINE: usize = 256;
 /// The greatest number of a process.
 pub(crate) const MAX_PROCESS: u32 = 15;
 
-/// An event line, cut into its parts. Its name may be none, its word and its values aren't read yet.
+/// An event line, cut into its parts. Its name may be none, and its values aren't read yet.
 #[derive(Drop)]
 pub struct EventLine<'a> {
     name: &'a [u8],
     process: u8,
-    word: &'a [u8],
+    word: EventWord,
     values: &'a [u8],
 }
 
@@ -36,7 +36,7 @@ impl<'a> Model for EventLine<'a> {
 
     ghost Value = { LineParts };
 
-    ghost view = { λ line. record { name = line.name.now; process = line.process; word = line.word.now; values = line.values.now } };
+    ghost view = { λ line. record { name = line.name.now; process = line.process; word = line.word; values = line.values.now } };
 }
 
 impl<'a> EventLine<'a> {
@@ -79,18 +79,26 @@ impl<'a> EventLine<'a> {
         self.process
     }
 
-    /// Whether the process took a snapshot.
-    pub fn is_snap(&self) -> bool
-        ensures { result ≡ is_snap self.now.word }
+    /// What its word says that the process did.
+    pub fn word(&self) -> EventWord
+        ensures { result ≡ self.now.word }
     {
-        is_snap(self.word)
+        self.word
     }
 
-    /// What stands behind the word: a value, or the entries of a snapshot.
+    /// What follows the word: a value, or the entries of a snapshot.
     pub fn values(&self) -> &[u8]
         ensures { result.now ≡ self.now.values }
     {
         self.values
+    }
+
+    /// The one value that follows the word, as in a write and in a decision.
+    #[inline(always)]
+    pub fn value(&self) -> Result<u32, LineFault>
+        ensures { result ≡ value_in (fields_of self.now.values) }
+    {
+        read_value(self.values)
     }
 
     /// The event that it says, whatever its name is.
@@ -111,9 +119,9 @@ impl<'a> EventLine<'a> {
     }
 }
 
-/// The process, the word and what stands behind it, of the fields behind the name.
-fn split_fields(fields: Option<&[u8]>) -> Result<(u8, &[u8], &[u8]), LineFault>
-    ensures parts { IfOk result (λ parts. pieces_of is_space (option_copied fields.entry) ≡ decimal parts.0 ∷ parts.1.now ∷ fields_of parts.2.now) }
+/// The process, the word and what follows it, of the fields after the name.
+fn split_fields(fields: Option<&[u8]>) -> Result<(u8, EventWord, &[u8]), LineFault>
+    ensures parts { IfOk result (λ parts. pieces_of is_space (option_copied fields.entry) ≡ decimal parts.0 ∷ word_text parts.1 ∷ fields_of parts.2.now) }
     ensures range { IfOk result (λ parts. parts.0 ≤ MAX_PROCESS) }
     ensures fault { IfErr result (λ fault. event_in (pieces_of is_space (option_copied fields.entry)) ≡ Err fault) }
 {
@@ -124,54 +132,66 @@ fn split_fields(fields: Option<&[u8]>) -> Result<(u8, &[u8], &[u8]), LineFault>
     let Some(deed) = deed else {
         return Err(LineFault::BadLength);
     };
-    let (word, values) = cut_word(deed);
-    let Some(values) = values else {
-        return Err(LineFault::BadLength);
+    let Some((word, values)) = cut_word(deed) else {
+        return Err(fault_of_stray(process, deed));
     };
     let process = read_up_to(MAX_PROCESS, process)?;
     Ok((process as u8, word, values))
 }
 
-/// The first field of a text, and what stands behind it. The words of events are told by a few bytes.
-fn cut_word(deed: &[u8]) -> (&[u8], Option<&[u8]>)
-    ensures { fields_of deed.now ≡ result.0.now ∷ pieces_of is_space (option_copied result.1) }
+/// The word of an event and what follows it, if the text begins with one and a space.
+#[inline(always)]
+fn cut_word(deed: &[u8]) -> Option<(EventWord, &[u8])>
+    ensures { MatchOption result (IsStray deed.now) (λ cut. fields_of deed.now ≡ word_text cut.0 ∷ fields_of cut.1.now) }
 {
-    if let Some(values) = behind_write(deed) {
-        return (b"write".as_slice(), Some(values));
+    if let Some(values) = after_write(deed) {
+        return Some((EventWord::Write, values));
     }
-    if let Some(values) = behind_snap(deed) {
-        return (b"snap".as_slice(), Some(values));
+    if let Some(values) = after_snap(deed) {
+        return Some((EventWord::Snap, values));
     }
-    if let Some(values) = behind_decide(deed) {
-        return (b"decide".as_slice(), Some(values));
-    }
-    cut_near(deed, b' ')
+    let values = after_decide(deed)?;
+    Some((EventWord::Decide, values))
 }
 
-fn behind_write(deed: &[u8]) -> Option<&[u8]>
-    ensures { IfSome result (λ values. deed.now ≡ codes "write " ++ values.now) }
+fn after_write(deed: &[u8]) -> Option<&[u8]>
+    ensures { MatchOption result ((values : List ℕ) → deed.now ≡ codes "write " ++ values → ⊥) (λ values. deed.now ≡ codes "write " ++ values.now) }
 {
-    match deed {
-        [b'w', b'r', b'i', b't', b'e', b' ', values @ ..] => Some(values),
-        _ => None,
-    }
+    let [b'w', b'r', b'i', b't', b'e', b' ', values @ ..] = deed else {
+        return None;
+    };
+    Some(values)
 }
 
-fn behind_snap(deed: &[u8]) -> Option<&[u8]>
-    ensures { IfSome result (λ values. deed.now ≡ codes "snap " ++ values.now) }
+fn after_snap(deed: &[u8]) -> Option<&[u8]>
+    ensures { MatchOption result ((values : List ℕ) → deed.now ≡ codes "snap " ++ values → ⊥) (λ values. deed.now ≡ codes "snap " ++ values.now) }
 {
-    match deed {
-        [b's', b'n', b'a', b'p', b' ', values @ ..] => Some(values),
-        _ => None,
-    }
+    let [b's', b'n', b'a', b'p', b' ', values @ ..] = deed else {
+        return None;
+    };
+    Some(values)
 }
 
-fn behind_decide(deed: &[u8]) -> Option<&[u8]>
-    ensures { IfSome result (λ values. deed.now ≡ codes "decide " ++ values.now) }
+fn after_decide(deed: &[u8]) -> Option<&[u8]>
+    ensures { MatchOption result ((values : List ℕ) → deed.now ≡ codes "decide " ++ values → ⊥) (λ values. deed.now ≡ codes "decide " ++ values.now) }
 {
-    match deed {
-        [b'd', b'e', b'c', b'i', b'd', b'e', b' ', values @ ..] => Some(values),
-        _ => None,
+    let [b'd', b'e', b'c', b'i', b'd', b'e', b' ', values @ ..] = deed else {
+        return None;
+    };
+    Some(values)
+}
+
+/// The fault of the fields after the name where the word is none of an event, or nothing follows it.
+fn fault_of_stray(process: &[u8], deed: &[u8]) -> LineFault
+    requires { IsStray deed.now }
+    ensures { event_in (process.now ∷ fields_of deed.now) ≡ Err result }
+{
+    let (_, Some(_)) = cut_near(deed, b' ') else {
+        return LineFault::BadLength;
+    };
+    match read_up_to(MAX_PROCESS, process) {
+        Ok(_) => LineFault::BadWord,
+        Err(fault) => fault,
     }
 }
 
@@ -185,40 +205,24 @@ fn fault_behind(name: &[u8], fault: LineFault) -> LineFault
     }
 }
 
-fn is_write(word: &[u8]) -> bool
-    ensures { result ≡ bytes_eq word.now (codes "write") }
-{
-    matches!(word, [b'w', b'r', b'i', b't', b'e'])
-}
-
-fn is_snap(word: &[u8]) -> bool
-    ensures { result ≡ bytes_eq word.now (codes "snap") }
-{
-    matches!(word, [b's', b'n', b'a', b'p'])
-}
-
-fn is_decide(word: &[u8]) -> bool
-    ensures { result ≡ bytes_eq word.now (codes "decide") }
-{
-    word == b"decide".as_slice()
-}
-
-/// Reads what process `p` did, by its word and the fields behind it.
+/// Reads what process `p` did, by its word and the fields after it.
 #[inline(always)]
-fn read_deed(p: u8, word: &[u8], fields: &[u8]) -> Result<Event, LineFault>
-    ensures { result ≡ event_of word.now (fields_of fields.now) p }
+fn read_deed(p: u8, word: EventWord, fields: &[u8]) -> Result<Event, LineFault>
+    ensures { result ≡ event_of (word_text word) (fields_of fields.now) p }
 {
-    if is_write(word) {
-        let v = read_value(fields)?;
-        Ok(Event::Write { p, v })
-    } else if is_snap(word) {
-        let row = read_row(fields)?;
-        Ok(Event::Snap { p, row })
-    } else if is_decide(word) {
-        let v = read_value(fields)?;
-        Ok(Event::Decide { p, v })
-    } else {
-        Err(LineFault::BadWord)
+    match word {
+        EventWord::Write => {
+            let v = read_value(fields)?;
+            Ok(Event::Write { p, v })
+        }
+        EventWord::Snap => {
+            let row = read_row(fields)?;
+            Ok(Event::Snap { p, row })
+        }
+        EventWord::Decide => {
+            let v = read_value(fields)?;
+            Ok(Event::Decide { p, v })
+        }
     }
 }
 
@@ -233,8 +237,52 @@ fn read_up_to(most: u32, field: &[u8]) -> Result<u32, LineFault>
     }
 }
 
-/// Reads the one value that `fields` has to be. A number has no space in it, so a good one needs no cut.
+/// The most digits of a number that is read in place.
+const MAX_DIGITS: usize = 9;
+
+/// Reads the one value that `fields` has to be. Most are short numbers.
+#[inline(always)]
 fn read_value(fields: &[u8]) -> Result<u32, LineFault>
+    ensures { result ≡ value_in (fields_of fields.now) }
+{
+    match read_short(fields) {
+        Some(value) => Ok(value),
+        None => read_long(fields),
+    }
+}
+
+/// The number of at most nine digits that the text is, if it is one.
+#[inline(always)]
+fn read_short(text: &[u8]) -> Option<u32>
+    ensures { IfSome result (λ number. number_of text.now ≡ Some number) }
+{
+    match text {
+        [] | [b'0', _, ..] => None,
+        _ => read_digits(text),
+    }
+}
+
+/// The number that at most nine digits write.
+#[inline(always)]
+fn read_digits(text: &[u8]) -> Option<u32>
+    ensures { IfSome result (λ number. (list_all is_digit text.now ≡ true) × (number ≡ value_of_digits text.now)) }
+{
+    if text.len() > MAX_DIGITS {
+        return None;
+    }
+    let mut number: u32 = 0;
+    for byte in text {
+        if !byte.is_ascii_digit() {
+            return None;
+        }
+        number = number * 10 + u32::from(*byte - b'0');
+    }
+    Some(number)
+}
+
+/// The same for fields of any length. A number has no space in it, so a good one needs no cut.
+#[inline(never)]
+fn read_long(fields: &[u8]) -> Result<u32, LineFault>
     ensures { result ≡ value_in (fields_of fields.now) }
 {
     if let Ok(value) = read_up_to(u32::MAX, fields) {
@@ -288,7 +336,7 @@ fn spaces(text: &[u8]) -> usize
 fn read_entry(field: &[u8]) -> Result<Option<u32>, LineFault>
     ensures { result ≡ entry_in field.now }
 {
-    if field == b".".as_slice() {
+    if let [b'.'] = field {
         return Ok(None);
     }
     let value = read_up_to(u32::MAX, field)?;

@@ -14,14 +14,13 @@ bounds-deref-p c = grind (arith, common_steps)
 pub bounds-deref_mut-p : goal.bounds-deref_mut-p
 bounds-deref_mut-p c = grind (arith, common_steps)
 
-pub splice-requires : goal.splice-requires
-splice-requires c =
+pub put_digits-requires : goal.put_digits-requires
+put_digits-requires c =
     let below : c.args.p < length c.self.inside.last.items = search rules in
     let start : c.before-start.result ≡ before c.self.inside.widths.items c.args.p = search rules in
     let own : c.from.result ≡ slice_index_or c.self.inside.widths.items c.args.p 0 = search rules in
-    let all : c.as_slice-2.result.now ≡ c.self.inside.text.items = c.as_slice-2.ensures.value in
     let within = fits_in c.self.inside.last.items c.self.inside.text.items c.self.inside.widths.items c.args.p 0 c.self.invariant below in
-    (omega arith, rw (start, own, all) within)
+    (omega arith, rw (start, own) within)
 
 pub invariant_of-self-2 : goal.invariant_of-self-2
 invariant_of-self-2 c =
@@ -33,10 +32,9 @@ invariant_of-self-2 c =
     let start : c.before-start.result ≡ before widths c.args.p = search rules in
     let own : c.from.result ≡ slice_index_or widths c.args.p 0 = search rules in
     let spelled : digits ≡ decimal c.args.value = c.as_bytes-digits.ensures.value ∙ c.format.ensures.text in
-    let all : c.as_slice-2.result.now ≡ text = c.as_slice-2.ensures.value in
-    let next : c.swap.new.x.items ≡ take (before widths c.args.p) text ++ 32 ∷ (decimal c.args.value ++ drop (before widths c.args.p + slice_index_or widths c.args.p 0) text) =
-    rw (← start, ← own, ← spelled, ← all) (ap (λ made. made.items) c.swap.ensures.x_after ∙ c.in_ok-splice.ensures) in
-    let shown = shown_with last text widths c.swap.new.x.items c.args.p c.args.value 0 c.self.invariant below (search rules) next in
+    let next : c.put_digits.new.text.items ≡ take (before widths c.args.p) text ++ 32 ∷ (decimal c.args.value ++ drop (before widths c.args.p + slice_index_or widths c.args.p 0) text) =
+    rw (← start, ← own, ← spelled) c.in_ok-put_digits.ensures.put in
+    let shown = shown_with last text widths c.put_digits.new.text.items c.args.p c.args.value 0 c.self.invariant below (search rules) next in
     let longer : length digits + 1 ≡ suc (length (decimal c.args.value)) = omega (arith, ap length spelled) in
     let entries : refill (length last) last (slice_set c.deref_mut-2.result.now c.args.p (Some c.args.value)) ≡ slice_set last c.args.p (Some c.args.value) =
     rw c.deref_mut-2.ensures.value (refilled last (slice_set last c.args.p (Some c.args.value)) (same_length last c.args.p c.args.value)) in
