@@ -1,5 +1,6 @@
 //! Lines that ask for steps, as most lines of a script do.
-ghost use Rattle.std.specs.Prelude.{◌≡◌, IfSome};
+ghost use Rattle.std.specs.Prelude.{◌≡◌, IfSome, codes};
+ghost use Rattle.std.specs.Str.{bytes_eq};
 ghost use Rattle.script_play.specs.Script.{command_in, steps_for};
 
 use crate::entries::read_within;
@@ -12,7 +13,7 @@ pub(crate) fn read_steps(line: &[u8]) -> Option<(&[u8], u8, u16)>
     ensures { IfSome result (λ asked. command_in line.now ≡ steps_for asked.0.now asked.1 asked.2) }
 {
     let (word, others) = cut_near(line, b' ');
-    if word != b"step".as_slice() {
+    if !is_step(word) {
         return None;
     }
     let (name, numbers) = cut_near(others?, b' ');
@@ -20,4 +21,10 @@ pub(crate) fn read_steps(line: &[u8]) -> Option<(&[u8], u8, u16)>
     let sim = read_within(0, 255, sim)? as u8;
     let count = read_within(1, 65535, count?)?; // a number has no space in it
     Some((name, sim, count))
+}
+
+fn is_step(word: &[u8]) -> bool
+    ensures { result ≡ bytes_eq word.now (codes "step") }
+{
+    matches!(word, [b's', b't', b'e', b'p'])
 }
