@@ -5,8 +5,7 @@ use Rattle.std.proofs.lemmas.List.{length-map}
 use Rattle.std.proofs.lemmas.Option.{slice_get_within}
 use Rattle.room_spec.specs.Rooms.{RoomSpec}
 use Rattle.transcript.specs.declared.event.Event.{Event}
-use Rattle.transcript.specs.declared.event.Event.TheVariants.{Write}
-use Rattle.transcript.specs.Tasks.{IsFirstExcess, KeepsTask}
+use Rattle.transcript.specs.Tasks.{IsFirstExcess, KeepsTask, decided_by}
 use Rattle.transcript.proofs.CallerLemmas.{slice_get-append, slice_get-push}
 use Rattle.history_checker.specs.Tasks.{IsTally, HasDecided, TallyState}
 use Rattle.history_checker.specs.Verdicts.{FedEvent, ExceedsOn, TallyStands, TaskStands, events_of}
@@ -60,12 +59,12 @@ task_begins spec most = (KeepsTask-nil spec most, no_tally most)
 pub counts_on : (spec : RoomSpec) (most : ℕ) (fed more : List FedEvent) (old new : TallyState) → Some most ≡ spec.task → (TallyStands spec most fed old.decided old.excess → TallyStands spec most more new.decided new.excess) → TaskStands spec fed spec.task (Some old) → TaskStands spec more spec.task (Some new)
 counts_on spec most fed more old new is step stands = subst (λ (task : Option ℕ). TaskStands spec more task (Some new)) is (step (subst (λ (task : Option ℕ). TaskStands spec fed task (Some old)) (sym is) stands))
 
-tally_kept : (spec : RoomSpec) (most : ℕ) (fed : List FedEvent) (one : FedEvent) (p v : ℕ) (decided : List ℕ) (excess : Option ℕ) → one.event ≡ Write p v → TallyStands spec most fed decided excess → TallyStands spec most (fed ++ one ∷ []) decided excess
-tally_kept spec most fed one p v decided None is stands = keeps_on spec most decided decided None fed one (Write p v) refl is (follows_other spec most decided (Write p v) refl) stands
-tally_kept spec most fed one p v decided (Some line) is stands = exceeds_still spec most fed one line stands
+tally_kept : (spec : RoomSpec) (most : ℕ) (fed : List FedEvent) (one : FedEvent) (event : Event) (decided : List ℕ) (excess : Option ℕ) → decided_by event ≡ None → one.event ≡ event → TallyStands spec most fed decided excess → TallyStands spec most (fed ++ one ∷ []) decided excess
+tally_kept spec most fed one event decided None none is stands = keeps_on spec most decided decided None fed one event refl is (follows_other spec most decided event none) stands
+tally_kept spec most fed one event decided (Some line) none is stands = exceeds_still spec most fed one line stands
 
--- a write counts for no task
-pub write_uncounted : (spec : RoomSpec) (fed : List FedEvent) (one : FedEvent) (p v : ℕ) (task : Option ℕ) (tally : Option TallyState) → one.event ≡ Write p v → TaskStands spec fed task tally → TaskStands spec (fed ++ one ∷ []) task tally
-write_uncounted spec fed one p v None tally is stands = stands
-write_uncounted spec fed one p v (Some most) None is stands = stands
-write_uncounted spec fed one p v (Some most) (Some tally) is stands = tally_kept spec most fed one p v tally.decided tally.excess is stands
+-- an event that decides nothing counts for no task
+pub uncounted : (spec : RoomSpec) (fed : List FedEvent) (one : FedEvent) (event : Event) (task : Option ℕ) (tally : Option TallyState) → decided_by event ≡ None → one.event ≡ event → TaskStands spec fed task tally → TaskStands spec (fed ++ one ∷ []) task tally
+uncounted spec fed one event None tally none is stands = stands
+uncounted spec fed one event (Some most) None none is stands = stands
+uncounted spec fed one event (Some most) (Some tally) none is stands = tally_kept spec most fed one event tally.decided tally.excess none is stands

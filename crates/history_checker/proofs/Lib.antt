@@ -3,6 +3,7 @@ mod Breaking
 mod Explaining
 mod WorkedReasons
 mod Runs
+mod Showing
 mod Feeding
 mod RoomLists
 mod SaidLines

@@ -1,5 +1,5 @@
 -- Rows as the bytes that say them, and lines that are fed.
-use Rattle.std.specs.Prelude.{◌≡◌, ◌≤◌, ℕ, true, false, List, [], ◌∷◌, ◌++◌, Option, Ok, Err, length, map, suc, take}
+use Rattle.std.specs.Prelude.{◌≡◌, ◌≤◌, ⊤, ℕ, true, false, List, [], ◌∷◌, ◌++◌, Option, None, Some, slice_set, Ok, Err, length, map, suc, take}
 use Rattle.std.specs.List.{AllByRecursion, flat_map, sum_by}
 use Rattle.protocol_lang.specs.Limits.{IsEntry}
 use Rattle.protocol_lang.specs.declared.meaning.TheConstants.{MAX_PROCESSES}
@@ -7,6 +7,7 @@ use Rattle.room_spec.specs.Rooms.{RoomSpec}
 use Rattle.transcript.specs.Grammar.{entry_text}
 use Rattle.transcript.specs.Lines.{LineParts, event_said, line_said}
 use Rattle.transcript.specs.declared.event.Event.{Event}
+use Rattle.transcript.specs.declared.event.Event.TheVariants.{Write, Snap, Decide}
 use Rattle.history_checker.specs.Verdicts.{FedEvent, HasProcessed, IsAfter, RoomState, StaysSo, has_room, specs_of}
 use Rattle.history_checker.specs.declared.fault.FeedFault.{FeedFault}
 use Rattle.history_checker.specs.declared.fault.FeedFault.TheVariants.{BadLine, NoRoom}
@@ -33,6 +34,22 @@ pub record IsShown (entries : List (Option ℕ)) (text widths : List ℕ) : Type
   pub says : SaysRow text entries
   pub widths_are : widths ≡ map width entries
   pub few : length entries ≤ MAX_PROCESSES
+
+-- a row of these last writes: it shows all of them, or nothing where an allocation failed
+abbrev pub ShowsLasts : List (Option ℕ) → List (Option ℕ) → Type 0
+ShowsLasts lasts [] = ⊤
+ShowsLasts lasts (entry ∷ row) = entry ∷ row ≡ lasts
+
+-- the same of a room's row, if it has one
+abbrev pub MayShowLasts : List (Option ℕ) → Option (List (Option ℕ)) → Type 0
+MayShowLasts lasts None = ⊤
+MayShowLasts lasts (Some row) = ShowsLasts lasts row
+
+-- the last writes after one more event
+abbrev pub lasts_after : Event → List (Option ℕ) → List (Option ℕ)
+lasts_after (Write p v) lasts = slice_set lasts p (Some v)
+lasts_after (Snap p row) lasts = lasts
+lasts_after (Decide p v) lasts = lasts
 
 -- the line with these parts and this number says an event that the room has then processed
 pub record Feeds (line : LineParts) (number : ℕ) (old new : RoomState) : Type 0 where

@@ -1,7 +1,8 @@
 //! What a checker keeps of a process.
-ghost use Rattle.std.specs.Prelude.{◌≡◌, ◌↔◌, ◌<◌, IsTrue, MatchOption, length, [], if◌then◌else◌, nat_lt, ◌&&◌};
+ghost use Rattle.std.specs.Prelude.{◌≡◌, ◌↔◌, ◌<◌, IsTrue, MatchOption, OnErr, OnOk, Some, slice_set, length, [], if◌then◌else◌, nat_lt, ◌&&◌};
 ghost use Rattle.room_spec.specs.Rooms.{processes};
 ghost use Rattle.transcript.specs.declared.event.Event.TheVariants.{Write, Snap, Decide};
+ghost use Rattle.history_checker.specs.Shown.{lasts_after};
 ghost use Rattle.history_checker.specs.Processes.{turn_for, is_action, could_do, lasts, IsAt, Follows, FirstDiffers};
 
 use protocol_lang::{Action, View, first, next};
@@ -169,7 +170,9 @@ impl Process {
 
 /// Has the processes follow an event, or else gives the rule by which it may not follow those before it.
 pub fn follow(processes: &mut [Process], spec: &Spec, event: &Event) -> Result<(), Rule>
-    ensures { Follows spec.now event.now processes.old result processes.new }
+    ensures follows { Follows spec.now event.now processes.old result processes.new }
+    ensures lasts { OnOk result (lasts processes.new ≡ lasts_after event.now (lasts processes.old)) }
+    ensures err { OnErr result (lasts processes.new ≡ lasts processes.old) }
 {
     match event {
         Event::Write { p, v } => follow_write(processes, spec, usize::from(*p), *v),
@@ -180,7 +183,9 @@ pub fn follow(processes: &mut [Process], spec: &Spec, event: &Event) -> Result<(
 
 #[inline(always)]
 pub fn follow_write(processes: &mut [Process], spec: &Spec, p: usize, v: u32) -> Result<(), Rule>
-    ensures { Follows spec.now (Write p v) processes.old result processes.new }
+    ensures follows { Follows spec.now (Write p v) processes.old result processes.new }
+    ensures lasts { OnOk result (lasts processes.new ≡ slice_set (lasts processes.old) p (Some v)) }
+    ensures err { OnErr result (lasts processes.new ≡ lasts processes.old) }
 {
     if p >= processes.len() {
         return Err(Rule::Process);
@@ -202,7 +207,9 @@ pub fn follow_write(processes: &mut [Process], spec: &Spec, p: usize, v: u32) ->
 }
 
 fn follow_snap(processes: &mut [Process], spec: &Spec, p: usize, row: &View) -> Result<(), Rule>
-    ensures { Follows spec.now (Snap p row.now) processes.old result processes.new }
+    ensures follows { Follows spec.now (Snap p row.now) processes.old result processes.new }
+    ensures lasts { OnOk result (lasts processes.new ≡ lasts processes.old) }
+    ensures err { OnErr result (lasts processes.new ≡ lasts processes.old) }
 {
     if p >= processes.len() {
         return Err(Rule::Process);
@@ -226,9 +233,34 @@ fn follow_snap(processes: &mut [Process], spec: &Spec, p: usize, row: &View) -> 
     Ok(())
 }
 
+/// Has the processes follow a snapshot whose entries are known to be their last writes.
+#[inline(always)]
+pub fn follow_said(processes: &mut [Process], spec: &Spec, p: usize, row: &View) -> Result<(), Rule>
+    requires { row.now.items ≡ lasts processes.old }
+    ensures follows { Follows spec.now (Snap p row.now) processes.old result processes.new }
+    ensures lasts { lasts processes.new ≡ lasts processes.old }
+{
+    if p >= row.len() {
+        return Err(Rule::Process);
+    }
+    let process = processes[p];
+    if !process.turn.is_snap() {
+        return Err(Rule::Turn);
+    }
+    let round = u32::from(process.writes);
+    let action = next(spec.protocol(), process.input, p as u32, round, row);
+    processes[p] = Process {
+        turn: Turn::of(action),
+        ..process
+    };
+    Ok(())
+}
+
 // For the proof: `spec`.
 fn follow_decide(processes: &mut [Process], spec: &Spec, p: usize, v: u32) -> Result<(), Rule>
-    ensures { Follows spec.now (Decide p v) processes.old result processes.new }
+    ensures follows { Follows spec.now (Decide p v) processes.old result processes.new }
+    ensures lasts { OnOk result (lasts processes.new ≡ lasts processes.old) }
+    ensures err { OnErr result (lasts processes.new ≡ lasts processes.old) }
 {
     if p >= processes.len() {
         return Err(Rule::Process);

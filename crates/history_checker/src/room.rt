@@ -1,17 +1,17 @@
 //! One room, whose events come one by one.
-ghost use Rattle.std.specs.Prelude.{◌≡◌, ◌∷◌, ◌≤◌, List, [], Err, IfErr, IfOk, IfSome, OnErr, OnOk, length};
+ghost use Rattle.std.specs.Prelude.{◌≡◌, ◌∷◌, ◌≤◌, ℕ, List, [], Option, Some, Err, IfErr, IfOk, IsFalse, IsTrue, OnErr, OnOk, length, option_map, slice_set};
 ghost use Rattle.protocol_lang.specs.declared.meaning.TheConstants.{MAX_PROCESSES};
 ghost use Rattle.transcript.specs.Lines.{event_said};
-ghost use Rattle.transcript.specs.declared.event.Event.TheVariants.{Write};
-ghost use Rattle.history_checker.specs.Shown.{Feeds, SaysRow};
+ghost use Rattle.transcript.specs.declared.event.Event.TheVariants.{Snap, Write};
+ghost use Rattle.history_checker.specs.Processes.{lasts};
+ghost use Rattle.history_checker.specs.Shown.{Feeds, MayShowLasts, SaysRow, lasts_after};
 ghost use Rattle.history_checker.specs.Verdicts.{FedEvent, HasProcessedOwn, IsAfter, StandsAfter, TaskStands, IsVerdict, IsTaskAnswer, StaysSo};
 
 use crate::history::open;
-use crate::process::{Process, follow, follow_write};
+use crate::process::{Process, follow, follow_said, follow_write};
 use crate::row::Row;
 use crate::tally::Tally;
 use crate::verdict::{TaskVerdict, Verdict};
-use protocol_lang::View;
 use room_spec::Spec;
 use std::alloc::{AllocError, Global};
 use std::marker::Model;
@@ -33,6 +33,8 @@ impl Model for Room {
     ghost use Rattle.std.specs.Coded.{codes};
     ghost use Rattle.protocol_lang.specs.Codes.{expression_code};
     ghost use Rattle.std.specs.Option.{option_map};
+    ghost use Rattle.history_checker.specs.Processes.{lasts};
+    ghost use Rattle.history_checker.specs.Shown.{MayShowLasts};
     ghost use Rattle.history_checker.specs.Verdicts.{RoomState};
 
     ghost Value = { RoomState };
@@ -41,6 +43,8 @@ impl Model for Room {
 
     ghost view = { λ room.
         record { spec = room.spec; processes = room.processes.items; broken = room.broken; tally = option_map (λ tally. tally.value) room.tally } };
+
+    ghost invariant = { λ room. MayShowLasts (lasts room.processes.items) (option_map (λ row. row.value) room.row) };
 }
 
 impl Room {
@@ -98,8 +102,7 @@ impl Room {
         self.follow_write(p, v, line);
     }
 
-    /// Processes the snapshot that a line says. Most snapshots of a run are right: one that the room's row shows is not read entry
-    /// by entry.
+    /// Processes the snapshot that a line says. Most snapshots of a run are right: of one that the room's row shows no entry is read.
     fn feed_snap(&mut self, line: &EventLine<'_>, number: u64) -> Result<(), LineFault>
         requires { line.now.word ≡ EventWord.Snap }
         ensures spec { self.new.spec ≡ self.old.spec }
@@ -107,12 +110,36 @@ impl Room {
         ensures fault { IfErr result (λ fault. event_said line.now ≡ Err fault) }
         ensures err { OnErr result (self.new ≡ self.old) }
     {
-        let Some(row) = self.row_said(line.values()) else {
-            return self.feed_read(line, number);
+        if self.feed_said(usize::from(line.process()), line.values(), number) {
+            return Ok(());
+        }
+        self.feed_read(line, number)
+    }
+
+    /// Processes a snapshot of process `p`, which stands on this line, if the room's row shows that it is right: its entries are this
+    /// text. It counts for no task.
+    fn feed_said(&mut self, p: usize, text: &[u8], line: u64) -> bool
+        ensures spec { self.new.spec ≡ self.old.spec }
+        ensures says { IsTrue result → SaysRow (32 ∷ text.now) (lasts self.old.processes) }
+        ensures few { IsTrue result → length (lasts self.old.processes) ≤ MAX_PROCESSES }
+        ensures processed { IsTrue result → StaysSo (Snap p (record { items = lasts self.old.processes })) line (λ fed. IsAfter fed self.old) (λ fed. IsAfter fed self.new) }
+        ensures other { IsFalse result → self.new ≡ self.old }
+    {
+        let Some(row) = &self.row else {
+            return false;
         };
-        let p = line.process();
-        self.feed(&Event::Snap { p, row }, number);
-        Ok(())
+        if !row.is_said_by(text) {
+            return false;
+        }
+        let row = row.last();
+        if self.broken.is_some() {
+            return true;
+        }
+        let followed = follow_said(&mut self.processes, &self.spec, p, row);
+        if followed.is_err() {
+            self.broken = Some(line);
+        }
+        true
     }
 
     /// Processes the event that a line says, with all of it read.
@@ -126,18 +153,6 @@ impl Room {
         let event = line.event()?;
         self.feed(&event, number);
         Ok(())
-    }
-
-    /// What the room's row shows, if it has one that the text says.
-    fn row_said(&self, text: &[u8]) -> Option<View>
-        ensures { IfSome result (λ row. SaysRow (32 ∷ text.now) row.items × (length row.items ≤ MAX_PROCESSES)) }
-    {
-        let row = self.row.as_ref()?;
-        if row.is_said_by(text) {
-            row.entries().ok()
-        } else {
-            None
-        }
     }
 
     /// Counts what the event decides, if the room has a task. A room that is no run has its task judged all the same.
@@ -182,11 +197,12 @@ impl Room {
             self.broken = Some(line);
             return;
         }
-        self.show(p, v);
+        show(&mut self.row, p, v);
     }
 
     /// The same for a snapshot or a decision.
     fn follow_other(&mut self, event: &Event, line: u64)
+        requires { (row : List (Option ℕ)) → lasts_after event.now row ≡ row }
         ensures spec { self.new.spec ≡ self.old.spec }
         ensures tally { self.new.tally ≡ self.old.tally }
         ensures processed { StaysSo event.now line (λ fed. StandsAfter self.old fed self.old.broken) (λ fed. StandsAfter self.new fed self.new.broken) }
@@ -197,15 +213,6 @@ impl Room {
         let followed = follow(&mut self.processes, &self.spec, event);
         if followed.is_err() {
             self.broken = Some(line);
-        }
-    }
-
-    /// Has the row show what process `p` has written.
-    fn show(&mut self, p: usize, v: u32)
-        ensures { self.new ≡ self.old }
-    {
-        if let Some(row) = &mut self.row {
-            row.write(p, v);
         }
     }
 
@@ -226,5 +233,15 @@ impl Room {
             None => Some(TaskVerdict::Holds),
             Some(line) => Some(TaskVerdict::Broken(line)),
         }
+    }
+}
+
+/// Has a room's row show what process `p` has written.
+fn show(row: &mut Option<Box<Row>>, p: usize, v: u32)
+    ensures { (last : List (Option ℕ)) → MayShowLasts last (option_map (λ row. row.value) row.old) →
+        MayShowLasts (slice_set last p (Some v)) (option_map (λ row. row.value) row.new) }
+{
+    if let Some(row) = row {
+        row.write(p, v);
     }
 }

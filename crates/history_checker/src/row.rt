@@ -1,6 +1,6 @@
 //! What a snapshot of a room shows now, as values and as the text that says them.
-ghost use Rattle.std.specs.Prelude.{◌≡◌, ◌∷◌, ◌++◌, ◌+◌, ◌≤◌, ◌<◌, IsTrue, IfOk, OnErr, OnOk, length, map, sum, take, drop, decimal, [], Some, slice_set};
-ghost use Rattle.history_checker.specs.Shown.{IsShown, SaysRow, before};
+ghost use Rattle.std.specs.Prelude.{◌≡◌, ◌∷◌, ◌++◌, ◌+◌, ◌≤◌, ◌<◌, IsTrue, IfOk, OnErr, OnOk, length, map, sum, take, drop, decimal, [], ℕ, List, Option, None, Some, option_map, replicate, slice_set};
+ghost use Rattle.history_checker.specs.Shown.{IsShown, MayShowLasts, SaysRow, ShowsLasts, before};
 
 use arrayvec::ArrayVec;
 use itoa::Buffer;
@@ -42,6 +42,7 @@ impl Row {
     /// The row of a room of many processes that have not written.
     pub(crate) fn of_many(alloc: Global, n: usize) -> Result<Option<Box<Row>>, AllocError>
         requires { n ≤ MAX_PROCESSES }
+        ensures { IfOk result (λ row. MayShowLasts (replicate n None) (option_map (λ row. row.value) row)) }
     {
         if n < MANY {
             return Ok(None);
@@ -52,6 +53,7 @@ impl Row {
     /// The row of `n` processes that have not written.
     pub(crate) fn open(alloc: Global, n: usize) -> Result<Row, AllocError>
         requires { n ≤ MAX_PROCESSES }
+        ensures { IfOk result (λ row. row ≡ replicate n None) }
     {
         let mut row = Row {
             last: View::new(),
@@ -75,16 +77,17 @@ impl Row {
         }
     }
 
-    pub(crate) fn entries(&self) -> Result<View, AllocError>
-        ensures entries { IfOk result (λ view. view.items ≡ self.now) }
-        ensures few { IfOk result (λ view. length view.items ≤ MAX_PROCESSES) }
+    /// What it shows.
+    pub(crate) fn last(&self) -> &View
+        ensures last { result.now.items ≡ self.now }
+        ensures few { length self.now ≤ MAX_PROCESSES }
     {
-        self.last.clone()
+        &self.last
     }
 
     fn add_silent(&mut self) -> Result<(), AllocError>
         requires { length self.old < MAX_PROCESSES }
-        ensures { OnOk result (length self.new ≡ length self.old + 1) }
+        ensures { OnOk result (self.new ≡ self.old ++ None ∷ []) }
     {
         self.text.extend_from_slice(b" .")?;
         self.widths.push(2);
@@ -93,16 +96,29 @@ impl Row {
     }
 
     /// Process `p` has written the value.
-    pub(crate) fn write(&mut self, p: usize, value: u32) {
-        if p < self.last.len() && self.put(p, value).is_err() {
-            self.last.clear();
-            self.text.clear();
-            self.widths.clear();
+    pub(crate) fn write(&mut self, p: usize, value: u32)
+        ensures { (lasts : List (Option ℕ)) → ShowsLasts lasts self.old → ShowsLasts (slice_set lasts p (Some value)) self.new }
+    {
+        if p >= self.last.len() {
+            return;
         }
+        if self.put(p, value).is_err() {
+            self.hide();
+        }
+    }
+
+    /// Shows nothing from now on.
+    fn hide(&mut self)
+        ensures { self.new ≡ [] }
+    {
+        self.last.clear();
+        self.text.clear();
+        self.widths.clear();
     }
 
     fn put(&mut self, p: usize, value: u32) -> Result<(), AllocError>
         requires { p < length self.old }
+        ensures { OnOk result (self.new ≡ slice_set self.old p (Some value)) }
     {
         let start = before(self.widths.as_slice(), p);
         let end = start + usize::from(self.widths[p]);

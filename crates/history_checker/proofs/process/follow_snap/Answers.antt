@@ -1,26 +1,31 @@
 use Rattle.std.proofs.Common.{◌∙◌, sym, arith, refl}
+use Rattle.std.proofs.Math.Seq.{map-set_same}
+use Rattle.history_checker.specs.declared.process.Process.{Process}
 use Rattle.history_checker.proofs.Tracking.{snap_follows}
 use Rattle.history_checker.proofs.Breaking.{snap_undue, entry_differs}
 use Rattle.history_checker.proofs.process.follow_snap.Goals as goal
 
-pub returns-then-not-is_snap : goal.returns-then-not-is_snap
-returns-then-not-is_snap c =
+pub returns-then-not-is_snap-clause-follows : goal.returns-then-not-is_snap-clause-follows
+returns-then-not-is_snap-clause-follows c =
     λ before tracks. (
       snap_undue c.args.spec.now c.args.processes.now before c.args.p c.args.row.now _ tracks (omega arith) (omega (arith, c.len.ensures.value))
           (λ due. let yes = c.if-not-is_snap.ensures.1 due in absurd cc),
       refl,
     )
 
-pub returns-in-Some : goal.returns-in-Some
-returns-in-Some c =
+pub returns-in-Some-clause-follows : goal.returns-in-Some-clause-follows
+returns-in-Some-clause-follows c =
     λ before tracks. (
       entry_differs c.args.spec.now c.args.processes.now before c.args.p c.args.row.now _ c.in-Some.q tracks (omega arith) (omega (arith, c.len.ensures.value))
           (c.if-not-is_snap.ensures.0 refl) (rw c.as_slice.ensures.value at c.in-Some.ensures),
       refl,
     )
 
-pub returns : goal.returns
-returns c =
+pub returns-clause-follows : goal.returns-clause-follows
+returns-clause-follows c =
     λ before tracks. rw (c.of.ensures, c.next-action.ensures, c.protocol.ensures, c.from-round.ensures)
     (snap_follows c.args.spec.now c.args.processes.now before c.args.p c.args.row.now _ tracks (omega arith) (c.if-not-is_snap.ensures.0 refl)
     (sym c.as_slice.ensures.value ∙ c.in_default.ensures))
+
+pub returns-clause-lasts : goal.returns-clause-lasts
+returns-clause-lasts c = map-set_same (λ (process : Process). process.last) c.args.processes.now c.args.p _ _ refl

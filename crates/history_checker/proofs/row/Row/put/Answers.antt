@@ -1,4 +1,4 @@
-use Rattle.std.proofs.Common.{rules, length-set, ◌≡◌, ◌+◌, ◌<◌, ◌∙◌, length, slice_index_or, slice_set, take, drop, decimal, Some, suc, ◌++◌, ◌∷◌, arith, ap}
+use Rattle.std.proofs.Common.{rules, ℕ, List, Option, length-set, ◌≡◌, ◌+◌, ◌<◌, ◌∙◌, length, slice_index_or, slice_set, take, drop, decimal, Some, suc, ◌++◌, ◌∷◌, arith, ap}
 use Rattle.std.proofs.lemmas.Grind.{common_steps}
 use Rattle.std.specs.List.{refill}
 use Rattle.history_checker.specs.Shown.{before}
@@ -41,3 +41,8 @@ invariant_of-self-2 c =
     let others : refill (length widths) widths (slice_set c.deref_mut.result.now c.args.p (length digits + 1)) ≡ slice_set widths c.args.p (suc (length (decimal c.args.value))) =
     rw (c.deref_mut.ensures.value, longer) (refilled widths (slice_set widths c.args.p (suc (length (decimal c.args.value)))) (length-set widths c.args.p (suc (length (decimal c.args.value))))) in
     rw (entries, others) shown
+
+pub returns : goal.returns
+returns c =
+    let last = c.self.inside.last.items in
+    rw (c.deref_mut-2.ensures.value) (refilled last (slice_set last c.args.p (Some c.args.value)) (same_length last c.args.p c.args.value)) ∙ ap (λ (row : List (Option ℕ)). slice_set row c.args.p (Some c.args.value)) c.self.view_is
