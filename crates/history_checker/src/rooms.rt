@@ -1,8 +1,5 @@
 //! Verdicts on many rooms, whose events come mixed.
-ghost use Rattle.std.specs.Prelude.{◌≡◌, ◌↔◌, List, true, false, length, [], ◌∷◌, ◌++◌, IsTrue, IsFalse, IsOk, IfErr, IsErrOf, OnOk, OnErr, None, Some, MatchOption, IfSome, IsSomeAnd, is_some, option_map, slice_get};
-ghost use Rattle.std.specs.List.{position};
-ghost use Rattle.std.specs.Str.{bytes_eq};
-ghost use Rattle.room_spec.specs.Names.{is_name};
+ghost use Rattle.std.specs.Prelude.{◌≡◌, ◌↔◌, List, false, length, [], ◌∷◌, ◌++◌, IsTrue, IsFalse, IsOk, IfErr, IsErrOf, OnOk, OnErr, None, Some, MatchOption, IsSomeAnd, option_map, slice_get};
 ghost use Rattle.room_spec.specs.Rooms.{RoomSpec};
 ghost use Rattle.history_checker.specs.Verdicts.{FedEvent, HasProcessed, IsVerdict, IsTaskAnswer, specs_of, names_of, has_room, fed_to};
 ghost use Rattle.history_checker.specs.Shown.{HasFed, IsUnfed};
@@ -14,7 +11,7 @@ use indexmap::IndexMap;
 use room_spec::{Name, Spec, Spelled};
 use std::alloc::{AllocError, Global};
 use std::marker::Model;
-use transcript::{Event, EventLine, LineFault};
+use transcript::{Event, EventLine};
 
 /// Rooms in order of adding, each with what its events so far leave it to expect. A room's verdict
 /// rests on the events that were fed under its name alone.
@@ -89,10 +86,13 @@ impl Rooms {
             → HasProcessed self.new (fed ++ record { name = name.now; event = event.now; line = line } ∷ [])) }
         ensures err { OnErr result (self.new ≡ self.old) }
     {
-        let Some(index) = self.index_of(name) else {
+        let Some(index) = self.rooms.get_index_of(name) else {
             return Err(NoRoom);
         };
-        self.feed_at(index, name.as_str().as_bytes(), event, line);
+        let Some(room) = self.rooms.get_index_mut(index) else {
+            unreachable!() // the name was found at this index
+        };
+        room.feed(event, line);
         Ok(())
     }
 
@@ -105,54 +105,18 @@ impl Rooms {
         ensures fault { IfErr result (IsUnfed line.now (specs_of self.old)) }
         ensures err { OnErr result (self.new ≡ self.old) }
     {
-        let name = line.name();
-        let Some(index) = self.index_spelled(name) else {
+        let bytes = line.name();
+        let Some(index) = self.rooms.get_index_of(Spelled { bytes }) else {
             return Err(fault_of_stray(line));
         };
         let Some(room) = self.rooms.get_index_mut(index) else {
             unreachable!() // the name was found at this index
         };
+        let _ = room.spec.name().as_str(); // for the proof: a room's name is a name
         if let Err(fault) = room.feed_line(line, number) {
             return Err(FeedFault::BadLine(fault));
         }
         Ok(())
-    }
-
-    /// The index of the room of this name.
-    fn index_of(&self, name: &Name) -> Option<usize>
-        ensures index { result ≡ position (bytes_eq name.now) (names_of (specs_of self.now)) }
-        ensures found { is_some result ≡ has_room name.now (specs_of self.now) }
-    {
-        self.rooms.get_index_of(name)
-    }
-
-    /// The index of the room whose name these bytes are.
-    fn index_spelled(&self, bytes: &[u8]) -> Option<usize>
-        ensures index { result ≡ position (bytes_eq bytes.now) (names_of (specs_of self.now)) }
-        ensures found { is_some result ≡ has_room bytes.now (specs_of self.now) }
-        ensures name { IfSome result (λ index. is_name bytes.now ≡ true) }
-    {
-        let index = self.rooms.get_index_of(Spelled { bytes })?;
-        let Some((_, room)) = self.rooms.get_index(index) else {
-            unreachable!() // the name was found at this index
-        };
-        let _ = room.spec.name().as_str(); // for the proof: a room's name is a name
-        Some(index)
-    }
-
-    /// Feeds the room of this index, which has this name, an event.
-    //
-    // For the proof: `name`.
-    fn feed_at(&mut self, index: usize, name: &[u8], event: &Event, line: u64)
-        requires { position (bytes_eq name.now) (names_of (specs_of self.old)) ≡ Some index }
-        ensures rooms { specs_of self.new ≡ specs_of self.old }
-        ensures processed { (fed : List FedEvent) → HasProcessed self.old fed
-            → HasProcessed self.new (fed ++ record { name = name.now; event = event.now; line = line } ∷ []) }
-    {
-        let Some(room) = self.rooms.get_index_mut(index) else {
-            unreachable!() // the name was found at this index
-        };
-        room.feed(event, line);
     }
 
     /// How many rooms there are.

@@ -1,10 +1,11 @@
-use Rattle.std.proofs.Common.{◌≡◌, ◌∙◌, ℕ, List, true, refl, sym, ap, subst}
+use Rattle.std.proofs.Common.{◌≡◌, ◌∙◌, ℕ, List, Some, true, refl, sym, ap, subst}
 use Rattle.std.specs.List.{position}
 use Rattle.std.specs.Str.{bytes_eq}
+use Rattle.std.proofs.lemmas.Slice.Eq.{bytes_eq-Decides}
 use Rattle.room_spec.specs.Names.{is_name}
-use Rattle.history_checker.specs.Verdicts.{FedEvent, HasProcessed, RoomState, fed_to, has_room, names_of, specs_of}
-use Rattle.history_checker.proofs.RoomLists.{specs-with_room, same-with_room, IsKeyed-with_room, HasProcessed-with_room}
-use Rattle.history_checker.proofs.SaidLines.{said_named}
+use Rattle.history_checker.specs.Verdicts.{FedEvent, HasProcessed, RoomState, fed_to, has_room, specs_of}
+use Rattle.history_checker.proofs.RoomLists.{has_room-lookup, keys_in, own_name, specs-with_room, same-with_room, IsKeyed-with_room, HasProcessed-with_room}
+use Rattle.history_checker.proofs.SaidLines.{said_named, fault_named}
 use Rattle.history_checker.proofs.rooms.Rooms.feed_line.Goals as goal
 
 pub invariant_of-self : goal.invariant_of-self
@@ -33,19 +34,36 @@ returns-clause-fed c =
     let index = c.in-Some.index in
     let room = c.in-Some-get_index_mut.room.now in
     let feeds = c.in_default-feed_line.ensures.fed in
-    let line_name = c.args.line.now.name in
-    let spelled : c.name-name.result.now ≡ line_name = c.name-name.ensures in
-    let named : is_name line_name ≡ true = ap is_name (sym spelled) ∙ c.in-Some.ensures.name in
-    let one : FedEvent = record { name = line_name; event = feeds.event; line = c.args.number } in
-    let place = ap (λ (n : List ℕ). position (bytes_eq n) (names_of (specs_of c.args.self.now))) (sym spelled) ∙ sym c.in-Some.ensures.index in
-    let found = ap (position (bytes_eq line_name)) (c.self.invariant ∙ ap (λ (rooms : List RoomState). names_of (specs_of rooms)) c.self.view_is) ∙ place in
+    let name = c.args.line.now.name in
+    let there = sym c.in-Some-get_index_mut.ensures.value in
+    let found : position (bytes_eq name) (keys_in entries) ≡ Some index = ap (λ (n : List ℕ). position (bytes_eq n) (keys_in entries)) (sym c.name-bytes.ensures) ∙ sym c.in-Some.ensures.index in
+    let same : name ≡ room.spec.name = (bytes_eq-Decides name room.spec.name).0 (own_name name entries index room c.self.invariant found there) in
+    let named : is_name name ≡ true = subst (λ (n : List ℕ). is_name n ≡ true) (c.name.ensures ∙ ap (λ (r : RoomState). r.spec.name) c.room.view_is ∙ sym same) c.as_str.ensures.rule in
+    let known = c.in-Some.ensures.found ∙ sym (has_room-lookup c.name-bytes.result.now entries c.self.invariant) ∙ ap (λ (rooms : List RoomState). has_room c.name-bytes.result.now (specs_of rooms)) c.self.view_is in
+    let one : FedEvent = record { name = name; event = feeds.event; line = c.args.number } in
     record {
       one = one;
       said = said_named c.args.line.now feeds.event named (sym feeds.said);
-      known = ap (λ (n : List ℕ). has_room n (specs_of c.args.self.now)) (sym spelled) ∙ sym c.in-Some.ensures.found;
+      known = ap (λ (n : List ℕ). has_room n (specs_of c.args.self.now)) (sym c.name-bytes.ensures) ∙ sym known;
       numbered = refl;
       processed = λ fed processed.
-          HasProcessed-with_room entries index room c.feed_line.new.self fed one c.self.invariant c.in-Some-get_index_mut.ensures.unique found (sym c.in-Some-get_index_mut.ensures.value) c.feed_line.ensures.spec
+          HasProcessed-with_room entries index room c.feed_line.new.self fed one c.self.invariant c.in-Some-get_index_mut.ensures.unique found there c.feed_line.ensures.spec
           (feeds.processed (fed_to room.spec.name fed) one refl refl)
           (subst (λ rooms. HasProcessed rooms fed) (sym c.self.view_is) processed);
     }
+
+pub returns-in_default-clause-fault : goal.returns-in_default-clause-fault
+returns-in_default-clause-fault c =
+    let bytes = c.name-bytes.result.now in
+    let unknown = c.in_default.ensures.found ∙ sym (has_room-lookup bytes c.self.inside.rooms.entries c.self.invariant) ∙ ap (λ (rooms : List RoomState). has_room bytes (specs_of rooms)) c.self.view_is in
+    c.fault_of_stray.ensures (specs_of c.args.self.now) (ap (λ (n : List ℕ). has_room n (specs_of c.args.self.now)) (sym c.name-bytes.ensures) ∙ sym unknown)
+
+pub returns-in-Err-clause-fault : goal.returns-in-Err-clause-fault
+returns-in-Err-clause-fault c =
+    let entries = c.self.inside.rooms.entries in
+    let room = c.in-Some-get_index_mut.room.now in
+    let name = c.args.line.now.name in
+    let found : position (bytes_eq name) (keys_in entries) ≡ Some c.in-Some.index = ap (λ (n : List ℕ). position (bytes_eq n) (keys_in entries)) (sym c.name-bytes.ensures) ∙ sym c.in-Some.ensures.index in
+    let same : name ≡ room.spec.name = (bytes_eq-Decides name room.spec.name).0 (own_name name entries c.in-Some.index room c.self.invariant found (sym c.in-Some-get_index_mut.ensures.value)) in
+    let named : is_name name ≡ true = subst (λ (n : List ℕ). is_name n ≡ true) (c.name.ensures ∙ ap (λ (r : RoomState). r.spec.name) c.room.view_is ∙ sym same) c.as_str.ensures.rule in
+    fault_named c.args.line.now c.in-Err.fault named (sym c.in-Err.ensures.fault)
