@@ -3,7 +3,7 @@ use Rattle.std.specs.Prelude.{◌≡◌, ℕ, ◌≤◌, ◌<◌, List, [], ◌+
 use Rattle.history_checker.specs.Verdicts.{FedEvent}
 use Rattle.io_text.specs.Reading.{most_bytes}
 use Rattle.room_files.specs.Blocks.{Setup}
-use Rattle.room_files.specs.Inputs.{input_says}
+use Rattle.room_files.specs.Inputs.{input_says, with_code}
 use Rattle.room_files.specs.Verdicts.{IsOutput}
 use Rattle.room_files.specs.declared.outcome.Outcome.{Outcome}
 use Rattle.bgsim_console.specs.declared.fault.IoFault.{IoFault}
@@ -21,7 +21,7 @@ IsPartFor input part = (outcome : Outcome) × (rest : List ℕ) × IsOutputFor i
 abbrev pub IsAnswer : List ℕ → Result Outcome IoFault → List ℕ → Type 0
 IsAnswer input (Ok outcome) output = (length input ≤ most_bytes) × IsOutputFor input outcome output
 IsAnswer input (Err TooLong) output = (most_bytes < length input) × (output ≡ [])
-IsAnswer input (Err (BadInput line code)) output = (length input ≤ most_bytes) × (input_says input ≡ Err (line, code)) × (output ≡ [])
+IsAnswer input (Err (BadInput line code)) output = (length input ≤ most_bytes) × (with_code (input_says input) ≡ Err (line, code)) × (output ≡ [])
 IsAnswer input (Err Memory) output = output ≡ []
 IsAnswer input (Err Incomplete) output = ⊥
 IsAnswer input (Err Read) output = output ≡ []

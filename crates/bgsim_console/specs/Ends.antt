@@ -12,6 +12,7 @@ use Rattle.io_text.specs.declared.fault.DeviceFault.TheVariants as devices
 use Rattle.room_files.specs.declared.outcome.Outcome.{Outcome}
 use Rattle.room_files.specs.declared.fault.InputFault.{InputFault}
 use Rattle.room_files.specs.declared.fault.InputFault.TheVariants as inputs
+use Rattle.room_files.specs.Faults.{text_code}
 use Rattle.room_files.specs.Verdicts.{outcome_status}
 use Rattle.bgsim_console.specs.declared.fault.IoFault.{IoFault}
 use Rattle.bgsim_console.specs.declared.fault.IoFault.TheVariants.{Read, Write, TooLong, BadInput, Incomplete, Run, Memory}
@@ -56,7 +57,7 @@ device_fault devices.Memory = Memory
 
 -- an input's fault ends an engine
 abbrev pub input_fault : InputFault → IoFault
-input_fault (inputs.BadInput line code) = BadInput line code
+input_fault (inputs.BadInput line fault) = BadInput line (text_code fault)
 input_fault inputs.Memory = Memory
 
 -- the end of an answer that was written: memory may have been refused to a part of its script

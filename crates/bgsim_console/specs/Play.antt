@@ -3,6 +3,7 @@ use Rattle.std.specs.Prelude.{◌≡◌, ℕ, ◌<◌, ◌≤◌, List, [], ◌+
 use Rattle.std.specs.declared.alloc.AllocError.{AllocError}
 use Rattle.io_text.specs.Reading.{most_bytes}
 use Rattle.script_play.specs.Script.{script_says}
+use Rattle.room_files.specs.Inputs.{with_code}
 use Rattle.room_files.specs.declared.outcome.Outcome.{Outcome}
 use Rattle.script_play.specs.Play.{IsPlayFor}
 use Rattle.bgsim_console.specs.declared.fault.IoFault.{IoFault}
@@ -17,7 +18,7 @@ IsPlayPart input part = (ending : Result Outcome AllocError) × (rest : List ℕ
 abbrev pub IsPlayed : List ℕ → Result Outcome IoFault → List ℕ → Type 0
 IsPlayed input (Ok outcome) output = (length input ≤ most_bytes) × IsPlayFor input (Ok outcome) output
 IsPlayed input (Err TooLong) output = (most_bytes < length input) × (output ≡ [])
-IsPlayed input (Err (BadInput line code)) output = (length input ≤ most_bytes) × (script_says input ≡ Err (line, code)) × (output ≡ [])
+IsPlayed input (Err (BadInput line code)) output = (length input ≤ most_bytes) × (with_code (script_says input) ≡ Err (line, code)) × (output ≡ [])
 IsPlayed input (Err Memory) output = output ≡ []
 IsPlayed input (Err Incomplete) output = (length input ≤ most_bytes) × IsPlayFor input (Err alloc_error) output
 IsPlayed input (Err Read) output = output ≡ []

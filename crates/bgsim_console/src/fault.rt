@@ -75,7 +75,10 @@ impl From<InputFault> for IoFault {
 
     fn from(fault: InputFault) -> IoFault {
         match fault {
-            InputFault::BadInput { line, code } => IoFault::BadInput { line, code },
+            InputFault::BadInput { line, fault } => IoFault::BadInput {
+                line,
+                code: fault.code(),
+            },
             InputFault::Memory => IoFault::Memory,
         }
     }

@@ -1,5 +1,5 @@
-//! Printed protocols, and the messages of faults, which no input can show.
-use protocol_lang::{ParseFault, parse, print};
+//! Printed protocols, which no input can show.
+use protocol_lang::{parse, print};
 use std::alloc::{AllocError, Global};
 use std::test::*;
 
@@ -70,29 +70,5 @@ fn long_chains(rt: HostRuntime) -> Result<(), Fail> {
 fn most_rules(rt: HostRuntime) -> Result<(), Fail> {
     let text = repeated(rt.alloc(), "first1;", "when1==1write1;", 32, "else write1;")?;
     assert!(rt; stays(rt.alloc(), &text)?);
-    Ok(())
-}
-
-#[test]
-fn messages(rt: HostRuntime) -> Result<(), Fail> {
-    for (fault, text) in [
-        (ParseFault::TooLong, "the protocol has more than 4096 bytes"),
-        (ParseFault::BadToken(7), "no token at byte 7"),
-        (ParseFault::Unexpected(7), "unexpected token at byte 7"),
-        (
-            ParseFault::TooDeep(7),
-            "more than 32 open parentheses at byte 7",
-        ),
-        (ParseFault::TooManyRules, "more than 32 rules"),
-        (
-            ParseFault::ViewInFirst(7),
-            "the first value can't read the view, at byte 7",
-        ),
-        (ParseFault::NumberTooLarge(7), "number too large at byte 7"),
-        (ParseFault::OutOfMemory, "out of memory"),
-    ] {
-        let found = format!(in rt.alloc(); "{fault}")?;
-        assert_eq!(rt; found.as_str(), text);
-    }
     Ok(())
 }

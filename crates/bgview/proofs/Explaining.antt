@@ -13,6 +13,7 @@ use Rattle.transcript.specs.declared.event.Event.{Event}
 use Rattle.transcript.specs.Runs.{IsFirstBreak, IsRun}
 use Rattle.history_checker.specs.Verdicts.{FedEvent, IsTaskAnswer, IsVerdict, events_of, fed_to}
 use Rattle.room_files.specs.Blocks.{Setup}
+use Rattle.room_files.specs.Faults.{FaultAt}
 use Rattle.room_files.specs.Inputs.{events_behind, fed_from}
 use Rattle.room_files.specs.Lines.{text_lines}
 use Rattle.room_files.specs.Verdicts.{IsJustified, Judged, is_well, outcome_if}
@@ -115,6 +116,6 @@ all_said input refusals rooms fed count output well outcome all_of outcome_is so
 }
 
 -- what an input says whose blocks and events were read
-pub says : (read : Result (Setup × List ℕ) (ℕ × ℕ)) (setup : Setup) (transcript : List ℕ) (fed : List FedEvent) → read ≡ Ok (setup, transcript) → fed_from setup.rooms [] setup.line (text_lines transcript) ≡ Ok fed
+pub says : (read : Result (Setup × List ℕ) FaultAt) (setup : Setup) (transcript : List ℕ) (fed : List FedEvent) → read ≡ Ok (setup, transcript) → fed_from setup.rooms [] setup.line (text_lines transcript) ≡ Ok fed
     → events_behind read ≡ Ok (setup, fed)
 says read setup transcript fed is fed_is = rw (is, fed_is) refl

@@ -11,6 +11,7 @@ use Rattle.transcript.specs.declared.event.Event.{Event}
 use Rattle.transcript.specs.declared.fault.LineFault.{LineFault}
 use Rattle.history_checker.specs.Verdicts.{FedEvent, has_room}
 use Rattle.room_files.specs.Blocks.{IsFaultOr, Setup, no_blocks, pass_lines}
+use Rattle.room_files.specs.Faults.{FaultAt}
 use Rattle.room_files.specs.Inputs.{BeginsWithBlock, MayLackMemory, blocks_from, blocks_in, fed_from, input_says, next_block, of_known_room}
 use Rattle.room_files.specs.declared.fault.InputFault.{InputFault}
 use Rattle.room_files.specs.declared.fault.InputFault.TheVariants.{BadInput, Memory}
@@ -21,10 +22,10 @@ pub known : (rooms : List RoomSpec) (line : ℕ) (said : Result (List ℕ × Eve
 known rooms line said read is there = rw (is, there) refl
 
 -- the first fault of a line is that of all
-pub fault_told : (lacks : Type 0) (rooms : List RoomSpec) (fed : List FedEvent) (line : ℕ) (text : List ℕ) (texts : List (List ℕ)) (whole : Result (List FedEvent) (ℕ × ℕ)) (fault : InputFault)
+pub fault_told : (lacks : Type 0) (rooms : List RoomSpec) (fed : List FedEvent) (line : ℕ) (text : List ℕ) (texts : List (List ℕ)) (whole : Result (List FedEvent) FaultAt) (fault : InputFault)
     → whole ≡ fed_from rooms fed line (text ∷ texts) → IsFaultOr lacks (of_known_room rooms line (line_in text)) fault → IsFaultOr lacks whole fault
 fault_told lacks rooms fed line text texts whole Memory is bad = bad
-fault_told lacks rooms fed line text texts whole (BadInput at code) is bad = is ∙ fed_fault rooms fed line text texts (at, code) bad
+fault_told lacks rooms fed line text texts whole (BadInput at wrong) is bad = is ∙ fed_fault rooms fed line text texts (at, wrong) bad
 
 -- where a room is, there are rooms
 pub has_some : (name : List ℕ) (rooms : List RoomSpec) → has_room name rooms ≡ true → rooms ≢ []
@@ -32,11 +33,11 @@ has_some name rooms has none = let bad = sym has ∙ ap (has_room name) none in 
 
 -- ---- want of memory
 
-begins_by : (later : Setup → List ℕ → Result (Setup × List ℕ) (ℕ × ℕ)) (input : List ℕ) (is_events : Bool) (found : Option ℕ) (setup : Setup) (rest : List ℕ)
+begins_by : (later : Setup → List ℕ → Result (Setup × List ℕ) FaultAt) (input : List ℕ) (is_events : Bool) (found : Option ℕ) (setup : Setup) (rest : List ℕ)
     → (if is_events then Ok (pass_lines 1 no_blocks, later_lines input) else next_block later no_blocks input found) ≡ Ok (setup, rest) → setup.rooms ≢ [] → (is_events ≡ false) × IsSome found
-begins_by later input true found setup rest is some = absurd (some (ap (λ (r : Result (Setup × List ℕ) (ℕ × ℕ)). rooms_read r) (sym is)))
+begins_by later input true found setup rest is some = absurd (some (ap (λ (r : Result (Setup × List ℕ) FaultAt). rooms_read r) (sym is)))
   where
-    rooms_read : Result (Setup × List ℕ) (ℕ × ℕ) → List RoomSpec
+    rooms_read : Result (Setup × List ℕ) FaultAt → List RoomSpec
     rooms_read (Ok read) = read.0.rooms
     rooms_read (Err fault) = []
 begins_by later input false None setup rest is some = absurd cc
@@ -51,4 +52,4 @@ begins input setup rest is some = begins_by (blocks_from (length input)) input (
 pub events_fault : (input : List ℕ) (setup : Setup) (rest : List ℕ) (fault : InputFault) → blocks_in input ≡ Ok (setup, rest) → IsFaultOr (setup.rooms ≢ []) (fed_from setup.rooms [] setup.line (text_lines rest)) fault
     → IsFaultOr (MayLackMemory input) (input_says input) fault
 events_fault input setup rest Memory is some = inl (begins input setup rest is some)
-events_fault input setup rest (BadInput line code) is bad = rw (is, bad) refl
+events_fault input setup rest (BadInput line fault) is bad = rw (is, bad) refl

@@ -13,13 +13,13 @@ use Rattle.service_core.specs.declared.reply.Reply.{Reply}
 use Rattle.service_core.specs.declared.reply.Reply.TheVariants.{Begun, Steps, Crash, Settled, Report, Closed, Refused}
 use Rattle.service_core.specs.declared.reply.Refusal.{Refusal}
 use Rattle.service_core.specs.declared.reply.Refusal.TheVariants.{NoRoom, NameTaken, NoSimulator, OutOfMemory}
-use Rattle.service_core.specs.Replies.{name_in, refusal_code}
+use Rattle.service_core.specs.Replies.{name_in, refusal_sentence}
 use Rattle.service_core.specs.Rooms.{Applies, Entries, room_at, steps_of}
 use Rattle.script_play.specs.Play.{Done, DoesMore, IsPerformed, IsPlay, Replied, done_text, refusal_in}
 use Rattle.script_play.specs.ReplyTexts.{reply_to_command}
 use Rattle.step_words.specs.Told.{IsTold, Telling, nothing_told}
 use Rattle.bgview.specs.Trace.{AreNoted, AreNotesOn, HasTraced, IsNoted, IsTraceFor, Noted, noted_text, notes_after}
-use Rattle.fault_text.specs.Lines.{indented, sentence}
+use Rattle.fault_text.specs.Lines.{indented}
 
 noted-push : (rooms between after : Entries) (noted : List Noted) (one : Noted) → AreNoted rooms noted between → IsNoted one.done one.notes between after → AreNoted rooms (noted ++ one ∷ []) after
 noted-push rooms between after [] one is more = (after, subst (λ (r : Entries). IsNoted one.done one.notes r after) (sym is) more, refl)
@@ -77,13 +77,13 @@ traced_command rooms after output middle now command reply telling applies told 
 
 -- a command was refused
 pub refused_command : (rooms after : Entries) (output middle now : List ℕ) (command : Command) (refusal : Refusal) → Applies rooms command (Refused refusal) after → middle ≡ output ++ reply_to_command command (Refused refusal)
-    → now ≡ middle ++ indented (sentence (refusal_code refusal)) → IsPerformed rooms (HasTraced rooms output) command (Some refusal) after (HasTraced after now)
+    → now ≡ middle ++ indented (refusal_sentence refusal) → IsPerformed rooms (HasTraced rooms output) command (Some refusal) after (HasTraced after now)
 refused_command rooms after output middle now command refusal applies first second = record {
   reply = Refused refusal;
   applies = applies;
   refusal_is = refl;
-  done = traced-push rooms after output now (indented (sentence (refusal_code refusal))) (Replied command (Refused refusal)) (applies, refl)
-      (second ∙ ap (λ (t : List ℕ). t ++ indented (sentence (refusal_code refusal))) first ∙ append_assoc output (reply_to_command command (Refused refusal)) (indented (sentence (refusal_code refusal))));
+  done = traced-push rooms after output now (indented (refusal_sentence refusal)) (Replied command (Refused refusal)) (applies, refl)
+      (second ∙ ap (λ (t : List ℕ). t ++ indented (refusal_sentence refusal)) first ∙ append_assoc output (reply_to_command command (Refused refusal)) (indented (refusal_sentence refusal)));
 }
 
 -- a block was refused

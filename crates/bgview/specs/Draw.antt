@@ -18,7 +18,7 @@ IsDrawnPart input part = (ending : Result Outcome AllocError) × (rest : List �
 abbrev pub IsDrawAnswer : List ℕ → Result Outcome ViewFault → List ℕ → Type 0
 IsDrawAnswer input (Ok outcome) output = (length input ≤ most_bytes) × IsDrawn input (Ok outcome) output
 IsDrawAnswer input (Err (Device TooLong)) output = (most_bytes < length input) × (output ≡ [])
-IsDrawAnswer input (Err (BadInput line code)) output = (length input ≤ most_bytes) × (script_says input ≡ Err (line, code)) × (output ≡ [])
+IsDrawAnswer input (Err (BadInput line fault)) output = (length input ≤ most_bytes) × (script_says input ≡ Err (line, fault)) × (output ≡ [])
 IsDrawAnswer input (Err Incomplete) output = (length input ≤ most_bytes) × IsDrawn input (Err alloc_error) output
 IsDrawAnswer input (Err (Device Memory)) output = output ≡ []
 IsDrawAnswer input (Err (Device Read)) output = output ≡ []

@@ -19,7 +19,7 @@ fault_status (Device Read) = 2
 fault_status (Device Write) = 2
 fault_status (Device TooLong) = 2
 fault_status Incomplete = 3
-fault_status (BadInput line code) = 2
+fault_status (BadInput line fault) = 2
 
 abbrev pub ending_status : Result Outcome ViewFault → ℕ
 ending_status (Ok outcome) = outcome_status outcome
@@ -39,7 +39,7 @@ words_status _ is_printed = 2
 
 -- the fault of an input ends the program
 abbrev pub input_fault : InputFault → ViewFault
-input_fault (inputs.BadInput line code) = BadInput line code
+input_fault (inputs.BadInput line fault) = BadInput line fault
 input_fault inputs.Memory = Device Memory
 
 -- the end of an answer that was written: memory may have been refused to a part of its script
@@ -55,7 +55,7 @@ is_read_failed (Err (Device Write)) = false
 is_read_failed (Err (Device TooLong)) = false
 is_read_failed (Err (Device Memory)) = false
 is_read_failed (Err Incomplete) = false
-is_read_failed (Err (BadInput line code)) = false
+is_read_failed (Err (BadInput line fault)) = false
 
 -- writing ended the answer
 abbrev pub is_write_failed : {A : Type 0} → Result A ViewFault → Bool
@@ -65,4 +65,4 @@ is_write_failed (Err (Device Write)) = true
 is_write_failed (Err (Device TooLong)) = false
 is_write_failed (Err (Device Memory)) = false
 is_write_failed (Err Incomplete) = false
-is_write_failed (Err (BadInput line code)) = false
+is_write_failed (Err (BadInput line fault)) = false

@@ -3,11 +3,11 @@ use Rattle.std.specs.Prelude.{◌≡◌, ℕ, List, [], ◌++◌, Option, Some, 
 use Rattle.std.specs.List.{flat_map, list_all}
 use Rattle.std.specs.Option.{option_map}
 use Rattle.protocol_lang.specs.Numbers.{number_of}
-use Rattle.fault_text.specs.Lines.{sentence_or_none}
 use Rattle.fault_words.specs.Words.{words_of}
 use Rattle.io_text.specs.declared.fault.DeviceFault.TheVariants.{Read, Write, TooLong, Memory}
 use Rattle.room_files.specs.Verdicts.{outcome_if}
 use Rattle.room_files.specs.declared.outcome.Outcome.{Outcome}
+use Rattle.bgview.specs.declared.faults.TheConstants.{NO_FAULT}
 use Rattle.bgview.specs.declared.fault.ViewFault.{ViewFault}
 use Rattle.bgview.specs.declared.fault.ViewFault.TheVariants.{BadInput, Device, Incomplete}
 
@@ -15,8 +15,12 @@ use Rattle.bgview.specs.declared.fault.ViewFault.TheVariants.{BadInput, Device, 
 abbrev pub said_by : List ℕ → Option (List ℕ)
 said_by text = option_and_then words_of (option_map (λ n. min n (2 ^ 32)) (number_of text))
 
+abbrev pub words_or_none : Option (List ℕ) → List ℕ
+words_or_none None = NO_FAULT.now
+words_or_none (Some words) = words
+
 abbrev pub fault_line : List ℕ → List ℕ
-fault_line text = text ++ (codes ": " ++ (sentence_or_none (said_by text) ++ codes "\n"))
+fault_line text = text ++ (codes ": " ++ (words_or_none (said_by text) ++ codes "\n"))
 
 -- all is well where each text is the number of a fault
 abbrev pub faults_outcome : List (List ℕ) → Outcome
@@ -30,4 +34,4 @@ AreFaultsSaid texts (Err (Device Memory)) output = output ≡ []
 AreFaultsSaid texts (Err (Device Write)) output = (rest : List ℕ) × (output ++ rest ≡ flat_map fault_line texts)
 AreFaultsSaid texts (Err (Device Read)) output = ⊥
 AreFaultsSaid texts (Err (Device TooLong)) output = ⊥
-AreFaultsSaid texts (Err (BadInput line code)) output = ⊥
+AreFaultsSaid texts (Err (BadInput line fault)) output = ⊥

@@ -11,12 +11,12 @@ abbrev pub AreNotes : {A : Type 0} → List ℕ → Result A ViewFault → List 
 AreNotes input (Ok value) old new = new ≡ old
 AreNotes input (Err (Device fault)) old new = new ≡ old
 AreNotes input (Err Incomplete) old new = new ≡ old
-AreNotes input (Err (BadInput line code)) old new = AreTranscriptFaults input new
+AreNotes input (Err (BadInput line fault)) old new = AreTranscriptFaults input new
 
 -- this is said wherever the input was read, unless an allocation failed
 abbrev pub AreSaid : {A : Type 0} → (List ℕ → Type 0) → Result A ViewFault → List ℕ → Type 0
 AreSaid said (Ok value) notes = said notes
-AreSaid said (Err (BadInput line code)) notes = said notes
+AreSaid said (Err (BadInput line fault)) notes = said notes
 AreSaid said (Err Incomplete) notes = said notes
 AreSaid said (Err (Device Write)) notes = said notes
 AreSaid said (Err (Device Read)) notes = ⊤

@@ -16,7 +16,7 @@ IsOutcomesPart search input part = (outcome : Outcome) × (rest : List ℕ) × I
 -- output is there; no input is bad
 abbrev pub IsOutcomesAnswer : Search → List ℕ → Result Outcome ViewFault → List ℕ → Type 0
 IsOutcomesAnswer search input (Ok outcome) output = (length input ≤ most_bytes) × IsOutcomesFor search input outcome output
-IsOutcomesAnswer search input (Err (BadInput line code)) output = ⊥
+IsOutcomesAnswer search input (Err (BadInput line fault)) output = ⊥
 IsOutcomesAnswer search input (Err Incomplete) output = ⊥
 IsOutcomesAnswer search input (Err (Device TooLong)) output = (most_bytes < length input) × (output ≡ [])
 IsOutcomesAnswer search input (Err (Device Memory)) output = output ≡ []

@@ -25,7 +25,7 @@ IsPagePart input part = (ending : Result Outcome AllocError) × (rest : List ℕ
 abbrev pub IsPageAnswer : List ℕ → Result Outcome ViewFault → List ℕ → Type 0
 IsPageAnswer input (Ok outcome) output = (length input ≤ most_bytes) × IsPageFor input (Ok outcome) output
 IsPageAnswer input (Err (Device TooLong)) output = (most_bytes < length input) × (output ≡ [])
-IsPageAnswer input (Err (BadInput line code)) output = (length input ≤ most_bytes) × (script_says input ≡ Err (line, code)) × (output ≡ [])
+IsPageAnswer input (Err (BadInput line fault)) output = (length input ≤ most_bytes) × (script_says input ≡ Err (line, fault)) × (output ≡ [])
 IsPageAnswer input (Err Incomplete) output = (length input ≤ most_bytes) × IsPageFor input (Err alloc_error) output
 IsPageAnswer input (Err (Device Memory)) output = output ≡ []
 IsPageAnswer input (Err (Device Read)) output = output ≡ []

@@ -30,7 +30,7 @@ IsSamplePart plan input part = (outcome : Outcome) × (rest : List ℕ) × IsSam
 -- output is there; no input is bad
 abbrev pub IsSampleAnswer : Plan → List ℕ → Result Outcome ViewFault → List ℕ → Type 0
 IsSampleAnswer plan input (Ok outcome) output = (length input ≤ most_bytes) × IsSampleFor plan input outcome output
-IsSampleAnswer plan input (Err (BadInput line code)) output = ⊥
+IsSampleAnswer plan input (Err (BadInput line fault)) output = ⊥
 IsSampleAnswer plan input (Err (Device TooLong)) output = (most_bytes < length input) × (output ≡ [])
 IsSampleAnswer plan input (Err Incomplete) output = ⊥
 IsSampleAnswer plan input (Err (Device Memory)) output = output ≡ []

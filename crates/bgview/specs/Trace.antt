@@ -4,19 +4,20 @@ use Rattle.std.specs.declared.alloc.AllocError.{AllocError}
 use Rattle.std.specs.List.{flat_map}
 use Rattle.io_text.specs.Reading.{most_bytes}
 use Rattle.io_text.specs.declared.fault.DeviceFault.TheVariants.{Read, Write, TooLong, Memory}
-use Rattle.room_spec.specs.Faults.{code_of}
+use Rattle.room_spec.specs.Faults.{sentence_of}
 use Rattle.room_core.specs.Calls.{RoomState}
 use Rattle.room_core.specs.Watching.{AreSeen, TakenStep}
 use Rattle.service_core.specs.declared.command.Command.{Command}
 use Rattle.service_core.specs.declared.reply.Reply.{Reply}
 use Rattle.service_core.specs.declared.reply.Reply.TheVariants.{Refused}
-use Rattle.service_core.specs.Replies.{name_in, refusal_code}
+use Rattle.service_core.specs.declared.reply.Refusal.TheVariants.{OutOfMemory}
+use Rattle.service_core.specs.Replies.{name_in, refusal_sentence}
 use Rattle.service_core.specs.Rooms.{Applies, Entries, room_at, steps_of}
 use Rattle.script_play.specs.Script.{Entry, script_says}
 use Rattle.room_files.specs.declared.outcome.Outcome.{Outcome}
 use Rattle.script_play.specs.Play.{AreDone, AreReplies, Done, Faulty, IsPlayText, Replied, Unread, commands_of, done_text, ending_of, replies_in}
 use Rattle.step_words.specs.Told.{IsTold, Telling, nothing_told}
-use Rattle.fault_text.specs.Lines.{indented, sentence}
+use Rattle.fault_text.specs.Lines.{indented}
 use Rattle.bgview.specs.declared.fault.ViewFault.{ViewFault}
 use Rattle.bgview.specs.declared.fault.ViewFault.TheVariants.{BadInput, Device, Incomplete}
 
@@ -33,14 +34,14 @@ pub record AreLinesOf (steps : List TakenStep) (lines : List ℕ) : Type 0 where
 
 -- under a reply: why the command was refused, or the steps that it took in the room of its name as it was then
 abbrev pub AreNotesOn : Option RoomState → Command → Reply → List ℕ → Type 0
-AreNotesOn room command (Refused refusal) notes = notes ≡ indented (sentence (refusal_code refusal))
+AreNotesOn room command (Refused refusal) notes = notes ≡ indented (refusal_sentence refusal)
 AreNotesOn room command reply notes = AreLinesOf (steps_of room command) notes
 
 -- What was done to these rooms has such notes, and leads to those.
 abbrev pub IsNoted : Done → List ℕ → Entries → Entries → Type 0
 IsNoted (Replied command reply) notes rooms after = Applies rooms command reply after × AreNotesOn (room_at rooms (name_in command)) command reply notes
-IsNoted (Faulty line fault) notes rooms after = (after ≡ rooms) × (notes ≡ indented (sentence (code_of fault)))
-IsNoted (Unread line) notes rooms after = (after ≡ rooms) × (notes ≡ indented (sentence 8))
+IsNoted (Faulty line fault) notes rooms after = (after ≡ rooms) × (notes ≡ indented (sentence_of fault))
+IsNoted (Unread line) notes rooms after = (after ≡ rooms) × (notes ≡ indented (refusal_sentence OutOfMemory))
 
 -- ---- a whole script
 
@@ -88,7 +89,7 @@ IsTracePart input part = (ending : Result Outcome AllocError) × (rest : List �
 abbrev pub IsTraced : List ℕ → Result Outcome ViewFault → List ℕ → Type 0
 IsTraced input (Ok outcome) output = (length input ≤ most_bytes) × IsTraceFor input (Ok outcome) output
 IsTraced input (Err (Device TooLong)) output = (most_bytes < length input) × (output ≡ [])
-IsTraced input (Err (BadInput line code)) output = (length input ≤ most_bytes) × (script_says input ≡ Err (line, code)) × (output ≡ [])
+IsTraced input (Err (BadInput line fault)) output = (length input ≤ most_bytes) × (script_says input ≡ Err (line, fault)) × (output ≡ [])
 IsTraced input (Err Incomplete) output = (length input ≤ most_bytes) × IsTraceFor input (Err alloc_error) output
 IsTraced input (Err (Device Memory)) output = output ≡ []
 IsTraced input (Err (Device Read)) output = output ≡ []
@@ -98,5 +99,5 @@ IsTraced input (Err (Device Write)) output = (length input ≤ most_bytes) × Is
 
 -- what is noted under a reply by somebody who was told of the steps
 abbrev pub notes_after : Reply → Telling → List ℕ
-notes_after (Refused refusal) telling = indented (sentence (refusal_code refusal))
+notes_after (Refused refusal) telling = indented (refusal_sentence refusal)
 notes_after reply telling = telling.lines

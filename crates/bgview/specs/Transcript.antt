@@ -18,7 +18,7 @@ IsTranscriptPart input part = (ending : Result Outcome AllocError) × (rest : Li
 abbrev pub IsTranscriptAnswer : List ℕ → Result Outcome ViewFault → List ℕ → Type 0
 IsTranscriptAnswer input (Ok outcome) output = (length input ≤ most_bytes) × IsTranscribed input (Ok outcome) output
 IsTranscriptAnswer input (Err (Device TooLong)) output = (most_bytes < length input) × (output ≡ [])
-IsTranscriptAnswer input (Err (BadInput line code)) output = (length input ≤ most_bytes) × (script_says input ≡ Err (line, code)) × (output ≡ [])
+IsTranscriptAnswer input (Err (BadInput line fault)) output = (length input ≤ most_bytes) × (script_says input ≡ Err (line, fault)) × (output ≡ [])
 IsTranscriptAnswer input (Err Incomplete) output = (length input ≤ most_bytes) × IsTranscribed input (Err alloc_error) output
 IsTranscriptAnswer input (Err (Device Memory)) output = output ≡ []
 IsTranscriptAnswer input (Err (Device Read)) output = output ≡ []

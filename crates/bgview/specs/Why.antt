@@ -98,7 +98,7 @@ IsPartFor input part = (outcome : Outcome) × (rest : List ℕ) × IsExplanation
 -- the answer to a whole input is an outcome, with its output, or a fault, with none; where writing failed a beginning of the output is there
 abbrev pub IsWhyAnswer : List ℕ → Result Outcome ViewFault → List ℕ → Type 0
 IsWhyAnswer input (Ok outcome) output = (length input ≤ most_bytes) × IsExplanationFor input outcome output
-IsWhyAnswer input (Err (BadInput line code)) output = (length input ≤ most_bytes) × (input_says input ≡ Err (line, code)) × (output ≡ [])
+IsWhyAnswer input (Err (BadInput line fault)) output = (length input ≤ most_bytes) × (input_says input ≡ Err (line, fault)) × (output ≡ [])
 IsWhyAnswer input (Err (Device TooLong)) output = (most_bytes < length input) × (output ≡ [])
 IsWhyAnswer input (Err Incomplete) output = ⊥
 IsWhyAnswer input (Err (Device Memory)) output = output ≡ []
@@ -107,7 +107,7 @@ IsWhyAnswer input (Err (Device Write)) output = (length input ≤ most_bytes) ×
 
 -- the faults with which the explanation of an input may end
 abbrev pub MayEndWhy : List ℕ → ViewFault → Type 0
-MayEndWhy input (BadInput line code) = input_says input ≡ Err (line, code)
+MayEndWhy input (BadInput line fault) = input_says input ≡ Err (line, fault)
 MayEndWhy input Incomplete = ⊥
 MayEndWhy input (Device Memory) = Unit {0}
 MayEndWhy input (Device Read) = ⊥

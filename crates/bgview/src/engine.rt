@@ -65,9 +65,9 @@ fn explain_or_note(alloc: Global, input: &[u8], notes: &mut Text) -> Result<Answ
     match explain(alloc, input) {
         Ok(answer) => Ok(answer),
         Err(InputFault::Memory) => Err(ViewFault::Device(DeviceFault::Memory)),
-        Err(InputFault::BadInput { line, code }) => {
+        Err(InputFault::BadInput { line, fault }) => {
             *notes = transcript_faults(alloc, input)?;
-            Err(ViewFault::BadInput { line, code })
+            Err(ViewFault::BadInput { line, fault })
         }
     }
 }

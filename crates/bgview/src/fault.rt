@@ -5,7 +5,7 @@ ghost use Rattle.bgview.specs.declared.fault.ViewFault.TheVariants.{Device};
 ghost use Rattle.io_text.specs.declared.fault.DeviceFault.TheVariants.{Memory};
 
 use io_text::DeviceFault;
-use room_files::{InputFault, Outcome};
+use room_files::{InputFault, Outcome, TextFault};
 use std::alloc::AllocError;
 use thiserror::Error;
 
@@ -18,9 +18,9 @@ pub enum ViewFault {
     /// The answer was written, and says where memory was refused.
     #[error("out of memory")]
     Incomplete,
-    /// The input has a fault of this code on this line, counted from 1.
-    #[error("line {line}: fault {code}")]
-    BadInput { line: u64, code: u16 },
+    /// The input has this fault on this line, counted from 1. A message has the fault's number.
+    #[error("line {line}: fault {}", .fault.code())]
+    BadInput { line: u64, fault: TextFault },
 }
 
 impl ViewFault {
@@ -66,7 +66,7 @@ impl From<InputFault> for ViewFault {
 
     fn from(fault: InputFault) -> ViewFault {
         match fault {
-            InputFault::BadInput { line, code } => ViewFault::BadInput { line, code },
+            InputFault::BadInput { line, fault } => ViewFault::BadInput { line, fault },
             InputFault::Memory => ViewFault::Device(DeviceFault::Memory),
         }
     }

@@ -4,12 +4,14 @@ ghost use Rattle.std.specs.List.{flat_map};
 ghost use Rattle.fault_words.specs.Words.{words_of};
 ghost use Rattle.bgview.specs.Faults.{fault_line, faults_outcome, said_by};
 
-use fault_text::sentence_or_none;
 use fault_words::fault_words;
 use io_text::Text;
 use protocol_lang::read_number;
 use room_files::{Answer, outcome_if};
 use std::alloc::{AllocError, Global};
+
+/// What is said of a number that no fault has.
+const NO_FAULT: &str = "no fault has this number";
 
 /// Says a line of the fault that each of these texts is the number of.
 pub fn say_faults(alloc: Global, texts: &[&str]) -> Result<Answer, AllocError>
@@ -35,7 +37,7 @@ fn write_fault(output: &mut Text, text: &[u8]) -> Result<bool, AllocError>
     let words = words_for(text);
     output.put(text)?;
     output.put(b": ")?;
-    output.put(sentence_or_none(words).as_bytes())?;
+    output.put(words.unwrap_or(NO_FAULT).as_bytes())?;
     output.put(b"\n")?;
     Ok(words.is_some())
 }

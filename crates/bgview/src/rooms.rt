@@ -10,9 +10,9 @@ ghost use Rattle.room_files.specs.Inputs.{fed_from, of_known_room};
 ghost use Rattle.bgview.specs.Told.{AreTold, specs_of};
 
 use crate::told::Told;
-use history_checker::{AddFault, NoRoom};
+use history_checker::AddFault;
 use indexmap::IndexMap;
-use room_files::{InputFault, Opens, next_line};
+use room_files::{InputFault, Opens, TextFault, next_line};
 use room_spec::{Name, Spec};
 use std::alloc::{AllocError, Global};
 use std::marker::Model;
@@ -102,13 +102,13 @@ impl ToldRooms {
             Ok(read) => read,
             Err(fault) => return Err(InputFault::BadInput {
                 line,
-                code: fault.code(),
+                fault: TextFault::BadEvent(fault),
             }),
         };
         let Some(index) = self.index_of(&name) else {
             return Err(InputFault::BadInput {
                 line,
-                code: NoRoom.code(),
+                fault: TextFault::NoRoom,
             });
         };
         Ok(self.tell_at(index, &name, event, line)?)

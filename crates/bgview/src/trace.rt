@@ -14,7 +14,7 @@ ghost use Rattle.bgview.specs.Notes.{AreScriptNotes};
 ghost use Rattle.bgview.specs.Trace.{HasTraced, IsTraceFor, IsTraced, notes_after};
 
 use crate::fault::{ViewFault, written};
-use fault_text::write_fault_note;
+use fault_text::write_indented;
 use file_faults::script_faults;
 use io_text::{Device, Text, read_input, write_output};
 use room_files::{InputFault, Outcome, write_refused, write_refused_code};
@@ -118,7 +118,7 @@ impl Tracer {
             unreachable!() // each room has a name
         };
         write_reply(&mut self.output, bytes, sim, &Reply::Refused(refusal))?;
-        write_fault_note(&mut self.output, refusal.code())?;
+        write_indented(&mut self.output, refusal.sentence().as_bytes())?;
         Ok(Some(refusal))
     }
 }
@@ -158,13 +158,13 @@ impl Performs for Tracer {
 
     fn refuse(&mut self, line: u64, fault: SpecFault) -> Result<(), AllocError> {
         write_refused(&mut self.output, line, fault)?;
-        write_fault_note(&mut self.output, fault.code())
+        write_indented(&mut self.output, fault.sentence().as_bytes())
     }
 
     fn lack(&mut self, line: u64) -> Result<(), AllocError> {
-        let code = Refusal::OutOfMemory.code();
-        write_refused_code(&mut self.output, line, code)?;
-        write_fault_note(&mut self.output, code)
+        let refusal = Refusal::OutOfMemory;
+        write_refused_code(&mut self.output, line, refusal.code())?;
+        write_indented(&mut self.output, refusal.sentence().as_bytes())
     }
 }
 
@@ -174,7 +174,7 @@ fn write_notes(output: &mut Text, reply: &Reply, steps: StepTexts) -> Result<(),
     ensures whole { OnOk result (refusal_in reply.now ≡ None → steps.lacks ≡ false) }
 {
     match refusal_in(reply) {
-        Some(refusal) => write_fault_note(output, refusal.code()),
+        Some(refusal) => write_indented(output, refusal.sentence().as_bytes()),
         None => {
             let lines = steps.into_lines()?;
             output.put(lines.as_bytes())

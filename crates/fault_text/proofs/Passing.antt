@@ -11,8 +11,7 @@ use Rattle.room_files.specs.Blocks.{refused_line, why_text}
 use Rattle.room_files.specs.declared.fault.BlockFault.{BlockFault}
 use Rattle.room_files.specs.declared.fault.BlockFault.TheVariants.{NameTaken}
 use Rattle.fault_text.specs.Lines.{behind_lines, last_of}
-use Rattle.fault_text.specs.Blocks.{line_fault}
-use Rattle.fault_text.specs.Refusals.{refusal_line, said_refusal, why_said}
+use Rattle.fault_text.specs.Refusals.{refusal_line}
 use Rattle.fault_text.specs.declared.refusals.Refusal.{Refusal}
 
 one_left : (count at : ℕ) → at < count → count - at ≡ suc (count - (at + 1))
@@ -56,14 +55,12 @@ taken_code : decimal 41 ≡ codes "41"
 taken_code = decimal_step 41 (omega arith) (omega arith) ∙ ap (λ digits. digits ++ 49 ∷ []) (decimal_digit 4 (omega arith))
 
 -- a block whose room's name is taken
-pub taken_said : {T E : Type 0} (result : Result T E) (text output first last : List ℕ) (refusal : Refusal) → refusal.fault ≡ NameTaken → first ≡ output ++ refused_line refusal.line (decimal 41)
-    → OnOk result (last ≡ first ++ line_fault refusal.line text 2 41) → OnOk result (last ≡ output ++ said_refusal text refusal)
-taken_said (Err fault) text output first last refusal is first_is last_is = tt
-taken_said (Ok done) text output first last refusal is first_is last_is =
-    let line = refused_line refusal.line (codes "41") in
-    let notes = line_fault refusal.line text 2 41 in
-    subst (λ (fault : BlockFault). last ≡ output ++ (refused_line refusal.line (why_text fault) ++ why_said refusal.line text fault)) (sym is)
-    (last_is ∙ ap (λ t. t ++ notes) (first_is ∙ ap (λ d. output ++ refused_line refusal.line d) taken_code) ∙ append_assoc output line notes)
+pub taken_line : {T E : Type 0} (result : Result T E) (output last : List ℕ) (refusal : Refusal) (code : ℕ) → refusal.fault ≡ NameTaken → code ≡ 41
+    → OnOk result (last ≡ output ++ refused_line refusal.line (decimal code)) → OnOk result (last ≡ output ++ refusal_line refusal)
+taken_line (Err fault) output last refusal code is same last_is = tt
+taken_line (Ok done) output last refusal code is same last_is =
+    subst (λ (fault : BlockFault). last ≡ output ++ refused_line refusal.line (why_text fault)) (sym is)
+    (last_is ∙ ap (λ n. output ++ refused_line refusal.line (decimal n)) same ∙ ap (λ d. output ++ refused_line refusal.line d) taken_code)
 
 -- ---- one text after another
 

@@ -1,22 +1,24 @@
 -- What the fault of a block is about.
-use Rattle.std.specs.Prelude.{ℕ, zero, suc, ◌+◌, ◌-◌, ◌==◌, ◌&&◌, Bool, List, [], ◌∷◌, ◌++◌, map, min, take, drop, Option, Some, None, nat_le, nat_lt, codes, if◌then◌else◌}
+use Rattle.std.specs.Prelude.{ℕ, zero, suc, ◌+◌, ◌-◌, ◌==◌, ◌&&◌, Bool, List, [], ◌∷◌, ◌++◌, map, min, take, drop, Option, Some, None, nat_le, codes, if◌then◌else◌}
 use Rattle.std.specs.List.{count_by}
 use Rattle.std.specs.Str.{bytes_eq}
-use Rattle.protocol_lang.specs.Faults.{code_of as protocol_code}
+use Rattle.protocol_lang.specs.Faults.{sentence_of as protocol_sentence}
 use Rattle.protocol_lang.specs.FirstFaults.{place_of}
 use Rattle.protocol_lang.specs.declared.fault.ParseFault.{ParseFault}
 use Rattle.protocol_lang.specs.declared.fault.ParseFault.TheVariants.{BadToken, Unexpected}
 use Rattle.room_spec.specs.Blocks.{is_protocol}
-use Rattle.room_spec.specs.Faults.{code_of as block_code}
 use Rattle.room_spec.specs.Texts.{first_line, is_line_end, later_lines}
 use Rattle.room_spec.specs.declared.fault.SpecFault.{SpecFault}
 use Rattle.room_spec.specs.declared.fault.SpecFault.TheVariants.{Truncated, BadLine, BadName, BadProtocol, Inputs, Simulators, Rounds, Turns, TooWide, CrashLine, Repeated, TaskLine}
+use Rattle.room_files.specs.Faults.{block_sentence}
+use Rattle.room_files.specs.declared.fault.BlockFault.{BlockFault}
+use Rattle.room_files.specs.declared.fault.BlockFault.TheVariants as blocks
 use Rattle.fault_text.specs.Choices.{choices_note}
 use Rattle.fault_text.specs.Hints.{advice, hint, token_hints, unknown_hints}
-use Rattle.fault_text.specs.Lines.{indented, indented_all, last_line, line_at, sentence}
+use Rattle.fault_text.specs.Lines.{indented, indented_all, last_line, line_at}
 use Rattle.fault_text.specs.Phrases.{form_fault}
 use Rattle.fault_text.specs.Places.{heading, place_notes}
-use Rattle.fault_text.specs.declared.blocks.TheConstants.{BAD_LINE, HEAD_LINES, LATER_LINES, WIDTHS}
+use Rattle.fault_text.specs.declared.blocks.TheConstants.{HEAD_LINES, LATER_LINES, WIDTHS}
 use Rattle.fault_text.specs.declared.hints.TheConstants.{NO_BLOCK}
 
 -- the number of a line that is this many after another; no input has as many lines as numbers can count
@@ -62,12 +64,14 @@ line_of (Repeated line) = line
 line_of (TaskLine line) = line
 
 -- where the line belongs that hasn't its form, or with which a block begins that doesn't end, if it looks like another line
-abbrev pub other_kind : ℕ → List ℕ → List ℕ
-other_kind code line = if nat_lt BAD_LINE code then [] else hint (advice (map (λ entry. entry.now) NO_BLOCK) line)
+abbrev pub other_kind : BlockFault → List ℕ → List ℕ
+other_kind (blocks.Spec Truncated) line = hint (advice (map (λ entry. entry.now) NO_BLOCK) line)
+other_kind (blocks.Spec (BadLine number)) line = hint (advice (map (λ entry. entry.now) NO_BLOCK) line)
+other_kind fault line = []
 
--- the sentence of this number about the block's line
-abbrev pub line_fault : ℕ → List ℕ → ℕ → ℕ → List ℕ
-line_fault first text line code = form_fault (later_line first (line - 1)) (sentence code) (line_at line text) (forms_at text line) ++ other_kind code (line_at line text)
+-- the sentence of the fault about the block's line
+abbrev pub line_fault : ℕ → List ℕ → ℕ → BlockFault → List ℕ
+line_fault first text line fault = form_fault (later_line first (line - 1)) (block_sentence fault) (line_at line text) (forms_at text line) ++ other_kind fault (line_at line text)
 
 -- ---- protocols
 
@@ -95,9 +99,9 @@ token_fault_hints back fault = token_hints back ++ unknown_if back fault
 
 -- what is said of the fault of a protocol's text, before which there are this many lines of the block
 abbrev pub fault_in : ℕ → ℕ × List ℕ → ParseFault → Option ℕ → List ℕ
-fault_in first program fault None = indented (heading (later_line first program.0) (sentence (protocol_code fault)))
+fault_in first program fault None = indented (heading (later_line first program.0) (protocol_sentence fault))
 fault_in first program fault (Some place) =
-    indented_all (place_notes (later_line first (program.0 + line_ends (take place program.1))) (sentence (protocol_code fault)) (last_line (take place program.1)) (first_line (drop place program.1)))
+    indented_all (place_notes (later_line first (program.0 + line_ends (take place program.1))) (protocol_sentence fault) (last_line (take place program.1)) (first_line (drop place program.1)))
     ++ (choices_if (take place program.1) fault ++ token_fault_hints (first_line (drop place program.1)) fault)
 
 abbrev pub program_fault : ℕ → List ℕ → ParseFault → List ℕ
@@ -113,4 +117,4 @@ widths_if fault = []
 -- what is said of a block's fault, with which this text begins; its first line has this number in the input
 abbrev pub block_fault : ℕ → List ℕ → SpecFault → List ℕ
 block_fault first text (BadProtocol fault) = program_fault first text fault
-block_fault first text fault = line_fault first text (line_of fault) (block_code fault) ++ widths_if fault
+block_fault first text fault = line_fault first text (line_of fault) (blocks.Spec fault) ++ widths_if fault

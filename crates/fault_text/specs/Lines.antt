@@ -1,8 +1,7 @@
 -- Lines of a text, and lines for people after those that `bgsim` writes.
-use Rattle.std.specs.Prelude.{ℕ, zero, suc, ◌-◌, ◌==◌, not, List, [], ◌∷◌, ◌++◌, Option, Some, None, codes}
+use Rattle.std.specs.Prelude.{ℕ, zero, suc, ◌-◌, ◌==◌, not, List, [], ◌∷◌, ◌++◌, codes}
 use Rattle.std.specs.List.{flat_map, prefix_len}
 use Rattle.room_spec.specs.Texts.{first_line, later_lines, lines_of}
-use Rattle.fault_words.specs.Words.{words_of}
 
 -- a line after another, for people
 abbrev pub indented : List ℕ → List ℕ
@@ -10,14 +9,6 @@ indented text = codes "    " ++ (text ++ codes "\n")
 
 abbrev pub indented_all : List (List ℕ) → List ℕ
 indented_all notes = flat_map indented notes
-
-abbrev pub sentence_or_none : Option (List ℕ) → List ℕ
-sentence_or_none None = codes "no fault has this number"
-sentence_or_none (Some words) = words
-
--- what the fault of this number says
-unfoldable pub sentence : ℕ → List ℕ
-sentence code = sentence_or_none (words_of code)
 
 -- what comes after this many lines of a text
 unfoldable pub behind_lines : ℕ → List ℕ → List ℕ

@@ -1,7 +1,6 @@
 //! What the fault of a block is about.
 ghost use Rattle.std.specs.Prelude.{◌≡◌, ◌++◌, ◌+◌, ◌≤◌, OnOk, length, map};
 ghost use Rattle.room_spec.specs.Blocks.{is_protocol};
-ghost use Rattle.room_spec.specs.Faults.{code_of as block_code};
 ghost use Rattle.fault_text.specs.Blocks.{block_fault, choices_if, first_form, forms_at, is_second, later_forms, later_line, line_ends, line_fault, line_of, other_kind, program_from, program_fault, token_fault_hints, widths_if};
 ghost use Rattle.fault_text.specs.Choices.{choices_note};
 ghost use Rattle.fault_text.specs.Lines.{indented};
@@ -9,19 +8,17 @@ ghost use Rattle.fault_text.specs.Phrases.{form_fault};
 
 use crate::choices::write_choices;
 use crate::hints::{NO_BLOCK, write_advice, write_token_hints, write_unknown_hints};
-use crate::lines::{line_at, sentence, split_line, split_text, write_indented};
+use crate::lines::{line_at, split_line, split_text, write_indented};
 use crate::phrases::write_form_fault;
 use crate::places::{last_line, write_heading, write_place};
 use io_text::Text;
 use protocol_lang::ParseFault;
+use room_files::BlockFault;
 use room_spec::SpecFault;
 use std::alloc::{AllocError, Global};
 
 /// How many lines of a block may come up to its line `protocol`: seven, one of a task, and those of eight crashes.
 const HEAD_LINES: usize = 16;
-
-/// The code of a line that hasn't the form that it should have. That of a block with no line `end` is less.
-const BAD_LINE: u16 = 11;
 
 /// What takes how many bits of the step numbers.
 const WIDTHS: &[u8] =
@@ -43,7 +40,8 @@ pub fn write_block_fault(
     match fault {
         SpecFault::BadProtocol(fault) => write_program_fault(alloc, output, first, text, fault),
         _ => {
-            write_line_fault(alloc, output, first, text, line_of(fault), fault.code())?;
+            let line = line_of(fault);
+            write_line_fault(alloc, output, first, text, line, BlockFault::Spec(fault))?;
             write_widths_if(output, fault)
         }
     }
@@ -77,22 +75,22 @@ fn line_of(fault: SpecFault) -> usize
     }
 }
 
-/// Writes the sentence of this number about a line of a block, with which this text begins.
+/// Writes the sentence of a fault about a line of a block, with which this text begins.
 pub(crate) fn write_line_fault(
     alloc: Global,
     output: &mut Text,
     first: u64,
     text: &[u8],
     line: usize,
-    code: u16,
+    fault: BlockFault,
 ) -> Result<(), AllocError>
-    ensures { OnOk result (output.new ≡ output.old ++ line_fault first text.now line code) }
+    ensures { OnOk result (output.new ≡ output.old ++ line_fault first text.now line fault) }
 {
     let number = later_line(first, line.saturating_sub(1) as u64);
-    let words = sentence(code).as_bytes();
+    let words = fault.sentence().as_bytes();
     let bytes = line_at(text, line as u64);
     write_line_forms(alloc, output, number, words, bytes, line, text)?;
-    write_other_kind(output, code, bytes)
+    write_other_kind(output, fault, bytes)
 }
 
 /// Writes the sentence about a line of a block, which has these bytes, and the form that it should have. With this text the block begins.
@@ -114,14 +112,17 @@ fn write_line_forms(
     }
 }
 
-/// Writes where a line belongs that isn't of the form that it should have in a block, if it looks like another line.
-fn write_other_kind(output: &mut Text, code: u16, line: &[u8]) -> Result<(), AllocError>
-    ensures { OnOk result (output.new ≡ output.old ++ other_kind code line.now) }
+/// Writes where a line belongs that isn't of the form that it should have in a block, or that begins a block with no line `end`, if it
+/// looks like another line.
+fn write_other_kind(output: &mut Text, fault: BlockFault, line: &[u8]) -> Result<(), AllocError>
+    ensures { OnOk result (output.new ≡ output.old ++ other_kind fault line.now) }
 {
-    if code > BAD_LINE {
-        return Ok(());
+    match fault {
+        BlockFault::Spec(SpecFault::Truncated | SpecFault::BadLine(_)) => {
+            write_advice(output, &NO_BLOCK, line)
+        }
+        _ => Ok(()),
     }
-    write_advice(output, &NO_BLOCK, line)
 }
 
 /// The number of a line that comes after the line of another number. No input has as many lines as numbers can count.
@@ -197,7 +198,7 @@ fn write_program_fault(
 ) -> Result<(), AllocError>
     ensures { OnOk result (output.new ≡ output.old ++ program_fault first text.now fault) }
 {
-    let words = sentence(fault.code()).as_bytes();
+    let words = fault.sentence().as_bytes();
     let (lines, program) = program_from(HEAD_LINES, 0, text);
     let Some(place) = fault.place() else {
         return write_heading(output, later_line(first, lines), words);

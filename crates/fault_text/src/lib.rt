@@ -12,7 +12,7 @@ mod refusals;
 
 pub use blocks::{later_line, write_block_fault};
 pub use hints::{NO_COMMAND, NO_EVENT, write_advice};
-pub use lines::{sentence, sentence_or_none, split_line, write_fault_note, write_indented};
+pub use lines::{split_line, write_indented};
 pub use phrases::{COMMANDS, EVENTS, write_form_fault};
 pub use places::{write_heading, write_place};
-pub use refusals::{Refusal, Refusals};
+pub use refusals::{ENOUGH, MOST_EXPLAINED, Refusal, Refusals};

@@ -1,9 +1,8 @@
 //! Lines of a text, and lines for people.
-ghost use Rattle.std.specs.Prelude.{◌≡◌, ◌++◌, ◌<◌, OnOk, drop, length, option_map, take};
+ghost use Rattle.std.specs.Prelude.{◌≡◌, ◌++◌, ◌<◌, OnOk, drop, length, take};
 ghost use Rattle.room_spec.specs.Texts.{first_line, later_lines};
-ghost use Rattle.fault_text.specs.Lines.{behind_lines, indented, line_at, sentence, sentence_or_none};
+ghost use Rattle.fault_text.specs.Lines.{behind_lines, indented, line_at};
 
-use fault_words::fault_words;
 use io_text::Text;
 use room_spec::cut;
 use std::alloc::AllocError;
@@ -14,28 +13,6 @@ pub fn write_indented(output: &mut Text, line: &[u8]) -> Result<(), AllocError>
 {
     output.put(b"    ")?;
     output.put_two(line, b"\n")
-}
-
-/// Writes the sentence of the fault of this number.
-pub fn write_fault_note(output: &mut Text, code: u16) -> Result<(), AllocError>
-    ensures { OnOk result (output.new ≡ output.old ++ indented (sentence code)) }
-{
-    write_indented(output, sentence(code).as_bytes())
-}
-
-/// What the fault of this number says.
-#[tactic(auto, unfolding(crate::specs::Lines::sentence))]
-pub fn sentence(code: u16) -> &'static str
-    ensures { result.now ≡ sentence code }
-{
-    sentence_or_none(fault_words(code))
-}
-
-/// What a fault says, or that there is none.
-pub fn sentence_or_none(words: Option<&'static str>) -> &'static str
-    ensures { result.now ≡ sentence_or_none (option_map (λ words. words.now) words.entry) }
-{
-    words.unwrap_or("no fault has this number")
 }
 
 /// A text's line of this number, counted from 1.

@@ -1,18 +1,22 @@
 //! The blocks of an input that are refused, in words.
-ghost use Rattle.std.specs.Prelude.{◌≡◌, ◌==◌, ◌++◌, [], OnOk, length};
+ghost use Rattle.std.specs.Prelude.{◌≡◌, ◌==◌, ◌++◌, [], OnOk, drop, length, take};
 ghost use Rattle.std.specs.List.{flat_map};
 ghost use Rattle.fault_text.specs.Lines.{behind_lines};
-ghost use Rattle.fault_text.specs.Refusals.{noted_refusal, noted_refusals, refusal_line, said_refusal, said_refusals};
+ghost use Rattle.fault_text.specs.Refusals.{all_noted, all_said, enough_if, noted_refusal, noted_refusals, refusal_line, said_refusal, said_refusals, why_said};
 
 use crate::blocks::{write_block_fault, write_line_fault};
 use crate::lines::behind_lines;
+use history_checker::AddFault;
 use io_text::Text;
 use room_files::{BlockFault, Refuses, write_refused, write_refused_code};
 use std::alloc::{AllocError, Global};
 use std::marker::Model;
 
-/// The code of a block whose room's name another room has.
-const NAME_TAKEN: u16 = 41;
+/// How many blocks or lines of an input are explained, so that long inputs of mistakes take no longer than others.
+pub const MOST_EXPLAINED: usize = 100;
+
+/// Says that no more is explained.
+pub const ENOUGH: &[u8] = b"    further faults are not explained\n";
 
 /// A block that opens no room.
 #[derive(Clone, Copy, Debug, PartialEq, Eq)]
@@ -55,24 +59,19 @@ impl Refusals {
         self.all.is_empty()
     }
 
-    /// Writes for each the line that says that the block is refused, and after it what is said of the block.
+    /// Writes for each the line that says that the block is refused, and after it what is said of the block, unless enough were explained
+    /// before it.
+    #[tactic(auto, unfolding(crate::specs::Refusals::said_refusals))]
     pub fn write(&self, alloc: Global, output: &mut Text, input: &[u8]) -> Result<(), AllocError>
         ensures { OnOk result (output.new ≡ output.old ++ said_refusals input.now self.now) }
     {
-        let mut rest = input;
-        let mut passed = 0;
-        for refusal in &self.all {
-            let lines = refusal.line.saturating_sub(1);
-            rest = go_behind(input, rest, passed, lines);
-            passed = lines;
-            write_refusal(alloc, output, rest, *refusal)?;
-        }
-        Ok(())
+        let (explained, others) = first_of(&self.all, MOST_EXPLAINED);
+        write_explained(alloc, output, input, explained)?;
+        write_unexplained(output, others)
     }
-}
 
-impl Refusals {
-    /// Writes the same as lines for people alone.
+    /// Writes the same as lines for people alone, which end once enough are explained.
+    #[tactic(auto, unfolding(crate::specs::Refusals::noted_refusals))]
     pub fn write_notes(
         &self,
         alloc: Global,
@@ -81,16 +80,90 @@ impl Refusals {
     ) -> Result<(), AllocError>
         ensures { OnOk result (output.new ≡ output.old ++ noted_refusals input.now self.now) }
     {
-        let mut rest = input;
-        let mut passed = 0;
-        for refusal in &self.all {
-            let lines = refusal.line.saturating_sub(1);
-            rest = go_behind(input, rest, passed, lines);
-            passed = lines;
-            write_noted(alloc, output, rest, *refusal)?;
-        }
-        Ok(())
+        let (explained, others) = first_of(&self.all, MOST_EXPLAINED);
+        write_noted_all(alloc, output, input, explained)?;
+        write_enough_if(output, others)
     }
+}
+
+/// The first blocks, of which there are at most this many, and those after them.
+fn first_of(refusals: &[Refusal], most: usize) -> (&[Refusal], &[Refusal])
+    ensures first { result.0.now ≡ take most refusals.now }
+    ensures others { result.1.now ≡ drop most refusals.now }
+{
+    if most < refusals.len() {
+        (&refusals[..most], &refusals[most..])
+    } else {
+        (refusals, &[])
+    }
+}
+
+/// Writes for each block the line that says that it is refused, and after it what is said of it.
+fn write_explained(
+    alloc: Global,
+    output: &mut Text,
+    input: &[u8],
+    refusals: &[Refusal],
+) -> Result<(), AllocError>
+    ensures { OnOk result (output.new ≡ output.old ++ all_said input.now refusals.now) }
+{
+    let mut rest = input;
+    let mut passed = 0;
+    for refusal in refusals {
+        let lines = refusal.line.saturating_sub(1);
+        rest = go_behind(input, rest, passed, lines);
+        passed = lines;
+        write_refusal(alloc, output, rest, *refusal)?;
+    }
+    Ok(())
+}
+
+/// Writes the same as lines for people alone.
+fn write_noted_all(
+    alloc: Global,
+    output: &mut Text,
+    input: &[u8],
+    refusals: &[Refusal],
+) -> Result<(), AllocError>
+    ensures { OnOk result (output.new ≡ output.old ++ all_noted input.now refusals.now) }
+{
+    let mut rest = input;
+    let mut passed = 0;
+    for refusal in refusals {
+        let lines = refusal.line.saturating_sub(1);
+        rest = go_behind(input, rest, passed, lines);
+        passed = lines;
+        write_noted(alloc, output, rest, *refusal)?;
+    }
+    Ok(())
+}
+
+/// Writes that these blocks are not explained, if there are some, and for each the line that says that it is refused.
+fn write_unexplained(output: &mut Text, refusals: &[Refusal]) -> Result<(), AllocError>
+    ensures { OnOk result (output.new ≡ output.old ++ (enough_if refusals.now ++ flat_map refusal_line refusals.now)) }
+{
+    write_enough_if(output, refusals)?;
+    write_refusal_lines(output, refusals)
+}
+
+/// Writes for each block the line that says that it is refused.
+fn write_refusal_lines(output: &mut Text, refusals: &[Refusal]) -> Result<(), AllocError>
+    ensures { OnOk result (output.new ≡ output.old ++ flat_map refusal_line refusals.now) }
+{
+    for refusal in refusals {
+        write_refusal_line(output, *refusal)?;
+    }
+    Ok(())
+}
+
+/// Writes that no more is explained, if there are more.
+fn write_enough_if(output: &mut Text, refusals: &[Refusal]) -> Result<(), AllocError>
+    ensures { OnOk result (output.new ≡ output.old ++ enough_if refusals.now) }
+{
+    if refusals.is_empty() {
+        return Ok(());
+    }
+    output.put(ENOUGH)
 }
 
 /// Writes what is said of a refused block, with which this text begins, as lines for people alone.
@@ -140,14 +213,34 @@ fn write_refusal(
 ) -> Result<(), AllocError>
     ensures { OnOk result (output.new ≡ output.old ++ said_refusal text.now refusal) }
 {
+    write_refusal_line(output, refusal)?;
+    write_why(alloc, output, refusal.line, text, refusal.fault)
+}
+
+/// Writes the line that says that a block is refused.
+fn write_refusal_line(output: &mut Text, refusal: Refusal) -> Result<(), AllocError>
+    ensures { OnOk result (output.new ≡ output.old ++ refusal_line refusal) }
+{
     match refusal.fault {
-        BlockFault::Spec(fault) => {
-            write_refused(output, refusal.line, fault)?;
-            write_block_fault(alloc, output, refusal.line, text, fault)
-        }
+        BlockFault::Spec(fault) => write_refused(output, refusal.line, fault),
         BlockFault::NameTaken => {
-            write_refused_code(output, refusal.line, NAME_TAKEN)?;
-            write_line_fault(alloc, output, refusal.line, text, 2, NAME_TAKEN)
+            write_refused_code(output, refusal.line, AddFault::NameTaken.code())
         }
+    }
+}
+
+/// Writes what is said of the fault of a block, with which this text begins and whose first line has this number.
+fn write_why(
+    alloc: Global,
+    output: &mut Text,
+    first: u64,
+    text: &[u8],
+    fault: BlockFault,
+) -> Result<(), AllocError>
+    ensures { OnOk result (output.new ≡ output.old ++ why_said first text.now fault) }
+{
+    match fault {
+        BlockFault::Spec(fault) => write_block_fault(alloc, output, first, text, fault),
+        BlockFault::NameTaken => write_line_fault(alloc, output, first, text, 2, fault),
     }
 }

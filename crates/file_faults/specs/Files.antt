@@ -2,8 +2,9 @@
 use Rattle.std.specs.Prelude.{◌≡◌, ℕ, List, [], ◌++◌, Result, Ok, Err}
 use Rattle.std.specs.List.{flat_map}
 use Rattle.room_files.specs.Blocks.{Setup}
+use Rattle.room_files.specs.Faults.{FaultAt, text_sentence}
 use Rattle.room_files.specs.Inputs.{all_blocks, blocks_in}
-use Rattle.fault_text.specs.Lines.{indented, sentence}
+use Rattle.fault_text.specs.Lines.{indented}
 use Rattle.fault_text.specs.Places.{heading}
 use Rattle.fault_text.specs.Refusals.{refusal_line, noted_refusals}
 use Rattle.fault_text.specs.declared.refusals.Refusal.{Refusal}
@@ -22,9 +23,9 @@ abbrev pub AddsRoomFaults : List ℕ → List ℕ → List ℕ → Type 0
 AddsRoomFaults input old new = (said : List ℕ) × AreRoomFaults input said × (new ≡ old ++ said)
 
 -- of the refused blocks and the event lines of a transcript; if it has no line `events`, of its blocks, and that it ends too early
-abbrev pub AreFaultsAfter : List ℕ → Result (Setup × List ℕ) (ℕ × ℕ) → List ℕ → Type 0
+abbrev pub AreFaultsAfter : List ℕ → Result (Setup × List ℕ) FaultAt → List ℕ → Type 0
 AreFaultsAfter input (Ok read) said = (refused : List ℕ) × AreRefusalsSaid input read.0.refused refused × (said ≡ refused ++ event_faults read.0.rooms read.0.line read.1)
-AreFaultsAfter input (Err fault) said = (refused : List ℕ) × AreRoomFaults input refused × (said ≡ refused ++ (indented (heading fault.0 (sentence 61)) ++ indented NO_EVENTS.now))
+AreFaultsAfter input (Err fault) said = (refused : List ℕ) × AreRoomFaults input refused × (said ≡ refused ++ (indented (heading fault.0 (text_sentence fault.1)) ++ indented NO_EVENTS.now))
 
 unfoldable pub AreTranscriptFaults : List ℕ → List ℕ → Type 0
 AreTranscriptFaults input said = AreFaultsAfter input (blocks_in input) said

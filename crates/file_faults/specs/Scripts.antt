@@ -5,17 +5,18 @@ use Rattle.room_spec.specs.Blocks.{block_in}
 use Rattle.room_spec.specs.Texts.{first_line, later_lines}
 use Rattle.room_spec.specs.declared.fault.SpecFault.{SpecFault}
 use Rattle.room_files.specs.Blocks.{block_extent, fault_text, refused_line}
+use Rattle.room_files.specs.Faults.{text_sentence}
 use Rattle.room_files.specs.Lines.{text_lines}
+use Rattle.room_files.specs.declared.fault.TextFault.TheVariants.{NoCommand}
 use Rattle.service_core.specs.declared.command.Command.{Command}
 use Rattle.script_play.specs.Script.{block_behind, command_in, is_open, text_behind}
 use Rattle.fault_text.specs.Blocks.{block_fault, later_line}
 use Rattle.fault_text.specs.Hints.{advice, hint}
-use Rattle.fault_text.specs.Lines.{sentence}
 use Rattle.fault_text.specs.Phrases.{form_fault}
 use Rattle.fault_text.specs.declared.hints.TheConstants.{NO_COMMAND}
 use Rattle.fault_text.specs.declared.phrases.TheConstants.{COMMANDS}
 use Rattle.file_faults.specs.Walks.{Parts, said_from}
-use Rattle.file_faults.specs.declared.walk.TheConstants.{MOST_EXPLAINED}
+use Rattle.fault_text.specs.declared.refusals.TheConstants.{MOST_EXPLAINED}
 
 abbrev pub fault_of : {A : Type 0} → Result A SpecFault → Option SpecFault
 fault_of (Ok value) = None
@@ -35,7 +36,7 @@ block_said number block = refusal_said number block (fault_of (block_in block))
 
 -- the line of this number, which is no command
 abbrev pub bad_command : ℕ → List ℕ → List ℕ
-bad_command number line = form_fault number (sentence 60) line (map (λ form. form.now) COMMANDS) ++ hint (advice (map (λ entry. entry.now) NO_COMMAND) line)
+bad_command number line = form_fault number (text_sentence NoCommand) line (map (λ form. form.now) COMMANDS) ++ hint (advice (map (λ entry. entry.now) NO_COMMAND) line)
 
 abbrev pub no_command : ℕ → List ℕ → Option Command → List ℕ
 no_command number line None = bad_command number line

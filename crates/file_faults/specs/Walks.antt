@@ -1,6 +1,6 @@
 -- A file gone through part by part.
 use Rattle.std.specs.Prelude.{ℕ, zero, suc, List, [], ◌∷◌, ◌++◌, Option, Some, None}
-use Rattle.file_faults.specs.declared.walk.TheConstants.{ENOUGH}
+use Rattle.fault_text.specs.declared.refusals.TheConstants.{ENOUGH}
 
 -- what is said of the part with which a text begins, whose first line has this number; how many lines it has; and what comes after it
 pub record Parts : Type 0 where

@@ -4,18 +4,17 @@ ghost use Rattle.transcript.specs.Lines.{line_in};
 ghost use Rattle.file_faults.specs.Events.{event_faults, event_said, no_room_said};
 ghost use Rattle.file_faults.specs.Walks.{left_after, said_if_left};
 
-use crate::walk::{MOST_EXPLAINED, write_part};
+use crate::walk::write_part;
 use fault_text::{
-    EVENTS, NO_EVENT, later_line, sentence, split_line, write_advice, write_form_fault, write_place,
+    EVENTS, MOST_EXPLAINED, NO_EVENT, later_line, split_line, write_advice, write_form_fault,
+    write_place,
 };
+use history_checker::NoRoom;
 use io_text::Text;
 use room_files::SpecList;
 use room_spec::Name;
 use std::alloc::{AllocError, Global};
 use transcript::read_line;
-
-/// The code of an event line of no room.
-const NO_ROOM: u16 = 40;
 
 /// Writes what is said of all faults of event lines, the first of which has this number, where these rooms are open.
 pub(crate) fn write_event_faults(
@@ -71,7 +70,7 @@ fn write_event_said(
     match read_line(line) {
         Ok((name, _)) => write_no_room(alloc, output, rooms, number, line, &name),
         Err(fault) => {
-            let words = sentence(fault.code()).as_bytes();
+            let words = fault.sentence().as_bytes();
             write_form_fault(alloc, output, number, words, line, &EVENTS)?;
             write_advice(output, &NO_EVENT, line)
         }
@@ -96,7 +95,7 @@ fn write_no_room(
         alloc,
         output,
         number,
-        sentence(NO_ROOM).as_bytes(),
+        NoRoom.sentence().as_bytes(),
         &[],
         line,
     )

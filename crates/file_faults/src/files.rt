@@ -4,13 +4,10 @@ ghost use Rattle.io_text.specs.Reading.{most_bytes};
 ghost use Rattle.file_faults.specs.Files.{AreRoomFaults, AreTranscriptFaults, AddsRoomFaults};
 
 use crate::events::write_event_faults;
-use fault_text::{Refusals, sentence, write_heading, write_indented};
+use fault_text::{Refusals, write_heading, write_indented};
 use io_text::Text;
 use room_files::{InputFault, Setup, SpecList, read_all_blocks, read_blocks};
 use std::alloc::{AllocError, Global};
-
-/// The code of an input that ends before the line `events`.
-const ENDED_EARLY: u16 = 61;
 
 /// What may help with such an input.
 const NO_EVENTS: &[u8] =
@@ -50,9 +47,9 @@ pub fn transcript_faults(alloc: Global, input: &[u8]) -> Result<Text, AllocError
             Ok(output)
         }
         Err(InputFault::Memory) => Err(AllocError),
-        Err(InputFault::BadInput { line, .. }) => {
+        Err(InputFault::BadInput { line, fault }) => {
             write_room_faults(alloc, &mut output, input)?;
-            write_heading(&mut output, line, sentence(ENDED_EARLY).as_bytes())?;
+            write_heading(&mut output, line, fault.sentence().as_bytes())?;
             write_indented(&mut output, NO_EVENTS)?;
             Ok(output)
         }

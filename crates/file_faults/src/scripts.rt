@@ -6,19 +6,16 @@ ghost use Rattle.script_play.specs.Script.{command_in, is_open, text_behind};
 ghost use Rattle.file_faults.specs.Scripts.{bad_command, begins_with_block, block_in_front, block_said, command_said, ends_as_elsewhere, entry_said, explained_at_most, fault_of, fault_said, next_number, script_faults};
 ghost use Rattle.file_faults.specs.Walks.{left_after, said_if_left};
 
-use crate::walk::{MOST_EXPLAINED, write_part};
+use crate::walk::write_part;
 use fault_text::{
-    COMMANDS, NO_COMMAND, later_line, sentence, split_line, write_advice, write_block_fault,
+    COMMANDS, MOST_EXPLAINED, NO_COMMAND, later_line, split_line, write_advice, write_block_fault,
     write_form_fault,
 };
 use io_text::Text;
-use room_files::{count_lines, read_room, write_refused};
+use room_files::{TextFault, count_lines, read_room, write_refused};
 use room_spec::{SpecFault, block_len};
 use script_play::read_command;
 use std::alloc::{AllocError, Global};
-
-/// The code of a line that is no command.
-const BAD_COMMAND: u16 = 60;
 
 /// What is said of all faults of a script: of its blocks, and of lines that are no commands. If it begins with a block, it is no script, and if
 /// its first line has a carriage return, no line is one of a script: then only the first fault is explained.
@@ -163,7 +160,7 @@ fn write_bad_command(
 ) -> Result<(), AllocError>
     ensures { OnOk result (output.new ≡ output.old ++ bad_command number line.now) }
 {
-    let words = sentence(BAD_COMMAND).as_bytes();
+    let words = TextFault::NoCommand.sentence().as_bytes();
     write_form_fault(alloc, output, number, words, line, &COMMANDS)?;
     write_advice(output, &NO_COMMAND, line)
 }

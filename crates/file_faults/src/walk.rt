@@ -2,14 +2,9 @@
 ghost use Rattle.std.specs.Prelude.{◌≡◌, ◌++◌, IfOk, OnOk};
 ghost use Rattle.file_faults.specs.Walks.{left_after, said_if_left};
 
+use fault_text::ENOUGH;
 use io_text::Text;
 use std::alloc::AllocError;
-
-/// Of how many parts the faults are explained.
-pub(crate) const MOST_EXPLAINED: usize = 100;
-
-/// Says that no more is said.
-const ENOUGH: &[u8] = b"    further faults are not explained\n";
 
 /// Writes what is said of a part, if it is said of some and there are parts left that may be explained. Gives how many are left, or that the
 /// walk ends.

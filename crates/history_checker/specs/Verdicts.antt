@@ -1,10 +1,10 @@
 -- Verdicts on rooms, whose events come one by one and with those of other rooms between.
-use Rattle.std.specs.Prelude.{◌≡◌, ℕ, Bool, List, [], ◌∷◌, ◌++◌, map, Option, Some, None, slice_get}
+use Rattle.std.specs.Prelude.{◌≡◌, ℕ, Bool, List, [], ◌∷◌, ◌++◌, map, Option, Some, None, slice_get, codes}
 use Rattle.std.specs.List.{All, filter, list_any}
 use Rattle.std.specs.Str.{bytes_eq}
 use Rattle.room_spec.specs.Rooms.{RoomSpec}
 use Rattle.transcript.specs.declared.event.Event.{Event}
-use Rattle.transcript.specs.Faults.{code_of as line_code}
+use Rattle.transcript.specs.Faults.{code_of as line_code, sentence_of as line_sentence}
 use Rattle.transcript.specs.Runs.{IsRun, IsFirstBreak}
 use Rattle.transcript.specs.Tasks.{IsFirstExcess, KeepsTask}
 use Rattle.history_checker.specs.declared.process.Process.{Process}
@@ -108,15 +108,26 @@ names_of specs = map (λ spec. spec.name) specs
 abbrev pub has_room : List ℕ → List RoomSpec → Bool
 has_room name specs = list_any (bytes_eq name) (names_of specs)
 
--- the numbers of the faults of adding a room
+-- the numbers of the faults of adding a room, and what they say
 abbrev pub add_code : AddFault → ℕ
 add_code NameTaken = 41
 add_code OutOfMemory = 8
 
--- the numbers of the faults of feeding a line
+unfoldable pub add_sentence : AddFault → List ℕ
+add_sentence NameTaken = codes "a room has this name already"
+add_sentence OutOfMemory = codes "out of memory"
+
+unfoldable pub no_room_sentence : List ℕ
+no_room_sentence = codes "no room has this name"
+
+-- the numbers of the faults of feeding a line, and what they say
 abbrev pub feed_code : FeedFault → ℕ
 feed_code (BadLine fault) = line_code fault
 feed_code (NoRoom none) = 40
+
+unfoldable pub feed_sentence : FeedFault → List ℕ
+feed_sentence (BadLine fault) = line_sentence fault
+feed_sentence (NoRoom none) = no_room_sentence
 
 -- the rooms of a map from their names, in its order
 abbrev pub rooms_in : List (List ℕ × RoomState) → List RoomState

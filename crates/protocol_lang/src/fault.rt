@@ -1,37 +1,30 @@
 //! Why a text is no protocol.
-ghost use Rattle.std.specs.Prelude.{◌≡◌};
-ghost use Rattle.protocol_lang.specs.Faults.{code_of};
+ghost use Rattle.std.specs.Prelude.{◌≡◌, Some};
+ghost use Rattle.protocol_lang.specs.Faults.{code_of, sentence_of};
 ghost use Rattle.protocol_lang.specs.FirstFaults.{place_of};
 
-use thiserror::Error;
+use std::error::Error;
+use std::fmt;
 
 /// The first fault of a protocol's text, from left to right. A place is the offset in bytes of a
 /// token's first byte, or the text's length where the text ends too early.
-#[derive(Clone, Copy, Debug, PartialEq, Eq, Error)]
+#[derive(Clone, Copy, Debug, PartialEq, Eq)]
 pub enum ParseFault {
     /// The text has more than 4096 bytes.
-    #[error("the protocol has more than 4096 bytes")]
     TooLong,
     /// A byte that begins no token, an unknown word, or a number with a leading zero.
-    #[error("no token at byte {0}")]
     BadToken(usize),
     /// A token that can't stand there, or the text's end where more is needed.
-    #[error("unexpected token at byte {0}")]
     Unexpected(usize),
     /// The 33rd parenthesis that is open at once.
-    #[error("more than 32 open parentheses at byte {0}")]
     TooDeep(usize),
     /// The 33rd rule with a condition.
-    #[error("more than 32 rules")]
     TooManyRules,
     /// A word that reads the view, in the expression after `first`.
-    #[error("the first value can't read the view, at byte {0}")]
     ViewInFirst(usize),
     /// A number above 4294967295.
-    #[error("number too large at byte {0}")]
     NumberTooLarge(usize),
-    /// Memory was refused.
-    #[error("out of memory")]
+    /// An allocation failed.
     OutOfMemory,
 }
 
@@ -52,7 +45,29 @@ impl ParseFault {
         }
     }
 
-    /// Where the fault stands, in bytes from the text's first, or `None` where it is of the whole
+    /// What the fault says, in one sentence without its place.
+    #[tactic(auto, unfolding(crate::specs::Faults::sentence_of))]
+    pub fn sentence(self) -> &'static str
+        ensures { result.now ≡ sentence_of self }
+    {
+        match self {
+            ParseFault::TooLong => "the protocol's text has more than 4096 bytes",
+            ParseFault::BadToken(_) => {
+                "not a token: an unknown word, a byte that begins no token, or a number with a leading zero"
+            }
+            ParseFault::Unexpected(_) =>
+                "the token is not allowed here, or the text ends too early",
+            ParseFault::TooDeep(_) => "more than 32 parentheses are open at once",
+            ParseFault::TooManyRules => "more than 32 rules begin with `when`",
+            ParseFault::ViewInFirst(_) => {
+                "the expression after `first` uses a word that needs a snapshot"
+            }
+            ParseFault::NumberTooLarge(_) => "the number is above 4294967295",
+            ParseFault::OutOfMemory => "out of memory",
+        }
+    }
+
+    /// Where the fault is, in bytes from the text's first, or `None` if it is of the whole
     /// text.
     pub fn place(self) -> Option<usize>
         ensures { result ≡ place_of self }
@@ -67,3 +82,13 @@ impl ParseFault {
         }
     }
 }
+
+impl fmt::Display for ParseFault {
+    ghost output = { λ fault. Some (sentence_of fault) };
+
+    fn fmt<W: fmt::Write>(&self, f: &mut fmt::Formatter<W>) -> fmt::Result {
+        f.write_str(self.sentence())
+    }
+}
+
+impl Error for ParseFault {}

@@ -12,6 +12,7 @@ use Rattle.room_spec.specs.Blocks.{body_len, block_len}
 use Rattle.room_spec.specs.Grammar.{EndsAt, text_of}
 use Rattle.history_checker.specs.Verdicts.{has_room}
 use Rattle.room_files.specs.Blocks.{Setup, refuse, open_room, after_block, block_extent, or_all, IsFaultOr}
+use Rattle.room_files.specs.Faults.{FaultAt}
 use Rattle.room_files.specs.Inputs.{all_blocks_from, blocks_from, events_behind, BeginsWithBlock}
 use Rattle.room_files.specs.declared.fault.InputFault.{InputFault}
 use Rattle.room_files.specs.declared.fault.InputFault.TheVariants.{BadInput, Memory}
@@ -77,8 +78,8 @@ begins input rest len (inl same) other found = subst BeginsWithBlock same (other
 begins input rest len (inr before) other found = before
 
 -- a fault of the blocks is that of the whole input
-pub blocks_fault : (input : List ℕ) (read : Result (Setup × List ℕ) (ℕ × ℕ)) (fault : InputFault) → IsFaultOr (BeginsWithBlock input) read fault → IsFaultOr (BeginsWithBlock input ⊎ IsOk (events_behind read)) (events_behind read) fault
-blocks_fault input read (BadInput line code) bad = rw bad refl
+pub blocks_fault : (input : List ℕ) (read : Result (Setup × List ℕ) FaultAt) (fault : InputFault) → IsFaultOr (BeginsWithBlock input) read fault → IsFaultOr (BeginsWithBlock input ⊎ IsOk (events_behind read)) (events_behind read) fault
+blocks_fault input read (BadInput line fault) bad = rw bad refl
 blocks_fault input read Memory bad = inl bad
 
 -- ---- all blocks of an input that has nothing else

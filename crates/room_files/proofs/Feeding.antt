@@ -2,13 +2,14 @@
 use Rattle.std.proofs.Common.{◌≡◌, ◌∙◌, ℕ, ◌+◌, List, [], ◌∷◌, ◌++◌, Result, Ok, Err, refl, sym, ap}
 use Rattle.room_spec.specs.Rooms.{RoomSpec}
 use Rattle.transcript.specs.Lines.{line_in, line_said, LineParts}
-use Rattle.history_checker.specs.Verdicts.{FedEvent, RoomState, feed_code, specs_of}
+use Rattle.history_checker.specs.Verdicts.{FedEvent, RoomState, specs_of}
 use Rattle.history_checker.specs.Shown.{HasFed, IsUnfed}
 use Rattle.history_checker.specs.declared.fault.FeedFault.{FeedFault}
 use Rattle.history_checker.specs.declared.fault.FeedFault.TheVariants.{BadLine, NoRoom}
 use Rattle.room_files.specs.declared.fault.InputFault.{InputFault}
 use Rattle.room_files.specs.declared.fault.InputFault.TheVariants.{BadInput, Memory}
 use Rattle.room_files.specs.Blocks.{Setup, IsFaultOf}
+use Rattle.room_files.specs.Faults.{FaultAt, of_fed}
 use Rattle.room_files.specs.Lines.{text_lines}
 use Rattle.room_files.specs.Inputs.{blocks_in, events_behind, fed_from, input_says, of_known_room, then_fed, with_fed}
 
@@ -17,7 +18,7 @@ pub line_fed : (rooms : List RoomState) (after : List RoomState) (line : ℕ) (t
 line_fed rooms after line text parts says fed =
     rw (says, fed.said, fed.known) (ap (λ (n : ℕ). Ok (record { name = fed.one.name; event = fed.one.event; line = n })) (sym fed.numbered))
 
-pub line_unfed : (rooms : List RoomSpec) (line : ℕ) (text : List ℕ) (parts : LineParts) (fault : FeedFault) → line_in text ≡ line_said parts → IsUnfed parts rooms fault → of_known_room rooms line (line_in text) ≡ Err (line, feed_code fault)
+pub line_unfed : (rooms : List RoomSpec) (line : ℕ) (text : List ℕ) (parts : LineParts) (fault : FeedFault) → line_in text ≡ line_said parts → IsUnfed parts rooms fault → of_known_room rooms line (line_in text) ≡ Err (line, of_fed fault)
 line_unfed rooms line text parts (BadLine fault) says bad = rw (says, bad) refl
 line_unfed rooms line text parts (NoRoom none) says unknown = rw (says, unknown.1, unknown.2) refl
 
@@ -26,7 +27,7 @@ pub fed_step : (rooms : List RoomSpec) (fed : List FedEvent) (line : ℕ) (text 
 unfolding fed_from
 fed_step rooms fed line text texts one is = ap (then_fed (λ so_far. fed_from rooms so_far (line + 1) texts) fed) is
 
-pub fed_fault : (rooms : List RoomSpec) (fed : List FedEvent) (line : ℕ) (text : List ℕ) (texts : List (List ℕ)) (fault : ℕ × ℕ) → of_known_room rooms line (line_in text) ≡ Err fault
+pub fed_fault : (rooms : List RoomSpec) (fed : List FedEvent) (line : ℕ) (text : List ℕ) (texts : List (List ℕ)) (fault : FaultAt) → of_known_room rooms line (line_in text) ≡ Err fault
     → fed_from rooms fed line (text ∷ texts) ≡ Err fault
 unfolding fed_from
 fed_fault rooms fed line text texts fault is = ap (then_fed (λ so_far. fed_from rooms so_far (line + 1) texts) fed) is
@@ -35,10 +36,10 @@ pub fed_end : (rooms : List RoomSpec) (fed : List FedEvent) (line : ℕ) → fed
 unfolding fed_from
 fed_end rooms fed line = refl
 
-pub fault_fed : (rooms : List RoomSpec) (fed : List FedEvent) (line : ℕ) (text : List ℕ) (texts : List (List ℕ)) (whole : Result (List FedEvent) (ℕ × ℕ)) (fault : InputFault)
+pub fault_fed : (rooms : List RoomSpec) (fed : List FedEvent) (line : ℕ) (text : List ℕ) (texts : List (List ℕ)) (whole : Result (List FedEvent) FaultAt) (fault : InputFault)
     → whole ≡ fed_from rooms fed line (text ∷ texts) → IsFaultOf (of_known_room rooms line (line_in text)) fault → IsFaultOf whole fault
 fault_fed rooms fed line text texts whole Memory is bad = absurd bad
-fault_fed rooms fed line text texts whole (BadInput at code) is bad = is ∙ fed_fault rooms fed line text texts (at, code) bad
+fault_fed rooms fed line text texts whole (BadInput at wrong) is bad = is ∙ fed_fault rooms fed line text texts (at, wrong) bad
 
 -- what an input says, by its blocks and the events behind them
 pub said : (input : List ℕ) (setup : Setup) (transcript : List ℕ) (fed : List FedEvent) → blocks_in input ≡ Ok (setup, transcript) → fed_from setup.rooms [] setup.line (text_lines transcript) ≡ Ok fed → input_says input ≡ Ok (setup, fed)

@@ -21,6 +21,9 @@ use Rattle.transcript.specs.declared.fault.LineFault.{LineFault}
 use Rattle.history_checker.specs.Verdicts.{FedEvent, has_room}
 use Rattle.room_files.specs.Lines.{lines_in, text_lines}
 use Rattle.room_files.specs.Blocks.{Setup, no_blocks, refuse, open_room, open_block, pass_lines, after_block, fault_text, refused_line}
+use Rattle.room_files.specs.Faults.{FaultAt}
+use Rattle.room_files.specs.declared.fault.TextFault.{TextFault}
+use Rattle.room_files.specs.declared.fault.TextFault.TheVariants.{NoEvents}
 use Rattle.room_files.specs.Inputs.{next_block, blocks_from, blocks_in, of_known_room, then_fed, fed_from, with_fed, events_behind, input_says}
 use Rattle.room_files.specs.LineNumbers.{number_behind, Refusal, refusal_line, IsBlockText, AreBlocks, NoBlock, Opened, NameTaken, Faulty, AreTold, NoLine, OneMore, IsBadLine, with_events, EndsEarly, IsNumbered}
 use Rattle.room_files.proofs.LineLists.{first_and_later}
@@ -192,9 +195,9 @@ record IsBehind (input : List ℕ) (setup : Setup) (transcript : List ℕ) : Typ
   refused_lines : setup.refused ≡ flat_map refusal_line refused
   number : setup.line ≡ number_behind (with_events blocks)
 
-abbrev BlocksSay : List ℕ → Result (Setup × List ℕ) (ℕ × ℕ) → Type 0
+abbrev BlocksSay : List ℕ → Result (Setup × List ℕ) FaultAt → Type 0
 BlocksSay input (Ok (setup, transcript)) = IsBehind input setup transcript
-BlocksSay input (Err (line, code)) = EndsEarly input line code
+BlocksSay input (Err (line, fault)) = EndsEarly input line fault
 
 at_events : (input : List ℕ) (setup : Setup) (rest : List ℕ) → Reached input setup rest → bytes_eq (first_line rest) (codes "events") ≡ true → IsBehind input (pass_lines 1 setup) (later_lines rest)
 at_events input setup rest reached is = record {
@@ -206,9 +209,9 @@ at_events input setup rest reached is = record {
   number = omega (arith, reached.number, length-append reached.blocks (codes "events" ∷ []));
 }
 
-too_early : (input : List ℕ) (setup : Setup) (rest : List ℕ) → Reached input setup rest → bytes_eq (first_line rest) (codes "events") ≡ false → block_len rest ≡ None → EndsEarly input (setup.line + length (text_lines rest)) 61
+too_early : (input : List ℕ) (setup : Setup) (rest : List ℕ) → Reached input setup rest → bytes_eq (first_line rest) (codes "events") ≡ false → block_len rest ≡ None → EndsEarly input (setup.line + length (text_lines rest)) NoEvents
 too_early input setup rest reached other none = record {
-  code_is = refl;
+  fault_is = refl;
   number = omega (arith, reached.number, ap length reached.lines, length-append reached.blocks (text_lines rest));
   blocks = reached.blocks;
   rooms = setup.rooms;
@@ -220,7 +223,7 @@ too_early input setup rest reached other none = record {
   no_events = no_events_line rest other;
 }
 
-next_numbered : (input : List ℕ) (later : Setup → List ℕ → Result (Setup × List ℕ) (ℕ × ℕ)) (setup : Setup) (rest : List ℕ) (len : Option ℕ) → Reached input setup rest → bytes_eq (first_line rest) (codes "events") ≡ false → block_len rest ≡ len
+next_numbered : (input : List ℕ) (later : Setup → List ℕ → Result (Setup × List ℕ) FaultAt) (setup : Setup) (rest : List ℕ) (len : Option ℕ) → Reached input setup rest → bytes_eq (first_line rest) (codes "events") ≡ false → block_len rest ≡ len
     → ((now : Setup) (behind : List ℕ) → Reached input now behind → length behind < length rest → BlocksSay input (later now behind)) → BlocksSay input (next_block later setup rest len)
 next_numbered input later setup rest None reached other found on = too_early input setup rest reached other found
 next_numbered input later setup rest (Some len) reached other found on = on (after_block setup (take len rest)) (drop len rest) (one_further input setup rest len reached found other) (front_of rest len found).shorter
@@ -239,7 +242,7 @@ blocks_numbered input = from_numbered input (suc (length input)) no_blocks input
 
 -- ---- the event lines
 
-record IsBad (rooms : List RoomSpec) (before all : List (List ℕ)) (line code : ℕ) : Type 0 where
+record IsBad (rooms : List RoomSpec) (before all : List (List ℕ)) (line : ℕ) (fault : TextFault) : Type 0 where
   events : List (List ℕ)
   fed : List FedEvent
   bad : List ℕ
@@ -247,33 +250,33 @@ record IsBad (rooms : List RoomSpec) (before all : List (List ℕ)) (line code :
   parts : all ≡ events ++ bad ∷ more
   told : AreTold rooms before events fed
   number : line ≡ number_behind (before ++ events)
-  why : IsBadLine rooms bad code
+  why : IsBadLine rooms bad fault
 
-abbrev EventsSay : List RoomSpec → List (List ℕ) → List (List ℕ) → Result (List FedEvent) (ℕ × ℕ) → Type 0
+abbrev EventsSay : List RoomSpec → List (List ℕ) → List (List ℕ) → Result (List FedEvent) FaultAt → Type 0
 EventsSay rooms before all (Ok fed) = AreTold rooms before all fed
-EventsSay rooms before all (Err (line, code)) = IsBad rooms before all line code
+EventsSay rooms before all (Err (line, fault)) = IsBad rooms before all line fault
 
 -- what one line more says
-abbrev LineSays : List RoomSpec → List ℕ → ℕ → Result FedEvent (ℕ × ℕ) → Type 0
+abbrev LineSays : List RoomSpec → List ℕ → ℕ → Result FedEvent FaultAt → Type 0
 LineSays rooms text line (Ok one) = (read : List ℕ × Event) × (line_in text ≡ Ok read) × (has_room read.0 rooms ≡ true) × (one ≡ record { name = read.0; event = read.1; line = line })
-LineSays rooms text line (Err (at, code)) = (at ≡ line) × IsBadLine rooms text code
+LineSays rooms text line (Err (at, fault)) = (at ≡ line) × IsBadLine rooms text fault
 
 known_says : (rooms : List RoomSpec) (text : List ℕ) (line : ℕ) (read : List ℕ × Event) (has : Bool) → line_in text ≡ Ok read → has_room read.0 rooms ≡ has → LineSays rooms text line (of_known_room rooms line (Ok read))
 known_says rooms text line read true is has = rw has (read, is, has, refl)
-known_says rooms text line read false is has = rw has (refl, inr (read, is, has, refl))
+known_says rooms text line read false is has = rw has (refl, (read, is, has))
 
 line_says : (rooms : List RoomSpec) (text : List ℕ) (line : ℕ) (said : Result (List ℕ × Event) LineFault) → line_in text ≡ said → LineSays rooms text line (of_known_room rooms line said)
 line_says rooms text line (Ok read) is = known_says rooms text line read (has_room read.0 rooms) is refl
-line_says rooms text line (Err fault) is = (refl, inl (fault, is, refl))
+line_says rooms text line (Err fault) is = (refl, is)
 
-then_numbered : (rooms : List RoomSpec) (before lines : List (List ℕ)) (fed : List FedEvent) (line : ℕ) (text : List ℕ) (texts : List (List ℕ)) (later : List FedEvent → Result (List FedEvent) (ℕ × ℕ)) (said : Result FedEvent (ℕ × ℕ))
+then_numbered : (rooms : List RoomSpec) (before lines : List (List ℕ)) (fed : List FedEvent) (line : ℕ) (text : List ℕ) (texts : List (List ℕ)) (later : List FedEvent → Result (List FedEvent) FaultAt) (said : Result FedEvent FaultAt)
     → AreTold rooms before lines fed → line ≡ number_behind (before ++ lines) → LineSays rooms text line said
     → ((more : List FedEvent) → AreTold rooms before (lines ++ text ∷ []) more → EventsSay rooms before ((lines ++ text ∷ []) ++ texts) (later more)) → EventsSay rooms before (lines ++ text ∷ texts) (then_fed later fed said)
 then_numbered rooms before lines fed line text texts later (Ok one) told number says on =
     let one_is : record { name = says.0.0; event = says.0.1; line = number_behind (before ++ lines) } ≡ one = ap (λ (n : ℕ). record { name = says.0.0; event = says.0.1; line = n }) (sym number) ∙ sym says.3 in
     let more : AreTold rooms before (lines ++ text ∷ []) (fed ++ one ∷ []) = subst (λ (f : FedEvent). AreTold rooms before (lines ++ text ∷ []) (fed ++ f ∷ [])) one_is (OneMore lines fed text says.0.0 says.0.1 told says.1 says.2) in
     subst (λ (all : List (List ℕ)). EventsSay rooms before all (later (fed ++ one ∷ []))) (append_assoc lines (text ∷ []) texts) (on (fed ++ one ∷ []) more)
-then_numbered rooms before lines fed line text texts later (Err (at, code)) told number says on = record {
+then_numbered rooms before lines fed line text texts later (Err (at, fault)) told number says on = record {
   events = lines;
   fed = fed;
   bad = text;
@@ -293,7 +296,7 @@ told_numbered rooms before lines fed line (text ∷ texts) told number =
 
 -- ---- the whole input
 
-whole_numbered : (input : List ℕ) (setup : Setup) (transcript : List ℕ) (behind : IsBehind input setup transcript) (said : Result (List FedEvent) (ℕ × ℕ)) → EventsSay setup.rooms (with_events behind.blocks) (text_lines transcript) said → IsNumbered input (with_fed setup said)
+whole_numbered : (input : List ℕ) (setup : Setup) (transcript : List ℕ) (behind : IsBehind input setup transcript) (said : Result (List FedEvent) FaultAt) → EventsSay setup.rooms (with_events behind.blocks) (text_lines transcript) said → IsNumbered input (with_fed setup said)
 whole_numbered input setup transcript behind (Ok fed) says = record {
   blocks = behind.blocks;
   refused = behind.refused;
@@ -303,7 +306,7 @@ whole_numbered input setup transcript behind (Ok fed) says = record {
   refused_lines = behind.refused_lines;
   told = says;
 }
-whole_numbered input setup transcript behind (Err (line, code)) says = inr (record {
+whole_numbered input setup transcript behind (Err (line, fault)) says = inr (record {
   blocks = behind.blocks;
   rooms = setup.rooms;
   refused = behind.refused;
@@ -318,11 +321,11 @@ whole_numbered input setup transcript behind (Err (line, code)) says = inr (reco
   why = says.why;
 })
 
-events_numbered : (input : List ℕ) (read : Result (Setup × List ℕ) (ℕ × ℕ)) → BlocksSay input read → IsNumbered input (events_behind read)
+events_numbered : (input : List ℕ) (read : Result (Setup × List ℕ) FaultAt) → BlocksSay input read → IsNumbered input (events_behind read)
 events_numbered input (Ok (setup, transcript)) behind =
     whole_numbered input setup transcript behind (fed_from setup.rooms [] setup.line (text_lines transcript))
     (told_numbered setup.rooms (with_events behind.blocks) [] [] setup.line (text_lines transcript) NoLine (behind.number ∙ ap (λ (l : List (List ℕ)). number_behind l) (sym (append-nil (with_events behind.blocks)))))
-events_numbered input (Err (line, code)) early = inl early
+events_numbered input (Err (line, fault)) early = inl early
 
 pub input_numbered : (input : List ℕ) → IsNumbered input (input_says input)
 input_numbered input = events_numbered input (blocks_in input) (blocks_numbered input)

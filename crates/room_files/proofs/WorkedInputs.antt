@@ -11,8 +11,10 @@ use Rattle.room_spec.specs.declared.version.Version.TheVariants.{One}
 use Rattle.room_spec.specs.Blocks.{body_len, fuses_from, room_in}
 use Rattle.transcript.specs.declared.event.Event.TheVariants.{Write, Snap, Decide}
 use Rattle.history_checker.specs.Verdicts.{FedEvent}
+use Rattle.transcript.specs.declared.fault.LineFault.TheVariants.{BadName}
 use Rattle.room_files.specs.Blocks.{Setup}
 use Rattle.room_files.specs.Inputs.{blocks_from, fed_from, input_says}
+use Rattle.room_files.specs.declared.fault.TextFault.TheVariants.{BadEvent, NoRoom, NoEvents}
 
 abbrev one : List ℕ
 one = codes "bgsim 1\nroom one\ninputs 5\nsimulators 1\nrounds 1\nturns 10\nprotocol\nfirst input;\nelse decide mine;\nend\n"
@@ -66,27 +68,27 @@ unfolding blocks_from fed_from body_len room_in fuses_from reading run one_token
 bad_block = refl
 
 -- what ends early has the number behind its last line
-nothing : input_says [] ≡ Err (1, 61)
+nothing : input_says [] ≡ Err (1, NoEvents)
 unfolding blocks_from fed_from body_len room_in fuses_from reading run one_token next_token digits
 nothing = refl
 
-block_alone : input_says one ≡ Err (11, 61)
+block_alone : input_says one ≡ Err (11, NoEvents)
 unfolding blocks_from fed_from body_len room_in fuses_from reading run one_token next_token digits
 block_alone = refl
 
-block_unended : input_says (take 98 one) ≡ Err (11, 61)
+block_unended : input_says (take 98 one) ≡ Err (11, NoEvents)
 unfolding blocks_from fed_from body_len room_in fuses_from reading run one_token next_token digits
 block_unended = refl
 
-block_without_end : input_says (take 97 one) ≡ Err (10, 61)
+block_without_end : input_says (take 97 one) ≡ Err (10, NoEvents)
 unfolding blocks_from fed_from body_len room_in fuses_from reading run one_token next_token digits
 block_without_end = refl
 
 -- the first bad event line decides, by its number
-bad_line : input_says (one ++ codes "events\none 0 write 5\n\none 0 wrote 5\n") ≡ Err (13, 30)
+bad_line : input_says (one ++ codes "events\none 0 write 5\n\none 0 wrote 5\n") ≡ Err (13, BadEvent BadName)
 unfolding blocks_from fed_from body_len room_in fuses_from reading run one_token next_token digits
 bad_line = refl
 
-unknown_room : input_says (codes "events\nother 0 write 5\n") ≡ Err (2, 40)
+unknown_room : input_says (codes "events\nother 0 write 5\n") ≡ Err (2, NoRoom)
 unfolding blocks_from fed_from body_len room_in fuses_from reading run one_token next_token digits
 unknown_room = refl

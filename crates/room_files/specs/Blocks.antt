@@ -8,6 +8,7 @@ use Rattle.room_spec.specs.Blocks.{block_in, block_len}
 use Rattle.room_spec.specs.declared.fault.SpecFault.{SpecFault}
 use Rattle.room_spec.specs.declared.fault.SpecFault.TheVariants.{BadLine, BadProtocol, CrashLine, Repeated, TaskLine}
 use Rattle.history_checker.specs.Verdicts.{has_room}
+use Rattle.room_files.specs.Faults.{FaultAt}
 use Rattle.room_files.specs.Lines.{text_lines}
 use Rattle.room_files.specs.declared.fault.InputFault.{InputFault}
 use Rattle.room_files.specs.declared.fault.InputFault.TheVariants.{BadInput, Memory}
@@ -93,10 +94,10 @@ ReadsBlock block (Err fault) = block_in block ≡ Err fault
 -- ---- an input's fault
 
 -- the fault is the one that reading gave; where `memory` holds, memory may have been refused
-abbrev pub IsFaultOr : {A : Type 0} → Type 0 → Result A (ℕ × ℕ) → InputFault → Type 0
-IsFaultOr memory read (BadInput line code) = read ≡ Err (line, code)
+abbrev pub IsFaultOr : {A : Type 0} → Type 0 → Result A FaultAt → InputFault → Type 0
+IsFaultOr memory read (BadInput line fault) = read ≡ Err (line, fault)
 IsFaultOr memory read Memory = memory
 
 -- nothing takes memory there
-abbrev pub IsFaultOf : {A : Type 0} → Result A (ℕ × ℕ) → InputFault → Type 0
+abbrev pub IsFaultOf : {A : Type 0} → Result A FaultAt → InputFault → Type 0
 IsFaultOf read fault = IsFaultOr ⊥ read fault

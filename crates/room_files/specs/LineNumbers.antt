@@ -5,13 +5,14 @@ use Rattle.room_spec.specs.Rooms.{RoomSpec}
 use Rattle.room_spec.specs.Texts.{first_line}
 use Rattle.room_spec.specs.Blocks.{block_len, block_in}
 use Rattle.room_spec.specs.declared.fault.SpecFault.{SpecFault}
-use Rattle.transcript.specs.Faults.{code_of as line_code}
 use Rattle.transcript.specs.Lines.{line_in}
 use Rattle.transcript.specs.declared.event.Event.{Event}
-use Rattle.transcript.specs.declared.fault.LineFault.{LineFault}
 use Rattle.history_checker.specs.Verdicts.{FedEvent, has_room}
 use Rattle.room_files.specs.Lines.{text_lines}
 use Rattle.room_files.specs.Blocks.{Setup, fault_text, refused_line}
+use Rattle.room_files.specs.Faults.{FaultAt}
+use Rattle.room_files.specs.declared.fault.TextFault.{TextFault}
+use Rattle.room_files.specs.declared.fault.TextFault.TheVariants.{BadEvent, NoRoom, NoCommand, NoEvents}
 
 -- the number of the line that stands behind these, which begin the input
 abbrev pub number_behind : List (List ℕ) → ℕ
@@ -50,11 +51,12 @@ pub data AreTold (rooms : List RoomSpec) (before : List (List ℕ)) : List (List
   OneMore : (lines : List (List ℕ)) (fed : List FedEvent) (line name : List ℕ) (event : Event) → AreTold rooms before lines fed → line_in line ≡ Ok (name, event) → has_room name rooms ≡ true
       → AreTold rooms before (lines ++ line ∷ []) (fed ++ record { name = name; event = event; line = number_behind (before ++ lines) } ∷ [])
 
--- the line is no event of one of the rooms, for the reason of this code
-abbrev pub IsBadLine : List RoomSpec → List ℕ → ℕ → Type 0
-IsBadLine rooms line code =
-    ((fault : LineFault) × (line_in line ≡ Err fault) × (code ≡ line_code fault))
-    ⊎ ((read : List ℕ × Event) × (line_in line ≡ Ok read) × (has_room read.0 rooms ≡ false) × (code ≡ 40))
+-- the line is no event of one of the rooms: it has this fault
+abbrev pub IsBadLine : List RoomSpec → List ℕ → TextFault → Type 0
+IsBadLine rooms line (BadEvent fault) = line_in line ≡ Err fault
+IsBadLine rooms line NoRoom = (read : List ℕ × Event) × (line_in line ≡ Ok read) × (has_room read.0 rooms ≡ false)
+IsBadLine rooms line NoCommand = ⊥
+IsBadLine rooms line NoEvents = ⊥
 
 -- ---- the whole input
 
@@ -73,8 +75,8 @@ pub record IsSaid (input : List ℕ) (setup : Setup) (fed : List FedEvent) : Typ
   pub told : AreTold setup.rooms (with_events blocks) events fed
 
 -- the input is blocks and a rest with no line `end` and no line `events` before it; the number is one more than the number of all lines
-pub record EndsEarly (input : List ℕ) (line code : ℕ) : Type 0 where
-  pub code_is : code ≡ 61
+pub record EndsEarly (input : List ℕ) (line : ℕ) (fault : TextFault) : Type 0 where
+  pub fault_is : fault ≡ NoEvents
   pub number : line ≡ number_behind (text_lines input)
   pub blocks : List (List ℕ)
   pub rooms : List RoomSpec
@@ -86,7 +88,7 @@ pub record EndsEarly (input : List ℕ) (line code : ℕ) : Type 0 where
   pub no_events : first_line rest ≢ codes "events"
 
 -- the input is its blocks, the line `events`, lines of events, and this line, which is the first that is none
-pub record HasBadLine (input : List ℕ) (line code : ℕ) : Type 0 where
+pub record HasBadLine (input : List ℕ) (line : ℕ) (fault : TextFault) : Type 0 where
   pub blocks : List (List ℕ)
   pub rooms : List RoomSpec
   pub refused : List Refusal
@@ -98,9 +100,9 @@ pub record HasBadLine (input : List ℕ) (line code : ℕ) : Type 0 where
   pub are_blocks : AreBlocks blocks rooms refused
   pub told : AreTold rooms (with_events blocks) events fed
   pub number : line ≡ number_behind (with_events blocks ++ events)
-  pub why : IsBadLine rooms bad code
+  pub why : IsBadLine rooms bad fault
 
--- what an input says, or the number and the code of its first bad line, by its lines
-abbrev pub IsNumbered : List ℕ → Result (Setup × List FedEvent) (ℕ × ℕ) → Type 0
+-- what an input says, or the number and the fault of its first bad line, by its lines
+abbrev pub IsNumbered : List ℕ → Result (Setup × List FedEvent) FaultAt → Type 0
 IsNumbered input (Ok (setup, fed)) = IsSaid input setup fed
-IsNumbered input (Err (line, code)) = EndsEarly input line code ⊎ HasBadLine input line code
+IsNumbered input (Err (line, fault)) = EndsEarly input line fault ⊎ HasBadLine input line fault

@@ -6,7 +6,7 @@ ghost use Rattle.room_files.specs.Lines.{text_lines};
 ghost use Rattle.room_files.specs.Blocks.{IsFaultOf};
 ghost use Rattle.room_files.specs.Inputs.{of_known_room, fed_from};
 
-use crate::fault::{InputFault, bad_input};
+use crate::fault::{InputFault, TextFault, bad_input};
 use crate::lines::next_line;
 use history_checker::Rooms;
 use transcript::EventLine;
@@ -39,10 +39,10 @@ fn feed_line(rooms: &mut Rooms, line: u64, text: &[u8]) -> Result<(), InputFault
 {
     let parts = match EventLine::split(text) {
         Ok(parts) => parts,
-        Err(fault) => return Err(bad_input(line, fault.code())),
+        Err(fault) => return Err(bad_input(line, TextFault::BadEvent(fault))),
     };
     match rooms.feed_line(&parts, line) {
         Ok(()) => Ok(()),
-        Err(fault) => Err(bad_input(line, fault.code())),
+        Err(fault) => Err(bad_input(line, TextFault::from(fault))),
     }
 }

@@ -15,7 +15,7 @@ mod spec_list;
 pub use block_list::{BlockList, write_block};
 pub use blocks::{Opens, Refuses, Setup, read_room};
 pub use events::feed_events;
-pub use fault::{BlockFault, InputFault};
+pub use fault::{BlockFault, InputFault, TextFault};
 pub use lines::{count_lines, next_line};
 pub use outcome::{Answer, Outcome, is_well, outcome_if};
 pub use report::{write_refused, write_refused_code, write_task, write_verdict};

@@ -5,13 +5,10 @@ ghost use Rattle.room_files.specs.Inputs.{all_blocks, blocks_in, BeginsWithBlock
 ghost use Rattle.io_text.specs.Reading.{most_bytes};
 
 use crate::blocks::{Opens, Refuses, Setup};
-use crate::fault::{InputFault, bad_input};
+use crate::fault::{InputFault, TextFault, bad_input};
 use crate::lines::count_lines;
 use room_spec::{Block, Protocols, cut_near};
 use std::alloc::{AllocError, Global};
-
-/// The code of an input that ends before the line `events`.
-const ENDED_EARLY: u16 = 61;
 
 /// Takes the blocks of a transcript, up to the line `events`: what they say, and the text behind that line.
 ///
@@ -39,7 +36,7 @@ pub fn read_blocks<R: Opens, T: Refuses>(
             return Ok((setup, later.unwrap_or(&[])));
         }
         let Some(block) = Block::at_front(rest) else {
-            return Err(bad_input(setup.line + count_lines(rest), ENDED_EARLY));
+            return Err(bad_input(setup.line + count_lines(rest), TextFault::NoEvents));
         };
         setup.take(alloc, &block, &mut protocols)?;
         rest = &rest[block.text().len()..];

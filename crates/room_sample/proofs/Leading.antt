@@ -22,6 +22,7 @@ use Rattle.service_core.specs.declared.reply.Reply.TheVariants as replies
 use Rattle.service_core.specs.Replies.{name_in, part, replies_from}
 use Rattle.service_core.specs.Runs.{granted, is_want, replies_of, without_wants}
 use Rattle.room_files.specs.declared.outcome.Outcome.{Outcome}
+use Rattle.room_files.specs.Faults.{FaultAt}
 use Rattle.room_files.specs.Verdicts.{outcome_if}
 use Rattle.script_play.specs.Play.{AreDone, Done, Faulty, Replied, Unread, commands_of, done_text, ending_if, is_lacking, is_refused, replies_in}
 use Rattle.script_play.specs.Script.{Ask, Entry, Open, script_says}
@@ -137,7 +138,7 @@ fine : (lacking refused : Bool) (outcome : Outcome) → ◌≡◌ {A = Result Ou
 fine true refused outcome is = absurd cc
 fine false refused outcome is = (refl, cc)
 
-same_entries : (one other : List Entry) → ◌≡◌ {A = Result (List Entry) (ℕ × ℕ)} (Ok one) (Ok other) → one ≡ other
+same_entries : (one other : List Entry) → ◌≡◌ {A = Result (List Entry) FaultAt} (Ok one) (Ok other) → one ≡ other
 same_entries one other is = cc
 
 -- ---- what the script asks for
@@ -207,7 +208,7 @@ leads spec crashes block schedule states limits says is =
     let read : script_says script ≡ Ok (Open 2 (whole_block block) ∷ map Ask asked) =
     ap (λ (t : List ℕ). script_says (codes "open\n" ++ (whole_block block ++ t))) (lines_are name schedule) ∙ opened_read spec (whole_block block) asked whole (written_for spec (opening_state spec) schedule limits refl is.may_come) in
     record {
-      valid = subst (λ (r : Result (List Entry) (ℕ × ℕ)). IsOk r) (sym read) refl;
+      valid = subst (λ (r : Result (List Entry) FaultAt). IsOk r) (sym read) refl;
       report = comes.report;
       states_are = comes.states_are;
       played = λ outcome output play.

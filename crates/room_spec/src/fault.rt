@@ -1,52 +1,41 @@
 //! Why a text is no room block.
-ghost use Rattle.std.specs.Prelude.{◌≡◌};
-ghost use Rattle.room_spec.specs.Faults.{code_of};
+ghost use Rattle.std.specs.Prelude.{◌≡◌, Some};
+ghost use Rattle.room_spec.specs.Faults.{code_of, sentence_of};
 
 use protocol_lang::ParseFault;
-use thiserror::Error;
+use std::error::Error;
+use std::fmt;
 
 /// The first fault of a room block, from its first line on. Lines are counted from 1, the block's
 /// first.
-#[derive(Clone, Copy, Debug, PartialEq, Eq, Error)]
+#[derive(Clone, Copy, Debug, PartialEq, Eq)]
 pub enum SpecFault {
     /// No line is `end`.
-    #[error("the room block has no line `end`")]
     Truncated,
     /// The line of this number hasn't the form that it should have.
-    #[error("line {0} hasn't the form that it should have")]
     BadLine(usize),
     /// The room's name isn't 1 to 32 letters from `a` to `z`, digits, `_` and `-`.
-    #[error("bad name of a room")]
     BadName,
     /// The protocol's text has this fault.
-    #[error("bad protocol: {0}")]
     BadProtocol(ParseFault),
     /// There aren't 1 to 16 inputs, or one is above 4294967295.
-    #[error("not 1 to 16 inputs up to 4294967295")]
     Inputs,
     /// The number of simulators isn't 1 to 8.
-    #[error("not 1 to 8 simulators")]
     Simulators,
     /// The number of rounds isn't 1 to 15.
-    #[error("not 1 to 15 rounds")]
     Rounds,
     /// The number of turns isn't 1 to 65535.
-    #[error("not 1 to 65535 turns")]
     Turns,
     /// The step numbers of all simulators need more bits than the block's version allows: 64 in version 1, 256 in
     /// version 2.
-    #[error("simulators, processes and rounds need more bits than the version allows")]
     TooWide,
     /// The line of this number begins with `crash `, and isn't `crash I after K` with the number of
     /// a simulator and up to 4294967295 steps.
-    #[error("line {0} is no crash of a simulator after up to 4294967295 steps")]
     CrashLine(usize),
     /// The line of this number is a second crash of its simulator.
-    #[error("line {0} is a second crash of its simulator")]
     Repeated(usize),
     /// The line of this number, which is 7, begins with `task ` in a block of version 2, and isn't `task agree K` with a K
     /// from 1 to 16.
-    #[error("line {0} is no task to agree on 1 to 16 values")]
     TaskLine(usize),
 }
 
@@ -70,4 +59,39 @@ impl SpecFault {
             SpecFault::TaskLine(_) => 21,
         }
     }
+
+    /// What the fault says, in one sentence without its line. What is wrong with a protocol's text is said by that fault's own.
+    #[tactic(auto, unfolding(crate::specs::Faults::sentence_of))]
+    pub fn sentence(self) -> &'static str
+        ensures { result.now ≡ sentence_of self }
+    {
+        match self {
+            SpecFault::Truncated => "the block has no line `end`",
+            SpecFault::BadLine(_) => "the line does not have the form that a block needs here",
+            SpecFault::BadName => "`room` is followed by no valid name",
+            SpecFault::BadProtocol(_) => "the protocol's text has a fault",
+            SpecFault::Inputs => "there are no inputs, more than 16, or one above 4294967295",
+            SpecFault::Simulators => "the number of simulators is not 1 to 8",
+            SpecFault::Rounds => "the number of rounds is not 1 to 15",
+            SpecFault::Turns => "the number of turns is not 1 to 65535",
+            SpecFault::TooWide => {
+                "the step numbers need more than 64 bits, or in version 2 more than 256"
+            }
+            SpecFault::CrashLine(_) => {
+                "`crash` needs a simulator of the room, `after`, and a number up to 4294967295"
+            }
+            SpecFault::Repeated(_) => "the simulator has a `crash` line already",
+            SpecFault::TaskLine(_) => "`task` needs `agree` and a number from 1 to 16",
+        }
+    }
 }
+
+impl fmt::Display for SpecFault {
+    ghost output = { λ fault. Some (sentence_of fault) };
+
+    fn fmt<W: fmt::Write>(&self, f: &mut fmt::Formatter<W>) -> fmt::Result {
+        f.write_str(self.sentence())
+    }
+}
+
+impl Error for SpecFault {}

@@ -6,9 +6,11 @@ use Rattle.std.proofs.lemmas.List.{append-nil, append_assoc}
 use Rattle.room_spec.specs.Texts.{first_line, later_lines}
 use Rattle.service_core.specs.declared.command.Command.{Command}
 use Rattle.room_files.specs.Blocks.{IsFaultOr}
+use Rattle.room_files.specs.Faults.{FaultAt}
 use Rattle.room_files.specs.Lines.{text_lines}
 use Rattle.room_files.specs.declared.fault.InputFault.{InputFault}
 use Rattle.room_files.specs.declared.fault.InputFault.TheVariants.{BadInput, Memory}
+use Rattle.room_files.specs.declared.fault.TextFault.TheVariants.{NoCommand}
 use Rattle.script_play.specs.declared.entries.Entry.{Entry as First}
 use Rattle.script_play.specs.declared.entries.Entry.TheVariants as first
 use Rattle.script_play.specs.Script.{Entry, Ask, Open, StandsFirst, and_then, asked, asks_at, block_behind, command_in, command_to, entry_at, entry_lines, is_asking, is_open, script_from, text_behind}
@@ -24,15 +26,15 @@ no_command is_cut word name sim count (byte ∷ bytes) = elim (is_cut byte) as (
 -- ---- entries
 
 -- the entries before, and those that are read behind them
-abbrev pub behind : List Entry → Result (List Entry) (ℕ × ℕ) → Result (List Entry) (ℕ × ℕ)
+abbrev pub behind : List Entry → Result (List Entry) FaultAt → Result (List Entry) FaultAt
 behind before (Ok later) = Ok (before ++ later)
 behind before (Err fault) = Err fault
 
-pub behind_none : (read : Result (List Entry) (ℕ × ℕ)) → read ≡ behind [] read
+pub behind_none : (read : Result (List Entry) FaultAt) → read ≡ behind [] read
 behind_none (Ok later) = refl
 behind_none (Err fault) = refl
 
-behind_one : (before : List Entry) (entry : Entry) (read : Result (List Entry) (ℕ × ℕ)) → behind before (and_then (Ok entry) read) ≡ behind (before ++ entry ∷ []) read
+behind_one : (before : List Entry) (entry : Entry) (read : Result (List Entry) FaultAt) → behind before (and_then (Ok entry) read) ≡ behind (before ++ entry ∷ []) read
 behind_one before entry (Ok later) = ap Ok (sym (append_assoc before (entry ∷ []) later))
 behind_one before entry (Err fault) = refl
 
@@ -61,7 +63,7 @@ first_lines number text (first.Line line) stands =
     omega (arith, none)
 
 -- what is left behind one entry more
-pub step_script : (most number lines : ℕ) (text later : List ℕ) (first : First) (entry : Entry) (before : List Entry) (whole : Result (List Entry) (ℕ × ℕ)) → length text ≤ most → 0 < length text
+pub step_script : (most number lines : ℕ) (text later : List ℕ) (first : First) (entry : Entry) (before : List Entry) (whole : Result (List Entry) FaultAt) → length text ≤ most → 0 < length text
     → StandsFirst text first → later ≡ text_behind (first_line text) (later_lines text) → length later < length text → lines ≡ entry_lines first → asks_at number first ≡ Ok entry → whole ≡ behind before (script_from most number text)
     → (fewer : ℕ) × (length later ≤ fewer) × (whole ≡ behind (before ++ entry ∷ []) (script_from fewer (number + lines) later))
 unfolding script_from
@@ -79,7 +81,7 @@ step_script (suc fewer) number lines (byte ∷ bytes) later first entry before w
     )
 
 -- a line that asks for nothing
-pub bad_entry : (most number : ℕ) (text : List ℕ) (first : First) (before : List Entry) (whole : Result (List Entry) (ℕ × ℕ)) (fault : ℕ × ℕ) → length text ≤ most → 0 < length text → StandsFirst text first
+pub bad_entry : (most number : ℕ) (text : List ℕ) (first : First) (before : List Entry) (whole : Result (List Entry) FaultAt) (fault : FaultAt) → length text ≤ most → 0 < length text → StandsFirst text first
     → asks_at number first ≡ Err fault → whole ≡ behind before (script_from most number text) → whole ≡ Err fault
 unfolding script_from
 bad_entry most number [] first before whole fault within some stands asks is = absurd (omega arith)
@@ -91,7 +93,7 @@ bad_entry (suc fewer) number (byte ∷ bytes) first before whole fault within so
     is ∙ ap (λ r. behind before (and_then r (script_from fewer (number + 1 + length (text_lines at)) (text_behind (first_line text) (later_lines text))))) same
 
 -- nothing is left
-pub script_ends : (most number : ℕ) (text : List ℕ) (before : List Entry) (whole : Result (List Entry) (ℕ × ℕ)) → text ≡ [] → whole ≡ behind before (script_from most number text) → whole ≡ Ok before
+pub script_ends : (most number : ℕ) (text : List ℕ) (before : List Entry) (whole : Result (List Entry) FaultAt) → text ≡ [] → whole ≡ behind before (script_from most number text) → whole ≡ Ok before
 unfolding script_from
 script_ends zero number text before whole empty is = is ∙ ap Ok (append-nil before)
 script_ends (suc most) number text before whole empty is = is ∙ ap (λ t. behind before (script_from (suc most) number t)) empty ∙ ap Ok (append-nil before)
@@ -102,7 +104,7 @@ asked_command : (number : ℕ) (command : Option Command) → is_some command �
 asked_command number None good = absurd cc
 asked_command number (Some command) good = (Ask command, refl)
 
-asked_nothing : (number : ℕ) (command : Option Command) → is_some command ≡ false → asked number command ≡ Err (number, 60)
+asked_nothing : (number : ℕ) (command : Option Command) → is_some command ≡ false → asked number command ≡ Err (number, NoCommand)
 asked_nothing number None bad = refl
 asked_nothing number (Some command) bad = absurd cc
 
@@ -110,16 +112,16 @@ pub good_entry : (number : ℕ) (first : First) → is_asking first ≡ true →
 good_entry number (first.Block block) good = (Open (number + 1) block.now, refl)
 good_entry number (first.Line line) good = asked_command number (command_in line.now) good
 
-pub bad_line : (number : ℕ) (first : First) → is_asking first ≡ false → asks_at number first ≡ Err (number, 60)
+pub bad_line : (number : ℕ) (first : First) → is_asking first ≡ false → asks_at number first ≡ Err (number, NoCommand)
 bad_line number (first.Block block) bad = absurd cc
 bad_line number (first.Line line) bad = asked_nothing number (command_in line.now) bad
 
 -- what ends the lines that are left ends the script
-pub fault_behind : (before : List Entry) (read whole : Result (List Entry) (ℕ × ℕ)) (fault : InputFault) → whole ≡ behind before read → IsFaultOr (IsOk read) read fault → IsFaultOr (IsOk whole) whole fault
-fault_behind before read whole fault is says = subst (λ (w : Result (List Entry) (ℕ × ℕ)). IsFaultOr (IsOk w) w fault) (sym is) (by read fault says)
+pub fault_behind : (before : List Entry) (read whole : Result (List Entry) FaultAt) (fault : InputFault) → whole ≡ behind before read → IsFaultOr (IsOk read) read fault → IsFaultOr (IsOk whole) whole fault
+fault_behind before read whole fault is says = subst (λ (w : Result (List Entry) FaultAt). IsFaultOr (IsOk w) w fault) (sym is) (by read fault says)
   where
-    by : (read : Result (List Entry) (ℕ × ℕ)) (fault : InputFault) → IsFaultOr (IsOk read) read fault → IsFaultOr (IsOk (behind before read)) (behind before read) fault
-    by (Ok later) (BadInput line code) says = absurd cc
-    by (Err first) (BadInput line code) says = says
+    by : (read : Result (List Entry) FaultAt) (fault : InputFault) → IsFaultOr (IsOk read) read fault → IsFaultOr (IsOk (behind before read)) (behind before read) fault
+    by (Ok later) (BadInput line fault) says = absurd cc
+    by (Err first) (BadInput line fault) says = says
     by (Ok later) Memory says = refl
     by (Err first) Memory says = absurd cc

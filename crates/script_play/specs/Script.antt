@@ -9,7 +9,9 @@ use Rattle.service_core.specs.declared.command.Command.{Command}
 use Rattle.service_core.specs.declared.command.Command.TheVariants.{Begin, Step, Crash, Settle, Report, Close}
 use Rattle.service_core.specs.Replies.{name_in}
 use Rattle.room_files.specs.Blocks.{block_extent}
+use Rattle.room_files.specs.Faults.{FaultAt}
 use Rattle.room_files.specs.Lines.{text_lines}
+use Rattle.room_files.specs.declared.fault.TextFault.TheVariants.{NoCommand}
 use Rattle.script_play.specs.declared.entries.Entry.{Entry as First}
 use Rattle.script_play.specs.declared.entries.Entry.TheVariants as first
 
@@ -113,16 +115,16 @@ abbrev pub entry_lines : First → ℕ
 entry_lines (first.Block block) = 1 + length (text_lines block.now)
 entry_lines (first.Line line) = 1
 
-abbrev pub asked : ℕ → Option Command → Result Entry (ℕ × ℕ)
-asked number None = Err (number, 60)
+abbrev pub asked : ℕ → Option Command → Result Entry FaultAt
+asked number None = Err (number, NoCommand)
 asked number (Some command) = Ok (Ask command)
 
 -- what the line of this number asks for with its block, or its fault
-abbrev pub entry_at : ℕ → List ℕ → List ℕ → Result Entry (ℕ × ℕ)
+abbrev pub entry_at : ℕ → List ℕ → List ℕ → Result Entry FaultAt
 entry_at number line block = if is_open line then Ok (Open (number + 1) block) else asked number (command_in line)
 
 -- what stands first asks for this, where its first line has this number, or for nothing
-abbrev pub asks_at : ℕ → First → Result Entry (ℕ × ℕ)
+abbrev pub asks_at : ℕ → First → Result Entry FaultAt
 asks_at number (first.Block block) = Ok (Open (number + 1) block.now)
 asks_at number (first.Line line) = asked number (command_in line.now)
 
@@ -131,13 +133,13 @@ abbrev pub is_asking : First → Bool
 is_asking (first.Block block) = true
 is_asking (first.Line line) = is_some (command_in line.now)
 
-abbrev pub and_then : Result Entry (ℕ × ℕ) → Result (List Entry) (ℕ × ℕ) → Result (List Entry) (ℕ × ℕ)
+abbrev pub and_then : Result Entry FaultAt → Result (List Entry) FaultAt → Result (List Entry) FaultAt
 and_then (Err fault) later = Err fault
 and_then (Ok entry) (Err fault) = Err fault
 and_then (Ok entry) (Ok entries) = Ok (entry ∷ entries)
 
 -- what a text asks for whose first line has this number, in at most so many entries, or its first fault
-unfoldable pub script_from : ℕ → ℕ → List ℕ → Result (List Entry) (ℕ × ℕ)
+unfoldable pub script_from : ℕ → ℕ → List ℕ → Result (List Entry) FaultAt
 script_from zero number text = Ok []
 script_from (suc most) number [] = Ok []
 script_from (suc most) number (byte ∷ bytes) =
@@ -146,5 +148,5 @@ script_from (suc most) number (byte ∷ bytes) =
     and_then (entry_at number line (block_behind line later)) (script_from most (number + 1 + length (text_lines (block_behind line later))) (text_behind line later))
 
 -- a script has no more entries than bytes
-abbrev pub script_says : List ℕ → Result (List Entry) (ℕ × ℕ)
+abbrev pub script_says : List ℕ → Result (List Entry) FaultAt
 script_says input = script_from (length input) 1 input

@@ -2,19 +2,17 @@
 ghost use Rattle.std.specs.Prelude.{◌≡◌, ◌≤◌, ◌+◌, [], ℕ, IsOk, IfOk, IfErr, length};
 ghost use Rattle.room_files.specs.Blocks.{IsFaultOr};
 ghost use Rattle.room_files.specs.declared.fault.InputFault.TheVariants.{BadInput};
+ghost use Rattle.room_files.specs.declared.fault.TextFault.TheVariants.{NoCommand};
 ghost use Rattle.script_play.specs.Script.{is_asking, script_from, script_says};
 ghost use Rattle.io_text.specs.Reading.{most_bytes};
 ghost use Rattle.script_play.specs.Play.{IsPlay};
 
 use crate::entries::{Entry, next_entry, read_command};
 use crate::player::Player;
-use room_files::{InputFault, Outcome};
+use room_files::{InputFault, Outcome, TextFault};
 use room_spec::{Spec, SpecFault};
 use service_core::{Command, Refusal};
 use std::alloc::{AllocError, Global};
-
-/// The code of a line that asks for nothing.
-const BAD_COMMAND: u16 = 60;
 
 /// Who does what a script asks for, and keeps what came of it. After an `Err`, which is want of memory for what is kept, nothing
 /// is promised of it: the script is not gone on with.
@@ -145,10 +143,10 @@ fn is_good(entry: &Entry<'_>) -> bool
 
 /// The fault of a script whose line of this number asks for nothing.
 fn bad_command(line: u64) -> InputFault
-    ensures { result ≡ BadInput line 60 }
+    ensures { result ≡ BadInput line NoCommand }
 {
     InputFault::BadInput {
         line,
-        code: BAD_COMMAND,
+        fault: TextFault::NoCommand,
     }
 }

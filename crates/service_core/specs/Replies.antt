@@ -1,6 +1,6 @@
 -- The replies to the commands of one name, written over one room's fields: which other rooms there are, and what they are
 -- asked, has no place in it.
-use Rattle.std.specs.Prelude.{ℕ, zero, suc, List, [], ◌∷◌, Option, Some, None, Result, Ok, Err, nat_lt, if◌then◌else◌}
+use Rattle.std.specs.Prelude.{ℕ, zero, suc, List, [], ◌∷◌, Option, Some, None, Result, Ok, Err, nat_lt, if◌then◌else◌, codes}
 use Rattle.std.specs.List.{filter}
 use Rattle.std.specs.Str.{bytes_eq}
 use Rattle.room_spec.specs.Rooms.{RoomSpec}
@@ -16,12 +16,18 @@ use Rattle.service_core.specs.declared.reply.Reply.TheVariants.{Begun, Steps, Cr
 use Rattle.service_core.specs.declared.reply.Refusal.{Refusal}
 use Rattle.service_core.specs.declared.reply.Refusal.TheVariants.{NoRoom, NameTaken, NoSimulator, OutOfMemory}
 
--- the numbers of the refusals
+-- the numbers of the refusals, and what they say
 abbrev pub refusal_code : Refusal → ℕ
 refusal_code NoRoom = 40
 refusal_code NameTaken = 41
 refusal_code NoSimulator = 42
 refusal_code OutOfMemory = 8
+
+unfoldable pub refusal_sentence : Refusal → List ℕ
+refusal_sentence NoRoom = codes "no room has this name"
+refusal_sentence NameTaken = codes "a room has this name already"
+refusal_sentence NoSimulator = codes "the room has no simulator of this number"
+refusal_sentence OutOfMemory = codes "out of memory"
 
 -- ---- steps
 

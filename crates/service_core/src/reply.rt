@@ -1,25 +1,22 @@
 //! What a service answers.
-ghost use Rattle.std.specs.Prelude.{◌≡◌};
-ghost use Rattle.service_core.specs.Replies.{refusal_code};
+ghost use Rattle.std.specs.Prelude.{◌≡◌, Some};
+ghost use Rattle.service_core.specs.Replies.{refusal_code, refusal_sentence};
 
 use room_core::{CrashReply, StepReply};
-use thiserror::Error;
+use std::error::Error;
+use std::fmt;
 use ws_history::Report;
 
 /// Why a command was refused. It has changed no room.
-#[derive(Clone, Copy, Debug, PartialEq, Eq, Error)]
+#[derive(Clone, Copy, Debug, PartialEq, Eq)]
 pub enum Refusal {
     /// No room has this name.
-    #[error("no room has this name")]
     NoRoom,
     /// A room has this name already.
-    #[error("a room has this name already")]
     NameTaken,
     /// The room has no such simulator.
-    #[error("the room has no such simulator")]
     NoSimulator,
-    /// Memory was refused.
-    #[error("out of memory")]
+    /// An allocation failed.
     OutOfMemory,
 }
 
@@ -35,7 +32,30 @@ impl Refusal {
             Refusal::OutOfMemory => 8,
         }
     }
+
+    /// What the refusal says, in one sentence.
+    #[tactic(auto, unfolding(crate::specs::Replies::refusal_sentence))]
+    pub fn sentence(self) -> &'static str
+        ensures { result.now ≡ refusal_sentence self }
+    {
+        match self {
+            Refusal::NoRoom => "no room has this name",
+            Refusal::NameTaken => "a room has this name already",
+            Refusal::NoSimulator => "the room has no simulator of this number",
+            Refusal::OutOfMemory => "out of memory",
+        }
+    }
 }
+
+impl fmt::Display for Refusal {
+    ghost output = { λ refusal. Some (refusal_sentence refusal) };
+
+    fn fmt<W: fmt::Write>(&self, f: &mut fmt::Formatter<W>) -> fmt::Result {
+        f.write_str(self.sentence())
+    }
+}
+
+impl Error for Refusal {}
 
 /// The reply to a command.
 #[derive(Drop)]

@@ -406,20 +406,11 @@ fn two_hundred_tenants(rt: HostRuntime) -> Result<(), Fail> {
     Ok(())
 }
 
-/// Each refusal, and its text.
-const REFUSALS: [(Refusal, &str); 4] = [
-    (Refusal::NoRoom, "no room has this name"),
-    (Refusal::NameTaken, "a room has this name already"),
-    (Refusal::NoSimulator, "the room has no such simulator"),
-    (Refusal::OutOfMemory, "out of memory"),
-];
-
+/// What each refusal says is in its contract; here one is printed.
 #[test]
-fn texts_of_refusals(rt: HostRuntime) -> Result<(), Fail> {
-    for (refusal, text) in REFUSALS {
-        let told = format!(in rt.alloc(); "{refusal}")?;
-        assert_eq!(rt; told.as_str(), text);
-    }
+fn text_of_a_refusal(rt: HostRuntime) -> Result<(), Fail> {
+    let told = format!(in rt.alloc(); "{}", Refusal::NoSimulator)?;
+    assert_eq!(rt; told.as_str(), "the room has no simulator of this number");
     Ok(())
 }
 

@@ -1,4 +1,4 @@
--- The faults of an event line: their numbers, and which of them a line has.
+-- The faults of an event line: their numbers, what they say, and which of them a line has.
 use Rattle.std.specs.Prelude.{ℕ, Bool, false, not, ◌&&◌, ◌||◌, List, [], ◌∷◌, length, drop, get_or, Option, Some, None, Result, Ok, Err, nat_le, nat_lt, if◌then◌else◌, codes}
 use Rattle.std.specs.List.{list_all}
 use Rattle.std.specs.Str.{bytes_eq}
@@ -15,6 +15,13 @@ code_of BadWord = 31
 code_of BadNumber = 32
 code_of BadLength = 33
 code_of TooLong = 34
+
+unfoldable pub sentence_of : LineFault → List ℕ
+sentence_of BadName = codes "the line does not begin with a valid name"
+sentence_of BadWord = codes "the third field is not `write`, `snap` or `decide`"
+sentence_of BadNumber = codes "a field is not a number, or the number is out of range"
+sentence_of BadLength = codes "the line has too few or too many fields"
+sentence_of TooLong = codes "the line has more than 256 bytes"
 
 -- ---- what is asked of the fields
 

@@ -1,6 +1,7 @@
 use Rattle.std.proofs.Common.{◌∙◌, ◌++◌, ℕ, List, Result, Ok, ap, refl, subst, sym}
 use Rattle.std.specs.List.{flat_map}
 use Rattle.room_files.specs.Blocks.{Setup}
+use Rattle.room_files.specs.Faults.{FaultAt}
 use Rattle.fault_text.specs.Refusals.{refusal_line, noted_refusals}
 use Rattle.file_faults.specs.Events.{event_faults}
 use Rattle.file_faults.specs.Files.{AreFaultsAfter, AreTranscriptFaults}
@@ -16,7 +17,7 @@ returns-in_ok-write_event_faults-in-Ok c =
     let said = noted_refusals input refusals in
     let events = event_faults setup.rooms setup.line transcript in
     let read = c.in-Ok.ensures.read ∙ ap (λ (s : Setup). Ok (s, transcript)) (sym c.setup.view_is) in
-    subst (λ (r : Result (Setup × List ℕ) (ℕ × ℕ)). AreFaultsAfter input r c.write_event_faults.new.output) (sym read) (
+    subst (λ (r : Result (Setup × List ℕ) FaultAt). AreFaultsAfter input r c.write_event_faults.new.output) (sym read) (
       said,
       (refusals, refl, refl),
       c.in_ok-write_event_faults-in-Ok.ensures ∙ ap (λ t. t ++ events) (c.in_ok-write_notes-in-Ok.ensures ∙ ap (λ t. t ++ said) c.new-output.ensures),

@@ -1,4 +1,5 @@
 use Rattle.std.proofs.Common.{◌++◌, ◌∷◌, ◌∙◌, [], refl, sym, arith}
+use Rattle.room_files.specs.declared.fault.TextFault.TheVariants.{NoCommand}
 use Rattle.script_play.specs.Script.{script_from}
 use Rattle.script_play.proofs.Scripts.{bad_entry, bad_line, behind_none, good_entry, script_ends, step_script}
 use Rattle.script_play.proofs.script.judge_unplayed.Goals as goal
@@ -27,7 +28,7 @@ returns-then-not-is_good c = λ all whole.
     let number = c.loop-entry.number in
     let entry = c.in-Some.entry in
     rw c.bad_command.ensures
-    (bad_entry inv.0 number c.loop-entry.rest.now entry inv.1 (script_from all c.args.first c.args.text.now) (number, 60) inv.2 c.in-Some.ensures.none c.in-Some.ensures.entry
+    (bad_entry inv.0 number c.loop-entry.rest.now entry inv.1 (script_from all c.args.first c.args.text.now) (number, NoCommand) inv.2 c.in-Some.ensures.none c.in-Some.ensures.entry
     (bad_line number entry (sym c.is_good.ensures ∙ c.if-not-is_good.true)) inv.3)
 
 pub returns : goal.returns

@@ -1,4 +1,5 @@
 use Rattle.std.proofs.Common.{◌++◌, ◌∷◌, ◌∙◌, [], length, sym, arith}
+use Rattle.room_files.specs.declared.fault.TextFault.TheVariants.{NoCommand}
 use Rattle.script_play.specs.Script.{script_from, script_says}
 use Rattle.script_play.proofs.Scripts.{bad_entry, bad_line, behind_none, fault_behind, good_entry, script_ends, step_script}
 use Rattle.script_play.proofs.Playing.{done-push}
@@ -34,7 +35,7 @@ returns-then-not-good-clause-err g c =
     let number = c.loop-entry.number in
     let entry = c.in-Some.entry in
     rw c.bad_command.ensures
-    (bad_entry inv.0 number c.loop-entry.rest.now entry inv.1 (script_says c.args.script.now) (number, 60) inv.3 c.in-Some.ensures.none c.in-Some.ensures.entry
+    (bad_entry inv.0 number c.loop-entry.rest.now entry inv.1 (script_says c.args.script.now) (number, NoCommand) inv.3 c.in-Some.ensures.none c.in-Some.ensures.entry
     (bad_line number entry (sym c.in-Ok.ensures.good ∙ c.if-not-good.true)) inv.4)
 
 pub returns-in_default-take-clause-err : goal.returns-in_default-take-clause-err
