@@ -1,6 +1,7 @@
 -- What is drawn of a script's rooms.
 use Rattle.std.specs.Prelude.{◌≡◌, ⊤, ℕ, zero, suc, Bool, true, false, ◌&&◌, List, [], ◌∷◌, ◌++◌, map, Option, Some, None, Result, Ok, is_none, position, if◌then◌else◌}
 use Rattle.std.specs.declared.alloc.AllocError.{AllocError}
+use Rattle.std.specs.Map.{lookup}
 use Rattle.std.specs.Str.{bytes_eq}
 use Rattle.room_core.specs.declared.reply.CrashReply.TheVariants.{Crashed}
 use Rattle.room_spec.specs.Rooms.{RoomSpec}
@@ -150,6 +151,22 @@ pub record IsDrawn (input : List ℕ) (ending : Result Outcome AllocError) (outp
   pub ending_is : ending ≡ ending_of all
 
 -- ---- inside the crate
+
+-- The place of the one element of a list that passes a test, or none does.
+abbrev pub IsPlace : {A : Type 0} → Option ℕ → (A → Bool) → List A → Type 0
+IsPlace None test [] = ⊤
+IsPlace None test (x ∷ xs) = (test x ≡ false) × IsPlace None test xs
+IsPlace (Some place) test [] = ⊥
+IsPlace (Some zero) test (x ∷ xs) = (test x ≡ true) × IsPlace None test xs
+IsPlace (Some (suc place)) test (x ∷ xs) = (test x ≡ false) × IsPlace (Some place) test xs
+
+-- the places of panels by the names of their rooms
+abbrev pub Places : Type 0
+Places = List (List ℕ × ℕ)
+
+-- under a name is the place of the panel of the room that is open under it; there is one at most
+abbrev pub AreIndexed : Places → List Panel → Type 0
+AreIndexed places panels = (name : List ℕ) → IsPlace (lookup (bytes_eq name) places) (is_of name) panels
 
 -- a command was done and drawn; this says why it was refused, if it was
 pub record IsDrawnOn (rooms : Entries) (panels : List Panel) (command : Command) (refusal : Option Refusal) (rooms_after : Entries) (panels_after : List Panel) : Type 0 where

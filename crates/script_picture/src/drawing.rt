@@ -7,11 +7,11 @@ ghost use Rattle.service_core.specs.declared.reply.Refusal.TheVariants.{NoRoom};
 ghost use Rattle.room_spec.specs.Names.{is_name};
 ghost use Rattle.script_picture.specs.Drawn.{IsClosed, IsDrawnOn, IsSteppedOn, has_crashed};
 
-use crate::panels::{finish, note};
+use crate::panels::Panels;
 use crate::recorder::Recorder;
 use room_core::{CrashReply, Unwatched};
 use room_spec::{Name, Spec, SpecFault};
-use run_picture::{Head, Mark, Panel};
+use run_picture::{Head, Mark};
 use script_play::{Performs, refusal_in};
 use service_core::{Command, Refusal, Reply, Service};
 use std::alloc::{AllocError, Global};
@@ -21,23 +21,23 @@ use ws_history::{Report, report};
 #[derive(Drop)]
 pub(crate) struct Drawing {
     pub(crate) service: Service,
-    pub(crate) panels: Vec<Panel>,
+    pub(crate) panels: Panels,
 }
 
 impl Drawing {
     pub(crate) fn new(alloc: Global) -> Drawing
         ensures service { result.service ≡ [] }
-        ensures panels { result.panels.items ≡ [] }
+        ensures panels { result.panels ≡ [] }
     {
         Drawing {
             service: Service::new(alloc),
-            panels: Vec::new(alloc),
+            panels: Panels::new(alloc),
         }
     }
 
     /// Opens a room, which has a panel of its own.
     fn begin(&mut self, alloc: Global, spec: Spec) -> Result<Option<Refusal>, AllocError>
-        ensures { IfOk result (λ refusal. IsDrawnOn self.old.service self.old.panels.items (Begin spec) refusal self.new.service self.new.panels.items) }
+        ensures { IfOk result (λ refusal. IsDrawnOn self.old.service self.old.panels (Begin spec) refusal self.new.service self.new.panels) }
     {
         let head = Head::of(alloc, &spec)?;
         let reply = self
@@ -45,7 +45,7 @@ impl Drawing {
             .apply_watched(alloc, Command::Begin(spec), &mut Unwatched);
         match &reply {
             Reply::Begun => {
-                self.panels.push(Panel::new(alloc, head))?;
+                self.panels.open(alloc, head)?;
                 Ok(None)
             }
             _ => Ok(refusal_in(&reply)),
@@ -60,7 +60,7 @@ impl Drawing {
         command: Command,
     ) -> Result<Option<Refusal>, AllocError>
         requires { name_in command ≡ name.now }
-        ensures { IfOk result (λ refusal. IsSteppedOn self.old.service self.old.panels.items command refusal self.new.service self.new.panels.items) }
+        ensures { IfOk result (λ refusal. IsSteppedOn self.old.service self.old.panels command refusal self.new.service self.new.panels) }
     {
         let mut recorder = Recorder::new(alloc);
         let reply = self.service.apply_watched(alloc, command, &mut recorder);
@@ -70,13 +70,13 @@ impl Drawing {
         let Some(marks) = recorder.marks() else {
             return Err(AllocError);
         };
-        note(&mut self.panels, name, marks)?;
+        self.panels.note(name, marks)?;
         Ok(None)
     }
 
     /// Crashes a simulator of the room of this name.
     fn crash(&mut self, alloc: Global, name: Name, sim: u8) -> Result<Option<Refusal>, AllocError>
-        ensures { IfOk result (λ refusal. IsDrawnOn self.old.service self.old.panels.items (CrashCommand name sim) refusal self.new.service self.new.panels.items) }
+        ensures { IfOk result (λ refusal. IsDrawnOn self.old.service self.old.panels (CrashCommand name sim) refusal self.new.service self.new.panels) }
     {
         let room = name.clone()?;
         let reply = self
@@ -84,13 +84,13 @@ impl Drawing {
             .apply_watched(alloc, Command::Crash { name, sim }, &mut Unwatched);
         let crash = [Mark::Crash { simulator: sim }];
         let marks = if has_crashed(&reply) { &crash[..] } else { &[] };
-        note(&mut self.panels, &room, marks)?;
+        self.panels.note(&room, marks)?;
         Ok(refusal_in(&reply))
     }
 
     /// Asks for the report of the room of this name. It is not drawn.
     fn report(&mut self, alloc: Global, name: Name) -> Result<Option<Refusal>, AllocError>
-        ensures { IfOk result (λ refusal. IsDrawnOn self.old.service self.old.panels.items (ReportCommand name) refusal self.new.service self.new.panels.items) }
+        ensures { IfOk result (λ refusal. IsDrawnOn self.old.service self.old.panels (ReportCommand name) refusal self.new.service self.new.panels) }
     {
         let reply = self
             .service
@@ -106,7 +106,7 @@ impl Drawing {
         count: u16,
     ) -> Result<Option<Refusal>, AllocError>
         requires { is_name name.now ≡ false }
-        ensures drawn { IfOk result (λ refusal. IsDrawnOn self.old.service self.old.panels.items (StepCommand name.now sim count) refusal self.new.service self.new.panels.items) }
+        ensures drawn { IfOk result (λ refusal. IsDrawnOn self.old.service self.old.panels (StepCommand name.now sim count) refusal self.new.service self.new.panels) }
         ensures nobody { IfOk result (λ refusal. refusal ≡ Some NoRoom) }
     {
         match self.service.step(name, sim, count) {
@@ -117,7 +117,7 @@ impl Drawing {
 
     /// Closes the room of this name, which has come to its report.
     fn close(&mut self, alloc: Global, name: Name) -> Result<Option<Refusal>, AllocError>
-        ensures { IfOk result (λ refusal. IsDrawnOn self.old.service self.old.panels.items (Close name) refusal self.new.service self.new.panels.items) }
+        ensures { IfOk result (λ refusal. IsDrawnOn self.old.service self.old.panels (Close name) refusal self.new.service self.new.panels) }
     {
         let Some(room) = self.service.room(&name) else {
             return Ok(self.close_none(alloc, name));
@@ -129,7 +129,7 @@ impl Drawing {
     /// Has it refused to close a room that is not there.
     fn close_none(&mut self, alloc: Global, name: Name) -> Option<Refusal>
         requires { room_at self.old.service name ≡ None }
-        ensures { IsDrawnOn self.old.service self.old.panels.items (Close name) result self.new.service self.new.panels.items }
+        ensures { IsDrawnOn self.old.service self.old.panels (Close name) result self.new.service self.new.panels }
     {
         let reply = self
             .service
@@ -144,9 +144,9 @@ impl Drawing {
         name: Name,
         report: Report,
     ) -> Result<Option<Refusal>, AllocError>
-        ensures { IfOk result (IsClosed self.old.service self.old.panels.items name report self.new.service self.new.panels.items) }
+        ensures { IfOk result (IsClosed self.old.service self.old.panels name report self.new.service self.new.panels) }
     {
-        finish(&mut self.panels, &name, report);
+        self.panels.finish(&name, report);
         match self
             .service
             .apply_watched(alloc, Command::Close(name), &mut Unwatched)
@@ -172,7 +172,7 @@ impl Performs for Drawing {
 
     ghost rooms = { λ drawing. drawing.service };
 
-    ghost has_done = { λ drawing all. HasDrawn all drawing.service drawing.panels.items };
+    ghost has_done = { λ drawing all. HasDrawn all drawing.service drawing.panels };
 
     fn open(
         &mut self,

@@ -1,51 +1,105 @@
-//! Changes of the panel of the room that is open under a name.
-ghost use Rattle.std.specs.Prelude.{◌≡◌, ◌++◌, OnOk, position};
-ghost use Rattle.script_picture.specs.Drawn.{finished, is_of, noted, with_marks};
+//! The panels of a script's rooms.
+ghost use Rattle.std.specs.Prelude.{◌≡◌, ◌<◌, ◌++◌, ◌∷◌, [], IfSome, OnErr, OnOk, length};
+ghost use Rattle.script_picture.specs.Drawn.{IsPlace, finished, fresh, is_of, noted};
 
+use indexmap::IndexMap;
 use room_spec::Name;
-use run_picture::{Mark, Panel};
-use std::alloc::AllocError;
+use run_picture::{Head, Mark, Panel};
+use std::alloc::{AllocError, Global};
+use std::marker::Model;
 use ws_history::Report;
 
-/// Whether a panel is of the room that is open under this name.
-pub(crate) fn is_of(name: &Name, panel: &Panel) -> bool
-    ensures { result ≡ is_of name.now panel.now }
-{
-    panel.is_open() && panel.head().name.as_str() == name.as_str()
+/// A panel for each room that a script opened, in order of opening.
+#[derive(Drop)]
+pub(crate) struct Panels {
+    panels: Vec<Panel>,
+    /// The place of the panel of the room that is open under a name.
+    places: IndexMap<Name, usize>,
 }
 
-/// Notes what happened next in the room of this name.
-pub(crate) fn note(panels: &mut Vec<Panel>, name: &Name, marks: &[Mark]) -> Result<(), AllocError>
-    ensures { OnOk result (panels.new.items ≡ noted name.now marks.now panels.old.items) }
-{
-    for index in 0..panels.len() {
-        note_in(&mut panels[index], name, marks)?;
+impl Model for Panels {
+    ghost use Rattle.std.specs.Coded.{codes};
+    ghost use Rattle.std.specs.Prelude.{List};
+    ghost use Rattle.run_picture.specs.Panels.{Panel as PanelData};
+    ghost use Rattle.script_picture.specs.Drawn.{AreIndexed};
+
+    ghost Value = { List PanelData };
+
+    ghost view = { λ p. p.panels.items };
+
+    ghost invariant = { λ p. AreIndexed p.places.entries p.panels.items };
+}
+
+impl Panels {
+    /// No panels.
+    pub(crate) fn new(alloc: Global) -> Panels
+        ensures { result ≡ [] }
+    {
+        Panels {
+            panels: Vec::new(alloc),
+            places: IndexMap::new(alloc),
+        }
     }
-    Ok(())
-}
 
-/// Notes what the room of this name has come to.
-pub(crate) fn finish(panels: &mut Vec<Panel>, name: &Name, report: Report)
-    ensures { panels.new.items ≡ finished name.now report panels.old.items }
-{
-    if let Some(place) = place_of(panels, name) {
-        panels[place].finish(report);
+    /// Adds the panel of a room that was opened just now.
+    ///
+    /// # Errors
+    ///
+    /// If an allocation fails, or a room is open under this name, which no service allows. Nothing is added then.
+    pub(crate) fn open(&mut self, alloc: Global, head: Head) -> Result<(), AllocError>
+        ensures added { OnOk result (self.new ≡ self.old ++ fresh head ∷ []) }
+        ensures err { OnErr result (self.new ≡ self.old) }
+    {
+        let name = head.name.clone()?;
+        if self.places.contains_key(&name) {
+            return Err(AllocError);
+        }
+        let place = self.panels.as_slice().len();
+        self.panels.push(Panel::new(alloc, head))?;
+        match self.places.insert(name, place) {
+            Ok(_) => Ok(()),
+            Err(_) => {
+                self.panels.pop();
+                Err(AllocError)
+            }
+        }
     }
-}
 
-/// Which panel is of the room that is open under this name.
-fn place_of(panels: &[Panel], name: &Name) -> Option<usize>
-    ensures { result ≡ position (is_of name.now) panels.now }
-{
-    panels.iter().position(|panel| is_of(name, panel))
-}
+    /// Notes what happened next in the room that is open under this name.
+    pub(crate) fn note(&mut self, name: &Name, marks: &[Mark]) -> Result<(), AllocError>
+        ensures noted { OnOk result (self.new ≡ noted name.now marks.now self.old) }
+    {
+        match self.place_of(name) {
+            Some(place) => self.panels[place].note(marks),
+            None => Ok(()),
+        }
+    }
 
-fn note_in(panel: &mut Panel, name: &Name, marks: &[Mark]) -> Result<(), AllocError>
-    ensures { OnOk result (panel.new ≡ with_marks name.now marks.now panel.old) }
-{
-    if is_of(name, panel) {
-        panel.note(marks)
-    } else {
-        Ok(())
+    /// Notes the report of the room that was open under this name.
+    pub(crate) fn finish(&mut self, name: &Name, report: Report)
+        ensures { self.new ≡ finished name.now report self.old }
+    {
+        match self.place_of(name) {
+            Some(place) => {
+                self.places.swap_remove(name);
+                self.panels[place].finish(report);
+            }
+            None => {}
+        }
+    }
+
+    /// The place of the panel of the room that is open under this name.
+    fn place_of(&self, name: &Name) -> Option<usize>
+        ensures place { IsPlace result (is_of name.now) self.now }
+        ensures within { IfSome result (λ place. place < length self.now) }
+    {
+        self.places.get(name).copied()
+    }
+
+    /// All panels.
+    pub(crate) fn into_vec(self) -> Vec<Panel>
+        ensures { result.items ≡ self }
+    {
+        self.panels
     }
 }

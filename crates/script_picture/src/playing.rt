@@ -43,10 +43,10 @@ pub fn draw(alloc: Global, script: &[u8]) -> Result<Drawn, InputFault>
 
 /// The picture of what was drawn, where the rooms that are open come to nothing more.
 fn picture_from(alloc: Global, drawing: Drawing) -> Result<Text, AllocError>
-    ensures { IfOk result (IsPictureFrom drawing.service drawing.panels.items) }
+    ensures { IfOk result (IsPictureFrom drawing.service drawing.panels) }
 {
     let rooms = drawing.service.into_rooms();
-    let output = picture_of(alloc, &rooms, drawing.panels)?;
+    let output = picture_of(alloc, &rooms, drawing.panels.into_vec())?;
     Ok(output)
 }
 

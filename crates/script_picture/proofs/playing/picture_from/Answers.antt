@@ -1,3 +1,6 @@
+use Rattle.std.proofs.Common.{List, subst}
+use Rattle.run_picture.specs.Panels.{Panel}
+use Rattle.script_picture.specs.Drawn.{IsPictureOf}
 use Rattle.script_picture.proofs.playing.picture_from.Goals as goal
 
 pub returns : goal.returns
@@ -6,5 +9,5 @@ returns c =
     record {
       left = c.into_rooms-rooms.result.entries;
       same_rooms = same;
-      picture = c.in_ok-output.ensures;
+      picture = subst (λ (panels : List Panel). IsPictureOf c.into_rooms-rooms.result.entries panels c.in_ok-output.output) c.into_vec.ensures c.in_ok-output.ensures;
     }

@@ -3,10 +3,10 @@ use Rattle.run_picture.specs.Panels.{Panel}
 use Rattle.service_core.specs.declared.reply.Reply.TheVariants.{Begun}
 use Rattle.script_picture.proofs.drawing.Drawing.begin.Goals as goal
 
-pub returns-in_ok-push-in-Begun : goal.returns-in_ok-push-in-Begun
-returns-in_ok-push-in-Begun c = record {
+pub returns-in_ok-open-in-Begun : goal.returns-in_ok-open-in-Begun
+returns-in_ok-open-in-Begun c = record {
   reply = Begun;
   applies = rw c.in-Begun.is at c.apply_watched-reply.ensures.applies;
   refusal_is = refl;
-  draws = (c.in_ok-head.head, c.in_ok-head.ensures, c.in_ok-push-in-Begun.ensures.items ∙ ap (λ (p : Panel). c.args.self.now.panels.items ++ p ∷ []) c.new.ensures);
+  draws = (c.in_ok-head.head, c.in_ok-head.ensures, c.in_ok-open-in-Begun.ensures.added);
 }

@@ -17,6 +17,6 @@ returns c = record {
     are_marks = subst (λ (marks : List Mark). AreMarks (steps_of (room_at c.args.self.now.service (name_in c.args.command)) c.args.command) marks) (sym c.in-Some.ensures.0)
         (seen_are_marks (steps_of (room_at c.args.self.now.service (name_in c.args.command)) c.args.command) c.new-recorder.result c.apply_watched-reply.new.watch
         (ap (λ k. k.marks) c.new-recorder.ensures) c.apply_watched-reply.ensures.seen c.in-Some.ensures.1);
-    drawn = subst (λ (n : List ℕ). c.note.new.panels.items ≡ noted n c.in-Some.marks.now c.args.self.now.panels.items) (sym c.requires) c.in_ok-note.ensures;
+    drawn = subst (λ (n : List ℕ). c.note.new.self ≡ noted n c.in-Some.marks.now c.args.self.now.panels) (sym c.requires) c.in_ok-note.ensures.noted;
   };
 }

@@ -14,4 +14,4 @@ returns-clause-performed c =
     let read : c.in-Some.room ≡ c.args.name.now = read_is (is_name c.args.name.now) c.args.name.now c.in-Some.room c.in-Some.ensures in
     let same : c.in_ok-name.name ≡ c.args.name.now = c.in_ok-name.ensures.cases ∙ read in
     stepped _ _ _ _ _ _ _ c.step_on.result
-    (subst (λ (n : List ℕ). IfOk c.step_on.result (λ refusal. IsSteppedOn c.args.self.now.service c.args.self.now.panels.items (commands.Step n c.args.sim c.args.count) refusal c.step_on.new.self.service c.step_on.new.self.panels.items)) same c.step_on.ensures)
+    (subst (λ (n : List ℕ). IfOk c.step_on.result (λ refusal. IsSteppedOn c.args.self.now.service c.args.self.now.panels (commands.Step n c.args.sim c.args.count) refusal c.step_on.new.self.service c.step_on.new.self.panels)) same c.step_on.ensures)
