@@ -3,6 +3,7 @@ mod Breaking
 mod Explaining
 mod Finding
 mod Hearing
+mod Paging
 mod Reasoning
 mod RoomLists
 mod Subcommands

@@ -20,6 +20,10 @@ file_app word = with_rule (new_app word) (new_rule (codes "FILE"))
 abbrev pub number_rule : List ℕ → ℕ → ℕ → Rule
 number_rule name least most = record (new_rule name) { long = Some name; value_names = 1; parser = Some (Signed (pos least) (pos most)) }
 
+-- the subcommand `page`, which takes one file or two
+abbrev pub page_app : App
+page_app = with_rule (file_app (codes "page")) (new_rule (codes "OTHER"))
+
 abbrev pub schedules_rule : Rule
 schedules_rule = number_rule (codes "schedules") 1 1000000
 
@@ -63,7 +67,7 @@ plain_app = record { top = plain_shape; subs = [] }
 
 abbrev pub bgview_app : App
 bgview_app =
-    let showing = with_subcommand (with_subcommand (with_subcommand (with_subcommand plain_app (file_app (codes "why")).top) (file_app (codes "trace")).top) (file_app (codes "draw")).top) (file_app (codes "page")).top in
+    let showing = with_subcommand (with_subcommand (with_subcommand (with_subcommand plain_app (file_app (codes "why")).top) (file_app (codes "trace")).top) (file_app (codes "draw")).top) page_app.top in
     with_subcommand (with_subcommand (with_subcommand (with_subcommand showing (file_app (codes "transcript")).top) fault_app.top) sample_app.top) outcomes_app.top
 
 -- the mode of a word, which is that of a subcommand
@@ -81,6 +85,10 @@ value_among name found = option_and_then (λ sub. first_of name sub.1) found
 
 abbrev pub file_among : Option (List ℕ × List Row) → Option (List ℕ)
 file_among found = value_among (codes "FILE") found
+
+-- the second file
+abbrev pub other_among : Option (List ℕ × List Row) → Option (List ℕ)
+other_among found = value_among (codes "OTHER") found
 
 -- the numbers among the values of a subcommand
 abbrev pub codes_among : Option (List ℕ × List Row) → List (List ℕ)

@@ -1,10 +1,10 @@
 -- What each mode answers for an input.
-use Rattle.std.specs.Prelude.{ℕ, List, Result}
+use Rattle.std.specs.Prelude.{ℕ, List, [], ◌∷◌, Result}
 use Rattle.room_files.specs.declared.outcome.Outcome.{Outcome}
 use Rattle.room_sample.specs.declared.sampling.Plan.{Plan}
 use Rattle.outcome_text.specs.declared.rooms.Search.{Search}
 use Rattle.bgview.specs.Draw.{IsDrawAnswer}
-use Rattle.bgview.specs.Notes.{AreNotes, AreRoomNotes, AreScriptNotes}
+use Rattle.bgview.specs.Notes.{AreFileNotes, AreNotes, AreRoomNotes, AreScriptNotes}
 use Rattle.bgview.specs.Outcomes.{IsOutcomesAnswer}
 use Rattle.bgview.specs.Page.{IsPageAnswer}
 use Rattle.bgview.specs.Sample.{IsSampleAnswer}
@@ -20,7 +20,7 @@ abbrev pub IsViewed : Mode → Plan → Search → List ℕ → Result Outcome V
 IsViewed Why plan search input result output = IsWhyAnswer input result output
 IsViewed Trace plan search input result output = IsTraced input result output
 IsViewed Draw plan search input result output = IsDrawAnswer input result output
-IsViewed Page plan search input result output = IsPageAnswer input result output
+IsViewed Page plan search input result output = IsPageAnswer (input ∷ []) result output
 IsViewed Transcript plan search input result output = IsTranscriptAnswer input result output
 IsViewed Fault plan search input result output = IsWhyAnswer input result output
 IsViewed Sample plan search input result output = IsSampleAnswer plan input result output
@@ -31,7 +31,7 @@ abbrev pub AreNotesIn : Mode → List ℕ → Result Outcome ViewFault → List 
 AreNotesIn Why input result old new = AreNotes input result old new
 AreNotesIn Trace input result old new = AreScriptNotes input result new
 AreNotesIn Draw input result old new = AreScriptNotes input result new
-AreNotesIn Page input result old new = AreScriptNotes input result new
+AreNotesIn Page input result old new = AreFileNotes (input ∷ []) result new
 AreNotesIn Transcript input result old new = AreScriptNotes input result new
 AreNotesIn Fault input result old new = AreNotes input result old new
 AreNotesIn Sample input result old new = AreRoomNotes input result new

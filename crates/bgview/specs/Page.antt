@@ -1,32 +1,124 @@
--- What `bgview page` answers for a script: a page of what it did.
-use Rattle.std.specs.Prelude.{◌≡◌, ℕ, ◌<◌, ◌≤◌, List, [], ◌++◌, length, Result, Ok, Err, alloc_error}
+-- What `bgview page` answers: a page that steps through the rooms of a file, or of two next to each other.
+use Rattle.std.specs.Prelude.{◌≡◌, ⊤, ℕ, ◌<◌, ◌≤◌, Bool, true, false, List, [], ◌∷◌, ◌++◌, length, map, Option, Some, None, Result, Ok, Err, alloc_error, nat_lt, if◌then◌else◌}
+use Rattle.std.specs.List.{flat_map, list_any}
+use Rattle.std.specs.Option.{option_or}
 use Rattle.std.specs.declared.alloc.AllocError.{AllocError}
 use Rattle.io_text.specs.Reading.{most_bytes}
 use Rattle.io_text.specs.declared.fault.DeviceFault.TheVariants.{Read, Write, TooLong, Memory}
+use Rattle.room_files.specs.Faults.{FaultAt}
+use Rattle.room_files.specs.Inputs.{input_says}
 use Rattle.room_files.specs.declared.outcome.Outcome.{Outcome}
+use Rattle.room_files.specs.declared.outcome.Outcome.TheVariants.{AllWell, SomeRefused}
 use Rattle.script_play.specs.Script.{script_says}
-use Rattle.step_page.specs.Pages.{page_text}
+use Rattle.file_faults.specs.Scripts.{begins_with_block}
+use Rattle.step_page.specs.Pages.{file_text, page_text}
+use Rattle.step_page.specs.declared.page.FileKind.{FileKind}
+use Rattle.step_page.specs.declared.page.FileKind.TheVariants.{Script, Transcript}
 use Rattle.bgview.specs.Trace.{IsTraceFor}
+use Rattle.bgview.specs.Why.{IsExplanationFor}
 use Rattle.bgview.specs.declared.fault.ViewFault.{ViewFault}
 use Rattle.bgview.specs.declared.fault.ViewFault.TheVariants.{BadInput, Device, Incomplete}
 
--- The page holds the script, and what `trace` answers to it.
-pub record IsPageFor (input : List ℕ) (ending : Result Outcome AllocError) (page : List ℕ) : Type 0 where
-  pub trace : List ℕ
-  pub traced : IsTraceFor input ending trace
-  pub page_is : page ≡ page_text input trace
+-- a transcript begins with a block, and a script doesn't
+abbrev pub kind_of : List ℕ → FileKind
+kind_of file = if begins_with_block file then Transcript else Script
+
+-- ---- one file
+
+-- what `trace` answers to a script, and `why` to a transcript
+abbrev pub IsFileAnswer : FileKind → List ℕ → Result Outcome AllocError → List ℕ → Type 0
+IsFileAnswer Script file ending answer = IsTraceFor file ending answer
+IsFileAnswer Transcript file ending answer = (outcome : Outcome) × (ending ≡ Ok outcome) × IsExplanationFor file outcome answer
+
+-- a file of a page, with the answer to it
+pub record Answered : Type 0 where
+  pub file : List ℕ
+  pub ending : Result Outcome AllocError
+  pub answer : List ℕ
+
+abbrev pub IsAnsweredFile : Answered → Type 0
+IsAnsweredFile one = IsFileAnswer (kind_of one.file) one.file one.ending one.answer
+
+abbrev pub AreAnswered : List Answered → Type 0
+AreAnswered [] = ⊤
+AreAnswered (one ∷ rest) = IsAnsweredFile one × AreAnswered rest
+
+abbrev pub answered_text : Answered → List ℕ
+answered_text one = file_text (kind_of one.file) one.file one.answer
+
+abbrev pub fault_in : {A : Type 0} → Result A FaultAt → Option FaultAt
+fault_in (Ok value) = None
+fault_in (Err fault) = Some fault
+
+-- a file's first fault and its line, if it has one
+abbrev pub first_fault : FileKind → List ℕ → Option FaultAt
+first_fault Script file = fault_in (script_says file)
+first_fault Transcript file = fault_in (input_says file)
+
+-- ---- one or two files
+
+-- the endings of two answers in one: an allocation failed, or something was refused, in either of them
+abbrev pub both : Result Outcome AllocError → Result Outcome AllocError → Result Outcome AllocError
+both (Ok AllWell) other = other
+both (Ok SomeRefused) (Ok other) = Ok SomeRefused
+both (Ok SomeRefused) (Err refused) = Err refused
+both (Err refused) other = Err refused
+
+abbrev pub ending_of_all : List (Result Outcome AllocError) → Result Outcome AllocError
+ending_of_all [] = Ok AllWell
+ending_of_all (one ∷ []) = one
+ending_of_all (one ∷ other ∷ rest) = both one (ending_of_all (other ∷ rest))
+
+-- The page holds each file, and the answer to it.
+pub record IsPageFor (files : List (List ℕ)) (ending : Result Outcome AllocError) (page : List ℕ) : Type 0 where
+  pub all : List Answered
+  pub each_file : map (λ one. one.file) all ≡ files
+  pub answered : AreAnswered all
+  pub ending_is : ending ≡ ending_of_all (map (λ one. one.ending) all)
+  pub page_is : page ≡ page_text (flat_map answered_text all)
 
 -- a beginning of it
-abbrev pub IsPagePart : List ℕ → List ℕ → Type 0
-IsPagePart input part = (ending : Result Outcome AllocError) × (rest : List ℕ) × IsPageFor input ending (part ++ rest)
+abbrev pub IsPagePart : List (List ℕ) → List ℕ → Type 0
+IsPagePart files part = (ending : Result Outcome AllocError) × (rest : List ℕ) × IsPageFor files ending (part ++ rest)
 
--- The answer to a whole script is an outcome, with its page, or a fault. If an allocation failed for a part of the script the whole page is
+-- none is too long
+abbrev pub AllFit : List (List ℕ) → Type 0
+AllFit [] = ⊤
+AllFit (file ∷ rest) = (length file ≤ most_bytes) × AllFit rest
+
+-- the first fault of the first file that has one
+abbrev pub fault_among : List (List ℕ) → Option FaultAt
+fault_among [] = None
+fault_among (file ∷ []) = first_fault (kind_of file) file
+fault_among (file ∷ next ∷ rest) = option_or (first_fault (kind_of file) file) (fault_among (next ∷ rest))
+
+-- The answer to whole files is an outcome, with their page, or a fault. If an allocation failed for a part of a script the whole page is
 -- there, with the refusals in it; if writing failed a beginning of it; at each other fault none.
-abbrev pub IsPageAnswer : List ℕ → Result Outcome ViewFault → List ℕ → Type 0
-IsPageAnswer input (Ok outcome) output = (length input ≤ most_bytes) × IsPageFor input (Ok outcome) output
-IsPageAnswer input (Err (Device TooLong)) output = (most_bytes < length input) × (output ≡ [])
-IsPageAnswer input (Err (BadInput line fault)) output = (length input ≤ most_bytes) × (script_says input ≡ Err (line, fault)) × (output ≡ [])
-IsPageAnswer input (Err Incomplete) output = (length input ≤ most_bytes) × IsPageFor input (Err alloc_error) output
-IsPageAnswer input (Err (Device Memory)) output = output ≡ []
-IsPageAnswer input (Err (Device Read)) output = output ≡ []
-IsPageAnswer input (Err (Device Write)) output = (length input ≤ most_bytes) × IsPagePart input output
+abbrev pub IsPageAnswer : List (List ℕ) → Result Outcome ViewFault → List ℕ → Type 0
+IsPageAnswer files (Ok outcome) output = AllFit files × IsPageFor files (Ok outcome) output
+IsPageAnswer files (Err (Device TooLong)) output = (list_any (λ (file : List ℕ). nat_lt most_bytes (length file)) files ≡ true) × (output ≡ [])
+IsPageAnswer files (Err (BadInput line fault)) output = AllFit files × (fault_among files ≡ Some (line, fault)) × (output ≡ [])
+IsPageAnswer files (Err Incomplete) output = AllFit files × IsPageFor files (Err alloc_error) output
+IsPageAnswer files (Err (Device Memory)) output = output ≡ []
+IsPageAnswer files (Err (Device Read)) output = output ≡ []
+IsPageAnswer files (Err (Device Write)) output = AllFit files × IsPagePart files output
+
+-- ---- inside the crate
+
+-- it is this fault of an input, or an allocation failed
+abbrev pub IsFaultOf : Option FaultAt → ViewFault → Type 0
+IsFaultOf known (BadInput line fault) = known ≡ Some (line, fault)
+IsFaultOf known (Device Memory) = ⊤
+IsFaultOf known (Device Read) = ⊥
+IsFaultOf known (Device Write) = ⊥
+IsFaultOf known (Device TooLong) = ⊥
+IsFaultOf known Incomplete = ⊥
+
+-- with it nothing is written
+abbrev pub EndsPage : List (List ℕ) → ViewFault → Type 0
+EndsPage files (BadInput line fault) = AllFit files × (fault_among files ≡ Some (line, fault))
+EndsPage files (Device Memory) = ⊤
+EndsPage files (Device Read) = ⊥
+EndsPage files (Device Write) = ⊥
+EndsPage files (Device TooLong) = ⊥
+EndsPage files Incomplete = ⊥

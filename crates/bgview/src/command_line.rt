@@ -4,7 +4,7 @@ ghost use Rattle.clap.specs.Kinds.{FailsBy};
 ghost use Rattle.clap.specs.declared.builder.command.Command.TheViews.{out-Command};
 ghost use Rattle.clap.specs.Words.{app_of, fault_of, first_value, found_of, subcommand_of, subcommand_rows_of, with_subcommand};
 ghost use Rattle.clap.specs.Walk.{rule_of};
-ghost use Rattle.bgview.specs.CommandLine.{bgview_app, brief_rule, crashes_rule, fault_app, file_among, file_app, is_given, mode_among, mode_of, outcomes_app, plain_app, sample_app, schedules_rule, seed_rule, states_rule, stopped_rule, IsNumber, IsNumberIfAny, IsPlanAmong, IsSearchAmong};
+ghost use Rattle.bgview.specs.CommandLine.{bgview_app, brief_rule, crashes_rule, fault_app, file_among, file_app, is_given, mode_among, mode_of, other_among, outcomes_app, page_app, plain_app, sample_app, schedules_rule, seed_rule, states_rule, stopped_rule, IsNumber, IsNumberIfAny, IsPlanAmong, IsSearchAmong};
 
 use clap::{Arg, ArgAction, ArgMatches, Command, Error, value_parser};
 use outcome_text::Search;
@@ -21,7 +21,7 @@ pub enum Mode {
     Trace,
     /// Draws the rooms of a script.
     Draw,
-    /// Makes a page that steps through a script.
+    /// Makes a page that steps through a script or a transcript, or through two.
     Page,
     /// Writes the rooms of a script as a transcript.
     Transcript,
@@ -118,18 +118,20 @@ fn draw_command<'a>(alloc: Global) -> Result<Command<'a>, AllocError>
     )
 }
 
-/// The subcommand `page`.
+/// The subcommand `page`, which takes one file or two.
 fn page_command<'a>(alloc: Global) -> Result<Command<'a>, AllocError>
-    ensures app { IfOk result (λ command. app_of command ≡ file_app (codes "page")) }
+    ensures app { IfOk result (λ command. app_of command ≡ page_app) }
     ensures local { IfOk result (λ command. (out-Command command).has_globals ≡ false) }
 {
-    file_command(
+    let page = file_command(
         alloc,
         "page",
-        "Plays a script, and makes a page that steps through it in a browser, as HTML",
-        "bgview page [FILE]",
-        "The script; without it, standard input is read",
-    )
+        "Makes a page that steps through a script or a transcript in a browser, or through two next to each other, as HTML",
+        "bgview page [FILE [OTHER]]",
+        "The script or transcript; without it, standard input is read",
+    )?;
+    let other = Arg::new(alloc, "OTHER").help("A second one, which is shown next to the first");
+    page.arg(other)
 }
 
 /// The subcommand `transcript`.
@@ -321,21 +323,26 @@ pub struct Line<'a> {
     pub command: Mode,
     /// The file to read. Without one standard input is read.
     pub file: Option<&'a str>,
+    /// The file that is shown next to it.
+    pub other: Option<&'a str>,
 }
 
 /// What the words ask for.
 pub fn line_in<'a>(matches: &ArgMatches<'a>) -> Line<'a>
     ensures command { result.command ≡ mode_among (subcommand_rows_of matches.now) }
     ensures file { option_map (λ file. file.now) result.file ≡ file_among (subcommand_rows_of matches.now) }
+    ensures other { option_map (λ file. file.now) result.other ≡ other_among (subcommand_rows_of matches.now) }
 {
     match matches.subcommand() {
         Some((word, inner)) => Line {
             command: Mode::of(word),
             file: inner.get_str("FILE"),
+            other: inner.get_str("OTHER"),
         },
         None => Line {
             command: Mode::Why,
             file: None,
+            other: None,
         },
     }
 }

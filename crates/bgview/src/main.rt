@@ -2,13 +2,13 @@
 //! have by random schedules, all outcomes of its protocol, and what the numbers of faults mean.
 #![tactic(auto)]
 
-ghost use Rattle.std.specs.Prelude.{◌≡◌, ◌≤◌, Bool, IfSome, List, ℕ, false, map};
+ghost use Rattle.std.specs.Prelude.{◌≡◌, ◌≤◌, Bool, IfSome, List, ℕ, false, map, option_and_then};
 ghost use Rattle.std.specs.IoError.{error_kind};
 ghost use Rattle.std.specs.Io.KnownBytes.{Appends};
 ghost use Rattle.clap.specs.Values.{kind_of};
 ghost use Rattle.clap.specs.Words.{subcommand_rows_of};
-ghost use Rattle.bgview.specs.CommandLine.{codes_among, file_among, mode_among};
-ghost use Rattle.bgview.specs.Endings.{IsAnswered, IsEnding, IsStatusFor, input_named};
+ghost use Rattle.bgview.specs.CommandLine.{codes_among, mode_among, other_among};
+ghost use Rattle.bgview.specs.Endings.{IsAnswered, IsEnding, IsReadBy, IsStatusFor, named_by};
 ghost use Rattle.bgview.specs.Ends.{ending_status, fault_status, unread_status, words_status};
 ghost use Rattle.bgview.specs.Faults.{AreFaultsSaid};
 ghost use Rattle.bgview.specs.Modes.{AreNotesIn, IsViewed};
@@ -34,7 +34,7 @@ use engine::{draw_io, fault_io, outcomes_io, sample_io, transcript_io, why_io};
 use fault::ViewFault;
 use inputs::Inputs;
 use io_text::{Device, DeviceFault, Text};
-use page::page_io;
+use page::{page_io, pages_io};
 use progress::{Counter, has_terminal};
 use room_files::Outcome;
 use run_search::Progress;
@@ -90,7 +90,7 @@ fn status<I: Inputs, W: Write, S: AsStr>(
     }
 }
 
-/// How the program ends that does what the words ask for. What is said of the fault of an input becomes `notes`.
+/// How the program ends that does what the words ask for. What is said of the faults of its inputs becomes `notes`.
 fn ending<I: Inputs, W: Write, P: Progress>(
     alloc: Global,
     inputs: &I,
@@ -101,7 +101,7 @@ fn ending<I: Inputs, W: Write, P: Progress>(
 ) -> Result<Outcome, ViewFault>
     requires { writer.old.failed ≡ false }
     ensures { IsEnding (subcommand_rows_of matches.now)
-        (input_named (I.standard_bytes inputs.now) (I.file_bytes inputs.now) (file_among (subcommand_rows_of matches.now))) result
+        (named_by (I.standard_bytes inputs.now) (I.file_bytes inputs.now) (subcommand_rows_of matches.now)) result
         (record { before = W.contents writer.old.inner; after = W.contents writer.new.inner }) }
 {
     let line = line_in(matches);
@@ -109,9 +109,48 @@ fn ending<I: Inputs, W: Write, P: Progress>(
         return say_faults(alloc, matches, writer);
     }
     match line.file {
-        None => answered(alloc, inputs.standard(), writer, matches, notes, progress),
+        None => with_other(
+            alloc,
+            inputs,
+            inputs.standard(),
+            writer,
+            matches,
+            notes,
+            progress,
+        ),
         Some(path) => match inputs.open(path) {
-            Ok(input) => answered(alloc, input, writer, matches, notes, progress),
+            Ok(input) => with_other(alloc, inputs, input, writer, matches, notes, progress),
+            Err(_) => Err(ViewFault::Device(DeviceFault::Read)),
+        },
+    }
+}
+
+/// The answer that the words ask for to an input, and to a second file if they name one, which is written. What is said of their faults becomes
+/// `notes`.
+fn with_other<I: Inputs, R: Read + Drop, W: Write, P: Progress>(
+    alloc: Global,
+    inputs: &I,
+    input: R,
+    writer: &mut Device<W>,
+    matches: &ArgMatches<'_>,
+    notes: &mut Text,
+    progress: &mut P,
+) -> Result<Outcome, ViewFault>
+    requires { writer.old.failed ≡ false }
+    ensures { IsReadBy (subcommand_rows_of matches.now)
+        (record { first = R.remaining input; second = option_and_then (I.file_bytes inputs.now) (other_among (subcommand_rows_of matches.now)) }) result
+        (record { before = W.contents writer.old.inner; after = W.contents writer.new.inner }) }
+{
+    match line_in(matches).other {
+        None => answered(alloc, input, writer, matches, notes, progress),
+        Some(path) => match inputs.open(path) {
+            Ok(next) => pages_io(
+                alloc,
+                &mut Device::new(input),
+                &mut Device::new(next),
+                writer,
+                notes,
+            ),
             Err(_) => Err(ViewFault::Device(DeviceFault::Read)),
         },
     }

@@ -7,4 +7,4 @@ mod scripts;
 mod walk;
 
 pub use files::{room_faults, transcript_faults};
-pub use scripts::script_faults;
+pub use scripts::{begins_with_block, script_faults};

@@ -50,7 +50,8 @@ fn explained_at_most(script: &[u8]) -> usize
     }
 }
 
-fn begins_with_block(script: &[u8]) -> bool
+/// Whether a file begins with a block, as a transcript and a file of rooms do, and no script.
+pub fn begins_with_block(script: &[u8]) -> bool
     ensures { result ≡ begins_with_block script.now }
 {
     script.starts_with(b"bgsim ")

@@ -1,411 +1,98 @@
-'use strict';
-// A page to step through the rooms of a script. All that it shows is computed from two texts in the page: the script, and the text that
-// `bgview trace` answers to it.
-
-// ---- reading: entries of the script, and replies of the trace
-
-// The entries of a script: a block after the line `open`, or a command's line.
-function readEntries(script) {
-  const lines = script.split('\n');
-  const entries = [];
-  for (let at = 0; at < lines.length; at++) {
-    if (lines[at] === 'open') {
-      const found = lines.indexOf('end', at);
-      const end = found < 0 ? lines.length : found; // a block without an end takes all that is left
-      entries.push({ block: lines.slice(at + 1, end) });
-      at = end;
-    } else if (lines[at] !== '') {
-      entries.push({ block: null });
-    }
-  }
-  return entries;
-}
-
-// The replies of a trace: the first line of each, the lines of its report, and what is said under it.
-function readReplies(trace) {
-  const replies = [];
-  let report = false;
-  for (const line of trace.split('\n')) {
-    if (line.startsWith('    ')) {
-      replies[replies.length - 1].notes.push(line);
-    } else if (report) {
-      replies[replies.length - 1].report.push(line);
-      report = !/^\S+ end$/.test(line);
-    } else if (line !== '') {
-      replies.push({ line, notes: [], report: [] });
-      report = /^\S+ report$/.test(line);
-    }
-  }
-  return replies;
-}
-
-// What a block says of its room.
-function readSpec(block) {
-  const words = name => (block.find(line => line.startsWith(name + ' ')) || '').split(' ').slice(1);
-  return {
-    name: words('room')[0],
-    inputs: words('inputs'),
-    simulators: Number(words('simulators')[0]),
-    rounds: Number(words('rounds')[0]),
-    protocol: block.slice(block.indexOf('protocol') + 1),
-  };
-}
-
-const OPERATION = '(load the step numbers(?:, word \\d+)?|load the levels of agreement \\(\\d+,\\d+\\)|load \\w+\\([\\d,]+\\)(?:, word \\d+)?'
-  + '|store (?:them|\\d+ \\+ 1|\\d+) in \\w+\\([\\d,]+\\)(?:, word \\d+)?|(?:add 1 to|subtract 1 from) \\w+\\([\\d,]+\\))';
-const STEP = new RegExp('^    (\\d+) +(?:(simulator (\\d+), turn (\\d+), process (\\d+), round (\\d+)) +)?' + OPERATION + '(?: +(.*))?$');
-
-// The letter of a step, as in the pictures of `bgview draw`.
-function letterOf(operation, sight) {
-  if (operation.startsWith('store')) return operation.includes(' in value') ? 'W' : operation.includes(' in out') ? 'D' : 'V';
-  if (operation.startsWith('add 1 to step')) return '+';
-  if (operation.startsWith('add 1 to level')) return sight.startsWith('0 to 1') ? '1' : '2';
-  if (operation.startsWith('subtract')) return '0';
-  if (operation.startsWith('load the step')) return 'S';
-  if (operation.startsWith('load the levels')) return /proposal stands/.test(sight) ? '?' : 'A';
-  return operation.startsWith('load view') ? 'G' : 'r';
-}
-
-// A step from its line, which names its turn only if that begins or goes on there; or null for another line.
-function readStep(line, before) {
-  const found = STEP.exec(line);
-  if (!found) return null;
-  const [, , turn, simulator, number, process, round, operation, sight = ''] = found;
-  const of = turn ? { name: turn, simulator: +simulator, turn: +number, process: +process, round: +round }
-    : { name: before.name, simulator: before.simulator, turn: before.turn, process: before.process, round: before.round };
-  return { ...of, operation, sight, letter: letterOf(operation, sight), word: Number((/, word (\d+)/.exec(operation) || [0, 0])[1]), here: '', ending: '' };
-}
-
-// The notes under a reply become moments of the room: steps, with what takes effect and how the turn ends.
-function addSteps(room, notes) {
-  for (const line of notes) {
-    const moments = room.moments;
-    const step = readStep(line, moments.findLast(moment => moment.name) || {});
-    const last = moments[moments.length - 1];
-    if (step) moments.push(step);
-    else if (/^ +here/.test(line) && last) last.here = line.trim();
-    else if (/^ +(useful|quiet)/.test(line) && last) last.ending = line.trim();
-  }
-}
-
-// All rooms that the script opened, in order, and the lines of what was refused.
-function readRooms(script, trace) {
-  const rooms = [];
-  const open = new Map();
-  const refused = [];
-  const entries = readEntries(script);
-  readReplies(trace).forEach((reply, index) => {
-    const [name, word, number, answer] = reply.line.split(' ');
-    if (/ refused /.test(reply.line)) {
-      refused.push([reply.line, ...reply.notes.map(note => note.trim())].join(': '));
-    } else if (word === 'opened') {
-      const room = { ...readSpec(entries[index].block), moments: [], report: [] };
-      rooms.push(room);
-      open.set(name, room);
-    } else if (open.has(name)) {
-      const room = open.get(name);
-      addSteps(room, reply.notes);
-      if (word === 'crash' && answer === 'crashed') room.moments.push({ crash: true, simulator: Number(number), letter: 'x', here: '', ending: '' });
-      if (word === 'report') room.report = reply.report;
-      if (word === 'closed') open.delete(name);
-    }
-  });
-  return { rooms, refused };
-}
-
-// ---- the room after a number of moments
-
-const keyOf = (...numbers) => numbers.join(',');
-const range = count => Array.from({ length: count }, (_, index) => index);
-
-// A row of step numbers, of which each memory word may show some.
-const joined = (one, other) => (one ? one.map((entry, p) => (entry === '.' ? other[p] : entry)) : other);
-
-function emptyState(room) {
-  return {
-    counted: range(room.simulators).map(() => range(room.inputs.length).map(() => 0)),
-    crashed: range(room.simulators).map(() => false),
-    levels: new Map(), // of an agreement, by process and round: one level for each simulator
-    proposals: new Map(), // by simulator, process and round
-    read: new Map(), // by simulator, process and round: the moment at which the snapshot takes effect if it is chosen
-    chosen: new Map(), // of an agreement: which simulator's proposal, and since which moment
-    values: new Map(), // by simulator, process and round
-    decided: new Map(), // by process
-    events: [], // those that are known by now
-  };
-}
-
-const levelsOf = (state, room, key) => state.levels.get(key) || range(room.simulators).map(() => 0);
-
-// An agreement is resolved once a simulator is at level 2 and none is at level 1; then the least simulator at level 2 has its proposal chosen.
-function resolve(state, levels, key, at) {
-  if (!state.chosen.has(key) && !levels.includes(1) && levels.includes(2)) state.chosen.set(key, { simulator: levels.indexOf(2), at });
-}
-
-function raise(state, room, step, change, at) {
-  const key = keyOf(step.process, step.round);
-  const levels = [...levelsOf(state, room, key)];
-  levels[step.simulator] += change;
-  state.levels.set(key, levels);
-  resolve(state, levels, key, at);
-}
-
-// The state after one more moment, whose number is `at`.
-function apply(state, room, moment, at) {
-  if (moment.crash) {
-    state.crashed[moment.simulator] = true;
-    return;
-  }
-  const own = keyOf(moment.simulator, moment.process, moment.round);
-  const effect = /^here: process (\d+) (writes|decides) (\d+)$/.exec(moment.here);
-  switch (moment.letter) {
-    case 'W': state.values.set(own, /store (\d+)/.exec(moment.operation)[1]); break;
-    case '+': state.counted[moment.simulator][moment.process]++; break;
-    case 'V': state.proposals.set(own, joined(moment.word > 0 ? state.proposals.get(own) : null, moment.sight.split(' '))); break;
-    case '1': case '2': raise(state, room, moment, 1, at); break;
-    case '0': raise(state, room, moment, -1, at); break;
-    case 'D': state.decided.set(moment.process, /decides (\d+)/.exec(moment.sight)[1]); break;
-  }
-  if (moment.here.startsWith('here, if')) state.read.set(own, at);
-  if (effect) state.events.push({ at, known: at, process: +effect[1], text: effect[2].replace(/s$/, '') + ' ' + effect[3] });
-}
-
-function stateAt(room, count) {
-  const state = emptyState(room);
-  room.moments.slice(0, count).forEach((moment, at) => apply(state, room, moment, at));
-  return state;
-}
-
-// The value that a process wrote in a round. All simulators that wrote for it wrote the same.
-function valueOf(state, room, process, round) {
-  return range(room.simulators).map(i => state.values.get(keyOf(i, process, round))).find(value => value !== undefined);
-}
-
-// The snapshots that are agreed on, each at the moment at which the chosen proposal was read.
-function snapshotsOf(state, room) {
-  return [...state.chosen].map(([key, { simulator, at }]) => {
-    const [process, round] = key.split(',').map(Number);
-    const row = state.proposals.get(keyOf(simulator, process, round)) || [];
-    const shown = row.map((entry, p) => (entry === '.' ? '.' : valueOf(state, room, p, +entry)));
-    return { at: state.read.get(keyOf(simulator, process, round)), known: at, process, text: 'snap ' + shown.join(' ') };
-  });
-}
-
-// All events of a state's processes, in the order in which they take effect.
-const eventsOf = (state, room) => [...state.events, ...snapshotsOf(state, room)].sort((one, other) => one.at - other.at);
-
-// ---- drawing
-
-const hueOf = process => `var(--process${process % 8})`;
-const escaped = text => String(text).replace(/[&<>"]/g, byte => '&#' + byte.charCodeAt(0) + ';');
-const SQUARE = 27, LANE = 42, EVENTS = 28, LEFT = 104, TOP = 16, COLUMNS = 42;
-
-// The first moment that is drawn: all of a short run, and some forty of a long one, around the current one.
-const firstDrawn = (total, count) => Math.max(0, Math.min(count - Math.ceil(COLUMNS / 2), total - COLUMNS));
-
-const textAt = (x, y, text, more = '') => `<text x="${x}" y="${y}" ${more}>${escaped(text)}</text>`;
-
-function drawSquare(moment, x, y, isDone) {
-  const hue = hueOf(moment.process);
-  const filled = '120D'.includes(moment.letter);
-  const title = `<title>${escaped(moment.name + ': ' + moment.operation + ': ' + moment.sight)}</title>`;
-  return `<g opacity="${isDone ? 1 : 0.4}">${title}<rect x="${x + 1}" y="${y}" width="${SQUARE - 2}" height="24" rx="4" fill="${filled ? hue : 'var(--paper)'}" stroke="${hue}" stroke-width="1.5"/>`
-    + textAt(x + SQUARE / 2, y + 17, moment.letter, `text-anchor="middle" font-weight="700" fill="${filled ? 'var(--paper)' : 'var(--ink)'}"`) + '</g>';
-}
-
-// Where a simulator is in the unsafe section: from the step by which it enters to that by which it leaves, or to the end.
-function insideOf(room, simulator) {
-  const parts = [];
-  room.moments.forEach((moment, at) => {
-    if (moment.simulator !== simulator) return;
-    if (moment.letter === '1') parts.push({ from: at, to: room.moments.length });
-    if (moment.letter === '2' || moment.letter === '0') parts[parts.length - 1].to = at + 1;
-  });
-  return parts;
-}
-
-function drawLane(room, simulator, first, count, y) {
-  const last = Math.min(first + COLUMNS, room.moments.length);
-  const x = at => LEFT + (at - first) * SQUARE;
-  let lane = textAt(4, y + 17, 'simulator ' + simulator, 'fill="var(--ink)"');
-  for (const { from, to } of insideOf(room, simulator)) {
-    const [begin, end] = [Math.max(from, first), Math.min(to, last)];
-    if (begin < end) lane += `<rect x="${x(begin)}" y="${y - 4}" width="${(end - begin) * SQUARE}" height="32" fill="url(#hatch)"/>`;
-  }
-  range(last - first).map(index => first + index).filter(at => room.moments[at].simulator === simulator).forEach(at => {
-    const moment = room.moments[at];
-    if (moment.crash) {
-      lane += textAt(x(at) + SQUARE / 2, y + 19, '\u2715', `text-anchor="middle" font-size="20" fill="var(--now)" opacity="${at < count ? 1 : 0.4}"`);
-      return;
-    }
-    lane += drawSquare(moment, x(at), y, at < count);
-    const before = room.moments[at - 1];
-    if (!before || before.simulator !== simulator || before.turn !== moment.turn || at === first) {
-      lane += textAt(x(at) + 2, y + 36, `p${moment.process} r${moment.round}`, `font-size="11" fill="${hueOf(moment.process)}"`);
-    }
-  });
-  return lane;
-}
-
-// An event in the lane of its process, tied to the square of the step at which it takes effect. One that isn't known yet is paler.
-function drawEvent(room, event, first, count, y, left) {
-  const x = LEFT + (event.at - first) * SQUARE + SQUARE / 2;
-  const hue = hueOf(event.process);
-  const from = TOP + room.moments[event.at].simulator * LANE + 24;
-  const filled = event.text.startsWith('decide');
-  return `<g opacity="${event.known < count ? 1 : 0.35}"><path d="M ${x} ${from} L ${Math.max(x, left + 8)} ${y}" stroke="${hue}" stroke-dasharray="2 3"/>`
-    + `<rect x="${left}" y="${y}" width="${widthOf(event)}" height="20" rx="${event.text.startsWith('snap') ? 10 : 3}" fill="${filled ? hue : 'var(--paper)'}" stroke="${hue}"/>`
-    + textAt(left + 5, y + 14, event.text, `font-family="monospace" font-size="12" fill="${filled ? 'var(--paper)' : 'var(--ink)'}"`) + '</g>';
-}
-
-const widthOf = event => 10 + 7.3 * event.text.length;
-
-// The events of one process, none over another.
-function drawEvents(room, events, first, count, y) {
-  let free = 0;
-  return events.map(event => {
-    const left = Math.max(LEFT + (event.at - first) * SQUARE + SQUARE / 2 - 8, free);
-    free = left + widthOf(event) + 3;
-    return drawEvent(room, event, first, count, y, left);
-  }).join('');
-}
-
-function drawLanes(room, count) {
-  const total = room.moments.length;
-  const first = firstDrawn(total, count);
-  const top = TOP + room.simulators * LANE + 6;
-  const height = top + room.inputs.length * EVENTS + 6;
-  const width = LEFT + (Math.min(total, COLUMNS) + 1) * SQUARE + 60;
-  const events = eventsOf(stateAt(room, total), room).filter(event => event.at >= first && event.at < first + COLUMNS);
-  const now = LEFT + (count - first) * SQUARE;
-  return `<svg viewBox="0 0 ${Math.max(width, 1240)} ${height}" role="img" aria-label="Lanes of simulators and processes" font-family="Helvetica, Arial, sans-serif" font-size="14">`
-    + '<defs><pattern id="hatch" width="7" height="7" patternUnits="userSpaceOnUse" patternTransform="rotate(45)"><rect width="7" height="7" fill="var(--inside)"/><path d="M 0 0 V 7" stroke="var(--hatch)" stroke-width="2"/></pattern></defs>'
-    + range(room.simulators).map(i => drawLane(room, i, first, count, TOP + i * LANE)).join('')
-    + range(room.inputs.length).map(p => textAt(4, top + p * EVENTS + 15, 'process ' + p, `fill="${hueOf(p)}"`) + `<path d="M 98 ${top + p * EVENTS + 10} H ${width}" stroke="var(--rule)"/>`).join('')
-    + range(room.inputs.length).map(p => drawEvents(room, events.filter(event => event.process === p), first, count, top + p * EVENTS)).join('')
-    + `<path d="M ${now} 2 V ${height - 4}" stroke="var(--now)" stroke-width="2"/></svg>`;
-}
-
-// ---- tables
-
-const table = (head, rows) => `<table><tr>${head.map(cell => `<th>${cell}</th>`).join('')}</tr>${rows.map(row => `<tr>${row.join('')}</tr>`).join('')}</table>`;
-const cell = (text, ...classes) => `<td class="${classes.filter(Boolean).join(' ')}">${text}</td>`;
-const headCell = text => `<th>${text}</th>`;
-const section = (title, body) => `<section><h2>${title}</h2>${body}</section>`;
-
-function stepNumbers(room, state, moment) {
-  const touched = (i, p) => moment && (moment.letter === 'S' || (moment.letter === '+' && moment.simulator === i && moment.process === p));
-  const rows = range(room.simulators).map(i => [headCell(`simulator ${i}${state.crashed[i] ? ' \u2715' : ''}`),
-    ...range(room.inputs.length).map(p => cell(state.counted[i][p], touched(i, p) && 'now'))]);
-  return section('Step numbers', table(['', ...range(room.inputs.length).map(p => 'p' + p)], rows));
-}
-
-// How an agreement stands: open, blocked for ever, or resolved.
-function resultOf(state, key, levels) {
-  const chosen = state.chosen.get(key);
-  const inside = levels.indexOf(1);
-  if (chosen) return `resolved: the proposal of simulator ${chosen.simulator}`;
-  if (inside < 0) return 'no proposal stands';
-  const blocker = levels.findIndex((level, i) => level === 1 && state.crashed[i]);
-  return blocker >= 0 ? `blocked for ever by simulator ${blocker}` : `open: simulator ${inside} is inside`;
-}
-
-function agreementRow(room, state, moment, key) {
-  const [process, round] = key.split(',').map(Number);
-  const levels = levelsOf(state, room, key);
-  const chosen = state.chosen.get(key);
-  const here = moment && moment.process === process && moment.round === round;
-  const cells = range(room.simulators).map(i => {
-    const row = state.proposals.get(keyOf(i, process, round));
-    const touched = here && ((moment.simulator === i && 'V120'.includes(moment.letter)) || '?A'.includes(moment.letter));
-    const proposal = row ? ` <span class="row ${chosen && chosen.simulator !== i ? 'lost' : ''}">\u27e8${row.join(' ')}\u27e9</span>` : '';
-    return cell(`${levels[i]}${proposal}`, 'level' + levels[i], chosen && chosen.simulator === i && 'chosen', touched && 'now');
-  });
-  return [headCell(`p${process} r${round}`), ...cells, cell(resultOf(state, key, levels), 'text')];
-}
-
-function agreements(room, state, moment) {
-  const keys = new Set([...state.levels.keys(), ...[...state.proposals.keys()].map(key => key.split(',').slice(1).join(','))]);
-  const ordered = [...keys].map(key => key.split(',').map(Number)).sort((one, other) => one[1] - other[1] || one[0] - other[0]).map(numbers => keyOf(...numbers));
-  const rows = ordered.map(key => agreementRow(room, state, moment, key));
-  return section('Agreements: level and proposal of each simulator', table(['', ...range(room.simulators).map(i => 'simulator ' + i), 'result'], rows));
-}
-
-// What has become of a process by now.
-function standingOf(room, state, process) {
-  if (state.decided.has(process)) return 'decided ' + state.decided.get(process);
-  const keys = [...state.levels.keys()].filter(key => key.startsWith(process + ','));
-  const held = keys.map(key => levelsOf(state, room, key).findIndex((level, i) => level === 1 && state.crashed[i])).find(i => i >= 0);
-  return held === undefined ? '' : `held by simulator ${held}`;
-}
-
-function processes(room, state, count) {
-  const events = eventsOf(state, room);
-  const told = room.report.map(line => / process (\d+) (.*)$/.exec(line)).filter(Boolean);
-  const rows = range(room.inputs.length).map(p => {
-    const reported = count === room.moments.length && told.find(found => +found[1] === p);
-    return [headCell('p' + p), cell(escaped(events.filter(event => event.process === p).map(event => event.text).join('; ')), 'text', 'row'),
-      cell(reported ? reported[2] : standingOf(room, state, p), 'text')];
-  });
-  return section('Simulated processes', table(['', 'events', 'state'], rows));
-}
-
 // ---- the page
 
-const at = id => document.getElementById(id);
-const { rooms, refused } = readRooms(at('script').textContent, at('trace').textContent);
-let current = 0;
-let count = 0;
-let timer = null;
-
-function sentence(moment) {
-  if (!moment) return 'Nobody has taken a step.';
-  if (moment.crash) return `<b>simulator ${moment.simulator}</b> crashes`;
-  const more = [moment.here, moment.ending].filter(Boolean).map(text => `<small>${escaped(text)}</small>`).join('');
-  return `<b>${escaped(moment.name)}</b>: ${escaped(moment.operation)} \u2192 <b>${escaped(moment.sight)}</b>${more}`;
+// The files in the page, in order: each is an element of a class that says what it is, followed by the answer to it.
+function readFile(element) {
+  const answer = element.nextElementSibling.textContent;
+  return element.className === 'transcript' ? readJudged(element.textContent, answer) : readScript(element.textContent, answer);
 }
 
-function showRoom() {
-  const room = rooms[current];
-  at('name').textContent = room.name;
-  document.title = room.name + ', step by step';
-  const many = (number, thing) => `${number} ${thing}${number === 1 ? '' : thing.endsWith('s') ? 'es' : 's'}`;
-  at('about').textContent = `${many(room.inputs.length, 'process')}, inputs ${room.inputs.join(' ')}; ${many(room.simulators, 'simulator')}; ${many(room.rounds, 'round')}`;
-  at('protocol').textContent = room.protocol.join(' ');
-  at('slider').max = room.moments.length;
-  at('rooms').hidden = rooms.length < 2;
-  at('rooms').innerHTML = rooms.map((other, index) => `<button role="tab" aria-selected="${index === current}" data-room="${index}">${escaped(other.name)}</button>`).join('');
+const runs = [...document.querySelectorAll('.script, .transcript')].map(readFile);
+if (runs.length > 1) layout = NARROW;
+
+let current = 0; // which room of each file is shown
+let count = 0; // how many of its moments have passed
+let timer = null;
+
+const shownRooms = () => runs.map(run => run.rooms[current]).filter(Boolean);
+const roomCount = () => Math.max(...runs.map(run => run.rooms.length));
+const lengthOf = rooms => Math.max(0, ...rooms.map(room => room.moments.length));
+
+// How many moments pass in two rooms until they differ, or null if they never do.
+function firstDifference([one, other]) {
+  if (!other) return null;
+  const sentenceAt = (room, number) => (number <= room.moments.length ? room.show.sentence({ ...room, verdicts: [] }, number) : '');
+  const found = range(lengthOf([one, other])).find(index => sentenceAt(one, index + 1) !== sentenceAt(other, index + 1));
+  return found === undefined ? null : found + 1;
+}
+
+function differenceText(rooms) {
+  const number = firstDifference(rooms);
+  if (rooms.length < 2) return '';
+  if (number === null) return 'The two runs are the same.';
+  const ended = rooms.findIndex(room => room.moments.length < number);
+  return `The two runs first differ at step ${number}` + (ended < 0 ? '.' : `: the ${ended === 0 ? 'first' : 'second'} has ended by then.`);
+}
+
+const many = (number, thing) => `${number} ${thing}${number === 1 ? '' : thing.endsWith('s') ? 'es' : 's'}`;
+
+function panelOf(room) {
+  const about = `${many(room.inputs.length, 'process')}, inputs ${room.inputs.join(' ')}; ${many(room.simulators, 'simulator')}; ${many(room.rounds, 'round')}`;
+  return `<section class="run"><header><h1>${escaped(room.name)}</h1><p class="about">${escaped(about)}</p><code class="protocol">${escaped(room.protocol.join(' '))}</code></header>`
+    + '<div class="sentence" role="status" aria-live="polite"></div><div class="lanes"></div><div class="tables"></div></section>';
+}
+
+function showRooms() {
+  const rooms = shownRooms();
+  document.title = rooms[0].name + ', step by step';
+  at('runs').innerHTML = rooms.map(panelOf).join('');
+  at('slider').max = lengthOf(rooms);
+  at('rooms').hidden = roomCount() < 2;
+  at('rooms').innerHTML = range(roomCount()).map(index => {
+    const names = new Set(runs.map(run => run.rooms[index]?.name).filter(Boolean));
+    return `<button role="tab" aria-selected="${index === current}" data-room="${index}">${escaped([...names].join(' / '))}</button>`;
+  }).join('');
+  at('difference').textContent = differenceText(rooms);
+  at('difference').hidden = rooms.length < 2;
+  at('letters').hidden = !rooms.some(room => room.show === SIMULATION);
+}
+
+function showPanel(room, panel) {
+  const reached = Math.min(count, room.moments.length);
+  panel.querySelector('.sentence').innerHTML = room.show.sentence(room, reached);
+  panel.querySelector('.lanes').innerHTML = room.show.lanes(room, reached);
+  panel.querySelector('.tables').innerHTML = room.show.tables(room, reached);
 }
 
 function show() {
-  const room = rooms[current];
-  const state = stateAt(room, count);
-  const moment = room.moments[count - 1];
+  const rooms = shownRooms();
   at('slider').value = count;
-  at('position').textContent = `step ${count} of ${room.moments.length}`;
-  at('sentence').innerHTML = sentence(moment);
-  at('lanes').innerHTML = drawLanes(room, count);
-  at('tables').innerHTML = stepNumbers(room, state, moment) + agreements(room, state, moment) + processes(room, state, count);
+  at('position').textContent = `step ${count} of ${lengthOf(rooms)}`;
+  rooms.forEach((room, index) => showPanel(room, at('runs').children[index]));
   history.replaceState(null, '', `#${current},${count}`);
 }
 
 function go(to) {
-  count = Math.max(0, Math.min(rooms[current].moments.length, to));
+  count = Math.max(0, Math.min(lengthOf(shownRooms()), to));
   show();
 }
 
-// To the end of this turn, or of the one before.
+// To the end of this turn, or of the one before, in the longer run.
 function goTurn(direction) {
-  const moments = rooms[current].moments;
-  const same = (one, other) => one && other && one.simulator === other.simulator && one.turn === other.turn && !one.crash === !other.crash;
+  const longest = shownRooms().reduce((one, other) => (other.moments.length > one.moments.length ? other : one));
+  const { moments, show: { isSameTurn } } = longest;
   let to = count + direction;
-  while (to > 0 && to < moments.length && same(moments[to - 1], moments[to])) to += direction;
+  while (to > 0 && to < moments.length && isSameTurn(moments[to - 1], moments[to])) to += direction;
   go(to);
 }
 
+function goToDifference() {
+  const number = firstDifference(shownRooms());
+  if (number !== null) go(number);
+}
+
 function open(room, to) {
-  current = Math.max(0, Math.min(rooms.length - 1, room));
-  showRoom();
+  current = Math.max(0, Math.min(roomCount() - 1, room));
+  showRooms();
   go(to);
 }
 
@@ -416,10 +103,11 @@ function pause() {
 }
 
 function play() {
+  const end = lengthOf(shownRooms());
   if (timer) return pause();
-  if (count === rooms[current].moments.length) go(0);
+  if (count === end) go(0);
   at('play').textContent = 'pause';
-  timer = setInterval(() => (count < rooms[current].moments.length ? go(count + 1) : pause()), Number(at('speed').value));
+  timer = setInterval(() => (count < end ? go(count + 1) : pause()), Number(at('speed').value));
 }
 
 const KEYS = {
@@ -427,12 +115,13 @@ const KEYS = {
   ArrowLeft: event => (event.shiftKey ? goTurn(-1) : go(count - 1)),
   Home: () => go(0),
   End: () => go(Infinity),
+  d: goToDifference,
   ' ': play,
 };
 
 function onKey(event) {
   const isOwn = event.target.matches('button, select') && event.key === ' ';
-  if (!KEYS[event.key] || isOwn || event.target.matches('select')) return;
+  if (!KEYS[event.key] || isOwn || event.target.matches('select') || event.ctrlKey || event.metaKey || event.altKey) return;
   event.preventDefault();
   KEYS[event.key](event);
 }
@@ -443,10 +132,11 @@ function fromAddress() {
 }
 
 function start() {
+  const refused = runs.flatMap(run => run.refused);
   at('refused').hidden = refused.length === 0;
   at('refused').textContent = 'Refused: ' + refused.join(' | ');
-  if (rooms.length === 0) {
-    at('sentence').textContent = 'The script opens no room.';
+  if (roomCount() === 0) {
+    at('runs').textContent = 'The file opens no room.';
     return;
   }
   at('first').onclick = () => go(0);
@@ -456,6 +146,7 @@ function start() {
   at('on').onclick = () => go(count + 1);
   at('turn-on').onclick = () => goTurn(1);
   at('last').onclick = () => go(Infinity);
+  at('difference').onclick = goToDifference;
   at('slider').oninput = event => go(Number(event.target.value));
   at('rooms').onclick = event => event.target.dataset.room && open(Number(event.target.dataset.room), 0);
   onkeydown = onKey;

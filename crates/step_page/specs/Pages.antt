@@ -1,7 +1,9 @@
--- A page that steps through what a script did.
+-- A page that steps through the rooms of one or two files.
 use Rattle.std.specs.Prelude.{ℕ, ◌==◌, List, [], ◌∷◌, ◌++◌, codes, if◌then◌else◌}
 use Rattle.std.specs.List.{flat_map}
-use Rattle.step_page.specs.declared.parts.TheConstants.{AFTER_TRACE, BEFORE_SCRIPT, BEFORE_TRACE}
+use Rattle.step_page.specs.declared.page.FileKind.{FileKind}
+use Rattle.step_page.specs.declared.page.FileKind.TheVariants.{Script, Transcript}
+use Rattle.step_page.specs.declared.parts.TheConstants.{BEGIN, END}
 
 -- a byte in the text of an element
 abbrev pub escaped_byte : ℕ → List ℕ
@@ -15,6 +17,16 @@ escaped_byte byte =
 abbrev pub escaped : List ℕ → List ℕ
 escaped text = flat_map escaped_byte text
 
--- the script and its trace, each as the text of an element of its own
-unfoldable pub page_text : List ℕ → List ℕ → List ℕ
-page_text script trace = BEFORE_SCRIPT.now ++ (escaped script ++ (BEFORE_TRACE.now ++ (escaped trace ++ AFTER_TRACE.now)))
+-- what begins the element of a file
+abbrev pub tag_of : FileKind → List ℕ
+tag_of Script = codes "<div class=\"script\" hidden>"
+tag_of Transcript = codes "<div class=\"transcript\" hidden>"
+
+-- a file and the answer to it, each as the text of an element of its own
+abbrev pub file_text : FileKind → List ℕ → List ℕ → List ℕ
+file_text kind file answer =
+    tag_of kind ++ (escaped file ++ (codes "</div>\n<div class=\"answer\" hidden>" ++ (escaped answer ++ codes "</div>\n")))
+
+-- a page that holds these files
+unfoldable pub page_text : List ℕ → List ℕ
+page_text files = BEGIN.now ++ (files ++ END.now)

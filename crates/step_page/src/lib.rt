@@ -1,7 +1,7 @@
-//! A page that steps through the rooms of a script in a browser.
+//! A page that steps through the rooms of one file, or of two next to each other, in a browser.
 #![tactic(auto)]
 
 mod page;
 mod parts;
 
-pub use page::write_page;
+pub use page::{FileKind, begin_page, end_page, put_file};

@@ -1,27 +1,74 @@
-//! The page: its constant parts, and between them the script and its trace.
+//! The page: its constant parts, and between them files with the answers to them.
 ghost use Rattle.std.specs.Prelude.{◌≡◌, ◌++◌, OnOk};
 ghost use Rattle.std.specs.List.{flat_map};
-ghost use Rattle.step_page.specs.Pages.{escaped, escaped_byte, page_text};
+ghost use Rattle.step_page.specs.Pages.{escaped, escaped_byte, file_text, tag_of};
+ghost use Rattle.step_page.specs.declared.parts.TheConstants.{BEGIN as begin, END as end};
 
-use crate::parts::{AFTER_TRACE, BEFORE_SCRIPT, BEFORE_TRACE};
+use crate::parts::{BEGIN, END};
 use io_text::Text;
 use std::alloc::AllocError;
 
-/// Writes a page, in HTML, that steps through what a script did, by the script and the text of its trace. It is complete: it asks for
-/// nothing else.
+/// What a file of a page is.
+#[derive(Clone, Copy, Debug, PartialEq, Eq)]
+pub enum FileKind {
+    /// A script; the answer to it is its trace.
+    Script,
+    /// A transcript; the answer to it is the verdict on each room, with the reasons.
+    Transcript,
+}
+
+impl FileKind {
+    /// What begins the element of such a file.
+    fn tag(self) -> &'static [u8]
+        ensures { result.now ≡ tag_of self }
+    {
+        match self {
+            FileKind::Script => b"<div class=\"script\" hidden>",
+            FileKind::Transcript => b"<div class=\"transcript\" hidden>",
+        }
+    }
+}
+
+/// Writes what is before the files of a page, in HTML.
 ///
 /// # Errors
 ///
 /// If an allocation fails.
-#[tactic(auto, unfolding(crate::specs::Pages::page_text))]
-pub fn write_page(output: &mut Text, script: &[u8], trace: &[u8]) -> Result<(), AllocError>
-    ensures { OnOk result (output.new ≡ output.old ++ page_text script.now trace.now) }
+pub fn begin_page(output: &mut Text) -> Result<(), AllocError>
+    ensures { OnOk result (output.new ≡ output.old ++ begin.now) }
 {
-    output.put(BEFORE_SCRIPT)?;
-    write_escaped(output, script)?;
-    output.put(BEFORE_TRACE)?;
-    write_escaped(output, trace)?;
-    output.put(AFTER_TRACE)
+    output.put(BEGIN)
+}
+
+/// Writes a file of a page with the answer to it, from which the page computes what it shows.
+///
+/// # Errors
+///
+/// If an allocation fails.
+pub fn put_file(
+    output: &mut Text,
+    kind: FileKind,
+    file: &[u8],
+    answer: &[u8],
+) -> Result<(), AllocError>
+    ensures { OnOk result (output.new ≡ output.old ++ file_text kind file.now answer.now) }
+{
+    output.put(kind.tag())?;
+    write_escaped(output, file)?;
+    output.put(b"</div>\n<div class=\"answer\" hidden>")?;
+    write_escaped(output, answer)?;
+    output.put(b"</div>\n")
+}
+
+/// Writes what is after the files of a page. The page is complete: it asks for nothing else.
+///
+/// # Errors
+///
+/// If an allocation fails.
+pub fn end_page(output: &mut Text) -> Result<(), AllocError>
+    ensures { OnOk result (output.new ≡ output.old ++ end.now) }
+{
+    output.put(END)
 }
 
 /// Writes a text so that a browser reads it as the text of an element.

@@ -1,7 +1,7 @@
 //! The parts of a page. Made by tools/page_parts of the files in page/.
 
-/// What is before the script: the head, the style, and what the page shows.
-pub const BEFORE_SCRIPT: &[u8] = br####"<!DOCTYPE html>
+/// What is before the files: the head, the style, and what the page shows.
+pub const BEGIN: &[u8] = br####"<!DOCTYPE html>
 <html lang="en">
 <meta charset="utf-8">
 <meta name="viewport" content="width=device-width, initial-scale=1">
@@ -12,24 +12,26 @@ pub const BEFORE_SCRIPT: &[u8] = br####"<!DOCTYPE html>
 @media print { :root { --ink: #000000; --faint: #444444; --rule: #999999; --paper: #ffffff; --band: #eeeeee; --now: #c0263d; --inside: #f6e3c5; --hatch: #a86f1d; --stands: #d7efda; --chosen: #1b6e34; --process0: #2f5f9e; --process1: #b85c1a; --process2: #1b7a45; --process3: #8e3a8e; --process4: #8a6a12; --process5: #1f7f8a; --process6: #a33b4f; --process7: #5a5fc0; } #controls, #rooms { display: none !important; } }
 * { box-sizing: border-box; }
 body { margin: 0; padding: 8px 16px; color: var(--ink); background: var(--paper); font: 15px/1.35 Helvetica, Arial, sans-serif; }
+#runs { display: flex; gap: 16px; }
+.run { flex: 1; min-width: 0; }
 header { display: flex; flex-wrap: wrap; gap: 4px 16px; align-items: baseline; }
 h1 { font-size: 20px; margin: 0; }
-#about { margin: 0; color: var(--faint); }
+.about { margin: 0; color: var(--faint); }
 code, .row { font-family: monospace; }
-#protocol { background: var(--band); padding: 1px 6px; max-height: 3.2em; overflow: auto; }
+.protocol { background: var(--band); padding: 1px 6px; max-height: 3.2em; overflow: auto; }
 #controls { display: flex; gap: 4px; align-items: center; margin: 6px 0; }
 #controls input { flex: 1; min-width: 120px; }
 #position { min-width: 9em; text-align: right; }
 button, select { font: inherit; color: inherit; background: var(--band); border: 1px solid var(--rule); border-radius: 4px; padding: 2px 8px; }
 button:focus-visible, select:focus-visible, input:focus-visible { outline: 3px solid var(--now); outline-offset: 1px; }
 [role=tab][aria-selected=true] { font-weight: 700; border-color: var(--ink); }
-#sentence { font-size: 21px; line-height: 1.3; min-height: 82px; border-left: 6px solid var(--now); padding-left: 12px; }
-#sentence small { display: block; font-size: 16px; color: var(--faint); }
-#lanes svg { display: block; width: 100%; height: auto; }
+.sentence { font-size: 21px; line-height: 1.3; min-height: 82px; border-left: 6px solid var(--now); padding-left: 12px; }
+.sentence small { display: block; font-size: 16px; color: var(--faint); }
+.lanes svg { display: block; width: 100%; height: auto; }
 #letters { margin: 0; font-size: 13px; color: var(--faint); }
-#tables { display: flex; flex-wrap: wrap; gap: 4px 28px; align-items: flex-start; }
-#tables section { max-height: 260px; overflow: auto; }
-#tables h2 { font-size: 15px; margin: 4px 0; }
+.tables { display: flex; flex-wrap: wrap; gap: 4px 28px; align-items: flex-start; }
+.tables section { max-height: 260px; overflow: auto; }
+.tables h2 { font-size: 15px; margin: 4px 0; }
 table { border-collapse: collapse; }
 th, td { border: 1px solid var(--rule); padding: 1px 8px; text-align: center; font-weight: 400; }
 th { background: var(--band); }
@@ -41,13 +43,8 @@ td.text { text-align: left; }
 .now { box-shadow: inset 0 0 0 2px var(--now); }
 #refused { border: 1px solid var(--now); padding: 4px 10px; margin-top: 8px; }
 </style>
-<header>
-<h1 id="name"></h1>
-<div id="rooms" role="tablist" aria-label="Rooms"></div>
-<p id="about"></p>
-<code id="protocol"></code>
-</header>
 <main>
+<div id="rooms" role="tablist" aria-label="Rooms"></div>
 <div id="controls">
 <button id="first" title="To the beginning (Home)">|&#9664;</button>
 <button id="turn-back" title="A turn back (Shift and left arrow)">&#9664;&#9664;</button>
@@ -59,28 +56,46 @@ td.text { text-align: left; }
 <input id="slider" type="range" min="0" aria-label="Step">
 <output id="position"></output>
 <label>speed <select id="speed"><option value="2000">slow</option><option value="900" selected>normal</option><option value="250">fast</option></select></label>
+<button id="difference" title="To the first difference (d)" hidden></button>
 </div>
-<div id="sentence" role="status" aria-live="polite"></div>
-<div id="lanes"></div>
+<div id="runs"></div>
 <p id="letters">W store a write, + count it, S snapshot, V propose it, 1 enter the unsafe section (hatched), ? look, 2 leave, the proposal stands, 0 leave, withdrawn, A ask, G get the view, r read a value, D store the decision</p>
-<div id="tables"></div>
 <aside id="refused" hidden></aside>
 </main>
 <noscript>This page needs JavaScript. The text of its steps is that of bgview trace.</noscript>
-<div id="script" hidden>"####;
+"####;
 
-/// What is between the script and the trace.
-pub const BEFORE_TRACE: &[u8] = br####"</div>
-<div id="trace" hidden>"####;
-
-/// What is after the trace: the code.
-pub const AFTER_TRACE: &[u8] = br####"</div>
-<script>
+/// What is after the files: the code.
+pub const END: &[u8] = br####"<script>
 'use strict';
-// A page to step through the rooms of a script. All that it shows is computed from two texts in the page: the script, and the text that
-// `bgview trace` answers to it.
+// A page to step through the rooms of one file, or of two next to each other. All that it shows is computed from texts in the page: a script
+// and what `bgview trace` answers to it, or a transcript and what `bgview why` answers to it.
 
-// ---- reading: entries of the script, and replies of the trace
+// ---- for all files
+
+const at = id => document.getElementById(id);
+const range = count => Array.from({ length: count }, (_, index) => index);
+const escaped = text => String(text).replace(/[&<>"]/g, byte => '&#' + byte.charCodeAt(0) + ';');
+const hueOf = process => `var(--process${process % 8})`;
+
+// What a block says of its room.
+function readSpec(block) {
+  const words = name => (block.find(line => line.startsWith(name + ' ')) || '').split(' ').slice(1);
+  return {
+    name: words('room')[0],
+    inputs: words('inputs'),
+    simulators: Number(words('simulators')[0]),
+    rounds: Number(words('rounds')[0]),
+    protocol: block.slice(block.indexOf('protocol') + 1),
+  };
+}
+
+const table = (head, rows) => `<table><tr>${head.map(text => `<th>${text}</th>`).join('')}</tr>${rows.map(row => `<tr>${row.join('')}</tr>`).join('')}</table>`;
+const cell = (text, ...classes) => `<td class="${classes.filter(Boolean).join(' ')}">${text}</td>`;
+const headCell = text => `<th>${text}</th>`;
+const section = (title, body) => `<section><h2>${title}</h2>${body}</section>`;
+
+// ---- a script and its trace: the moments of each room
 
 // The entries of a script: a block after the line `open`, or a command's line.
 function readEntries(script) {
@@ -115,18 +130,6 @@ function readReplies(trace) {
     }
   }
   return replies;
-}
-
-// What a block says of its room.
-function readSpec(block) {
-  const words = name => (block.find(line => line.startsWith(name + ' ')) || '').split(' ').slice(1);
-  return {
-    name: words('room')[0],
-    inputs: words('inputs'),
-    simulators: Number(words('simulators')[0]),
-    rounds: Number(words('rounds')[0]),
-    protocol: block.slice(block.indexOf('protocol') + 1),
-  };
 }
 
 const OPERATION = '(load the step numbers(?:, word \\d+)?|load the levels of agreement \\(\\d+,\\d+\\)|load \\w+\\([\\d,]+\\)(?:, word \\d+)?'
@@ -167,7 +170,7 @@ function addSteps(room, notes) {
 }
 
 // All rooms that the script opened, in order, and the lines of what was refused.
-function readRooms(script, trace) {
+function readScript(script, trace) {
   const rooms = [];
   const open = new Map();
   const refused = [];
@@ -177,7 +180,7 @@ function readRooms(script, trace) {
     if (/ refused /.test(reply.line)) {
       refused.push([reply.line, ...reply.notes.map(note => note.trim())].join(': '));
     } else if (word === 'opened') {
-      const room = { ...readSpec(entries[index].block), moments: [], report: [] };
+      const room = { ...readSpec(entries[index].block), moments: [], report: [], show: SIMULATION };
       rooms.push(room);
       open.set(name, room);
     } else if (open.has(name)) {
@@ -191,10 +194,10 @@ function readRooms(script, trace) {
   return { rooms, refused };
 }
 
-// ---- the room after a number of moments
+
+// ---- a simulated room after a number of moments
 
 const keyOf = (...numbers) => numbers.join(',');
-const range = count => Array.from({ length: count }, (_, index) => index);
 
 // A row of step numbers, of which each memory word may show some.
 const joined = (one, other) => (one ? one.map((entry, p) => (entry === '.' ? other[p] : entry)) : other);
@@ -272,14 +275,17 @@ function snapshotsOf(state, room) {
 // All events of a state's processes, in the order in which they take effect.
 const eventsOf = (state, room) => [...state.events, ...snapshotsOf(state, room)].sort((one, other) => one.at - other.at);
 
-// ---- drawing
+// ---- drawing the lanes of simulators and processes
 
-const hueOf = process => `var(--process${process % 8})`;
-const escaped = text => String(text).replace(/[&<>"]/g, byte => '&#' + byte.charCodeAt(0) + ';');
-const SQUARE = 27, LANE = 42, EVENTS = 28, LEFT = 104, TOP = 16, COLUMNS = 42;
+const SQUARE = 27, LANE = 42, EVENTS = 28, LEFT = 104, TOP = 16;
 
-// The first moment that is drawn: all of a short run, and some forty of a long one, around the current one.
-const firstDrawn = (total, count) => Math.max(0, Math.min(count - Math.ceil(COLUMNS / 2), total - COLUMNS));
+// How many moments of a long run are drawn, and how wide the picture is at least. Next to another run it is narrow.
+const WIDE = { columns: 42, width: 1240 };
+const NARROW = { columns: 18, width: 620 };
+let layout = WIDE;
+
+// The first moment that is drawn: all of a short run, and a part of a long one, around the current moment.
+const firstDrawn = (total, count) => Math.max(0, Math.min(count - Math.ceil(layout.columns / 2), total - layout.columns));
 
 const textAt = (x, y, text, more = '') => `<text x="${x}" y="${y}" ${more}>${escaped(text)}</text>`;
 
@@ -303,7 +309,7 @@ function insideOf(room, simulator) {
 }
 
 function drawLane(room, simulator, first, count, y) {
-  const last = Math.min(first + COLUMNS, room.moments.length);
+  const last = Math.min(first + layout.columns, room.moments.length);
   const x = at => LEFT + (at - first) * SQUARE;
   let lane = textAt(4, y + 17, 'simulator ' + simulator, 'fill="var(--ink)"');
   for (const { from, to } of insideOf(room, simulator)) {
@@ -353,10 +359,11 @@ function drawLanes(room, count) {
   const first = firstDrawn(total, count);
   const top = TOP + room.simulators * LANE + 6;
   const height = top + room.inputs.length * EVENTS + 6;
-  const width = LEFT + (Math.min(total, COLUMNS) + 1) * SQUARE + 60;
-  const events = eventsOf(stateAt(room, total), room).filter(event => event.at >= first && event.at < first + COLUMNS);
+  const width = LEFT + (Math.min(total, layout.columns) + 1) * SQUARE + 60;
+  room.events ??= eventsOf(stateAt(room, total), room);
+  const events = room.events.filter(event => event.at >= first && event.at < first + layout.columns);
   const now = LEFT + (count - first) * SQUARE;
-  return `<svg viewBox="0 0 ${Math.max(width, 1240)} ${height}" role="img" aria-label="Lanes of simulators and processes" font-family="Helvetica, Arial, sans-serif" font-size="14">`
+  return `<svg viewBox="0 0 ${Math.max(width, layout.width)} ${height}" role="img" aria-label="Lanes of simulators and processes" font-family="Helvetica, Arial, sans-serif" font-size="14">`
     + '<defs><pattern id="hatch" width="7" height="7" patternUnits="userSpaceOnUse" patternTransform="rotate(45)"><rect width="7" height="7" fill="var(--inside)"/><path d="M 0 0 V 7" stroke="var(--hatch)" stroke-width="2"/></pattern></defs>'
     + range(room.simulators).map(i => drawLane(room, i, first, count, TOP + i * LANE)).join('')
     + range(room.inputs.length).map(p => textAt(4, top + p * EVENTS + 15, 'process ' + p, `fill="${hueOf(p)}"`) + `<path d="M 98 ${top + p * EVENTS + 10} H ${width}" stroke="var(--rule)"/>`).join('')
@@ -366,11 +373,6 @@ function drawLanes(room, count) {
 
 // ---- tables
 
-const table = (head, rows) => `<table><tr>${head.map(cell => `<th>${cell}</th>`).join('')}</tr>${rows.map(row => `<tr>${row.join('')}</tr>`).join('')}</table>`;
-const cell = (text, ...classes) => `<td class="${classes.filter(Boolean).join(' ')}">${text}</td>`;
-const headCell = text => `<th>${text}</th>`;
-const section = (title, body) => `<section><h2>${title}</h2>${body}</section>`;
-
 function stepNumbers(room, state, moment) {
   const touched = (i, p) => moment && (moment.letter === 'S' || (moment.letter === '+' && moment.simulator === i && moment.process === p));
   const rows = range(room.simulators).map(i => [headCell(`simulator ${i}${state.crashed[i] ? ' \u2715' : ''}`),
@@ -378,7 +380,7 @@ function stepNumbers(room, state, moment) {
   return section('Step numbers', table(['', ...range(room.inputs.length).map(p => 'p' + p)], rows));
 }
 
-// How an agreement stands: open, blocked for ever, or resolved.
+// The state of an agreement: open, blocked for ever, or resolved.
 function resultOf(state, key, levels) {
   const chosen = state.chosen.get(key);
   const inside = levels.indexOf(1);
@@ -417,6 +419,15 @@ function standingOf(room, state, process) {
   return held === undefined ? '' : `held by simulator ${held}`;
 }
 
+// The values that processes wrote, by round.
+function values(room, state, moment) {
+  const valued = range(room.inputs.length).map(p => range(room.rounds).map(index => valueOf(state, room, p, index + 1)));
+  const rounds = Math.max(0, ...valued.map(row => row.findLastIndex(value => value !== undefined) + 1));
+  const touched = (p, round) => moment && 'Wr'.includes(moment.letter) && new RegExp(`value\\(\\d+,${p},${round}\\)`).test(moment.operation);
+  const rows = valued.map((row, p) => [headCell('p' + p), ...range(rounds).map(index => cell(row[index] ?? '', touched(p, index + 1) && 'now'))]);
+  return section('Values', table(['', ...range(rounds).map(index => 'r' + (index + 1))], rows));
+}
+
 function processes(room, state, count) {
   const events = eventsOf(state, room);
   const told = room.report.map(line => / process (\d+) (.*)$/.exec(line)).filter(Boolean);
@@ -428,62 +439,247 @@ function processes(room, state, count) {
   return section('Simulated processes', table(['', 'events', 'state'], rows));
 }
 
-// ---- the page
+// What a simulated room shows after a number of moments.
+const SIMULATION = {
+  sentence(room, count) {
+    const moment = room.moments[count - 1];
+    if (!moment) return 'Nobody has taken a step.';
+    if (moment.crash) return `<b>simulator ${moment.simulator}</b> crashes`;
+    const more = [moment.here, moment.ending].filter(Boolean).map(text => `<small>${escaped(text)}</small>`).join('');
+    return `<b>${escaped(moment.name)}</b>: ${escaped(moment.operation)} \u2192 <b>${escaped(moment.sight)}</b>${more}`;
+  },
+  lanes: drawLanes,
+  tables(room, count) {
+    const state = stateAt(room, count);
+    const moment = room.moments[count - 1];
+    return stepNumbers(room, state, moment) + agreements(room, state, moment) + values(room, state, moment) + processes(room, state, count);
+  },
+  isSameTurn: (one, other) => one.simulator === other.simulator && one.turn === other.turn && !one.crash === !other.crash,
+};
 
-const at = id => document.getElementById(id);
-const { rooms, refused } = readRooms(at('script').textContent, at('trace').textContent);
-let current = 0;
-let count = 0;
-let timer = null;
+// ---- a transcript and its verdicts: the events of each room, one by one
 
-function sentence(moment) {
-  if (!moment) return 'Nobody has taken a step.';
-  if (moment.crash) return `<b>simulator ${moment.simulator}</b> crashes`;
-  const more = [moment.here, moment.ending].filter(Boolean).map(text => `<small>${escaped(text)}</small>`).join('');
-  return `<b>${escaped(moment.name)}</b>: ${escaped(moment.operation)} \u2192 <b>${escaped(moment.sight)}</b>${more}`;
+// The blocks of a transcript, with the line at which each begins, and its event lines.
+function readTranscript(transcript) {
+  const lines = transcript.split('\n');
+  const first = lines.indexOf('events');
+  const blocks = [];
+  for (let from = 0; from < first;) {
+    const found = lines.indexOf('end', from);
+    const end = found < 0 || found > first ? first : found;
+    blocks.push({ line: from + 1, ...readSpec(lines.slice(from, end)) });
+    from = end + 1;
+  }
+  const events = lines.slice(first + 1).map((text, index) => ({ text, line: first + 2 + index })).filter(event => event.text !== '');
+  return { blocks, events };
 }
 
-function showRoom() {
-  const room = rooms[current];
-  at('name').textContent = room.name;
-  document.title = room.name + ', step by step';
-  const many = (number, thing) => `${number} ${thing}${number === 1 ? '' : thing.endsWith('s') ? 'es' : 's'}`;
-  at('about').textContent = `${many(room.inputs.length, 'process')}, inputs ${room.inputs.join(' ')}; ${many(room.simulators, 'simulator')}; ${many(room.rounds, 'round')}`;
-  at('protocol').textContent = room.protocol.join(' ');
-  at('slider').max = room.moments.length;
-  at('rooms').hidden = rooms.length < 2;
-  at('rooms').innerHTML = rooms.map((other, index) => `<button role="tab" aria-selected="${index === current}" data-room="${index}">${escaped(other.name)}</button>`).join('');
+// An event by its line, NAME PROCESS DEED ..
+function readEvent({ text, line }) {
+  const [, process, deed, ...values] = text.split(' ');
+  return { line, process: Number(process), deed, values, text: [deed, ...values].join(' '), because: '' };
+}
+
+// What `bgview why` answers: refused blocks, by their lines, and the verdicts on each room with the reasons.
+function readVerdicts(answer) {
+  const refused = new Map();
+  const verdicts = new Map();
+  let notes = [];
+  for (const line of answer.split('\n')) {
+    const block = /^line (\d+) refused /.exec(line);
+    if (line.startsWith('    ')) {
+      notes.push(line.trim());
+    } else if (block) {
+      refused.set(Number(block[1]), (notes = [line]));
+    } else if (line !== '') {
+      const name = line.split(' ')[0];
+      notes = [line];
+      verdicts.set(name, [...(verdicts.get(name) || []), notes]);
+    }
+  }
+  return { refused, verdicts };
+}
+
+// A room with its events; the one that breaks its run says why.
+function judgedRoom(block, verdicts, events) {
+  const moments = events.filter(event => event.text.startsWith(block.name + ' ')).map(readEvent);
+  const broken = / is not a run: line (\d+)$/.exec(verdicts[0][0]);
+  const at = broken ? moments.findIndex(moment => moment.line === Number(broken[1])) : -1;
+  if (at >= 0) moments[at].because = verdicts[0].slice(2).join(' ');
+  return { ...block, moments, broken: at, verdicts: verdicts.map(([verdict]) => verdict), show: TRANSCRIPT };
+}
+
+function readJudged(transcript, answer) {
+  const { blocks, events } = readTranscript(transcript);
+  const { refused, verdicts } = readVerdicts(answer);
+  const rooms = blocks.filter(block => !refused.has(block.line) && verdicts.has(block.name)).map(block => judgedRoom(block, verdicts.get(block.name), events));
+  return { rooms, refused: [...refused.values()].map(notes => notes.join(': ')) };
+}
+
+// The writes of each process among the first events.
+const writesOf = (room, count) => range(room.inputs.length).map(p => room.moments.slice(0, count).filter(moment => moment.process === p && moment.deed === 'write'));
+const rowOf = writes => writes.map(own => (own.length > 0 ? own[own.length - 1].values[0] : '.')).join(' ');
+
+// What a process may do next after some events that are a run.
+function nextOf(room, writes, process, count) {
+  const last = room.moments.slice(0, count).findLast(moment => moment.process === process);
+  if (!last) return 'write its first value';
+  if (last.deed === 'write') return 'snap ' + rowOf(writes);
+  if (last.deed === 'decide') return 'nothing: it has decided';
+  return writes[process].length < room.rounds ? 'write or decide, as the protocol says' : 'decide, if the protocol says so: it has made all its writes';
+}
+
+// Of a long run as many events are drawn as there is room for, up to the current one and some more.
+function drawnFrom(room, count) {
+  let free = layout.width - 260;
+  let first = Math.min(count + 3, room.moments.length);
+  while (first > 0 && (free -= widthOf(room.moments[first - 1]) + 6) > 0) first--;
+  return first;
+}
+
+function drawEventBox(room, index, count, x) {
+  const moment = room.moments[index];
+  const hue = index === room.broken ? 'var(--now)' : hueOf(moment.process);
+  const filled = moment.deed === 'decide';
+  const y = TOP + moment.process * EVENTS;
+  return `<g opacity="${index < count ? 1 : 0.35}"><title>${escaped('line ' + moment.line)}</title>`
+    + `<rect x="${x}" y="${y}" width="${widthOf(moment)}" height="20" rx="${moment.deed === 'snap' ? 10 : 3}" fill="${filled ? hue : 'var(--paper)'}" stroke="${hue}" stroke-width="${index === room.broken ? 3 : 1}"/>`
+    + textAt(x + 5, y + 14, moment.text, `font-family="monospace" font-size="12" fill="${filled ? 'var(--paper)' : 'var(--ink)'}"`) + '</g>';
+}
+
+function drawEventLanes(room, count) {
+  const first = drawnFrom(room, count);
+  const height = TOP + room.inputs.length * EVENTS + 6;
+  const lanes = range(room.inputs.length).map(p => textAt(4, TOP + p * EVENTS + 15, 'process ' + p, `fill="${hueOf(p)}"`) + `<path d="M 98 ${TOP + p * EVENTS + 10} H ${layout.width}" stroke="var(--rule)"/>`);
+  let x = LEFT;
+  let now = LEFT - 3;
+  let boxes = '';
+  for (let index = first; index < room.moments.length && x < layout.width - 60; index++) {
+    if (room.moments[index].process < room.inputs.length) boxes += drawEventBox(room, index, count, x);
+    x += widthOf(room.moments[index]) + 6;
+    if (index < count) now = x - 3;
+  }
+  return `<svg viewBox="0 0 ${layout.width} ${height}" role="img" aria-label="Events of the processes" font-family="Helvetica, Arial, sans-serif" font-size="14">${lanes.join('')}${boxes}`
+    + `<path d="M ${now} 2 V ${height - 4}" stroke="var(--now)" stroke-width="2"/></svg>`;
+}
+
+// What a room of a transcript shows after some of its events.
+const TRANSCRIPT = {
+  sentence(room, count) {
+    const moment = room.moments[count - 1];
+    const verdicts = count === room.moments.length ? room.verdicts.map(verdict => `<small>${escaped(verdict)}</small>`).join('') : '';
+    if (!moment) return 'Nothing has happened.' + verdicts;
+    const broken = room.broken >= 0 && count > room.broken;
+    const because = moment.because ? `<small class="because">${escaped(moment.because)}</small>` : broken ? '<small>after the event that breaks the run</small>' : '';
+    return `line ${moment.line}: <b>process ${moment.process}</b>: <b>${escaped(moment.text)}</b>${because}${verdicts}`;
+  },
+  lanes: drawEventLanes,
+  tables(room, count) {
+    const known = room.broken >= 0 ? Math.min(count, room.broken) : count;
+    const writes = writesOf(room, known);
+    const moment = room.moments[count - 1];
+    const rows = range(room.inputs.length).map(p => [headCell('p' + p), cell(escaped(writes[p].map(write => write.values[0]).join(' ')), 'row', moment && moment.process === p && moment.deed === 'write' && 'now'),
+      cell(escaped(nextOf(room, writes, p, known)), 'text')]);
+    return section('Processes', table(['', 'writes', known < count ? 'could do instead' : 'may do next'], rows));
+  },
+  isSameTurn: (one, other) => one.process === other.process,
+};
+
+// ---- the page
+
+// The files in the page, in order: each is an element of a class that says what it is, followed by the answer to it.
+function readFile(element) {
+  const answer = element.nextElementSibling.textContent;
+  return element.className === 'transcript' ? readJudged(element.textContent, answer) : readScript(element.textContent, answer);
+}
+
+const runs = [...document.querySelectorAll('.script, .transcript')].map(readFile);
+if (runs.length > 1) layout = NARROW;
+
+let current = 0; // which room of each file is shown
+let count = 0; // how many of its moments have passed
+let timer = null;
+
+const shownRooms = () => runs.map(run => run.rooms[current]).filter(Boolean);
+const roomCount = () => Math.max(...runs.map(run => run.rooms.length));
+const lengthOf = rooms => Math.max(0, ...rooms.map(room => room.moments.length));
+
+// How many moments pass in two rooms until they differ, or null if they never do.
+function firstDifference([one, other]) {
+  if (!other) return null;
+  const sentenceAt = (room, number) => (number <= room.moments.length ? room.show.sentence({ ...room, verdicts: [] }, number) : '');
+  const found = range(lengthOf([one, other])).find(index => sentenceAt(one, index + 1) !== sentenceAt(other, index + 1));
+  return found === undefined ? null : found + 1;
+}
+
+function differenceText(rooms) {
+  const number = firstDifference(rooms);
+  if (rooms.length < 2) return '';
+  if (number === null) return 'The two runs are the same.';
+  const ended = rooms.findIndex(room => room.moments.length < number);
+  return `The two runs first differ at step ${number}` + (ended < 0 ? '.' : `: the ${ended === 0 ? 'first' : 'second'} has ended by then.`);
+}
+
+const many = (number, thing) => `${number} ${thing}${number === 1 ? '' : thing.endsWith('s') ? 'es' : 's'}`;
+
+function panelOf(room) {
+  const about = `${many(room.inputs.length, 'process')}, inputs ${room.inputs.join(' ')}; ${many(room.simulators, 'simulator')}; ${many(room.rounds, 'round')}`;
+  return `<section class="run"><header><h1>${escaped(room.name)}</h1><p class="about">${escaped(about)}</p><code class="protocol">${escaped(room.protocol.join(' '))}</code></header>`
+    + '<div class="sentence" role="status" aria-live="polite"></div><div class="lanes"></div><div class="tables"></div></section>';
+}
+
+function showRooms() {
+  const rooms = shownRooms();
+  document.title = rooms[0].name + ', step by step';
+  at('runs').innerHTML = rooms.map(panelOf).join('');
+  at('slider').max = lengthOf(rooms);
+  at('rooms').hidden = roomCount() < 2;
+  at('rooms').innerHTML = range(roomCount()).map(index => {
+    const names = new Set(runs.map(run => run.rooms[index]?.name).filter(Boolean));
+    return `<button role="tab" aria-selected="${index === current}" data-room="${index}">${escaped([...names].join(' / '))}</button>`;
+  }).join('');
+  at('difference').textContent = differenceText(rooms);
+  at('difference').hidden = rooms.length < 2;
+  at('letters').hidden = !rooms.some(room => room.show === SIMULATION);
+}
+
+function showPanel(room, panel) {
+  const reached = Math.min(count, room.moments.length);
+  panel.querySelector('.sentence').innerHTML = room.show.sentence(room, reached);
+  panel.querySelector('.lanes').innerHTML = room.show.lanes(room, reached);
+  panel.querySelector('.tables').innerHTML = room.show.tables(room, reached);
 }
 
 function show() {
-  const room = rooms[current];
-  const state = stateAt(room, count);
-  const moment = room.moments[count - 1];
+  const rooms = shownRooms();
   at('slider').value = count;
-  at('position').textContent = `step ${count} of ${room.moments.length}`;
-  at('sentence').innerHTML = sentence(moment);
-  at('lanes').innerHTML = drawLanes(room, count);
-  at('tables').innerHTML = stepNumbers(room, state, moment) + agreements(room, state, moment) + processes(room, state, count);
+  at('position').textContent = `step ${count} of ${lengthOf(rooms)}`;
+  rooms.forEach((room, index) => showPanel(room, at('runs').children[index]));
   history.replaceState(null, '', `#${current},${count}`);
 }
 
 function go(to) {
-  count = Math.max(0, Math.min(rooms[current].moments.length, to));
+  count = Math.max(0, Math.min(lengthOf(shownRooms()), to));
   show();
 }
 
-// To the end of this turn, or of the one before.
+// To the end of this turn, or of the one before, in the longer run.
 function goTurn(direction) {
-  const moments = rooms[current].moments;
-  const same = (one, other) => one && other && one.simulator === other.simulator && one.turn === other.turn && !one.crash === !other.crash;
+  const longest = shownRooms().reduce((one, other) => (other.moments.length > one.moments.length ? other : one));
+  const { moments, show: { isSameTurn } } = longest;
   let to = count + direction;
-  while (to > 0 && to < moments.length && same(moments[to - 1], moments[to])) to += direction;
+  while (to > 0 && to < moments.length && isSameTurn(moments[to - 1], moments[to])) to += direction;
   go(to);
 }
 
+function goToDifference() {
+  const number = firstDifference(shownRooms());
+  if (number !== null) go(number);
+}
+
 function open(room, to) {
-  current = Math.max(0, Math.min(rooms.length - 1, room));
-  showRoom();
+  current = Math.max(0, Math.min(roomCount() - 1, room));
+  showRooms();
   go(to);
 }
 
@@ -494,10 +690,11 @@ function pause() {
 }
 
 function play() {
+  const end = lengthOf(shownRooms());
   if (timer) return pause();
-  if (count === rooms[current].moments.length) go(0);
+  if (count === end) go(0);
   at('play').textContent = 'pause';
-  timer = setInterval(() => (count < rooms[current].moments.length ? go(count + 1) : pause()), Number(at('speed').value));
+  timer = setInterval(() => (count < end ? go(count + 1) : pause()), Number(at('speed').value));
 }
 
 const KEYS = {
@@ -505,12 +702,13 @@ const KEYS = {
   ArrowLeft: event => (event.shiftKey ? goTurn(-1) : go(count - 1)),
   Home: () => go(0),
   End: () => go(Infinity),
+  d: goToDifference,
   ' ': play,
 };
 
 function onKey(event) {
   const isOwn = event.target.matches('button, select') && event.key === ' ';
-  if (!KEYS[event.key] || isOwn || event.target.matches('select')) return;
+  if (!KEYS[event.key] || isOwn || event.target.matches('select') || event.ctrlKey || event.metaKey || event.altKey) return;
   event.preventDefault();
   KEYS[event.key](event);
 }
@@ -521,10 +719,11 @@ function fromAddress() {
 }
 
 function start() {
+  const refused = runs.flatMap(run => run.refused);
   at('refused').hidden = refused.length === 0;
   at('refused').textContent = 'Refused: ' + refused.join(' | ');
-  if (rooms.length === 0) {
-    at('sentence').textContent = 'The script opens no room.';
+  if (roomCount() === 0) {
+    at('runs').textContent = 'The file opens no room.';
     return;
   }
   at('first').onclick = () => go(0);
@@ -534,6 +733,7 @@ function start() {
   at('on').onclick = () => go(count + 1);
   at('turn-on').onclick = () => goTurn(1);
   at('last').onclick = () => go(Infinity);
+  at('difference').onclick = goToDifference;
   at('slider').oninput = event => go(Number(event.target.value));
   at('rooms').onclick = event => event.target.dataset.room && open(Number(event.target.dataset.room), 0);
   onkeydown = onKey;

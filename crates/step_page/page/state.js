@@ -1,0 +1,79 @@
+// ---- a simulated room after a number of moments
+
+const keyOf = (...numbers) => numbers.join(',');
+
+// A row of step numbers, of which each memory word may show some.
+const joined = (one, other) => (one ? one.map((entry, p) => (entry === '.' ? other[p] : entry)) : other);
+
+function emptyState(room) {
+  return {
+    counted: range(room.simulators).map(() => range(room.inputs.length).map(() => 0)),
+    crashed: range(room.simulators).map(() => false),
+    levels: new Map(), // of an agreement, by process and round: one level for each simulator
+    proposals: new Map(), // by simulator, process and round
+    read: new Map(), // by simulator, process and round: the moment at which the snapshot takes effect if it is chosen
+    chosen: new Map(), // of an agreement: which simulator's proposal, and since which moment
+    values: new Map(), // by simulator, process and round
+    decided: new Map(), // by process
+    events: [], // those that are known by now
+  };
+}
+
+const levelsOf = (state, room, key) => state.levels.get(key) || range(room.simulators).map(() => 0);
+
+// An agreement is resolved once a simulator is at level 2 and none is at level 1; then the least simulator at level 2 has its proposal chosen.
+function resolve(state, levels, key, at) {
+  if (!state.chosen.has(key) && !levels.includes(1) && levels.includes(2)) state.chosen.set(key, { simulator: levels.indexOf(2), at });
+}
+
+function raise(state, room, step, change, at) {
+  const key = keyOf(step.process, step.round);
+  const levels = [...levelsOf(state, room, key)];
+  levels[step.simulator] += change;
+  state.levels.set(key, levels);
+  resolve(state, levels, key, at);
+}
+
+// The state after one more moment, whose number is `at`.
+function apply(state, room, moment, at) {
+  if (moment.crash) {
+    state.crashed[moment.simulator] = true;
+    return;
+  }
+  const own = keyOf(moment.simulator, moment.process, moment.round);
+  const effect = /^here: process (\d+) (writes|decides) (\d+)$/.exec(moment.here);
+  switch (moment.letter) {
+    case 'W': state.values.set(own, /store (\d+)/.exec(moment.operation)[1]); break;
+    case '+': state.counted[moment.simulator][moment.process]++; break;
+    case 'V': state.proposals.set(own, joined(moment.word > 0 ? state.proposals.get(own) : null, moment.sight.split(' '))); break;
+    case '1': case '2': raise(state, room, moment, 1, at); break;
+    case '0': raise(state, room, moment, -1, at); break;
+    case 'D': state.decided.set(moment.process, /decides (\d+)/.exec(moment.sight)[1]); break;
+  }
+  if (moment.here.startsWith('here, if')) state.read.set(own, at);
+  if (effect) state.events.push({ at, known: at, process: +effect[1], text: effect[2].replace(/s$/, '') + ' ' + effect[3] });
+}
+
+function stateAt(room, count) {
+  const state = emptyState(room);
+  room.moments.slice(0, count).forEach((moment, at) => apply(state, room, moment, at));
+  return state;
+}
+
+// The value that a process wrote in a round. All simulators that wrote for it wrote the same.
+function valueOf(state, room, process, round) {
+  return range(room.simulators).map(i => state.values.get(keyOf(i, process, round))).find(value => value !== undefined);
+}
+
+// The snapshots that are agreed on, each at the moment at which the chosen proposal was read.
+function snapshotsOf(state, room) {
+  return [...state.chosen].map(([key, { simulator, at }]) => {
+    const [process, round] = key.split(',').map(Number);
+    const row = state.proposals.get(keyOf(simulator, process, round)) || [];
+    const shown = row.map((entry, p) => (entry === '.' ? '.' : valueOf(state, room, p, +entry)));
+    return { at: state.read.get(keyOf(simulator, process, round)), known: at, process, text: 'snap ' + shown.join(' ') };
+  });
+}
+
+// All events of a state's processes, in the order in which they take effect.
+const eventsOf = (state, room) => [...state.events, ...snapshotsOf(state, room)].sort((one, other) => one.at - other.at);
