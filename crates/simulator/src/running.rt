@@ -32,7 +32,7 @@ struct Taken {
 }
 
 /// The atomic steps of a run so far: how many, what has become of the turn, and the line that comes then.
-#[derive(Clone, Copy)]
+#[derive(Drop)]
 struct Run {
     count: u64,
     turn: Turn,
@@ -42,25 +42,25 @@ struct Run {
 impl Run {
     /// Whether it takes another step, of at most this many.
     #[inline(always)]
-    fn goes_on(self, most: u64) -> bool
-        ensures on { result ≡ true → (self.count < most) × (self.turn ≡ Still) }
-        ensures off { result ≡ false → (most ≤ self.count) ⊎ (self.turn ≢ Still) }
+    fn goes_on(&self, most: u64) -> bool
+        ensures on { result ≡ true → (self.now.count < most) × (self.now.turn ≡ Still) }
+        ensures off { result ≡ false → (most ≤ self.now.count) ⊎ (self.now.turn ≢ Still) }
     {
         self.count < most && matches!(self.turn, Turn::Still)
     }
 
     /// Whether it takes another step, of at most this many, and is at this line, whatever the line carries.
     #[inline(always)]
-    fn goes_on_at(self, line: Line, most: u64) -> bool
-        ensures { result ≡ true → (self.count < most) × (self.turn ≡ Still) }
+    fn goes_on_at(&self, line: Line, most: u64) -> bool
+        ensures { result ≡ true → (self.now.count < most) × (self.now.turn ≡ Still) }
     {
         self.goes_on(most) && self.line.is_like(line)
     }
 
     /// Whether it takes another step, of at most this many, and is at the line of values.
     #[inline(always)]
-    fn is_at_value(self, most: u64) -> bool
-        ensures { result ≡ true → (self.count < most) × (self.turn ≡ Still) × (self.line ≡ Values) }
+    fn is_at_value(&self, most: u64) -> bool
+        ensures { result ≡ true → (self.now.count < most) × (self.now.turn ≡ Still) × (self.now.line ≡ Values) }
     {
         self.goes_on(most) && matches!(self.line, Line::Values)
     }
@@ -98,8 +98,8 @@ impl Mind {
             line: self.current_line(), // The mind's own is an earlier one until the end.
         };
         while run.goes_on(most) {
-            run = self.step(spec, run, context, memory);
-            run = self.in_a_row(spec, most, run, context, memory);
+            self.step(spec, &mut run, context, memory);
+            self.in_a_row(spec, most, &mut run, context, memory);
         }
         self.stand_at(run.line);
         (run.count, run.turn)
@@ -112,40 +112,39 @@ impl Mind {
         &mut self,
         spec: &Spec,
         most: u64,
-        so_far: Run,
+        run: &mut Run,
         context: &C,
         memory: &mut M,
-    ) -> Run
-        requires wants { Wants M.serves context.now spec.now memory.old (at_line so_far.line self.old) so_far.turn }
-        ensures wants { Wants M.serves context.now spec.now memory.new (at_line result.line self.new) result.turn }
-        ensures continues { Continues M.does spec.now so_far.count memory.old (at_line so_far.line self.old) so_far.turn result.count memory.new (at_line result.line self.new) result.turn }
-        ensures more { so_far.count ≤ result.count }
-        ensures most { so_far.count ≤ most → result.count ≤ most }
+    )
+        requires wants { Wants M.serves context.now spec.now memory.old (at_line run.old.line self.old) run.old.turn }
+        ensures wants { Wants M.serves context.now spec.now memory.new (at_line run.new.line self.new) run.new.turn }
+        ensures continues { Continues M.does spec.now run.old.count memory.old (at_line run.old.line self.old) run.old.turn run.new.count memory.new (at_line run.new.line self.new) run.new.turn }
+        ensures more { run.old.count ≤ run.new.count }
+        ensures most { run.old.count ≤ most → run.new.count ≤ most }
     {
-        let mut run = so_far;
-        run = self.along(spec, most, run, Line::Raise, context, memory);
-        run = self.along(spec, most, run, Line::Snap, context, memory);
-        run = self.along(spec, most, run, Line::Show, context, memory);
-        run = self.along(spec, most, run, Line::Enter, context, memory);
-        run = self.along(spec, most, run, Line::Look, context, memory);
-        run = self.along(
+        self.along(spec, most, Line::Raise, run, context, memory);
+        self.along(spec, most, Line::Snap, run, context, memory);
+        self.along(spec, most, Line::Show, run, context, memory);
+        self.along(spec, most, Line::Enter, run, context, memory);
+        self.along(spec, most, Line::Look, run, context, memory);
+        self.along(
             spec,
             most,
-            run,
             Line::Leave { saw_two: false },
+            run,
             context,
             memory,
         );
-        run = self.along(spec, most, run, Line::Ask, context, memory);
-        run = self.along(
+        self.along(spec, most, Line::Ask, run, context, memory);
+        self.along(
             spec,
             most,
-            run,
             Line::GetView { chosen: 0 },
+            run,
             context,
             memory,
         );
-        self.along_values(spec, most, run, context, memory)
+        self.along_values(spec, most, run, context, memory);
     }
 
     /// Takes steps as long as the run is at this line, whatever the line carries.
@@ -154,22 +153,20 @@ impl Mind {
         &mut self,
         spec: &Spec,
         most: u64,
-        so_far: Run,
         line: Line,
+        run: &mut Run,
         context: &C,
         memory: &mut M,
-    ) -> Run
-        requires wants { Wants M.serves context.now spec.now memory.old (at_line so_far.line self.old) so_far.turn }
-        ensures wants { Wants M.serves context.now spec.now memory.new (at_line result.line self.new) result.turn }
-        ensures continues { Continues M.does spec.now so_far.count memory.old (at_line so_far.line self.old) so_far.turn result.count memory.new (at_line result.line self.new) result.turn }
-        ensures more { so_far.count ≤ result.count }
-        ensures most { so_far.count ≤ most → result.count ≤ most }
+    )
+        requires wants { Wants M.serves context.now spec.now memory.old (at_line run.old.line self.old) run.old.turn }
+        ensures wants { Wants M.serves context.now spec.now memory.new (at_line run.new.line self.new) run.new.turn }
+        ensures continues { Continues M.does spec.now run.old.count memory.old (at_line run.old.line self.old) run.old.turn run.new.count memory.new (at_line run.new.line self.new) run.new.turn }
+        ensures more { run.old.count ≤ run.new.count }
+        ensures most { run.old.count ≤ most → run.new.count ≤ most }
     {
-        let mut run = so_far;
         while run.goes_on_at(line, most) {
-            run = self.step(spec, run, context, memory);
+            self.step(spec, run, context, memory);
         }
-        run
     }
 
     /// Takes steps as long as the run is at the line of values. What they all ask of the room and of the snapshot is
@@ -179,26 +176,24 @@ impl Mind {
         &mut self,
         spec: &Spec,
         most: u64,
-        so_far: Run,
+        run: &mut Run,
         context: &C,
         memory: &mut M,
-    ) -> Run
-        requires wants { Wants M.serves context.now spec.now memory.old (at_line so_far.line self.old) so_far.turn }
-        ensures wants { Wants M.serves context.now spec.now memory.new (at_line result.line self.new) result.turn }
-        ensures continues { Continues M.does spec.now so_far.count memory.old (at_line so_far.line self.old) so_far.turn result.count memory.new (at_line result.line self.new) result.turn }
-        ensures more { so_far.count ≤ result.count }
-        ensures most { so_far.count ≤ most → result.count ≤ most }
+    )
+        requires wants { Wants M.serves context.now spec.now memory.old (at_line run.old.line self.old) run.old.turn }
+        ensures wants { Wants M.serves context.now spec.now memory.new (at_line run.new.line self.new) run.new.turn }
+        ensures continues { Continues M.does spec.now run.old.count memory.old (at_line run.old.line self.old) run.old.turn run.new.count memory.new (at_line run.new.line self.new) run.new.turn }
+        ensures more { run.old.count ≤ run.new.count }
+        ensures most { run.old.count ≤ most → run.new.count ≤ most }
     {
-        if !so_far.is_at_value(most) {
-            return so_far;
+        if !run.is_at_value(most) {
+            return;
         }
         let shape = spec.shape();
         let last = self.snapshot.last_writes(spec);
-        let mut run = so_far;
         while run.is_at_value(most) {
-            run = self.step_value(spec, &shape, &last, run, context, memory);
+            self.step_value(spec, &shape, &last, run, context, memory);
         }
-        run
     }
 
     /// Takes one step more, at the line of values.
@@ -208,51 +203,41 @@ impl Mind {
         spec: &Spec,
         shape: &Shape,
         last: &LastWrites,
-        so_far: Run,
+        run: &mut Run,
         context: &C,
         memory: &mut M,
-    ) -> Run
-        requires wants { Wants M.serves context.now spec.now memory.old (at_line so_far.line self.old) so_far.turn }
-        requires still { so_far.turn ≡ Still }
-        requires line { so_far.line ≡ Values }
-        requires room { so_far.count < u64.MAX }
+    )
+        requires wants { Wants M.serves context.now spec.now memory.old (at_line run.old.line self.old) run.old.turn }
+        requires still { run.old.turn ≡ Still }
+        requires line { run.old.line ≡ Values }
+        requires room { run.old.count < u64.MAX }
         requires shape { sizes_of shape.now ≡ sizes_in spec.now }
         requires last { AreLastWrites spec.now self.old.snapshot last.now.holders last.now.rounds }
-        ensures wants { Wants M.serves context.now spec.now memory.new (at_line result.line self.new) result.turn }
-        ensures continues { Continues M.does spec.now so_far.count memory.old (at_line so_far.line self.old) so_far.turn result.count memory.new (at_line result.line self.new) result.turn }
-        ensures count { result.count ≡ so_far.count + 1 }
+        ensures wants { Wants M.serves context.now spec.now memory.new (at_line run.new.line self.new) run.new.turn }
+        ensures continues { Continues M.does spec.now run.old.count memory.old (at_line run.old.line self.old) run.old.turn run.new.count memory.new (at_line run.new.line self.new) run.new.turn }
+        ensures count { run.new.count ≡ run.old.count + 1 }
         ensures snapshot { self.new.snapshot ≡ self.old.snapshot }
     {
         let taken = self.take_value(spec, shape, last, context, memory);
-        Run {
-            count: so_far.count + 1,
-            turn: taken.turn,
-            line: taken.line,
-        }
+        run.count += 1;
+        run.turn = taken.turn;
+        run.line = taken.line;
     }
 
     /// Takes one step more.
     #[inline(always)]
-    fn step<C, M: Memory<C>>(
-        &mut self,
-        spec: &Spec,
-        so_far: Run,
-        context: &C,
-        memory: &mut M,
-    ) -> Run
-        requires wants { Wants M.serves context.now spec.now memory.old (at_line so_far.line self.old) so_far.turn }
-        requires still { so_far.turn ≡ Still }
-        requires room { so_far.count < u64.MAX }
-        ensures wants { Wants M.serves context.now spec.now memory.new (at_line result.line self.new) result.turn }
-        ensures continues { Continues M.does spec.now so_far.count memory.old (at_line so_far.line self.old) so_far.turn result.count memory.new (at_line result.line self.new) result.turn }
-        ensures count { result.count ≡ so_far.count + 1 }
+    fn step<C, M: Memory<C>>(&mut self, spec: &Spec, run: &mut Run, context: &C, memory: &mut M)
+        requires wants { Wants M.serves context.now spec.now memory.old (at_line run.old.line self.old) run.old.turn }
+        requires still { run.old.turn ≡ Still }
+        requires room { run.old.count < u64.MAX }
+        ensures wants { Wants M.serves context.now spec.now memory.new (at_line run.new.line self.new) run.new.turn }
+        ensures continues { Continues M.does spec.now run.old.count memory.old (at_line run.old.line self.old) run.old.turn run.new.count memory.new (at_line run.new.line self.new) run.new.turn }
+        ensures count { run.new.count ≡ run.old.count + 1 }
     {
-        let taken = self.take_step(spec, so_far.line, context, memory);
-        Run {
-            count: so_far.count + 1,
-            turn: taken.turn,
-            line: taken.line,
-        }
+        let taken = self.take_step(spec, run.line, context, memory);
+        run.count += 1;
+        run.turn = taken.turn;
+        run.line = taken.line;
     }
 
     /// Takes in what the atomic step answered, and says what has become of the turn. The answer

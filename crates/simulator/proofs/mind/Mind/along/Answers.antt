@@ -9,8 +9,8 @@ loop-line-preserved g c =
     let loop = c.loop-line.invariant in
     let on = c.goes_on_at.ensures c.loop-line-test.true in
     record {
-      wants = c.step-run.ensures.wants;
-      more = omega (arith, loop.more, c.step-run.ensures.count);
-      most = λ most. omega (arith, on.0, c.step-run.ensures.count);
-      continues = λ first start runs. c.step-run.ensures.continues first start (loop.continues first start runs);
+      wants = c.step.ensures.wants;
+      more = omega (arith, loop.more, c.step.ensures.count);
+      most = λ most. omega (arith, on.0, c.step.ensures.count);
+      continues = λ first start runs. c.step.ensures.continues first start (loop.continues first start runs);
     }

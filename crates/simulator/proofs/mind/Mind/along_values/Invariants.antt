@@ -6,9 +6,9 @@ use Rattle.simulator.proofs.mind.Mind.along_values.Given as goal
 abbrev pub invariant-loop-shape : goal.invariant-loop-shape
 invariant-loop-shape g l = record {
   wants : Wants g.M.Memory.serves l.context l.spec l.memory (at_line l.run.line l.self) l.run.turn;
-  more : l.fn.so_far.count ≤ l.run.count;
-  most : l.fn.so_far.count ≤ l.most → l.run.count ≤ l.most;
-  continues : Continues g.M.Memory.does l.spec l.fn.so_far.count l.fn.memory (at_line l.fn.so_far.line l.fn.self) l.fn.so_far.turn l.run.count l.memory (at_line l.run.line l.self) l.run.turn;
+  more : l.fn.run.count ≤ l.run.count;
+  most : l.fn.run.count ≤ l.most → l.run.count ≤ l.most;
+  continues : Continues g.M.Memory.does l.spec l.fn.run.count l.fn.memory (at_line l.fn.run.line l.fn.self) l.fn.run.turn l.run.count l.memory (at_line l.run.line l.self) l.run.turn;
   snapshot : l.self.snapshot ≡ l.fn.self.snapshot;
 }
 
