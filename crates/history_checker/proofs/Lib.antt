@@ -5,6 +5,8 @@ mod WorkedReasons
 mod Runs
 mod Showing
 mod Feeding
+pub mod CallerLemmas
+mod NamedRooms
 mod RoomLists
 mod SaidLines
 mod Rows
