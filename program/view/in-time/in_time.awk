@@ -1,7 +1,7 @@
 # Of a script and its trace: at each report the events of the room so far, in the order of the steps at which they take effect, as a transcript of
 # a room of its own. A write and a decision are in the trace where they take effect. A snapshot takes effect at the last read for it of the simulator
 # whose proposal is chosen, the least whose proposal stands; which snapshots are agreed on, and what they show, is in the report. On standard error it
-# says in how many reports this is another order than that of the history.
+# says in how many reports this is another order than that of the history, and which report has other events than the trace.
 NR == FNR {
     if ($1 == "bgsim") { is_block = 1; text = "" }
     if ($1 == "room" && is_block) { name = $2; $2 = "NAME" }
@@ -9,11 +9,21 @@ NR == FNR {
     if ($1 == "end" && is_block) { block[name, (++blocks[name])] = text; is_block = 0 }
     next
 }
-function flush_report(    p, r, i, event, said, order, line) { # the room that was reported last
+function sorted(text,    line, count, i, j, key, result) { # its lines, in the order of their bytes
+    count = split(text, line, "\n")
+    for (i = 2; i <= count; i++) {
+        key = line[i]
+        for (j = i - 1; j >= 1 && line[j] > key; j--) line[j + 1] = line[j]
+        line[j + 1] = key
+    }
+    for (i = 1; i <= count; i++) result = result line[i] "\n"
+    return result
+}
+function flush_report(    p, r, i, event, order, line) { # the room that was reported last
     if (reported == "") return
     for (p = 0; p < 16; p++) for (r = 1; r <= snaps[p]; r++) for (i = 0; i < 8; i++)
         if ((reported, p, r, i) in stands) { chosen[p, r] = i; break }
-    said = 0; order = ""
+    order = ""
     for (event = 1; event <= count[reported]; event++) {
         if (split(event_of[reported, event], part, " ") < 3) continue
         if (part[2] == "read") { # process, read, round, simulator
@@ -23,9 +33,8 @@ function flush_report(    p, r, i, event, said, order, line) { # the room that w
         } else line = event_of[reported, event]
         lines[(++line_count)] = room " " line
         order = order line "\n"
-        said++
     }
-    if (said != events) print "another number of events: " room > "/dev/stderr"
+    if (sorted(order) != sorted(history)) print "other events: " room > "/dev/stderr"
     if (order != history) differ++
     reported = ""
 }
