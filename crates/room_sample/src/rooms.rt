@@ -48,7 +48,7 @@ fn write_room<P: Progress>(
         unreachable!() // it is a room's block
     };
     let _shape = spec.shape(); // for the proof: the room is within its limits
-    let mut outcomes = sample(alloc, &spec, block, plan, progress)?;
+    let mut outcomes = sample(alloc, &spec, plan, progress)?;
     outcomes.sort_by_times()?;
     let name = spec.name().as_str().as_bytes();
     write_sample(output, name, block, plan, &outcomes)

@@ -18,7 +18,7 @@ use arrayvec::ArrayVec;
 use room_core::{CrashReply, RoomCore};
 use room_spec::{MAX_PROCESSES, MAX_SIMULATORS, Spec};
 use std::alloc::{AllocError, Global};
-use ws_history::{ProcessState, report};
+use ws_history::{ProcessState, process_states};
 
 /// The most stretches before the room settles.
 const MOST_STRETCHES: u32 = 65536;
@@ -82,17 +82,16 @@ impl Scheduled {
     }
 
     /// Settles the room, and says where its processes stand.
-    fn settled(mut self, alloc: Global) -> Result<Run, AllocError>
-        ensures schedule { IfOk result (λ run. run.schedule.items ≡ self.schedule.items) }
-        ensures states { IfOk result (λ run. (fields : Fields) → AreFieldsOf (room_after_settle self.room) fields →
-            run.states.items ≡ (report_of (room_after_settle self.room).spec fields).states.items) }
+    fn settled(mut self) -> Run
+        ensures schedule { result.schedule.items ≡ self.schedule.items }
+        ensures states { (fields : Fields) → AreFieldsOf (room_after_settle self.room) fields →
+            result.states.items ≡ (report_of (room_after_settle self.room).spec fields).states.items }
     {
         self.room.settle();
-        let report = report(alloc, &self.room)?;
-        Ok(Run {
-            states: report.states,
+        Run {
+            states: process_states(&self.room),
             schedule: self.schedule,
-        })
+        }
     }
 }
 
@@ -234,5 +233,5 @@ pub(crate) fn run_by_chance(
     let mut active = all_active(&spec, chances);
     let mut scheduled = Scheduled::fresh(alloc, spec, crashes)?;
     act_by_chance(&mut scheduled, &mut active, chances)?;
-    scheduled.settled(alloc)
+    Ok(scheduled.settled())
 }

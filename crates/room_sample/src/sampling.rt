@@ -1,6 +1,5 @@
 //! Many runs of one room.
-ghost use Rattle.std.specs.Prelude.{◌≡◌, Ok, IfOk, length};
-ghost use Rattle.room_spec.specs.Blocks.{block_in};
+ghost use Rattle.std.specs.Prelude.{IfOk};
 ghost use Rattle.room_sample.specs.Chances.{random_in};
 ghost use Rattle.room_sample.specs.Samples.{AreAmongAll, IsRunFrom, IsSample};
 ghost use Rattle.room_sample.specs.Ways.{sampled_of};
@@ -8,7 +7,6 @@ ghost use Rattle.room_sample.specs.Ways.{sampled_of};
 use crate::chances::Chances;
 use crate::run::{Run, run_by_chance};
 use crate::tally::Tally;
-use room_files::read_room;
 use room_spec::Spec;
 use run_search::Progress;
 use std::alloc::{AllocError, Global};
@@ -24,7 +22,7 @@ pub struct Plan {
     pub seed: u32,
 }
 
-/// Runs the room of a block by random schedules, from its beginning each time, and counts where its processes stand once it has
+/// Runs the room of a spec by random schedules, from its beginning each time, and counts where its processes stand once it has
 /// settled. It is no search: an outcome that isn't among them may be possible. Reports how many schedules it has tried.
 ///
 /// # Errors
@@ -34,11 +32,9 @@ pub struct Plan {
 pub fn sample<P: Progress>(
     alloc: Global,
     spec: &Spec,
-    block: &[u8],
     plan: &Plan,
     progress: &mut P,
 ) -> Result<Tally, AllocError>
-    requires { block_in block.now ≡ Ok (spec.now, length block.now) }
     ensures sample { IfOk result (IsSample spec.now plan.now) }
     ensures among { IfOk result (AreAmongAll spec.now) }
 {
@@ -47,25 +43,20 @@ pub fn sample<P: Progress>(
     let mut tally = Tally::new(alloc);
     for done in 0..plan.schedules {
         progress.reached(u64::from(done));
-        let run = run_anew(alloc, spec, block, &mut chances, plan.crashes)?;
+        let run = run_anew(alloc, spec, &mut chances, plan.crashes)?;
         tally.count(run)?;
     }
     Ok(tally)
 }
 
-/// Opens the room of a block, and runs it by one random schedule.
+/// Opens the room of a spec, and runs it by one random schedule.
 fn run_anew(
     alloc: Global,
     spec: &Spec,
-    block: &[u8],
     chances: &mut Chances,
     crashes: u32,
 ) -> Result<Run, AllocError>
-    requires { block_in block.now ≡ Ok (spec.now, length block.now) }
     ensures { IfOk result (λ run. IsRunFrom spec.now crashes (random_in chances.old) (sampled_of run) (random_in chances.new)) }
 {
-    let Ok((spec, _)) = read_room(alloc, block)? else {
-        unreachable!() // it has been read before
-    };
-    run_by_chance(alloc, spec, chances, crashes)
+    run_by_chance(alloc, spec.clone()?, chances, crashes)
 }

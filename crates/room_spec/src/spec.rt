@@ -9,7 +9,7 @@ use crate::version::Version;
 use arrayvec::ArrayVec;
 pub use protocol_lang::MAX_PROCESSES;
 use protocol_lang::Protocol;
-use std::alloc::Global;
+use std::alloc::{AllocError, Global};
 use std::marker::Model;
 use std::sync::Arc;
 
@@ -122,6 +122,29 @@ impl Model for Spec {
           protocol = arc_value s.protocol;
         }) ×
         (s.words ≡ memory_words (record { n = length s.inputs.items; m = s.simulators; bits = bits_of s.rounds; rounds = s.rounds })) };
+}
+
+/// Both share the protocol.
+impl Clone for Spec {
+    ghost is_clone = { λ spec copy. copy ≡ spec };
+
+    fn clone(&self) -> Result<Spec, AllocError> {
+        let Ok(protocol) = Arc::try_clone(&self.protocol) else {
+            return Err(AllocError);
+        };
+        Ok(Spec {
+            version: self.version,
+            name: self.name.clone()?,
+            inputs: self.inputs.clone()?,
+            simulators: self.simulators,
+            rounds: self.rounds,
+            turns: self.turns,
+            task: self.task,
+            fuses: self.fuses.clone()?,
+            words: self.words,
+            protocol,
+        })
+    }
 }
 
 impl Spec {

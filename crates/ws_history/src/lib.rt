@@ -17,7 +17,7 @@ pub use effects::{Effect, StepStart};
 pub use histories::history;
 pub use linearization::linearize;
 pub use points::Points;
-pub use reports::report;
+pub use reports::{process_states, report};
 pub use states::{History, ProcessState, Report};
 
 #[cfg(test)]

@@ -63,6 +63,14 @@ pub fn report(alloc: Global, room: &RoomCore) -> Result<Report, AllocError>
     })
 }
 
+/// The states of the processes, as the report has them, without a history.
+pub fn process_states(room: &RoomCore) -> ArrayVec<ProcessState, MAX_PROCESSES>
+    ensures { (fields : Fields) → AreFieldsOf room.now fields → result.items ≡ states_of room.now.spec fields }
+{
+    let _shape = shape_of(room); // for the proof: the room is within its limits
+    states_of(room)
+}
+
 fn states_of(room: &RoomCore) -> ArrayVec<ProcessState, MAX_PROCESSES>
     ensures { result.items ≡ states_of room.now.spec (read_of room.now) }
 {

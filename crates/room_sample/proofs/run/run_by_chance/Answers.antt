@@ -1,4 +1,4 @@
-use Rattle.std.proofs.Common.{subst, sym}
+use Rattle.std.proofs.Common.{Ok, subst, sym}
 use Rattle.room_sample.specs.Chances.{random_in}
 use Rattle.room_sample.specs.Drawn.{IsLed, Way, sets_out}
 use Rattle.room_sample.specs.Ways.{way_of}
@@ -11,5 +11,5 @@ returns c =
     let active = c.all_active-active.result.items in
     let later = random_in c.all_active-active.new.chances in
     let out = subst (λ (way : Way). IsLed c.args.spec c.args.crashes random 0 way active later) (sym c.in_ok-scheduled.ensures) (sets_out active later c.all_active-active.ensures) in
-    run_from c.args.spec c.args.crashes random (random_in c.act_by_chance.new.chances) (way_of c.act_by_chance.new.scheduled) c.settled.result c.settled.ensures.schedule c.settled.ensures.states
+    run_from c.args.spec c.args.crashes random (random_in c.act_by_chance.new.chances) (way_of c.act_by_chance.new.scheduled) (Ok c.settled.result) c.settled.ensures.schedule c.settled.ensures.states
     (c.in_ok-act_by_chance.ensures c.args.spec c.args.crashes random out)
