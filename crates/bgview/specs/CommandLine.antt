@@ -10,7 +10,7 @@ use Rattle.clap.specs.declared.builder.value_parser.ValueParser.TheVariants.{Sig
 use Rattle.room_sample.specs.declared.sampling.Plan.{Plan}
 use Rattle.outcome_text.specs.declared.rooms.Search.{Search}
 use Rattle.bgview.specs.declared.command_line.Mode.{Mode}
-use Rattle.bgview.specs.declared.command_line.Mode.TheVariants.{Why, Trace, Draw, Page, Transcript, Fault, Sample, Outcomes}
+use Rattle.bgview.specs.declared.command_line.Mode.TheVariants.{Why, Trace, Draw, Page, Transcript, Fault, Sample, Outcomes, Lint}
 
 -- the subcommand of a word, which takes a file
 abbrev pub file_app : List ℕ → App
@@ -68,12 +68,12 @@ plain_app = record { top = plain_shape; subs = [] }
 abbrev pub bgview_app : App
 bgview_app =
     let showing = with_subcommand (with_subcommand (with_subcommand (with_subcommand plain_app (file_app (codes "why")).top) (file_app (codes "trace")).top) (file_app (codes "draw")).top) page_app.top in
-    with_subcommand (with_subcommand (with_subcommand (with_subcommand showing (file_app (codes "transcript")).top) fault_app.top) sample_app.top) outcomes_app.top
+    with_subcommand (with_subcommand (with_subcommand (with_subcommand (with_subcommand showing (file_app (codes "transcript")).top) fault_app.top) sample_app.top) outcomes_app.top) (file_app (codes "lint")).top
 
 -- the mode of a word, which is that of a subcommand
 abbrev pub mode_of : List ℕ → Mode
 mode_of word =
-    if bytes_eq word (codes "trace") then Trace else if bytes_eq word (codes "draw") then Draw else if bytes_eq word (codes "page") then Page else if bytes_eq word (codes "transcript") then Transcript else if bytes_eq word (codes "fault") then Fault else if bytes_eq word (codes "sample") then Sample else if bytes_eq word (codes "outcomes") then Outcomes else Why
+    if bytes_eq word (codes "trace") then Trace else if bytes_eq word (codes "draw") then Draw else if bytes_eq word (codes "page") then Page else if bytes_eq word (codes "transcript") then Transcript else if bytes_eq word (codes "fault") then Fault else if bytes_eq word (codes "sample") then Sample else if bytes_eq word (codes "outcomes") then Outcomes else if bytes_eq word (codes "lint") then Lint else Why
 
 -- the mode of the subcommand that was found
 abbrev pub mode_among : Option (List ℕ × List Row) → Mode

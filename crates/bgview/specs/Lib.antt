@@ -13,3 +13,5 @@ pub mod Why
 pub mod Words
 pub mod Trace
 pub mod Transcript
+pub mod Unread
+pub mod Lint

@@ -1,9 +1,10 @@
 -- What each mode answers for an input.
-use Rattle.std.specs.Prelude.{ℕ, List, [], ◌∷◌, Result}
+use Rattle.std.specs.Prelude.{◌≡◌, ℕ, List, [], ◌∷◌, Result}
 use Rattle.room_files.specs.declared.outcome.Outcome.{Outcome}
 use Rattle.room_sample.specs.declared.sampling.Plan.{Plan}
 use Rattle.outcome_text.specs.declared.rooms.Search.{Search}
 use Rattle.bgview.specs.Draw.{IsDrawAnswer}
+use Rattle.bgview.specs.Lint.{IsLintAnswer}
 use Rattle.bgview.specs.Notes.{AreFileNotes, AreNotes, AreRoomNotes, AreScriptNotes}
 use Rattle.bgview.specs.Outcomes.{IsOutcomesAnswer}
 use Rattle.bgview.specs.Page.{IsPageAnswer}
@@ -12,7 +13,7 @@ use Rattle.bgview.specs.Trace.{IsTraced}
 use Rattle.bgview.specs.Transcript.{IsTranscriptAnswer}
 use Rattle.bgview.specs.Why.{IsWhyAnswer}
 use Rattle.bgview.specs.declared.command_line.Mode.{Mode}
-use Rattle.bgview.specs.declared.command_line.Mode.TheVariants.{Why, Trace, Draw, Page, Transcript, Fault, Sample, Outcomes}
+use Rattle.bgview.specs.declared.command_line.Mode.TheVariants.{Why, Trace, Draw, Page, Transcript, Fault, Sample, Outcomes, Lint}
 use Rattle.bgview.specs.declared.fault.ViewFault.{ViewFault}
 
 -- `fault` reads no input
@@ -25,6 +26,7 @@ IsViewed Transcript plan search input result output = IsTranscriptAnswer input r
 IsViewed Fault plan search input result output = IsWhyAnswer input result output
 IsViewed Sample plan search input result output = IsSampleAnswer plan input result output
 IsViewed Outcomes plan search input result output = IsOutcomesAnswer search input result output
+IsViewed Lint plan search input result output = IsLintAnswer input result output
 
 -- what each mode says of an input's faults on standard error
 abbrev pub AreNotesIn : Mode → List ℕ → Result Outcome ViewFault → List ℕ → List ℕ → Type 0
@@ -36,3 +38,4 @@ AreNotesIn Transcript input result old new = AreScriptNotes input result new
 AreNotesIn Fault input result old new = AreNotes input result old new
 AreNotesIn Sample input result old new = AreRoomNotes input result new
 AreNotesIn Outcomes input result old new = AreRoomNotes input result new
+AreNotesIn Lint input result old new = new ≡ old

@@ -10,7 +10,9 @@ use Rattle.room_files.specs.Inputs.{input_says}
 use Rattle.room_files.specs.declared.outcome.Outcome.{Outcome}
 use Rattle.room_files.specs.declared.outcome.Outcome.TheVariants.{AllWell, SomeRefused}
 use Rattle.script_play.specs.Script.{script_says}
-use Rattle.file_faults.specs.Scripts.{begins_with_block}
+use Rattle.file_faults.specs.Kinds.{kind_of as read_as}
+use Rattle.file_faults.specs.declared.kinds.Kind.{Kind}
+use Rattle.file_faults.specs.declared.kinds.Kind.TheVariants as kinds
 use Rattle.step_page.specs.Pages.{file_text, page_text}
 use Rattle.step_page.specs.declared.page.FileKind.{FileKind}
 use Rattle.step_page.specs.declared.page.FileKind.TheVariants.{Script, Transcript}
@@ -19,9 +21,14 @@ use Rattle.bgview.specs.Why.{IsExplanationFor}
 use Rattle.bgview.specs.declared.fault.ViewFault.{ViewFault}
 use Rattle.bgview.specs.declared.fault.ViewFault.TheVariants.{BadInput, Device, Incomplete}
 
--- a transcript begins with a block, and a script doesn't
+abbrev pub answered_as : Kind → FileKind
+answered_as kinds.Transcript = Transcript
+answered_as kinds.Script = Script
+answered_as kinds.Rooms = Script
+
+-- what a file is answered as: rooms alone are no transcript
 abbrev pub kind_of : List ℕ → FileKind
-kind_of file = if begins_with_block file then Transcript else Script
+kind_of file = answered_as (read_as file)
 
 -- ---- one file
 

@@ -31,6 +31,8 @@ pub enum Mode {
     Sample,
     /// Searches all runs of rooms.
     Outcomes,
+    /// Explains all faults of a file.
+    Lint,
 }
 
 impl Mode {
@@ -52,6 +54,8 @@ impl Mode {
             Mode::Sample
         } else if word == "outcomes" {
             Mode::Outcomes
+        } else if word == "lint" {
+            Mode::Lint
         } else {
             Mode::Why
         }
@@ -253,6 +257,20 @@ fn brief_option<'a>(alloc: Global) -> Arg<'a>
         .help("Leaves out the transcripts")
 }
 
+/// The subcommand `lint`.
+fn lint_command<'a>(alloc: Global) -> Result<Command<'a>, AllocError>
+    ensures app { IfOk result (λ command. app_of command ≡ file_app (codes "lint")) }
+    ensures local { IfOk result (λ command. (out-Command command).has_globals ≡ false) }
+{
+    file_command(
+        alloc,
+        "lint",
+        "Explains all faults of a file of rooms, a script or a transcript",
+        "bgview lint [FILE]",
+        "The file; without it, standard input is read",
+    )
+}
+
 /// The subcommand `fault`.
 fn fault_command<'a>(alloc: Global) -> Result<Command<'a>, AllocError>
     ensures app { IfOk result (λ command. app_of command ≡ fault_app) }
@@ -302,7 +320,8 @@ fn command<'a>(alloc: Global) -> Result<Command<'a>, AllocError>
     let with_transcript = with_subcommand(with_page, transcript_command(alloc))?;
     let with_fault = with_subcommand(with_transcript, fault_command(alloc))?;
     let with_sample = with_subcommand(with_fault, sample_command(alloc))?;
-    with_subcommand(with_sample, outcomes_command(alloc))
+    let with_outcomes = with_subcommand(with_sample, outcomes_command(alloc))?;
+    with_subcommand(with_outcomes, lint_command(alloc))
 }
 
 /// What `clap` finds in the words after the program's name.

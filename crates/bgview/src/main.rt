@@ -19,6 +19,7 @@ mod engine;
 mod fault;
 mod faults;
 mod inputs;
+mod lint;
 mod page;
 mod progress;
 mod reasons;
@@ -26,6 +27,7 @@ mod rooms;
 mod sample;
 mod told;
 mod trace;
+mod unread;
 
 use clap::ArgMatches;
 use clap::error::ErrorKind;
@@ -34,6 +36,7 @@ use engine::{draw_io, fault_io, outcomes_io, sample_io, transcript_io, why_io};
 use fault::ViewFault;
 use inputs::Inputs;
 use io_text::{Device, DeviceFault, Text};
+use lint::lint_io;
 use page::{page_io, pages_io};
 use progress::{Counter, has_terminal};
 use room_files::Outcome;
@@ -44,6 +47,7 @@ use std::io;
 use std::io::{Read, Write};
 use std::process::ExitCode;
 use trace::trace_io;
+use unread::note_unread;
 
 fn main(rt: HostRuntime) -> ExitCode {
     let status = match words(&rt) {
@@ -90,7 +94,7 @@ fn status<I: Inputs, W: Write, S: AsStr>(
     }
 }
 
-/// How the program ends that does what the words ask for. What is said of the faults of its inputs becomes `notes`.
+/// How the program ends that does what the words ask for. What is said of the faults of its inputs, or of a file that is not read, becomes `notes`.
 fn ending<I: Inputs, W: Write, P: Progress>(
     alloc: Global,
     inputs: &I,
@@ -108,7 +112,7 @@ fn ending<I: Inputs, W: Write, P: Progress>(
     if line.command == Mode::Fault {
         return say_faults(alloc, matches, writer);
     }
-    match line.file {
+    let ending = match line.file {
         None => with_other(
             alloc,
             inputs,
@@ -122,7 +126,11 @@ fn ending<I: Inputs, W: Write, P: Progress>(
             Ok(input) => with_other(alloc, inputs, input, writer, matches, notes, progress),
             Err(_) => Err(ViewFault::Device(DeviceFault::Read)),
         },
+    };
+    if ending == Err(ViewFault::Device(DeviceFault::Read)) {
+        note_unread(inputs, &line, notes);
     }
+    ending
 }
 
 /// The answer that the words ask for to an input, and to a second file if they name one, which is written. What is said of their faults becomes
@@ -218,6 +226,7 @@ fn write_answer<R: Read, W: Write, P: Progress>(
         Mode::Transcript => transcript_io(alloc, reader, writer, notes),
         Mode::Sample => sample_io(alloc, reader, writer, &request.plan, notes, progress),
         Mode::Outcomes => outcomes_io(alloc, reader, writer, &request.search, notes, progress),
+        Mode::Lint => lint_io(alloc, reader, writer),
     }
 }
 

@@ -10,7 +10,7 @@ ghost use Rattle.bgview.specs.Page.{EndsPage, IsFaultOf, IsFileAnswer, IsPageAns
 use crate::answer::explain;
 use crate::fault::{ViewFault, written};
 use crate::trace::trace;
-use file_faults::{begins_with_block, script_faults, transcript_faults};
+use file_faults::{Kind, script_faults, transcript_faults};
 use io_text::{Device, Text, read_input, write_output};
 use room_files::Outcome;
 use script_play::PlayText;
@@ -118,14 +118,13 @@ fn write_both<W: Write>(
     written(paged.ending)
 }
 
-/// What a file is, by how it begins.
+/// What a file is answered as: rooms alone are no transcript.
 fn kind_of(file: &[u8]) -> FileKind
     ensures { result ≡ kind_of file.now }
 {
-    if begins_with_block(file) {
-        FileKind::Transcript
-    } else {
-        FileKind::Script
+    match Kind::of(file) {
+        Kind::Transcript => FileKind::Transcript,
+        Kind::Script | Kind::Rooms => FileKind::Script,
     }
 }
 

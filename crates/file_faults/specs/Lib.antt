@@ -2,3 +2,4 @@ pub mod Walks
 pub mod Scripts
 pub mod Events
 pub mod Files
+pub mod Kinds

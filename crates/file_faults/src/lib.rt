@@ -3,8 +3,10 @@
 
 mod events;
 mod files;
+mod kinds;
 mod scripts;
 mod walk;
 
 pub use files::{room_faults, transcript_faults};
-pub use scripts::{begins_with_block, script_faults};
+pub use kinds::{Kind, faults_of};
+pub use scripts::script_faults;

@@ -50,8 +50,7 @@ fn explained_at_most(script: &[u8]) -> usize
     }
 }
 
-/// Whether a file begins with a block, as a transcript and a file of rooms do, and no script.
-pub fn begins_with_block(script: &[u8]) -> bool
+fn begins_with_block(script: &[u8]) -> bool
     ensures { result ≡ begins_with_block script.now }
 {
     script.starts_with(b"bgsim ")
