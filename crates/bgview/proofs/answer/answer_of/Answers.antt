@@ -6,7 +6,9 @@ use Rattle.std.specs.List.{flat_map}
 use Rattle.fault_text.specs.Refusals.{refusal_line, said_refusals}
 use Rattle.bgview.specs.Told.{ToldRoom, specs_of}
 use Rattle.bgview.proofs.Explaining.{all_said, one_more}
-use Rattle.bgview.proofs.RoomLists.{spec_there, told_there}
+use Rattle.history_checker.proofs.CallerLemmas.{spec_there, after_there}
+use Rattle.bgview.proofs.RoomLists.{spec_in}
+use Rattle.bgview.specs.Told.{IsTold}
 use Rattle.bgview.proofs.answer.answer_of.Goals as goal
 
 pub loop-index-preserved : goal.loop-index-preserved
@@ -15,8 +17,8 @@ loop-index-preserved c = λ fed told.
     let room = c.in-Some.told.now in
     let there : slice_get rooms c.loop-index.index ≡ Some room = sym c.in-Some.ensures in
     one_more (specs_of rooms) (said_refusals c.args.input.now c.args.refusals.now) (flat_map refusal_line c.args.refusals.now) fed c.loop-index.index c.loop-index.output c.loop-index.all_well room.spec c.write_room.new.output c.in_ok-all_well.field-0
-    (c.loop-index.invariant fed told) (spec_there rooms c.loop-index.index room there)
-    (c.in_ok-all_well.ensures (fed_to room.spec.name fed) (told_there rooms fed c.loop-index.index room there told))
+    (c.loop-index.invariant fed told) (spec_there spec_in rooms c.loop-index.index room there)
+    (c.in_ok-all_well.ensures (fed_to room.spec.name fed) (after_there spec_in IsTold rooms fed c.loop-index.index room there told))
 
 pub returns : goal.returns
 returns c = λ fed told.

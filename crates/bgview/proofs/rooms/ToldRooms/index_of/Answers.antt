@@ -3,7 +3,8 @@ use Rattle.std.specs.List.{position}
 use Rattle.std.specs.Str.{bytes_eq}
 use Rattle.history_checker.specs.Verdicts.{has_room, names_of}
 use Rattle.bgview.specs.Told.{ToldRoom, specs_of}
-use Rattle.bgview.proofs.RoomLists.{has_room-lookup}
+use Rattle.history_checker.proofs.CallerLemmas.{has_room-lookup}
+use Rattle.bgview.proofs.RoomLists.{spec_in}
 use Rattle.bgview.proofs.rooms.ToldRooms.index_of.Goals as goal
 
 pub returns-clause-index : goal.returns-clause-index
@@ -14,5 +15,5 @@ returns-clause-index c =
 pub returns-clause-found : goal.returns-clause-found
 returns-clause-found c =
     c.get_index_of.ensures.found
-    ∙ sym (has_room-lookup c.args.name.now c.self.inside.rooms.entries c.self.invariant)
+    ∙ sym (has_room-lookup spec_in c.args.name.now c.self.inside.rooms.entries c.self.invariant)
     ∙ ap (λ (rooms : List ToldRoom). has_room c.args.name.now (specs_of rooms)) c.self.view_is
