@@ -9,7 +9,7 @@ ghost use Rattle.script_picture.specs.Drawn.{IsClosed, IsDrawnOn, IsSteppedOn, h
 
 use crate::panels::Panels;
 use crate::recorder::Recorder;
-use room_core::{CrashReply, Unwatched};
+use room_core::CrashReply;
 use room_spec::{Name, Spec, SpecFault};
 use run_picture::{Head, Mark};
 use script_play::{Performs, refusal_in};
@@ -40,9 +40,7 @@ impl Drawing {
         ensures { IfOk result (λ refusal. IsDrawnOn self.old.service self.old.panels (Begin spec) refusal self.new.service self.new.panels) }
     {
         let head = Head::of(alloc, &spec)?;
-        let reply = self
-            .service
-            .apply_watched(alloc, Command::Begin(spec), &mut Unwatched);
+        let reply = self.service.apply(alloc, Command::Begin(spec));
         match &reply {
             Reply::Begun => {
                 self.panels.open(alloc, head)?;
@@ -79,9 +77,7 @@ impl Drawing {
         ensures { IfOk result (λ refusal. IsDrawnOn self.old.service self.old.panels (CrashCommand name sim) refusal self.new.service self.new.panels) }
     {
         let room = name.clone()?;
-        let reply = self
-            .service
-            .apply_watched(alloc, Command::Crash { name, sim }, &mut Unwatched);
+        let reply = self.service.apply(alloc, Command::Crash { name, sim });
         let crash = [Mark::Crash { simulator: sim }];
         let marks = if has_crashed(&reply) { &crash[..] } else { &[] };
         self.panels.note(&room, marks)?;
@@ -92,9 +88,7 @@ impl Drawing {
     fn report(&mut self, alloc: Global, name: Name) -> Result<Option<Refusal>, AllocError>
         ensures { IfOk result (λ refusal. IsDrawnOn self.old.service self.old.panels (ReportCommand name) refusal self.new.service self.new.panels) }
     {
-        let reply = self
-            .service
-            .apply_watched(alloc, Command::Report(name), &mut Unwatched);
+        let reply = self.service.apply(alloc, Command::Report(name));
         Ok(refusal_in(&reply))
     }
 
@@ -131,9 +125,7 @@ impl Drawing {
         requires { room_at self.old.service name ≡ None }
         ensures { IsDrawnOn self.old.service self.old.panels (Close name) result self.new.service self.new.panels }
     {
-        let reply = self
-            .service
-            .apply_watched(alloc, Command::Close(name), &mut Unwatched);
+        let reply = self.service.apply(alloc, Command::Close(name));
         refusal_in(&reply)
     }
 
@@ -147,10 +139,7 @@ impl Drawing {
         ensures { IfOk result (IsClosed self.old.service self.old.panels name report self.new.service self.new.panels) }
     {
         self.panels.finish(&name, report);
-        match self
-            .service
-            .apply_watched(alloc, Command::Close(name), &mut Unwatched)
-        {
+        match self.service.apply(alloc, Command::Close(name)) {
             Reply::Closed => Ok(None),
             _ => Err(AllocError), // a room that has a report is closed
         }

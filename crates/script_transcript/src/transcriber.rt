@@ -12,7 +12,6 @@ ghost use Rattle.script_transcript.specs.Transcripts.{HasEndedIf, IsNotedOn, See
 
 use crate::kept::Kept;
 use indexmap::IndexMap;
-use room_core::Unwatched;
 use room_spec::{Name, Spec, SpecFault};
 use script_play::{Performs, refusal_in};
 use service_core::{Command, Refusal, Reply, Service};
@@ -48,9 +47,7 @@ impl Transcriber {
     {
         let name = spec.name().clone()?;
         let kept = Kept::new(alloc, block, &spec)?;
-        let reply = self
-            .service
-            .apply_watched(alloc, Command::Begin(spec), &mut Unwatched);
+        let reply = self.service.apply(alloc, Command::Begin(spec));
         match &reply {
             Reply::Begun => {
                 self.rooms.insert(name, kept)?;
@@ -66,7 +63,7 @@ impl Transcriber {
         ensures { IfOk result (λ refusal. IsNotedOn self.old.service self.old.rooms.entries command refusal self.new.service self.new.rooms.entries) }
     {
         let Some(index) = self.rooms.get_index_of(command.name()) else {
-            let reply = self.service.apply_watched(alloc, command, &mut Unwatched);
+            let reply = self.service.apply(alloc, command);
             return Ok(refusal_in(&reply));
         };
         let Some(kept) = self.rooms.get_index_mut(index) else {
@@ -81,9 +78,7 @@ impl Transcriber {
         ensures { IfOk result (λ refusal. IsNotedOn self.old.service self.old.rooms.entries (Close name) refusal self.new.service self.new.rooms.entries) }
     {
         self.end(alloc, &name)?;
-        let reply = self
-            .service
-            .apply_watched(alloc, Command::Close(name), &mut Unwatched);
+        let reply = self.service.apply(alloc, Command::Close(name));
         Ok(refusal_in(&reply))
     }
 

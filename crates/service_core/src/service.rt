@@ -73,6 +73,8 @@ impl Service {
         ensures room { result ≢ Refused OutOfMemory → room_at self.new (name_in command) ≡ core_after (room_at self.old (name_in command)) command }
         ensures taken { (number : ℕ) (last : StepReplyData) →
             result ≡ Steps number last → length (steps_of (room_at self.old (name_in command)) command) ≡ number }
+        // All of it in one.
+        ensures applies { Applies self.old command result self.new }
     {
         match command {
             Command::Step { name, sim, count } => {

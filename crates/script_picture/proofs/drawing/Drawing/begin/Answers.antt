@@ -6,7 +6,7 @@ use Rattle.script_picture.proofs.drawing.Drawing.begin.Goals as goal
 pub returns-in_ok-open-in-Begun : goal.returns-in_ok-open-in-Begun
 returns-in_ok-open-in-Begun c = record {
   reply = Begun;
-  applies = rw c.in-Begun.is at c.apply_watched-reply.ensures.applies;
+  applies = rw c.in-Begun.is at c.apply-reply.ensures.applies;
   refusal_is = refl;
   draws = (c.in_ok-head.head, c.in_ok-head.ensures, c.in_ok-open-in-Begun.ensures.added);
 }

@@ -18,7 +18,7 @@ returns-in_ok-insert-in-Begun c =
     let names = ap keys_of c.in_ok-insert-in-Begun.ensures.entries ∙ names_after before c.in_ok-name.name kept in
     record {
       reply = Begun;
-      applies = subst (λ (r : Reply). Applies c.args.self.now.service (commands.Begin c.args.spec) r c.apply_watched-reply.new.self) c.in-Begun.is c.apply_watched-reply.ensures.applies;
+      applies = subst (λ (r : Reply). Applies c.args.self.now.service (commands.Begin c.args.spec) r c.apply-reply.new.self) c.in-Begun.is c.apply-reply.ensures.applies;
       refusal_is = refl;
       own = (kept, c.in_ok-kept.ensures, changed_here before after c.args.spec.name kept changes);
       others = λ other differs. changed_other before after c.args.spec.name other kept changes differs;

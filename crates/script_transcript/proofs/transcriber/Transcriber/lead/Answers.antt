@@ -15,12 +15,12 @@ returns-in_default c =
     let command = c.args.command in
     let none = no_kept (kept_at kept (name_in command)) (subst (λ (name : List ℕ). is_some (kept_at kept name) ≡ false) c.name.ensures (sym c.get_index_of.ensures.found ∙ ap is_some c.in_default.is)) in
     record {
-      reply = c.apply_watched-reply.result;
-      applies = c.apply_watched-reply.ensures.applies;
+      reply = c.apply-reply.result;
+      applies = c.apply-reply.ensures.applies;
       refusal_is = c.refusal_in.ensures;
-      own = seen_keeps c.args.self.now.service command c.apply_watched-reply.result (kept_at kept (name_in command)) (kept_at kept (name_in command)) c.requires (seen_nowhere (steps_of (room_at c.args.self.now.service (name_in command)) command) (kept_at kept (name_in command)) none);
+      own = seen_keeps c.args.self.now.service command c.apply-reply.result (kept_at kept (name_in command)) (kept_at kept (name_in command)) c.requires (seen_nowhere (steps_of (room_at c.args.self.now.service (name_in command)) command) (kept_at kept (name_in command)) none);
       others = λ other differs. refl;
-      names = seen_names command c.apply_watched-reply.result (keys_of kept) c.requires;
+      names = seen_names command c.apply-reply.result (keys_of kept) c.requires;
     }
 
 pub returns : goal.returns
