@@ -1,15 +1,10 @@
 -- The values that a mind gathers for the snapshot of its process.
 use Rattle.std.proofs.Common.{◌≡◌, ◌≢◌, ℕ, zero, suc, ◌+◌, ◌-◌, ◌<◌, ◌≤◌, Bool, true, false, cond, eqb, List, [], ◌∷◌, ◌++◌, length, map, Option, None, refl, sym, ap, ◌∙◌, subst, append_assoc, arith}
 use Rattle.std.specs.List.{range_with_len, take_while}
-use Rattle.std.proofs.lemmas.Bool.{eqb-false, lt-ltb}
+use Rattle.std.proofs.lemmas.Bool.{eqb-false}
 use Rattle.std.proofs.lemmas.List.{append-nil, length-append}
 use Rattle.std.proofs.lemmas.List.Sums.{take_while-cons}
-use Rattle.room_spec.specs.Rooms.{RoomSpec, processes}
-use Rattle.simulator.specs.declared.line.Line.TheVariants.{Values}
-use Rattle.simulator.specs.Minds.{MindState}
-use Rattle.protocol_lang.specs.declared.meaning.Action.{Action}
-use Rattle.protocol_lang.specs.declared.meaning.Action.TheVariants as actions
-use Rattle.simulator.specs.Turns.{acted, gathered, gathered_all, goes_on, got_value, padded}
+use Rattle.simulator.specs.Turns.{padded}
 
 -- Entries are only added, `more` at most; and where fewer are added, the row shows a write of the next process.
 pub record IsPadded (row : ℕ → ℕ) (more : ℕ) (entries after : List (Option ℕ)) : Type 0 where
@@ -64,22 +59,3 @@ padded_on row n entries after less none is =
 pub padded_ends : (row : ℕ → ℕ) (more : ℕ) (entries : List (Option ℕ)) → 0 < more → eqb (row (length entries)) 0 ≡ false → entries ≡ added row more entries
 padded_ends row zero entries some shown = absurd (omega arith)
 padded_ends row (suc more) entries some shown = sym (added_more row more entries ∙ ap (λ b. cond b (added row more (entries ++ None ∷ [])) entries) shown)
-
--- A mind that wants the value of the next process, of which the row shows a write, goes on to it.
-pub gathers_on : (spec : RoomSpec) (row : ℕ → ℕ) (mind : MindState) → length mind.entries < processes spec → eqb (row (length mind.entries)) 0 ≡ false → gathered row spec mind.entries mind ≡ goes_on Values mind
-gathers_on spec row mind less shown =
-    let same : mind.entries ≡ padded row (processes spec) mind.entries = padded_ends row (processes spec - length mind.entries) mind.entries (omega arith) shown in
-    ap (λ (entries : List (Option ℕ)). gathered_all spec (record mind { entries = entries })) (sym same)
-    ∙ rw (lt-ltb (length mind.entries) (processes spec) less) refl
-
--- Taking in a value leaves the snapshot as it is.
-acted_keeps_snapshot : (spec : RoomSpec) (action : Action) (mind : MindState) → (acted spec action mind).mind.snapshot ≡ mind.snapshot
-acted_keeps_snapshot spec (actions.Write value) mind = refl
-acted_keeps_snapshot spec (actions.Decide decision) mind = refl
-
-gathered_keeps_snapshot : (b : Bool) (spec : RoomSpec) (action : Action) (mind : MindState) → (cond b (goes_on Values mind) (acted spec action mind)).mind.snapshot ≡ mind.snapshot
-gathered_keeps_snapshot true spec action mind = refl
-gathered_keeps_snapshot false spec action mind = acted_keeps_snapshot spec action mind
-
-pub value_keeps_snapshot : (row : ℕ → ℕ) (spec : RoomSpec) (value : ℕ) (mind : MindState) → (got_value row spec value mind).mind.snapshot ≡ mind.snapshot
-value_keeps_snapshot row spec value mind = gathered_keeps_snapshot _ spec _ _

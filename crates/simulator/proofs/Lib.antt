@@ -14,3 +14,4 @@ mod WorkedTurns
 mod Limits
 mod Onward
 mod Longer
+mod Valued

@@ -24,6 +24,10 @@ pub record TakenOf (S : Type 0) : Type 0 where
 abbrev pub counted : {S : Type 0} → MindOf S → MindOf S
 counted mind = record mind { steps = mind.steps + 1; turn_steps = mind.turn_steps + 1 }
 
+-- so many atomic steps more, of one turn
+abbrev pub counted_by : {S : Type 0} → ℕ → MindOf S → MindOf S
+counted_by count mind = record mind { steps = mind.steps + count; turn_steps = mind.turn_steps + count }
+
 -- a turn begins, on this process
 abbrev pub begun : {S : Type 0} → ℕ → MindOf S → MindOf S
 begun process mind = record mind { process = process; turns = mind.turns + 1 }
@@ -103,6 +107,10 @@ gathered row spec entries mind =
 -- it has loaded a word of the chosen proposal, whose row this is
 abbrev pub got_view : {S : Type 0} → (ℕ → ℕ) → RoomSpec → ℕ → MindOf S → TakenOf S
 got_view row spec chosen mind = on_word spec (GetView chosen) mind (gathered row spec [] (record mind { word = 0 }))
+
+-- it has the value of the next process, and nothing for each of the silent ones after that
+abbrev pub with_value : {S : Type 0} → (ℕ → ℕ) → RoomSpec → ℕ → MindOf S → MindOf S
+with_value row spec value mind = record mind { entries = padded row (processes spec) (mind.entries ++ Some (min value greatest) ∷ []) }
 
 -- it has loaded the value of the next process; a number above the greatest value reads as that
 abbrev pub got_value : {S : Type 0} → (ℕ → ℕ) → RoomSpec → ℕ → MindOf S → TakenOf S

@@ -142,7 +142,6 @@ impl Mind {
     /// The same by the room's numbers and the last writes that the snapshot shows, which are the same for all values.
     #[inline(always)]
     pub(crate) fn value_move_by(&self, spec: &Spec, shape: &Shape, last: &LastWrites) -> Move
-        requires is_mind { IsMindSomewhere spec.now self.now }
         requires left { length self.now.entries < processes spec.now }
         requires shown { 1 ≤ entry_in spec.now self.now.snapshot (length self.now.entries) }
         requires shape { sizes_of shape.now ≡ sizes_in spec.now }

@@ -1,13 +1,10 @@
 //! The lines of a turn: the operation of each done by a memory, and taken in.
-ghost use Rattle.std.specs.Prelude.{Some, ◌≡◌, ◌≢◌, ◌⊎◌, ◌+◌, ◌*◌, ◌<◌, ◌≤◌, true, false};
+ghost use Rattle.std.specs.Prelude.{ℕ, Some, ◌≡◌, ◌≢◌, ◌⊎◌, ◌+◌, ◌*◌, ◌<◌, ◌≤◌, true, false};
 ghost use Rattle.room_spec.specs.Rooms.{processes};
-ghost use Rattle.room_spec.specs.Shapes.{sizes_of};
-ghost use Rattle.room_spec.specs.Sizes.{sizes_in};
 ghost use Rattle.simulator.specs.declared.line.Line.TheVariants.{Rest, Values};
 ghost use Rattle.simulator.specs.declared.turn.Turn.TheVariants.{Still};
 ghost use Rattle.simulator.specs.Minds.{goal_at, next_process};
 ghost use Rattle.simulator.specs.Moves.{IsOperation, move_at, move_of, taken, taken_at};
-ghost use Rattle.simulator.specs.Notes.{AreLastWrites};
 ghost use Rattle.simulator.specs.Ranges.{IsMind, at_line, turn_limit};
 ghost use Rattle.simulator.specs.Runs.{Continues, Runs, Wants};
 ghost use Rattle.simulator.specs.Turns.{begun, counted};
@@ -19,9 +16,8 @@ use crate::mind::Mind;
 use crate::next::first_move_at;
 use crate::turn::Turn;
 use crate::words::chosen_in;
-use room_spec::{Shape, Spec};
+use room_spec::Spec;
 use safe_agreement::has_level;
-use sim_memory::LastWrites;
 
 /// What an atomic step was answered, what has become of the turn, and the line that comes then.
 #[derive(Clone, Copy)]
@@ -169,8 +165,7 @@ impl Mind {
         }
     }
 
-    /// Takes steps as long as the run is at the line of values. What they all ask of the room and of the snapshot is
-    /// looked up once.
+    /// Takes steps as long as the run is at the line of values.
     #[inline(always)]
     fn along_values<C, M: Memory<C>>(
         &mut self,
@@ -189,39 +184,52 @@ impl Mind {
         if !run.is_at_value(most) {
             return;
         }
-        let shape = spec.shape();
-        let last = self.snapshot.last_writes(spec);
-        while run.is_at_value(most) {
-            self.step_value(spec, &shape, &last, run, context, memory);
-        }
-    }
-
-    /// Takes one step more, at the line of values.
-    #[inline(always)]
-    fn step_value<C, M: Memory<C>>(
-        &mut self,
-        spec: &Spec,
-        shape: &Shape,
-        last: &LastWrites,
-        run: &mut Run,
-        context: &C,
-        memory: &mut M,
-    )
-        requires wants { Wants M.serves context.now spec.now memory.old (at_line run.old.line self.old) run.old.turn }
-        requires still { run.old.turn ≡ Still }
-        requires line { run.old.line ≡ Values }
-        requires room { run.old.count < u64.MAX }
-        requires shape { sizes_of shape.now ≡ sizes_in spec.now }
-        requires last { AreLastWrites spec.now self.old.snapshot last.now.holders last.now.rounds }
-        ensures wants { Wants M.serves context.now spec.now memory.new (at_line run.new.line self.new) run.new.turn }
-        ensures continues { Continues M.does spec.now run.old.count memory.old (at_line run.old.line self.old) run.old.turn run.new.count memory.new (at_line run.new.line self.new) run.new.turn }
-        ensures count { run.new.count ≡ run.old.count + 1 }
-        ensures snapshot { self.new.snapshot ≡ self.old.snapshot }
-    {
-        let taken = self.take_value(spec, shape, last, context, memory);
-        run.count += 1;
+        let taken = self.take_values(spec, most - run.count, context, memory);
+        run.count += taken.count;
         run.turn = taken.turn;
         run.line = taken.line;
+    }
+
+    /// Takes up to `most` steps at the line of values, one at least. What they all ask of the room and of the snapshot
+    /// is looked up once, and they are counted once.
+    #[inline(always)]
+    fn take_values<C, M: Memory<C>>(
+        &mut self,
+        spec: &Spec,
+        most: u64,
+        context: &C,
+        memory: &mut M,
+    ) -> Run
+        requires wants { Wants M.serves context.now spec.now memory.old (at_line Values self.old) Still }
+        requires most { 0 < most }
+        ensures wants { Wants M.serves context.now spec.now memory.new (at_line result.line self.new) result.turn }
+        ensures continues { (count : ℕ) → Continues M.does spec.now count memory.old (at_line Values self.old) Still (count + result.count) memory.new (at_line result.line self.new) result.turn }
+        ensures count { result.count ≤ most }
+    {
+        let shape = spec.shape();
+        let last = self.snapshot.last_writes(spec);
+        let mut count = 0;
+        while count < most {
+            let load = self.value_move_by(spec, &shape, &last);
+            let value = memory.operate(context, load);
+            self.add_value(spec, &last, value);
+            count += 1;
+            if self.entries.len() >= spec.n() {
+                self.count_steps(count);
+                let turn = self.conclude(spec);
+                return Run {
+                    count,
+                    turn,
+                    line: self.current_line(),
+                };
+            }
+        }
+        self.count_steps(count);
+        Run {
+            count,
+            turn: Turn::Still,
+            line: Line::Values,
+        }
     }
 
     /// Takes one step more.
@@ -344,32 +352,6 @@ impl Mind {
                 self.stands(answer, turn)
             }
         }
-    }
-
-    /// Takes the atomic step of the line of values.
-    #[inline(always)]
-    fn take_value<C, M: Memory<C>>(
-        &mut self,
-        spec: &Spec,
-        shape: &Shape,
-        last: &LastWrites,
-        context: &C,
-        memory: &mut M,
-    ) -> Taken
-        requires is_mind { IsMind spec.now (at_line Values self.old) }
-        requires serves { M.serves memory.old context.now spec.now (at_line Values self.old) }
-        requires shape { sizes_of shape.now ≡ sizes_in spec.now }
-        requires last { AreLastWrites spec.now self.old.snapshot last.now.holders last.now.rounds }
-        ensures does { M.does memory.old (move_at Values spec.now self.old) result.answer memory.new }
-        ensures mind { at_line result.line self.new ≡ (taken_at Values spec.now (counted self.old) result.answer).mind }
-        ensures turn { result.turn ≡ (taken_at Values spec.now (counted self.old) result.answer).turn }
-        ensures snapshot { self.new.snapshot ≡ self.old.snapshot }
-    {
-        let load = self.value_move_by(spec, shape, last);
-        self.count_step();
-        let answer = memory.operate(context, load);
-        let turn = self.get_value(spec, last, answer);
-        self.stands(answer, turn)
     }
 
     /// Begins the next turn, with its first step: one search finds the process for both.

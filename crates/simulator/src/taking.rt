@@ -6,7 +6,7 @@ ghost use Rattle.room_spec.specs.Rooms.{processes};
 ghost use Rattle.room_spec.specs.declared.spec.TheConstants.{MAX_MEMORY_WORDS};
 ghost use Rattle.simulator.specs.Moves.{entry_in, is_again, loaded};
 ghost use Rattle.simulator.specs.Notes.{AreLastWrites};
-ghost use Rattle.simulator.specs.Turns.{acted, after_write, asked, begun, collected, counted, ended, gathered, gathered_all, goes_on, got_value, got_view, most_collects, padded, scanned, showed, snapped, words_in};
+ghost use Rattle.simulator.specs.Turns.{acted, after_write, asked, begun, collected, counted, counted_by, ended, gathered_all, goes_on, got_value, got_view, most_collects, padded, scanned, showed, snapped, with_value, words_in};
 
 use crate::goal::Goal;
 use crate::line::Line;
@@ -25,6 +25,17 @@ impl Mind {
     {
         self.steps += 1;
         self.turn_steps += 1;
+    }
+
+    /// Counts the steps of a line that are taken in a row.
+    #[inline(always)]
+    pub(crate) fn count_steps(&mut self, count: u64)
+        requires steps { self.old.steps + count ≤ u32.MAX }
+        requires turn_steps { self.old.turn_steps + count ≤ u16.MAX }
+        ensures { self.new ≡ counted_by count self.old }
+    {
+        self.steps += count as u32;
+        self.turn_steps += count as u16;
     }
 
     /// A turn begins, on this process.
@@ -178,12 +189,21 @@ impl Mind {
         }
         self.word = 0;
         self.snapshot.note(spec);
-        self.entries.clear();
-        let last = self.snapshot.last_writes(spec);
-        self.gather(spec, &last)
+        self.clear_entries(spec);
+        self.gather(spec)
     }
 
-    /// Takes in the value of the next process, beside the last writes that its snapshot shows.
+    /// Begins its entries anew, with nothing for each of the first silent processes.
+    #[inline(always)]
+    fn clear_entries(&mut self, spec: &Spec)
+        ensures { self.new ≡ record self.old { entries = padded (entry_in spec.now self.old.snapshot) (processes spec.now) [] } }
+    {
+        self.entries.clear();
+        let last = self.snapshot.last_writes(spec);
+        pad(&mut self.entries, &last, spec);
+    }
+
+    /// Takes in the value of the next process.
     #[inline(always)]
     pub(crate) fn get_value(&mut self, spec: &Spec, last: &LastWrites, value: u64) -> Turn
         requires process { self.old.process < length self.old.goals }
@@ -194,22 +214,31 @@ impl Mind {
         ensures mind { self.new ≡ (got_value (entry_in spec.now self.old.snapshot) spec.now value self.old).mind }
         ensures turn { result ≡ (got_value (entry_in spec.now self.old.snapshot) spec.now value self.old).turn }
     {
+        self.add_value(spec, last, value);
+        self.gather(spec)
+    }
+
+    /// Adds the value of the next process to the entries, and nothing for each of the silent ones that follow it.
+    #[inline(always)]
+    pub(crate) fn add_value(&mut self, spec: &Spec, last: &LastWrites, value: u64)
+        requires entries { length self.old.entries < processes spec.now }
+        requires few { processes spec.now ≤ MAX_PROCESSES }
+        requires last { AreLastWrites spec.now self.old.snapshot last.now.holders last.now.rounds }
+        ensures { self.new ≡ with_value (entry_in spec.now self.old.snapshot) spec.now value self.old }
+    {
         let value = value.min(u64::from(u32::MAX)) as u32;
         self.entries.push(Some(value));
-        self.gather(spec, last)
+        pad(&mut self.entries, last, spec);
     }
 
     /// Goes on to the next value that the snapshot shows, or after the last to what the process does.
     #[inline(always)]
-    fn gather(&mut self, spec: &Spec, last: &LastWrites) -> Turn
+    fn gather(&mut self, spec: &Spec) -> Turn
         requires process { self.old.process < length self.old.goals }
         requires goals { length self.old.goals ≡ processes spec.now }
-        requires entries { length self.old.entries ≤ processes spec.now }
-        requires last { AreLastWrites spec.now self.old.snapshot last.now.holders last.now.rounds }
-        ensures mind { self.new ≡ (gathered (entry_in spec.now self.old.snapshot) spec.now self.old.entries self.old).mind }
-        ensures turn { result ≡ (gathered (entry_in spec.now self.old.snapshot) spec.now self.old.entries self.old).turn }
+        ensures mind { self.new ≡ (gathered_all spec.now self.old).mind }
+        ensures turn { result ≡ (gathered_all spec.now self.old).turn }
     {
-        pad(&mut self.entries, last, spec);
         if self.entries.len() < spec.n() {
             return self.go_on(Line::Values);
         }
@@ -218,7 +247,7 @@ impl Mind {
 
     /// Goes on to what the process does after its snapshot, which is whole.
     #[inline(never)]
-    fn conclude(&mut self, spec: &Spec) -> Turn
+    pub(crate) fn conclude(&mut self, spec: &Spec) -> Turn
         requires process { self.old.process < length self.old.goals }
         requires goals { length self.old.goals ≡ processes spec.now }
         requires whole { processes spec.now ≤ length self.old.entries }
