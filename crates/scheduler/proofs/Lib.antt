@@ -2,6 +2,7 @@ mod Stepwise
 mod Bounds
 mod Costs
 mod Rounds
+mod Visits
 mod Returning
 mod Dealing
 mod Ending

@@ -1,9 +1,13 @@
 -- Simulators that wait for a worker, or come back from one. A room is named by its place among all rooms.
-use Rattle.std.specs.Prelude.{◌≡◌, ℕ, zero, suc, ◌<◌, false, ◌&&◌, ◌==◌, if◌then◌else◌, List, [], ◌∷◌, length, Option, Some, None, slice_index_or, slice_get}
+use Rattle.std.specs.Prelude.{◌≡◌, ℕ, zero, suc, ◌+◌, ◌-◌, ◌<◌, ◌≤◌, Bool, true, false, ◌&&◌, ◌==◌, if◌then◌else◌, List, [], ◌∷◌, length, Option, Some, None, slice_index_or, slice_get}
 use Rattle.std.specs.List.{All, sum_by}
+use Rattle.std.specs.Option.{IsSome}
 use Rattle.room_spec.specs.Rooms.{fuse_of}
+use Rattle.room_core.specs.Calls.{step_bound}
 use Rattle.simulator.specs.Sweeps.{SweepState}
 use Rattle.ruled_room.specs.Parts.{KeeperData, RoomName, SimulatorData, sweep_home}
+use Rattle.ruled_room.specs.declared.stop.Stop.{Stop}
+use Rattle.scheduler.specs.declared.visiting.Visited.{Visited}
 use Rattle.scheduler.specs.declared.workers.Task.{Task}
 use Rattle.scheduler.specs.declared.workers.Stopped.{Stopped}
 use Rattle.scheduler.specs.Drives.{HasStopped, IsWithinFuse}
@@ -40,7 +44,39 @@ pub record BringsBack (rooms : List RoomName) (tasks : List Task) (done : List S
   pub stopped : All (λ one. IsStoppedOf rooms one) done
   pub same : (k i : ℕ) → brought k i done ≡ queued k i tasks
 
--- the queues of all workers
+-- ---- simulators that a worker goes round, and why each has stopped once it has
+
+abbrev pub to_visit : Task → Visited
+to_visit task = record { task = task; stop = None }
+
+abbrev pub IsVisitedBy : List RoomName → Task → Option Stop → Type 0
+IsVisitedBy rooms task None = IsTaskOf rooms task
+IsVisitedBy rooms task (Some stop) = IsStoppedOf rooms (record { place = task.place; simulator = task.simulator; stop = stop })
+
+abbrev pub IsVisitedOf : List RoomName → Visited → Type 0
+IsVisitedOf rooms one = IsVisitedBy rooms one.task one.stop
+
+abbrev pub visited : ℕ → ℕ → List Visited → ℕ
+visited k i all = sum_by (λ one. is_here k i one.task.place one.task.simulator.number) all
+
+-- those from this place on have stopped
+abbrev pub AreStoppedFrom : ℕ → List Visited → Type 0
+AreStoppedFrom from all = (p : ℕ) (d : Visited) → from ≤ p → p < length all → IsSome (slice_index_or all p d).stop
+
+-- the steps that a simulator may still take, and one more; 0 once it has stopped
+abbrev pub left_by : Task → Option Stop → ℕ
+left_by task None = step_bound task.simulator.room.spec - task.simulator.sweep.mind.steps + 1
+left_by task (Some stop) = 0
+
+abbrev pub left_in_all : List Visited → ℕ
+left_in_all all = sum_by (λ one. left_by one.task one.stop) all
+
+abbrev pub one_if : Bool → ℕ
+one_if true = 1
+one_if false = 0
+
+-- ---- the queues of all workers
+
 abbrev pub AreTasksOf : List RoomName → List (List Task) → Type 0
 AreTasksOf rooms queues = All (λ tasks. All (λ task. IsTaskOf rooms task) tasks) queues
 

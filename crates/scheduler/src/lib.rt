@@ -11,6 +11,7 @@ mod fuse;
 mod gate;
 mod opening;
 mod rooms;
+mod visiting;
 mod workers;
 
 pub use driving::{drive, turn};

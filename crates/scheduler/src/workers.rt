@@ -4,10 +4,10 @@ ghost use Rattle.std.specs.List.{All};
 ghost use Rattle.scheduler.specs.declared.rooms.RunFault.TheVariants.{Workers};
 ghost use Rattle.scheduler.specs.Tasks.{AreKept, AreTasksOf, BringsBack, IsStoppedOf, IsTaskOf, away, brought, is_here, queued, waiting};
 
-use crate::driving::turn;
 use crate::fuse::Fuse;
 use crate::gate::Gate;
 use crate::rooms::RunFault;
+use crate::visiting::{all_stopped, go_round, to_visit};
 use ruled_room::{Keeper, RuledRoom, Simulator, Stop};
 use std::alloc::{AllocError, Global};
 use std::collections::VecDeque;
@@ -33,7 +33,7 @@ pub(crate) struct Stopped {
 }
 
 impl Task {
-    fn ended(self, stop: Stop) -> Stopped
+    pub(crate) fn ended(self, stop: Stop) -> Stopped
         ensures { (result.place ≡ self.place) × (result.simulator ≡ self.simulator) × (result.stop ≡ stop) }
     {
         let Task {
@@ -54,24 +54,20 @@ impl Task {
 pub(crate) fn work<G: Gate>(
     alloc: Global,
     rooms: &[RuledRoom],
-    mut tasks: VecDeque<Task>,
+    tasks: VecDeque<Task>,
     gate: &G,
     worker: u8,
 ) -> Result<Vec<Stopped>, AllocError>
     requires { All (λ task. IsTaskOf rooms.now task) tasks.items }
     ensures { IfOk result (λ done. BringsBack rooms.now tasks.items done.items) }
 {
-    let mut done = Vec::with_capacity(alloc, tasks.len())?;
-    let mut visit: u64 = 0;
-    while let Some(mut task) = tasks.pop_front() {
-        gate.pass(worker, visit);
-        visit = visit.saturating_add(1);
-        match turn(&mut task.simulator, &rooms[task.place], &task.fuse) {
-            None => tasks.push_back(task)?,
-            Some(stop) => done.push(task.ended(stop))?,
-        }
+    let mut all = to_visit(alloc, tasks)?;
+    let mut going = all.len();
+    let mut visits: u64 = 0;
+    while going > 0 {
+        going = go_round(rooms, all.as_mut_slice(), going, gate, worker, &mut visits);
     }
-    Ok(done)
+    all_stopped(alloc, all)
 }
 
 /// What a worker's thread was given to do.

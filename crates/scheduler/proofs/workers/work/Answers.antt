@@ -1,31 +1,23 @@
-use Rattle.std.proofs.Common.{sym, subst, arith}
+use Rattle.std.proofs.Common.{◌≡◌, ◌∙◌, ℕ, IfOk, List, Ok, Err, ap, arith, subst, sym}
+use Rattle.std.specs.List.{All}
+use Rattle.scheduler.specs.declared.visiting.Visited.{Visited}
 use Rattle.ruled_room.specs.Parts.{RoomName}
-use Rattle.scheduler.specs.declared.workers.Task.{Task}
-use Rattle.scheduler.specs.Drives.{HasStopped}
-use Rattle.scheduler.proofs.Bounds.{left_less}
-use Rattle.scheduler.proofs.Rounds.{first_at, goes_back, is_done}
+use Rattle.scheduler.specs.Tasks.{BringsBack, IsStoppedOf, IsVisitedOf, brought, visited}
+use Rattle.scheduler.proofs.Visits.{all_to_visit, visited_to_visit}
 use Rattle.scheduler.proofs.workers.work.Goals as goal
 
-pub loop-task-smaller-in-Continue-branch-2 : goal.loop-task-smaller-in-Continue-branch-2
-loop-task-smaller-in-Continue-branch-2 g c =
-    let task : Task = c.in-Some.task in
-    let own = first_at c.args.rooms.now task c.pop_front.new.self.items c.loop-task.tasks.items c.index-rooms-task.result c.index-rooms-task.result c.in-Some.ensures.items c.loop-task.invariant.0 c.index-rooms-task.is in
-    let less = left_less task.simulator c.turn.new.simulator c.index-rooms-task.result c.turn.ensures.same.0 own c.in-None.ensures.more.0 c.in-None.ensures.more.1 in
-    let back = goes_back c.args.rooms.now task c.pop_front.new.self.items c.loop-task.tasks.items c.push_back.new.self.items c.turn.new.simulator c.in-Some.ensures.items c.in_ok-push_back-in-None.ensures.items c.loop-task.invariant.0 c.turn.ensures.same.0 c.turn.ensures.same.1 c.turn.ensures.fuse less in
-    back.less
+pub loop-going-init : goal.loop-going-init
+loop-going-init g c = record {
+  every = subst (λ (l : List Visited). All (λ one. IsVisitedOf c.args.rooms.now one) l) (sym c.in_ok-all.ensures) (all_to_visit c.args.rooms.now c.args.tasks.items c.requires);
+  within = omega (arith, c.len-going.ensures);
+  stopped = λ p d from within. absurd (omega (arith, from, within, c.len-going.ensures));
+  same = λ k i. ap (λ (l : List Visited). visited k i l) c.in_ok-all.ensures ∙ visited_to_visit k i c.args.tasks.items;
+}
 
-pub loop-task-preserved-in-Continue-branch-2 : goal.loop-task-preserved-in-Continue-branch-2
-loop-task-preserved-in-Continue-branch-2 g c =
-    let task : Task = c.in-Some.task in
-    let own = first_at c.args.rooms.now task c.pop_front.new.self.items c.loop-task.tasks.items c.index-rooms-task.result c.index-rooms-task.result c.in-Some.ensures.items c.loop-task.invariant.0 c.index-rooms-task.is in
-    let less = left_less task.simulator c.turn.new.simulator c.index-rooms-task.result c.turn.ensures.same.0 own c.in-None.ensures.more.0 c.in-None.ensures.more.1 in
-    let back = goes_back c.args.rooms.now task c.pop_front.new.self.items c.loop-task.tasks.items c.push_back.new.self.items c.turn.new.simulator c.in-Some.ensures.items c.in_ok-push_back-in-None.ensures.items c.loop-task.invariant.0 c.turn.ensures.same.0 c.turn.ensures.same.1 c.turn.ensures.fuse less in
-    (back.all, c.loop-task.invariant.1, λ k i. omega (arith, back.same k i, c.loop-task.invariant.2 k i))
-
-pub loop-task-preserved : goal.loop-task-preserved
-loop-task-preserved g c =
-    let task : Task = c.in-Some.task in
-    let own = first_at c.args.rooms.now task c.pop_front.new.self.items c.loop-task.tasks.items c.index-rooms-task.result c.index-rooms-task.result c.in-Some.ensures.items c.loop-task.invariant.0 c.index-rooms-task.is in
-    let stops = subst (λ (room : RoomName). HasStopped task.fuse room.spec c.in-Some-turn.stop c.turn.new.simulator.sweep) (sym own) c.in-Some-turn.ensures.stop in
-    let done = is_done c.args.rooms.now task c.pop_front.new.self.items c.loop-task.tasks.items c.loop-task.done.items c.push.new.self.items c.ended.result c.turn.new.simulator c.in-Some-turn.stop c.in-Some.ensures.items c.in_ok-push-in-Some-turn.ensures.items c.loop-task.invariant.0 c.loop-task.invariant.1 c.ended.ensures.0 c.ended.ensures.1 c.ended.ensures.2 c.turn.ensures.same.0 c.turn.ensures.same.1 c.turn.ensures.fuse stops in
-    (done.all, done.stopped, λ k i. omega (arith, done.same k i, c.loop-task.invariant.2 k i))
+pub returns : goal.returns
+returns g c =
+    let loop = c.loop-going.invariant in
+    elim c.all_stopped.result as (λ result. IfOk result (λ done. (rooms : List RoomName) → All (λ one. IsVisitedOf rooms one) c.loop-going.all.items → All (λ one. IsStoppedOf rooms one) done.items) → IfOk result (λ done. (k i : ℕ) → brought k i done.items ≡ visited k i c.loop-going.all.items) → IfOk result (λ done. BringsBack c.args.rooms.now c.args.tasks.items done.items)) [
+      | Ok done ↦ λ stopped same. record { stopped = stopped c.args.rooms.now loop.every; same = λ k i. same k i ∙ loop.same k i }
+      | Err fault ↦ λ stopped same. tt
+    ] c.all_stopped.ensures.stopped c.all_stopped.ensures.same

@@ -1,13 +1,15 @@
-use Rattle.std.proofs.Common.{◌≡◌, ℕ, ◌+◌}
+use Rattle.std.proofs.Common.{◌≡◌, ℕ, ◌+◌, ◌≤◌, length}
 use Rattle.std.specs.List.{All}
-use Rattle.scheduler.specs.Tasks.{IsStoppedOf, IsTaskOf, brought, queued}
-use Rattle.scheduler.proofs.Rounds.{left_in_all}
+use Rattle.scheduler.specs.Tasks.{AreStoppedFrom, IsVisitedOf, left_in_all, queued, visited}
 use Rattle.scheduler.proofs.workers.work.Given as goal
 
-abbrev pub invariant-loop-task : goal.invariant-loop-task
-invariant-loop-task g l =
-    All (λ task. IsTaskOf l.rooms task) l.tasks.items × All (λ one. IsStoppedOf l.rooms one) l.done.items
-    × ((k i : ℕ) → brought k i l.done.items + queued k i l.tasks.items ≡ queued k i l.initial.tasks.items)
+abbrev pub invariant-loop-going : goal.invariant-loop-going
+invariant-loop-going g l = record {
+  every : All (λ one. IsVisitedOf l.rooms one) l.all.items;
+  within : l.going ≤ length l.all.items;
+  stopped : AreStoppedFrom l.going l.all.items;
+  same : (k i : ℕ) → visited k i l.all.items ≡ queued k i l.fn.tasks.items;
+}
 
-abbrev pub decreases-loop-task : goal.decreases-loop-task
-decreases-loop-task g l = left_in_all l.tasks.items
+abbrev pub decreases-loop-going : goal.decreases-loop-going
+decreases-loop-going g l = left_in_all l.all.items + l.going
