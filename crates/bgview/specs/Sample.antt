@@ -1,5 +1,5 @@
 -- What `bgview sample` answers for a file of rooms.
-use Rattle.std.specs.Prelude.{◌≡◌, ℕ, ◌≤◌, ◌<◌, ◌==◌, List, [], ◌++◌, length, Result, Ok, Err, codes}
+use Rattle.std.specs.Prelude.{◌≡◌, ℕ, ◌≤◌, ◌<◌, ◌==◌, ◌&&◌, Bool, List, [], ◌++◌, length, Result, Ok, Err, codes}
 use Rattle.io_text.specs.Reading.{most_bytes}
 use Rattle.io_text.specs.declared.fault.DeviceFault.TheVariants.{Read, Write, TooLong, Memory}
 use Rattle.room_files.specs.Blocks.{Setup}
@@ -11,13 +11,14 @@ use Rattle.room_sample.specs.declared.sampling.Plan.{Plan}
 use Rattle.bgview.specs.declared.fault.ViewFault.{ViewFault}
 use Rattle.bgview.specs.declared.fault.ViewFault.TheVariants.{BadInput, Device, Incomplete}
 
--- The lines of the refused blocks, and then a sample of each room; and that it is none but a sample. All is well where no block
--- was refused.
+-- The lines of the refused blocks, and then a sample of each room; and that it is none but a sample. All is well if no block was refused and
+-- no schedule broke a room's task.
 pub record IsSampleOutput (plan : Plan) (setup : Setup) (outcome : Outcome) (output : List ℕ) : Type 0 where
   pub told : List ℕ
-  pub samples : AddsSamples plan setup.rooms setup.refused told
+  pub well : Bool
+  pub samples : AddsSamples plan setup.rooms well setup.refused told
   pub output_is : output ≡ told ++ codes "\nother outcomes may come\n"
-  pub outcome_is : outcome ≡ outcome_if (length setup.refused == 0)
+  pub outcome_is : outcome ≡ outcome_if ((length setup.refused == 0) && well)
 
 abbrev pub IsSampleFor : Plan → List ℕ → Outcome → List ℕ → Type 0
 IsSampleFor plan input outcome output = IsSampleOutput plan (all_blocks input) outcome output

@@ -21,9 +21,10 @@ pub fn sample_blocks<P: Progress>(
 {
     let no_blocks = Setup::new(BlockList::new(alloc), Text::new(alloc));
     let Setup { rooms, refused, .. } = read_all_blocks(alloc, no_blocks, input)?;
-    let outcome = outcome_if(refused.is_empty());
+    let is_accepted = refused.is_empty();
     let mut output = refused;
-    write_samples(alloc, &rooms, plan, &mut output, progress)?;
+    let is_well = write_samples(alloc, &rooms, plan, &mut output, progress)?;
     output.put(b"\nother outcomes may come\n")?;
+    let outcome = outcome_if(is_accepted & is_well);
     Ok(Answer { output, outcome })
 }

@@ -1,4 +1,5 @@
 mod AmongAll
+mod Breaking
 mod Coming
 mod Counting
 mod Drawing

@@ -7,7 +7,7 @@ use Rattle.std.proofs.lemmas.Grind.{flat_map-append}
 use Rattle.std.proofs.lemmas.List.Sums.{fold-append}
 use Rattle.ws_history.specs.declared.states.ProcessState.{ProcessState}
 use Rattle.room_sample.specs.Samples.{Counted}
-use Rattle.room_sample.specs.Texts.{most_of}
+use Rattle.room_sample.specs.Counts.{most_of}
 
 same_some : {X : Type 0} (a b : X) → Some a ≡ Some b → a ≡ b
 same_some a b is = cc

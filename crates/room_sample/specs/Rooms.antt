@@ -1,16 +1,19 @@
 -- Rooms that are sampled, and what is written of each.
-use Rattle.std.specs.Prelude.{◌≡◌, ℕ, List, [], ◌∷◌, ◌++◌, length, Ok, IsPermutation, ⊤}
+use Rattle.std.specs.Prelude.{◌≡◌, ℕ, Bool, true, ◌&&◌, List, [], ◌∷◌, ◌++◌, length, Ok, IfSome, IsPermutation}
 use Rattle.std.specs.List.{All, concat}
 use Rattle.room_spec.specs.Blocks.{block_in}
 use Rattle.room_spec.specs.Rooms.{RoomSpec}
 use Rattle.room_sample.specs.Leads.{HasScript}
 use Rattle.room_sample.specs.Samples.{AreAmongAll, AreMostFirst, Counted, IsSample}
+use Rattle.room_sample.specs.Tasks.{first_broken}
+use Rattle.room_sample.specs.TaskTexts.{has_held, task_text}
 use Rattle.room_sample.specs.Texts.{sample_text}
 use Rattle.room_sample.specs.declared.sampling.Plan.{Plan}
 
 -- The text shows a sample of the room: those outcomes first that came most often, each with a script that leads to it, and each among the
--- outcomes of all runs of the room's protocol. The block says the room.
-pub record IsSampleText (plan : Plan) (spec : RoomSpec) (text : List ℕ) : Type 0 where
+-- outcomes of all runs of the room's protocol. It then says in how many schedules the room's task was broken, with a script that leads to an
+-- outcome that breaks it; all is well if none broke it. The block says the room.
+pub record IsSampleText (plan : Plan) (spec : RoomSpec) (well : Bool) (text : List ℕ) : Type 0 where
   pub block : List ℕ
   pub says : block_in block ≡ Ok (spec, length block)
   pub outcomes : List Counted
@@ -21,17 +24,19 @@ pub record IsSampleText (plan : Plan) (spec : RoomSpec) (text : List ℕ) : Type
   pub most_first : AreMostFirst shown
   -- the script of each outcome leads to it
   pub scripts : All (HasScript spec.name block) shown
-  pub text_is : text ≡ sample_text spec.name block plan shown
+  pub breaking : IfSome (first_broken spec outcomes) (HasScript spec.name block)
+  pub well_is : well ≡ has_held spec outcomes
+  pub text_is : text ≡ sample_text spec.name block plan shown ++ task_text spec block plan outcomes
 
--- a text for each room, in order
-abbrev pub AreSampleTexts : Plan → List RoomSpec → List (List ℕ) → Type 0
-AreSampleTexts plan [] [] = ⊤
-AreSampleTexts plan (spec ∷ specs) (text ∷ texts) = IsSampleText plan spec text × AreSampleTexts plan specs texts
-AreSampleTexts plan [] (text ∷ texts) = ⊥
-AreSampleTexts plan (spec ∷ specs) [] = ⊥
+-- a text for each room, in order; all is well if it is for each
+abbrev pub AreSampleTexts : Plan → List RoomSpec → Bool → List (List ℕ) → Type 0
+AreSampleTexts plan [] well [] = well ≡ true
+AreSampleTexts plan (spec ∷ specs) well (text ∷ texts) = (one others : Bool) × IsSampleText plan spec one text × AreSampleTexts plan specs others texts × (well ≡ (one && others))
+AreSampleTexts plan [] well (text ∷ texts) = ⊥
+AreSampleTexts plan (spec ∷ specs) well [] = ⊥
 
 -- a text for each room was added
-pub record AddsSamples (plan : Plan) (specs : List RoomSpec) (before after : List ℕ) : Type 0 where
+pub record AddsSamples (plan : Plan) (specs : List RoomSpec) (well : Bool) (before after : List ℕ) : Type 0 where
   pub texts : List (List ℕ)
-  pub each_room : AreSampleTexts plan specs texts
+  pub each_room : AreSampleTexts plan specs well texts
   pub after_is : after ≡ before ++ concat texts

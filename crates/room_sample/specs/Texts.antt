@@ -1,29 +1,13 @@
 -- What is written of a room that was sampled.
-use Rattle.std.specs.Prelude.{ℕ, suc, max, not, List, [], ◌∷◌, ◌++◌, ◌&&◌, if◌then◌else◌, codes, decimal}
-use Rattle.std.specs.List.{count_by, flat_map, fold, list_any}
+use Rattle.std.specs.Prelude.{ℕ, List, ◌∷◌, ◌++◌, codes, decimal}
+use Rattle.std.specs.List.{flat_map}
 use Rattle.room_files.specs.BlockLists.{whole_block}
-use Rattle.ws_history.specs.Reports.{is_decided, is_held}
-use Rattle.ws_history.specs.contracts.states.ProcessStatePartialEq.TheImpl.{ghosts}
-use Rattle.ws_history.specs.declared.states.ProcessState.{ProcessState}
 use Rattle.script_play.specs.ReplyTexts.{process_lines}
+use Rattle.room_sample.specs.Counts.{held_in, most_of, values_in}
 use Rattle.room_sample.specs.Samples.{Counted}
 use Rattle.room_sample.specs.declared.sampling.Plan.{Plan}
 use Rattle.room_sample.specs.declared.stretch.Stretch.{Stretch}
 use Rattle.room_sample.specs.declared.stretch.Stretch.TheVariants.{Steps, Crash}
-
--- ---- how many values and held processes an outcome has
-
--- how many different values are decided: each counts where its last process stands
-abbrev pub values_in : List ProcessState → ℕ
-values_in [] = 0
-values_in (state ∷ states) = if is_decided state && not (list_any (ghosts.eq state) states) then suc (values_in states) else values_in states
-
-abbrev pub held_in : List ProcessState → ℕ
-held_in states = count_by is_held states
-
--- the most that any outcome has
-abbrev pub most_of : (List ProcessState → ℕ) → List Counted → ℕ
-most_of count outcomes = fold (λ most one. max (count one.states) most) 0 outcomes
 
 -- ---- the script of a schedule
 
@@ -47,14 +31,17 @@ abbrev pub outcome_text : List ℕ → List ℕ → Counted → List ℕ
 outcome_text name block one =
     (codes "\n" ++ (name ++ (codes " came" ++ ((32 ∷ decimal one.times) ++ codes " times\n")))) ++ (process_lines name one.states ++ script_text name block one.schedule)
 
--- a line that says how many of something there were at most
-abbrev pub most_line : List ℕ → List ℕ → ℕ → List ℕ → List ℕ
-most_line name words most things = name ++ ((words ++ (32 ∷ decimal most)) ++ things)
+abbrev pub number_words : ℕ → List ℕ → List ℕ
+number_words number things = (32 ∷ decimal number) ++ things
+
+-- a line that says a number of something
+abbrev pub number_line : List ℕ → List ℕ → ℕ → List ℕ → List ℕ
+number_line name words number things = name ++ ((words ++ (32 ∷ decimal number)) ++ things)
 
 abbrev pub most_lines : List ℕ → List Counted → List ℕ
 most_lines name outcomes =
     codes "\n"
-    ++ (most_line name (codes " decided at most") (most_of values_in outcomes) (codes " values\n") ++ most_line name (codes " held at most") (most_of held_in outcomes) (codes " processes\n"))
+    ++ (number_line name (codes " decided at most") (most_of values_in outcomes) (codes " values\n") ++ number_line name (codes " held at most") (most_of held_in outcomes) (codes " processes\n"))
 
 abbrev pub sample_text : List ℕ → List ℕ → Plan → List Counted → List ℕ
 sample_text name block plan outcomes = plan_line name plan ++ (flat_map (outcome_text name block) outcomes ++ most_lines name outcomes)

@@ -2,12 +2,15 @@
 #![tactic(auto)]
 
 mod chances;
+mod counts;
 pub mod laws;
 mod rooms;
 mod run;
 mod sampling;
 mod stretch;
 mod tally;
+mod task;
+mod task_text;
 mod text;
 
 pub use rooms::write_samples;

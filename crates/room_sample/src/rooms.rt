@@ -1,18 +1,19 @@
 //! The samples of the rooms of a file.
-ghost use Rattle.std.specs.Prelude.{◌≡◌, ◌++◌, ℕ, List, Ok, OnOk, length};
+ghost use Rattle.std.specs.Prelude.{◌≡◌, ◌++◌, ℕ, IfOk, List, Ok, length};
 ghost use Rattle.room_files.specs.BlockLists.{IsBlockAt};
 ghost use Rattle.room_spec.specs.Blocks.{block_in};
 ghost use Rattle.room_spec.specs.Rooms.{RoomSpec};
 ghost use Rattle.room_sample.specs.Rooms.{AddsSamples, IsSampleText};
 
 use crate::sampling::{Plan, sample};
+use crate::task_text::write_task;
 use crate::text::write_sample;
 use io_text::Text;
 use room_files::{BlockList, read_room};
 use run_search::Progress;
 use std::alloc::{AllocError, Global};
 
-/// Samples each room by a plan, and writes its outcomes.
+/// Samples each room by a plan, and writes its outcomes and whether they keep its task. Gives whether each room's task held.
 ///
 /// # Errors
 ///
@@ -23,33 +24,40 @@ pub fn write_samples<P: Progress>(
     plan: &Plan,
     output: &mut Text,
     progress: &mut P,
-) -> Result<(), AllocError>
-    ensures { OnOk result (AddsSamples plan.now rooms.now.rooms output.old output.new) }
+) -> Result<bool, AllocError>
+    ensures { IfOk result (λ well. AddsSamples plan.now rooms.now.rooms well output.old output.new) }
 {
+    let mut well = true;
     for index in 0..rooms.len() {
-        write_room(alloc, rooms.block(index), plan, output, progress)?;
+        let held = write_room(alloc, rooms.block(index), plan, output, progress)?;
+        well &= held;
     }
-    Ok(())
+    Ok(well)
 }
 
-/// Samples the room of a block, and writes its outcomes, those first that came most often.
+/// Samples the room of a block, and writes its outcomes, those first that came most often, and whether they keep its task. Gives whether
+/// it held.
 fn write_room<P: Progress>(
     alloc: Global,
     block: &[u8],
     plan: &Plan,
     output: &mut Text,
     progress: &mut P,
-) -> Result<(), AllocError>
+) -> Result<bool, AllocError>
     requires { (spec : RoomSpec) × (block_in block.now ≡ Ok (spec, length block.now)) }
-    ensures { OnOk result ((spec : RoomSpec) → block_in block.now ≡ Ok (spec, length block.now) →
-        (text : List ℕ) × IsSampleText plan.now spec text × (output.new ≡ output.old ++ text)) }
+    ensures { IfOk result (λ well. (spec : RoomSpec) → block_in block.now ≡ Ok (spec, length block.now) →
+        (text : List ℕ) × IsSampleText plan.now spec well text × (output.new ≡ output.old ++ text)) }
 {
     let Ok((spec, _)) = read_room(alloc, block)? else {
         unreachable!() // it is a room's block
     };
     let _shape = spec.shape(); // for the proof: the room is within its limits
     let mut outcomes = sample(alloc, &spec, plan, progress)?;
+    let mut task = Text::new(alloc);
+    let held = write_task(&mut task, &spec, block, plan, &outcomes)?;
     outcomes.sort_by_times()?;
     let name = spec.name().as_str().as_bytes();
-    write_sample(output, name, block, plan, &outcomes)
+    write_sample(output, name, block, plan, &outcomes)?;
+    output.put(task.as_bytes())?;
+    Ok(held)
 }

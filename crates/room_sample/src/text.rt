@@ -1,11 +1,10 @@
 //! A sample, as text.
-ghost use Rattle.std.specs.Prelude.{◌≡◌, ◌++◌, ◌∷◌, ◌&&◌, OnOk, codes, decimal, not};
-ghost use Rattle.std.specs.List.{flat_map, list_any};
-ghost use Rattle.ws_history.specs.Reports.{is_decided};
-ghost use Rattle.ws_history.specs.contracts.states.ProcessStatePartialEq.TheImpl.{ghosts};
+ghost use Rattle.std.specs.Prelude.{◌≡◌, ◌++◌, ◌∷◌, OnOk, codes, decimal};
+ghost use Rattle.std.specs.List.{flat_map};
 ghost use Rattle.room_sample.specs.Samples.{counted_of};
-ghost use Rattle.room_sample.specs.Texts.{held_in, most_line, most_lines, most_of, outcome_text, plan_line, sample_text, script_text, stretch_line, values_in};
+ghost use Rattle.room_sample.specs.Texts.{most_lines, number_line, number_words, outcome_text, plan_line, sample_text, script_text, stretch_line};
 
+use crate::counts::most_of;
 use crate::sampling::Plan;
 use crate::stretch::Stretch;
 use crate::tally::{Outcome, States, Tally};
@@ -13,7 +12,6 @@ use io_text::Text;
 use room_files::write_block;
 use script_play::write_processes;
 use std::alloc::AllocError;
-use ws_history::ProcessState;
 
 /// Writes the outcomes of the room of this name, whose block these bytes are: how often each came, and a script for `play` that
 /// leads to it.
@@ -53,7 +51,7 @@ fn write_crashes(output: &mut Text, crashes: u32) -> Result<(), AllocError>
     write_number(output, b" crashes", u64::from(crashes))
 }
 
-/// Writes words, and a number behind them.
+/// Writes words, followed by a number.
 fn write_number(output: &mut Text, words: &[u8], number: u64) -> Result<(), AllocError>
     ensures { OnOk result (output.new ≡ output.old ++ (words.now ++ (32 ∷ decimal number))) }
 {
@@ -100,7 +98,8 @@ fn write_times(output: &mut Text, name: &[u8], times: u32) -> Result<(), AllocEr
     output.put(b" times\n")
 }
 
-fn write_script(
+/// Writes a script for `play` that follows the schedule in the room of this block.
+pub(crate) fn write_script(
     output: &mut Text,
     name: &[u8],
     block: &[u8],
@@ -160,75 +159,46 @@ fn write_most(output: &mut Text, name: &[u8], outcomes: &Tally) -> Result<(), Al
 }
 
 fn write_most_values(output: &mut Text, name: &[u8], values: usize) -> Result<(), AllocError>
-    ensures { OnOk result (output.new ≡ output.old ++ most_line name.now (codes " decided at most") values (codes " values\n")) }
+    ensures { OnOk result (output.new ≡ output.old ++ number_line name.now (codes " decided at most") values (codes " values\n")) }
 {
-    write_most_line(output, name, b" decided at most", values, b" values\n")
+    write_number_line(
+        output,
+        name,
+        b" decided at most",
+        values as u64,
+        b" values\n",
+    )
 }
 
 fn write_most_held(output: &mut Text, name: &[u8], held: usize) -> Result<(), AllocError>
-    ensures { OnOk result (output.new ≡ output.old ++ most_line name.now (codes " held at most") held (codes " processes\n")) }
+    ensures { OnOk result (output.new ≡ output.old ++ number_line name.now (codes " held at most") held (codes " processes\n")) }
 {
-    write_most_line(output, name, b" held at most", held, b" processes\n")
+    write_number_line(output, name, b" held at most", held as u64, b" processes\n")
 }
 
-/// Writes a line that says how many of some things there were at most.
-fn write_most_line(
+/// Writes a number, followed by words.
+pub(crate) fn write_number_words(
     output: &mut Text,
-    name: &[u8],
-    words: &[u8],
-    most: usize,
+    number: u64,
     things: &[u8],
 ) -> Result<(), AllocError>
-    ensures { OnOk result (output.new ≡ output.old ++ most_line name.now words.now most things.now) }
+    ensures { OnOk result (output.new ≡ output.old ++ number_words number things.now) }
 {
-    output.put(name)?;
-    write_number(output, words, most as u64)?;
+    output.put_number(number)?;
     output.put(things)
 }
 
-/// The most different values that any outcome has, and the most held processes.
-fn most_of(outcomes: &Tally) -> (usize, usize)
-    ensures values { result.0 ≡ most_of values_in outcomes.now }
-    ensures held { result.1 ≡ most_of held_in outcomes.now }
+/// Writes a line that says a number of some things.
+pub(crate) fn write_number_line(
+    output: &mut Text,
+    name: &[u8],
+    words: &[u8],
+    number: u64,
+    things: &[u8],
+) -> Result<(), AllocError>
+    ensures { OnOk result (output.new ≡ output.old ++ number_line name.now words.now number things.now) }
 {
-    let mut values = 0;
-    let mut held = 0;
-    for index in 0..outcomes.len() {
-        let Some((states, _)) = outcomes.get(index) else {
-            unreachable!() // there is an outcome of each index below their number
-        };
-        values = values_in(states.as_slice()).max(values);
-        held = held_in(states.as_slice()).max(held);
-    }
-    (values, held)
-}
-
-/// How many different values are decided.
-fn values_in(states: &[ProcessState]) -> usize
-    ensures { result ≡ values_in states.now }
-{
-    let mut count = 0;
-    for at in 0..states.len() {
-        if is_last_to_decide(states[at], &states[at + 1..]) {
-            count += 1;
-        }
-    }
-    count
-}
-
-/// Whether a process has decided a value that none of these has.
-fn is_last_to_decide(state: ProcessState, later: &[ProcessState]) -> bool
-    ensures { result ≡ (is_decided state && not (list_any (ghosts.eq state) later.now)) }
-{
-    matches!(state, ProcessState::Decided(_)) && !later.contains(&state)
-}
-
-/// How many processes are held.
-fn held_in(states: &[ProcessState]) -> usize
-    ensures { result ≡ held_in states.now }
-{
-    states
-        .iter()
-        .filter(|state| matches!(state, ProcessState::Held(_)))
-        .count()
+    output.put(name)?;
+    write_number(output, words, number)?;
+    output.put(things)
 }

@@ -1,5 +1,4 @@
-use Rattle.std.proofs.Common.{◌≡◌, ◌∙◌, ap, length, rules, subst}
-use Rattle.std.specs.Prelude.{◌==◌}
+use Rattle.std.proofs.Common.{◌≡◌, ◌∙◌, ◌&&◌, Bool, ap, subst}
 use Rattle.room_files.specs.Blocks.{Setup}
 use Rattle.room_files.specs.Inputs.{all_blocks}
 use Rattle.room_files.specs.Verdicts.{outcome_if}
@@ -10,11 +9,11 @@ pub returns : goal.returns
 returns g c =
     let read : Setup = record { rooms = c.rooms.inside.rooms.rooms; refused = c.rooms.inside.refused; line = c.rooms.inside.line } in
     let whole : read ≡ all_blocks c.args.input.now = c.rooms.view_is ∙ c.in_ok-rooms.ensures.read in
-    let empty : c.is_empty.result ≡ (length c.rooms.inside.refused == 0) = search rules in
     let told : IsSampleOutput c.args.plan.now read c.outcome_if-outcome.result c.put.new.self = record {
       told = c.write_samples.new.output;
-      samples = c.in_ok-write_samples.ensures;
+      well = c.in_ok-is_well.is_well;
+      samples = c.in_ok-is_well.ensures;
       output_is = c.in_ok-put.ensures.text;
-      outcome_is = c.outcome_if-outcome.ensures ∙ ap outcome_if empty;
+      outcome_is = c.outcome_if-outcome.ensures ∙ ap (λ (accepted : Bool). outcome_if (accepted && c.in_ok-is_well.is_well)) c.is_empty-is_accepted.ensures;
     } in
     subst (λ (setup : Setup). IsSampleOutput c.args.plan.now setup c.outcome_if-outcome.result c.put.new.self) whole told

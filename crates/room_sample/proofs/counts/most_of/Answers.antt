@@ -1,8 +1,8 @@
 use Rattle.std.proofs.Common.{ℕ, ◌∙◌, max, ap, sym}
 use Rattle.room_sample.specs.Samples.{Counted, counted_of}
-use Rattle.room_sample.specs.Texts.{held_in, values_in}
+use Rattle.room_sample.specs.Counts.{held_in, values_in}
 use Rattle.room_sample.proofs.Taking.{most_more}
-use Rattle.room_sample.proofs.text.most_of.Goals as goal
+use Rattle.room_sample.proofs.counts.most_of.Goals as goal
 
 pub loop-index-preserved : goal.loop-index-preserved
 loop-index-preserved c =

@@ -1,0 +1,56 @@
+//! How many values are decided in an outcome, and how many processes are held.
+ghost use Rattle.std.specs.Prelude.{◌≡◌, ◌&&◌, not};
+ghost use Rattle.std.specs.List.{list_any};
+ghost use Rattle.ws_history.specs.Reports.{is_decided};
+ghost use Rattle.ws_history.specs.contracts.states.ProcessStatePartialEq.TheImpl.{ghosts};
+ghost use Rattle.room_sample.specs.Counts.{held_in, most_of, values_in};
+
+use crate::tally::Tally;
+use ws_history::ProcessState;
+
+/// The most different values that any outcome has, and the most held processes.
+pub(crate) fn most_of(outcomes: &Tally) -> (usize, usize)
+    ensures values { result.0 ≡ most_of values_in outcomes.now }
+    ensures held { result.1 ≡ most_of held_in outcomes.now }
+{
+    let mut values = 0;
+    let mut held = 0;
+    for index in 0..outcomes.len() {
+        let Some((states, _)) = outcomes.get(index) else {
+            unreachable!() // there is an outcome of each index below their number
+        };
+        values = values_in(states.as_slice()).max(values);
+        held = held_in(states.as_slice()).max(held);
+    }
+    (values, held)
+}
+
+/// How many different values are decided.
+pub(crate) fn values_in(states: &[ProcessState]) -> usize
+    ensures { result ≡ values_in states.now }
+{
+    let mut count = 0;
+    for at in 0..states.len() {
+        if is_last_to_decide(states[at], &states[at + 1..]) {
+            count += 1;
+        }
+    }
+    count
+}
+
+/// Whether a process has decided a value that none of these has.
+fn is_last_to_decide(state: ProcessState, later: &[ProcessState]) -> bool
+    ensures { result ≡ (is_decided state && not (list_any (ghosts.eq state) later.now)) }
+{
+    matches!(state, ProcessState::Decided(_)) && !later.contains(&state)
+}
+
+/// How many processes are held.
+fn held_in(states: &[ProcessState]) -> usize
+    ensures { result ≡ held_in states.now }
+{
+    states
+        .iter()
+        .filter(|state| matches!(state, ProcessState::Held(_)))
+        .count()
+}
