@@ -1,8 +1,8 @@
 -- The outcomes of a sample are outcomes of runs.
-use Rattle.std.proofs.Common.{◌≡◌, ℕ, zero, suc, ◌++◌, Bool, true, false, cond, List, [], ◌∷◌, refl, sym, ap, ◌∙◌, subst}
-use Rattle.std.specs.List.{AllByRecursion}
+use Rattle.std.proofs.Common.{◌≡◌, ℕ, zero, suc, Bool, true, false, cond, List, [], ◌∷◌, Some, refl, sym, ap, ◌∙◌, subst}
+use Rattle.std.specs.Prelude.{slice_get}
+use Rattle.std.specs.List.{AllByRecursion, fold}
 use Rattle.std.proofs.lemmas.List.Elements.{All-from_recursion}
-use Rattle.std.proofs.lemmas.List.Sums.{fold-append}
 use Rattle.rand_core.specs.Stream.{Stream}
 use Rattle.room_spec.specs.Rooms.{IsWithinLimits, RoomSpec, processes}
 use Rattle.room_core.specs.Calls.{Call, RoomState, opening_state, room_after_calls, room_after_step, room_after_steps}
@@ -17,7 +17,9 @@ use Rattle.run_search.specs.Outcomes.{IsRunOutcome}
 use Rattle.room_outcomes.specs.Ends.{ends_of}
 use Rattle.room_outcomes.proofs.CallerLemmas.{reported_outcome}
 use Rattle.room_sample.specs.Schedules.{IsOutcome, room_after_schedule, room_after_stretch, settled_by}
-use Rattle.room_sample.specs.Samples.{AreAmongAll, AreDrawn, Counted, IsRunFrom, IsSampleFrom, Sampled, counted, counted_all, no_run, once_more, run_more, same_states}
+use Rattle.room_sample.specs.Chances.{random_of}
+use Rattle.room_sample.specs.Samples.{AreAmongAll, Counted, IsRunFrom, IsSampleOf, Sampled, counted, once_more, same_states}
+use Rattle.room_sample.specs.declared.sampling.Plan.{Plan}
 use Rattle.room_sample.specs.declared.stretch.Stretch.{Stretch}
 use Rattle.room_sample.specs.declared.stretch.Stretch.TheVariants.{Steps, Crash}
 
@@ -80,12 +82,13 @@ is_among spec states = IsRunOutcome spec (processes spec) (ends_of states)
 abbrev are_among : RoomSpec → List Counted → Type 0
 are_among spec outcomes = AllByRecursion (λ (c : Counted). is_among spec c.states) outcomes
 
-runs_among : (spec : RoomSpec) (crashes : ℕ) (random later : Stream) (runs : List Sampled) → IsWithinLimits spec → AreDrawn (IsRunFrom spec crashes) random runs later → are_among spec (counted_all runs)
-runs_among spec crashes random later [] limits no_run = tt
-runs_among spec crashes random later all limits (run_more runs run middle end drawn is) =
-    subst (are_among spec) (sym (fold-append (λ (so_far : List Counted) (one : Sampled). counted one so_far) [] runs (run ∷ [])))
-    (counted_keeps (is_among spec) run (counted_all runs) (sampled_outcome spec crashes run.schedule run.states limits is.outcome) (runs_among spec crashes random middle runs limits drawn))
+runs_among : (spec : RoomSpec) (crashes : ℕ) (random : ℕ → Stream) (runs : List Sampled) (so_far : List Counted) → IsWithinLimits spec → ((k : ℕ) (run : Sampled) → slice_get runs k ≡ Some run → IsRunFrom spec crashes (random k) run) → are_among spec so_far
+    → are_among spec (fold (λ (all : List Counted) (one : Sampled). counted one all) so_far runs)
+runs_among spec crashes random [] so_far limits drawn are = are
+runs_among spec crashes random (run ∷ runs) so_far limits drawn are =
+    runs_among spec crashes (λ k. random (suc k)) runs (counted run so_far) limits (λ k one there. drawn (suc k) one there)
+    (counted_keeps (is_among spec) run so_far (sampled_outcome spec crashes run.schedule run.states limits (drawn 0 run refl).outcome) are)
 
-pub sample_among : (spec : RoomSpec) (crashes schedules : ℕ) (random later : Stream) (outcomes : List Counted) → IsWithinLimits spec → IsSampleFrom spec crashes schedules random outcomes later → AreAmongAll spec outcomes
-sample_among spec crashes schedules random later outcomes limits is =
-    All-from_recursion (λ (c : Counted). is_among spec c.states) outcomes (subst (are_among spec) (sym is.outcomes_are) (runs_among spec crashes random later is.runs limits is.drawn))
+pub sample_among : (spec : RoomSpec) (plan : Plan) (schedules : ℕ) (outcomes : List Counted) → IsWithinLimits spec → IsSampleOf spec plan schedules outcomes → AreAmongAll spec outcomes
+sample_among spec plan schedules outcomes limits is =
+    All-from_recursion (λ (c : Counted). is_among spec c.states) outcomes (subst (are_among spec) (sym is.outcomes_are) (runs_among spec plan.crashes (random_of plan.seed) is.runs [] limits is.drawn tt))

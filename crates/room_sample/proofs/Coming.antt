@@ -1,15 +1,15 @@
 -- The scripts of a sample's outcomes.
-use Rattle.std.proofs.Common.{All, ◌≡◌, ℕ, suc, Bool, true, false, cond, List, [], ◌∷◌, Option, Some, None, Ok, length, get_or, sym, subst, arith}
-use Rattle.std.specs.Prelude.{IfSome, IsPermutation}
-use Rattle.std.specs.List.{find}
+use Rattle.std.proofs.Common.{All, ◌≡◌, ℕ, suc, Bool, true, false, cond, List, [], ◌∷◌, Option, Some, None, Ok, length, get_or, refl, sym, subst, arith}
+use Rattle.std.specs.Prelude.{IfSome, IsPermutation, slice_get}
+use Rattle.std.specs.List.{find, fold}
 use Rattle.std.proofs.lemmas.List.Elements.{All-cons}
 use Rattle.std.proofs.lemmas.List.Sorted.{All-permutation}
-use Rattle.std.proofs.lemmas.List.Sums.{fold-append}
 use Rattle.rand_core.specs.Stream.{Stream}
 use Rattle.room_spec.specs.Blocks.{block_in}
 use Rattle.room_spec.specs.Rooms.{IsWithinLimits, RoomSpec}
 use Rattle.room_sample.specs.Leads.{HasScript}
-use Rattle.room_sample.specs.Samples.{AreDrawn, Counted, IsRunFrom, IsSample, Sampled, counted, counted_all, first_time, no_run, once_more, run_more, same_states}
+use Rattle.room_sample.specs.Chances.{random_of}
+use Rattle.room_sample.specs.Samples.{Counted, IsRunFrom, IsSample, Sampled, counted, first_time, once_more, same_states}
 use Rattle.room_sample.specs.Schedules.{IsOutcome}
 use Rattle.room_sample.specs.Tasks.{breaks_task, first_broken}
 use Rattle.room_sample.specs.declared.sampling.Plan.{Plan}
@@ -31,14 +31,15 @@ counted_come spec crashes run (one ∷ others) is all =
     by true later = All-cons (Comes spec crashes) (once_more one) others (all 0 one (omega arith)) (later_come spec crashes one others all)
     by false later = All-cons (Comes spec crashes) one (counted run others) (all 0 one (omega arith)) later
 
-drawn_come : (spec : RoomSpec) (crashes : ℕ) (random later : Stream) (runs : List Sampled) → AreDrawn (IsRunFrom spec crashes) random runs later → All (Comes spec crashes) (counted_all runs)
-drawn_come spec crashes random later runs no_run = λ k d below. absurd (omega (arith, below))
-drawn_come spec crashes random end all (run_more runs run middle later drawn is) =
-    subst (λ (outcomes : List Counted). All (Comes spec crashes) outcomes) (sym (fold-append (λ (so_far : List Counted) (one : Sampled). counted one so_far) [] runs (run ∷ [])))
-    (counted_come spec crashes run (counted_all runs) is.outcome (drawn_come spec crashes random middle runs drawn))
+drawn_come : (spec : RoomSpec) (crashes : ℕ) (random : ℕ → Stream) (runs : List Sampled) (so_far : List Counted) → ((k : ℕ) (run : Sampled) → slice_get runs k ≡ Some run → IsRunFrom spec crashes (random k) run) → All (Comes spec crashes) so_far
+    → All (Comes spec crashes) (fold (λ (all : List Counted) (one : Sampled). counted one all) so_far runs)
+drawn_come spec crashes random [] so_far drawn come = come
+drawn_come spec crashes random (run ∷ runs) so_far drawn come =
+    drawn_come spec crashes (λ k. random (suc k)) runs (counted run so_far) (λ k one there. drawn (suc k) one there) (counted_come spec crashes run so_far (drawn 0 run refl).outcome come)
 
 sample_come : (plan : Plan) (spec : RoomSpec) (outcomes : List Counted) → IsSample spec plan outcomes → All (Comes spec plan.crashes) outcomes
-sample_come plan spec outcomes sample = subst (λ (all : List Counted). All (Comes spec plan.crashes) all) (sym sample.1.outcomes_are) (drawn_come spec plan.crashes _ sample.0 sample.1.runs sample.1.drawn)
+sample_come plan spec outcomes sample =
+    subst (λ (all : List Counted). All (Comes spec plan.crashes) all) (sym sample.outcomes_are) (drawn_come spec plan.crashes (random_of plan.seed) sample.runs [] sample.drawn (λ k d below. absurd (omega (arith, below))))
 
 -- each script leads to its outcome
 pub scripts_lead : (plan : Plan) (spec : RoomSpec) (block : List ℕ) (outcomes shown : List Counted) → IsWithinLimits spec → block_in block ≡ Ok (spec, length block) → IsSample spec plan outcomes → IsPermutation outcomes shown

@@ -3,10 +3,12 @@ mod Breaking
 mod Coming
 mod Counting
 mod Drawing
+mod Entering
 mod Following
 mod Leading
 mod OneMore
 mod Ordering
+mod Ranking
 mod RoomTexts
 mod Schedules
 mod ScriptLines

@@ -1,11 +1,13 @@
 -- One run more is sampled.
-use Rattle.std.proofs.Common.{◌≡◌, ℕ, ◌+◌, ◌<◌, Bool, true, false, cond, min, List, [], ◌∷◌, ◌++◌, refl, sym, ap, ◌∙◌, arith}
+use Rattle.std.proofs.Common.{◌≡◌, ℕ, zero, suc, ◌+◌, ◌<◌, Bool, true, false, cond, min, List, [], ◌∷◌, ◌++◌, length, Some, None, refl, sym, ap, ◌∙◌, subst, arith}
+use Rattle.std.specs.Prelude.{slice_get}
 use Rattle.std.specs.List.{sum_by}
 use Rattle.std.proofs.lemmas.List.{length-append}
 use Rattle.std.proofs.lemmas.List.Sums.{fold-append, sum_by-cons}
-use Rattle.rand_core.specs.Stream.{Stream}
 use Rattle.room_spec.specs.Rooms.{RoomSpec}
-use Rattle.room_sample.specs.Samples.{Counted, IsRunFrom, IsSampleFrom, Sampled, counted, first_time, no_run, once_more, run_more, same_states}
+use Rattle.room_sample.specs.Chances.{random_of}
+use Rattle.room_sample.specs.Samples.{Counted, IsRunFrom, IsSampleOf, Sampled, counted, first_time, once_more, same_states}
+use Rattle.room_sample.specs.declared.sampling.Plan.{Plan}
 
 more_times : (one : Counted) (others : List Counted) → sum_by (λ (c : Counted). c.times) (one ∷ others) ≡ one.times + sum_by (λ (c : Counted). c.times) others
 more_times one others = sum_by-cons (λ (c : Counted). c.times) one others
@@ -31,14 +33,24 @@ counted_once run (one ∷ others) few =
         let later = later_once (omega (arith, few, all)) in
         omega (arith, here, later, all)
 
-pub no_sample : (spec : RoomSpec) (crashes : ℕ) (random : Stream) → IsSampleFrom spec crashes 0 random [] random
-no_sample spec crashes random = record { runs = []; count = refl; drawn = no_run; outcomes_are = refl; total = refl }
+pub no_sample : (spec : RoomSpec) (plan : Plan) → IsSampleOf spec plan 0 []
+no_sample spec plan = record { runs = []; count = refl; drawn = λ k run there. absurd (let none : None ≡ Some run = there in cc); outcomes_are = refl; total = refl }
 
-pub one_more : (spec : RoomSpec) (crashes count : ℕ) (random middle later : Stream) (before after : List Counted) (run : Sampled) → count + 1 < 4294967296 → IsSampleFrom spec crashes count random before middle → IsRunFrom spec crashes middle run later → after ≡ counted run before → IsSampleFrom spec crashes (count + 1) random after later
-one_more spec crashes count random middle later before after run few is drawn to = record {
+same_some : (a b : Sampled) → Some a ≡ Some b → a ≡ b
+same_some a b is = cc
+
+-- a run at a place is one of the first, or the last
+one_of : (P : ℕ → Sampled → Type 0) (runs : List Sampled) (run : Sampled) → ((k : ℕ) (one : Sampled) → slice_get runs k ≡ Some one → P k one) → P (length runs) run → (k : ℕ) (one : Sampled) → slice_get (runs ++ run ∷ []) k ≡ Some one → P k one
+one_of P [] run first last zero one there = subst (P 0) (same_some run one there) last
+one_of P [] run first last (suc k) one there = absurd (let none : None ≡ Some one = there in cc)
+one_of P (other ∷ runs) run first last zero one there = first 0 one there
+one_of P (other ∷ runs) run first last (suc k) one there = one_of (λ n r. P (suc n) r) runs run (λ n r is. first (suc n) r is) last k one there
+
+pub one_more : (spec : RoomSpec) (plan : Plan) (count : ℕ) (before after : List Counted) (run : Sampled) → count + 1 < 4294967296 → IsSampleOf spec plan count before → IsRunFrom spec plan.crashes (random_of plan.seed count) run → after ≡ counted run before → IsSampleOf spec plan (count + 1) after
+one_more spec plan count before after run few is drawn to = record {
   runs = is.runs ++ run ∷ [];
   count = length-append is.runs (run ∷ []) ∙ ap (λ (n : ℕ). n + 1) is.count;
-  drawn = run_more is.runs run middle later is.drawn drawn;
+  drawn = one_of (λ (k : ℕ) (one : Sampled). IsRunFrom spec plan.crashes (random_of plan.seed k) one) is.runs run is.drawn (subst (λ (k : ℕ). IsRunFrom spec plan.crashes (random_of plan.seed k) run) (sym is.count) drawn);
   outcomes_are = to ∙ ap (counted run) is.outcomes_are ∙ sym (fold-append (λ (so_far : List Counted) (one : Sampled). counted one so_far) [] is.runs (run ∷ []));
   total = ap (λ (l : List Counted). sum_by (λ (c : Counted). c.times) l) to ∙ counted_once run before (let all = is.total in omega (arith, few, all)) ∙ ap (λ (n : ℕ). n + 1) is.total;
 }

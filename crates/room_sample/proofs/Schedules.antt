@@ -1,5 +1,5 @@
 -- One stretch more.
-use Rattle.std.proofs.Common.{◌≡◌, ℕ, zero, suc, ◌+◌, ◌-◌, ◌<◌, ◌≤◌, Bool, true, false, eqb, min, List, [], ◌∷◌, ◌++◌, refl, sym, ap, ◌∙◌, subst, arith, Option, Some, None}
+use Rattle.std.proofs.Common.{◌≡◌, ℕ, ◌+◌, ◌-◌, ◌<◌, ◌≤◌, Bool, true, false, eqb, min, List, [], ◌∷◌, ◌++◌, refl, sym, ap, ◌∙◌, subst, arith}
 use Rattle.std.proofs.lemmas.Bool.{eqb-true, eqb-false}
 use Rattle.std.proofs.lemmas.List.Sums.{sum_by-append}
 use Rattle.rand_core.specs.Stream.{Stream}
@@ -10,8 +10,9 @@ use Rattle.room_core.specs.Reading.{AreFieldsOf}
 use Rattle.room_core.specs.declared.reply.StepReply.TheVariants.{Stepped}
 use Rattle.ws_history.specs.Reports.{report_of}
 use Rattle.ws_history.specs.declared.states.ProcessState.{ProcessState}
-use Rattle.room_sample.specs.Drawn.{Acts, Crashes, IsLed, Walks, Way, burning, burnt, goes_on, sets_out, unburnt, with_steps}
-use Rattle.room_sample.specs.declared.run.Active.{Active}
+use Rattle.room_sample.specs.Drawn.{Acts, Crashes, IsLed, Walks, WalksInto, Way, aimed, burning, burnt, goes_on, sets_out, unburnt, with_steps}
+use Rattle.room_sample.specs.declared.active.Active.{Active}
+use Rattle.room_sample.specs.declared.active.Fuse.{Fuse}
 use Rattle.room_sample.specs.declared.stretch.Stretch.{Stretch}
 use Rattle.room_sample.specs.declared.stretch.Stretch.TheVariants.{Steps, Crash}
 use Rattle.room_sample.specs.Schedules.{IsOutcome, IsSchedule, MayCome, crashes_in, room_after_schedule, room_after_stretch}
@@ -63,18 +64,21 @@ module _ (spec : RoomSpec) (crashes : ℕ) where
   walks_on way after simulator most taken so short walks =
       subst (IsScheduled spec crashes) (sym walks.leads) (steps_by (eqb taken 0) way simulator taken refl so (omega (arith, walks.few, short)) walks.each)
 
+  enters_on : (way after : Way) (simulator most taken : ℕ) (entered : Bool) → IsScheduled spec crashes way → most ≤ 64 → WalksInto simulator most taken way after entered → IsScheduled spec crashes after
+  enters_on way after simulator most taken entered so short walks =
+      subst (IsScheduled spec crashes) (sym walks.1) (steps_by (eqb taken 0) way simulator taken refl so (omega (arith, walks.0.few, short)) walks.0.each)
+
   crashes_on : (way after : Way) (simulator : ℕ) (crashed : Bool) → IsScheduled spec crashes way → Crashes simulator way crashed after → IsScheduled spec crashes after
   crashes_on way after simulator true so is =
       let one = one_crash simulator in
       subst (IsScheduled spec crashes) (sym is.2) (scheduled_on way (room_after_crash way.room simulator) (way.crashes_left - 1) (Crash simulator) so is.1 refl (omega (arith, one, is.0)))
   crashes_on way after simulator false so is = subst (IsScheduled spec crashes) (sym is.1) so
 
-  acts_on : (way after : Way) (simulator most : ℕ) (fuse left : Option ℕ) (stays : Bool) → IsScheduled spec crashes way → most ≤ 64 → Acts simulator most way fuse left after stays → IsScheduled spec crashes after
-  acts_on way after simulator most None None stays so short (unburnt taken after' walks) = walks_on way after simulator most taken so short walks
-  acts_on way after simulator most (Some zero) None stays so short (burnt crashed after' is) = crashes_on way after simulator crashed so is
-  acts_on way after simulator most (Some left) (Some less) stays so short (burning left' taken after' some walks) = walks_on way after simulator (min most left) taken so (omega (arith, short)) walks
-  acts_on way after simulator most None (Some less) stays so short acts = elim acts [ ]
-  acts_on way after simulator most (Some (suc left)) None stays so short acts = elim acts [ ]
+  acts_on : (way after : Way) (simulator most : ℕ) (fuse left : Fuse) (stays : Bool) → IsScheduled spec crashes way → most ≤ 64 → Acts simulator most way fuse left after stays → IsScheduled spec crashes after
+  acts_on way after simulator most fuse left stays so short (unburnt taken after' walks) = walks_on way after simulator most taken so short walks
+  acts_on way after simulator most fuse left stays so short (burnt crashed after' is) = crashes_on way after simulator crashed so is
+  acts_on way after simulator most fuse left stays so short (burning steps taken after' some walks) = walks_on way after simulator (min most steps) taken so (omega (arith, short)) walks
+  acts_on way after simulator most fuse left stays so short (aimed others taken entered after' walks) = enters_on way after simulator most taken entered so short walks
 
   pub led_so : (random : Stream) (draws : ℕ) (way : Way) (active : List Active) (later : Stream) → IsLed spec crashes random draws way active later → IsScheduled spec crashes way
   led_so random draws way active later (sets_out active' later' is) = record { may_come = tt; leads = refl; few = omega arith }

@@ -1,5 +1,5 @@
 -- Who may act no more has stopped.
-use Rattle.std.proofs.Common.{◌≡◌, ◌≢◌, ◌⊎◌, inl, inr, ℕ, zero, suc, ◌+◌, ◌<◌, ◌≤◌, Bool, true, false, cond, eqb, min, not, List, [], ◌∷◌, ◌++◌, length, get_or, set, Option, Some, None, refl, sym, ap, ◌∙◌, subst, arith}
+use Rattle.std.proofs.Common.{◌≡◌, ◌≢◌, ◌⊎◌, inl, inr, ℕ, zero, suc, ◌+◌, ◌<◌, ◌≤◌, Bool, true, false, cond, eqb, min, not, List, [], ◌∷◌, ◌++◌, length, get_or, set, Some, None, refl, sym, ap, ◌∙◌, subst, arith}
 use Rattle.std.specs.Prelude.{slice_get, swap_remove}
 use Rattle.std.specs.List.{count_by}
 use Rattle.std.proofs.lemmas.Bool.{cases_lt, eqb-true, eqb-false, eq-eqb}
@@ -12,9 +12,11 @@ use Rattle.rand_core.specs.Stream.{Stream}
 use Rattle.room_spec.specs.Rooms.{RoomSpec}
 use Rattle.room_core.specs.Calls.{RoomState, opening_state, step_reply}
 use Rattle.room_core.specs.declared.reply.StepReply.TheVariants.{Stepped}
-use Rattle.room_sample.specs.Drawn.{Acts, Crashes, Draws, IsLed, Walks, Way, active_from, burning, burnt, fuse_from, goes_on, sets_out, unburnt, with_steps}
+use Rattle.room_sample.specs.Drawn.{Acts, Crashes, Draws, IsLed, Walks, WalksInto, Way, active_from, aimed, burning, burnt, goes_on, one_from, sets_out, style_from, unburnt, with_steps}
 use Rattle.room_sample.specs.Schedules.{HasStopped, crashed, room_after_schedule, stopped}
-use Rattle.room_sample.specs.declared.run.Active.{Active}
+use Rattle.room_sample.specs.declared.active.Active.{Active}
+use Rattle.room_sample.specs.declared.active.Fuse.{Fuse}
+use Rattle.room_sample.specs.declared.active.Style.{Style}
 use Rattle.room_sample.specs.declared.stretch.Stretch.{Stretch}
 use Rattle.room_sample.specs.declared.stretch.Stretch.TheVariants.{Steps, Crash}
 use Rattle.room_sample.proofs.Schedules.{led_so}
@@ -104,12 +106,11 @@ crashes_go : (way after : Way) (simulator : ℕ) (is_crash : Bool) → Crashes s
 crashes_go way after simulator true is = (Crash simulator ∷ [], ap (λ (w : Way). w.schedule) is.2)
 crashes_go way after simulator false is = ([], ap (λ (w : Way). w.schedule) is.1 ∙ sym (append-nil way.schedule))
 
-acts_go : (way after : Way) (simulator most : ℕ) (fuse left : Option ℕ) (stays : Bool) → Acts simulator most way fuse left after stays → GoesOn way after
-acts_go way after simulator most None None stays (unburnt taken after' walks) = walks_go way after simulator most taken walks
-acts_go way after simulator most (Some zero) None stays (burnt is_crash after' is) = crashes_go way after simulator is_crash is
-acts_go way after simulator most (Some left) (Some less) stays (burning left' taken after' some walks) = walks_go way after simulator (min most left) taken walks
-acts_go way after simulator most None (Some less) stays acts = elim acts [ ]
-acts_go way after simulator most (Some (suc left)) None stays acts = elim acts [ ]
+acts_go : (way after : Way) (simulator most : ℕ) (fuse left : Fuse) (stays : Bool) → Acts simulator most way fuse left after stays → GoesOn way after
+acts_go way after simulator most fuse left stays (unburnt taken after' walks) = walks_go way after simulator most taken walks
+acts_go way after simulator most fuse left stays (burnt is_crash after' is) = crashes_go way after simulator is_crash is
+acts_go way after simulator most fuse left stays (burning steps taken after' some walks) = walks_go way after simulator (min most steps) taken walks
+acts_go way after simulator most fuse left stays (aimed others taken entered after' walks) = subst (GoesOn way) (sym walks.1) (steps_go (eqb taken 0) way simulator taken refl)
 
 -- ---- who may not act again has stopped
 
@@ -121,39 +122,44 @@ walked spec way after simulator most taken leads walks fewer =
     let less : taken < most = (let other = eqb-false taken most fewer in omega (arith, other, walks.few)) in
     stopped after.schedule [] (sym (append-nil after.schedule)) (subst (λ (room : RoomState). step_reply room simulator ≢ Stepped) (sym leads) (walks.stopped less))
 
-acts_last : (spec : RoomSpec) (way after : Way) (simulator most : ℕ) (fuse left : Option ℕ) (stays : Bool) → Leads spec after → Acts simulator most way fuse left after stays → stays ≡ false → HasStopped spec after.schedule simulator
-acts_last spec way after simulator most None None stays leads (unburnt taken after' walks) is = walked spec way after simulator most taken leads walks is
-acts_last spec way after simulator most (Some zero) None stays leads (burnt true after' (some, replied, to)) is =
+entered_none : (spec : RoomSpec) (way after : Way) (simulator most taken : ℕ) → Leads spec after → WalksInto simulator most taken way after false → eqb taken most ≡ false → HasStopped spec after.schedule simulator
+entered_none spec way after simulator most taken leads walks fewer =
+    let less : taken < most = (let other = eqb-false taken most fewer in omega (arith, other, walks.0.few)) in
+    stopped after.schedule [] (sym (append-nil after.schedule)) (subst (λ (room : RoomState). step_reply room simulator ≢ Stepped) (sym leads) (walks.0.stopped refl less))
+
+acts_last : (spec : RoomSpec) (way after : Way) (simulator most : ℕ) (fuse left : Fuse) (stays : Bool) → Leads spec after → Acts simulator most way fuse left after stays → stays ≡ false → HasStopped spec after.schedule simulator
+acts_last spec way after simulator most fuse left stays leads (unburnt taken after' walks) is = walked spec way after simulator most taken leads walks is
+acts_last spec way after simulator most fuse left stays leads (burnt true after' (some, replied, to)) is =
     let long = length-append way.schedule (Crash simulator ∷ []) in
     subst (λ (schedule : List Stretch). HasStopped spec schedule simulator) (sym (ap (λ (w : Way). w.schedule) to))
     (crashed (length way.schedule, omega (arith, long), at_last way.schedule (Crash simulator)))
-acts_last spec way after simulator most (Some zero) None stays leads (burnt false after' crashes) is = absurd (let never : true ≡ false = is in cc)
-acts_last spec way after simulator most (Some left) (Some less) stays leads (burning left' taken after' some walks) is = walked spec way after simulator (min most left) taken leads walks is
-acts_last spec way after simulator most None (Some less) stays leads acts is = elim acts [ ]
-acts_last spec way after simulator most (Some (suc left)) None stays leads acts is = elim acts [ ]
+acts_last spec way after simulator most fuse left stays leads (burnt false after' crashes) is = absurd (let never : true ≡ false = is in cc)
+acts_last spec way after simulator most fuse left stays leads (burning steps taken after' some walks) is = walked spec way after simulator (min most steps) taken leads walks is
+acts_last spec way after simulator most fuse left stays leads (aimed others taken false after' walks) is = entered_none spec way after simulator most taken leads walks is
+acts_last spec way after simulator most fuse left stays leads (aimed others taken true after' walks) is = absurd (let never : true ≡ false = is in cc)
 
 -- ---- all who have not stopped may act
 
 abbrev pub AreWatched : RoomSpec → Way → List Active → Type 0
 AreWatched spec way active = (i : ℕ) → i < spec.simulators → (1 ≤ times i active) ⊎ HasStopped spec way.schedule i
 
-all_there : (spec : RoomSpec) (random : Stream) (m i : ℕ) → i < m → 1 ≤ times i (active_from spec m random).0
+all_there : (spec : RoomSpec) (style : Style) (random : Stream) (m i : ℕ) → i < m → 1 ≤ times i (active_from spec style m random).0
 unfolding active_from
-all_there spec random zero i less = absurd (omega arith)
-all_there spec random (suc m) i less =
-    let before = active_from spec m random in
-    let last : Active = record { simulator = m; fuse = (fuse_from spec before.1).0 } in
+all_there spec style random zero i less = absurd (omega arith)
+all_there spec style random (suc m) i less =
+    let before = active_from spec style m random in
+    let last : Active = (one_from spec style m before.1).0 in
     let sums : times i (before.0 ++ last ∷ []) ≡ times i before.0 + times i (last ∷ []) = sum_by-append (λ (a : Active). cond (is_of i a) 1 0) before.0 (last ∷ []) in
     let one = one_of i last [] in
-    by_last (times i []) (λ below. all_there spec random m i below) sums one (cases_lt i m)
+    by_last (times i []) (λ below. all_there spec style random m i below) sums one (cases_lt i m)
   where
-    by_last : {a c : ℕ} (d : ℕ) → (i < m → 1 ≤ times i (active_from spec m random).0) → a ≡ times i (active_from spec m random).0 + c → c ≡ cond (eqb m i) 1 0 + d → (i < m) ⊎ (m ≤ i) → 1 ≤ a
+    by_last : {a c : ℕ} (d : ℕ) → (i < m → 1 ≤ times i (active_from spec style m random).0) → a ≡ times i (active_from spec style m random).0 + c → c ≡ cond (eqb m i) 1 0 + d → (i < m) ⊎ (m ≤ i) → 1 ≤ a
     by_last d earlier sums one (inl below) = let there = earlier below in omega (arith, sums, there)
     by_last d earlier sums one (inr last) = let here : ◌≡◌ {A = ℕ} (cond (eqb m i) 1 0) 1 = ap (λ (b : Bool). cond b 1 0) (eq-eqb m i (omega (arith, less, last))) in omega (arith, sums, one, here)
 
-module _ (spec : RoomSpec) (way after : Way) (active active' : List Active) (random later : Stream) (drawn : Draws way active random after active' later) (leads : Leads spec after) (so : AreWatched spec way active) where
+module _ (spec : RoomSpec) (style : Style) (way after : Way) (active active' : List Active) (random later : Stream) (drawn : Draws style way active random after active' later) (leads : Leads spec after) (so : AreWatched spec way active) where
   abbrev other : Active
-  other = record { simulator = drawn.one.simulator; fuse = drawn.fuse }
+  other = record { simulator = drawn.one.simulator; rank = drawn.rank; fuse = drawn.fuse }
 
   was : (i : ℕ) → HasStopped spec way.schedule i → HasStopped spec after.schedule i
   was i is =
@@ -180,9 +186,9 @@ module _ (spec : RoomSpec) (way after : Way) (active active' : List Active) (ran
   watched_on = by_stays drawn.stays refl
 
 watched : (spec : RoomSpec) (crashes : ℕ) (random : Stream) (draws : ℕ) (way : Way) (active : List Active) (later : Stream) → IsLed spec crashes random draws way active later → AreWatched spec way active
-watched spec crashes random draws way active later (sets_out active' later' is) = λ i less. inl (subst (λ (all : List Active). 1 ≤ times i all) (sym (ap (λ (p : List Active × Stream). p.0) is)) (all_there spec random spec.simulators i less))
+watched spec crashes random draws way active later (sets_out active' later' is) = λ i less. inl (subst (λ (all : List Active). 1 ≤ times i all) (sym (ap (λ (p : List Active × Stream). p.0) is)) (all_there spec (style_from random).0 (style_from random).1 spec.simulators i less))
 watched spec crashes random draws way active later (goes_on before from to active' active'' middle later' led drawn) =
-    watched_on spec from way active' active middle later drawn (led_so spec crashes random draws way active later (goes_on before from to active' active'' middle later' led drawn)).leads (watched spec crashes random before from active' middle led)
+    watched_on spec (style_from random).0 from way active' active middle later drawn (led_so spec crashes random draws way active later (goes_on before from to active' active'' middle later' led drawn)).leads (watched spec crashes random before from active' middle led)
 
 -- where nobody may act each has stopped
 pub all_stopped : (spec : RoomSpec) (crashes : ℕ) (random : Stream) (draws : ℕ) (way : Way) (active : List Active) (later : Stream) → IsLed spec crashes random draws way active later → active ≡ [] → (i : ℕ) → i < spec.simulators → HasStopped spec way.schedule i

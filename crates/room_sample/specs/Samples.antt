@@ -1,5 +1,5 @@
 -- Runs of a room, counted by their outcomes.
-use Rattle.std.specs.Prelude.{◌≡◌, ◌⊎◌, ℕ, ◌+◌, ◌-◌, ◌^◌, ◌<◌, ◌≤◌, Bool, List, [], ◌∷◌, ◌++◌, length, map, min, slice_index_or, if◌then◌else◌}
+use Rattle.std.specs.Prelude.{◌≡◌, ◌⊎◌, ℕ, ◌+◌, ◌-◌, ◌^◌, ◌<◌, ◌≤◌, Bool, List, [], ◌∷◌, length, map, min, Some, slice_get, slice_index_or, if◌then◌else◌}
 use Rattle.std.specs.List.{All, fold, sum_by}
 use Rattle.std.specs.Cmp.Lexicographic.{pointwise}
 use Rattle.arrayvec.specs.declared.array_vec.ArrayVec.{ArrayVec}
@@ -45,31 +45,26 @@ counted run (one ∷ others) = if same_states run.states one.states then once_mo
 abbrev pub counted_all : List Sampled → List Counted
 counted_all runs = fold (λ so_far run. counted run so_far) [] runs
 
--- A run of a room by a schedule that is drawn from a stream, in which at most so many simulators crash; and what is left of the stream.
--- It goes on until each simulator has stopped, unless as many draws are made as may be.
-pub record IsRunFrom (spec : RoomSpec) (crashes : ℕ) (random : Stream) (run : Sampled) (later : Stream) : Type 0 where
+-- A run of a room by a schedule that is drawn from a stream, in which at most so many simulators crash. It goes on until each simulator has
+-- stopped, unless as many draws are made as may be.
+pub record IsRunFrom (spec : RoomSpec) (crashes : ℕ) (random : Stream) (run : Sampled) : Type 0 where
   pub way : Way
-  pub drawn : IsThrough spec crashes random way later
+  pub drawn : IsThrough spec crashes random way
   pub schedule_is : run.schedule ≡ way.schedule
   pub outcome : IsOutcome spec crashes run.schedule run.states
   pub ends : (drawn.draws ≡ most_draws) ⊎ ((i : ℕ) → i < spec.simulators → HasStopped spec run.schedule i)
 
--- runs that are drawn from a stream, one after the other, and what is left of it
-pub data AreDrawn (draws : Stream → Sampled → Stream → Type 0) (random : Stream) : List Sampled → Stream → Type 0 where
-  no_run : AreDrawn draws random [] random
-  run_more : (runs : List Sampled) (run : Sampled) (middle later : Stream) → AreDrawn draws random runs middle → draws middle run later → AreDrawn draws random (runs ++ run ∷ []) later
-
--- the outcomes of so many runs that are drawn from a stream, one after the other
-pub record IsSampleFrom (spec : RoomSpec) (crashes schedules : ℕ) (random : Stream) (outcomes : List Counted) (later : Stream) : Type 0 where
+-- The outcomes of so many runs, each by a schedule that is drawn from a stream of its own: that of the seed and of its number, from 0.
+pub record IsSampleOf (spec : RoomSpec) (plan : Plan) (schedules : ℕ) (outcomes : List Counted) : Type 0 where
   pub runs : List Sampled
   pub count : length runs ≡ schedules
-  pub drawn : AreDrawn (IsRunFrom spec crashes) random runs later
+  pub drawn : (k : ℕ) (run : Sampled) → slice_get runs k ≡ Some run → IsRunFrom spec plan.crashes (random_of plan.seed k) run
   pub outcomes_are : outcomes ≡ counted_all runs
   pub total : sum_by (λ one. one.times) outcomes ≡ schedules
 
--- The outcomes of a room by a plan, of which the seed gives the stream.
+-- the outcomes of a room by a plan
 abbrev pub IsSample : RoomSpec → Plan → List Counted → Type 0
-IsSample spec plan outcomes = (later : Stream) × IsSampleFrom spec plan.crashes plan.schedules (random_of plan.seed) outcomes later
+IsSample spec plan outcomes = IsSampleOf spec plan plan.schedules outcomes
 
 -- Each outcome is one of those that a search of all runs lists, with those processes stopped that are held or still going.
 abbrev pub AreAmongAll : RoomSpec → List Counted → Type 0

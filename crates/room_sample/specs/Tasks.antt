@@ -1,5 +1,5 @@
 -- Whether an outcome keeps its room's task, and how many schedules broke it.
-use Rattle.std.specs.Prelude.{ℕ, nat_le, ◌==◌, Bool, true, false, not, ◌&&◌, List, Option, if◌then◌else◌}
+use Rattle.std.specs.Prelude.{ℕ, nat_le, ◌==◌, Bool, true, not, ◌&&◌, List, Option, if◌then◌else◌}
 use Rattle.std.specs.List.{find, list_all, list_any, sum_by}
 use Rattle.std.specs.Option.{option_map_or}
 use Rattle.room_spec.specs.Rooms.{RoomSpec}

@@ -13,12 +13,13 @@ pub(crate) struct Chances {
 }
 
 impl Chances {
-    /// The generator of this seed.
-    pub(crate) fn of(seed: u64) -> Chances
-        ensures { random_in result ≡ random_of seed }
+    /// The generator of the schedule of this number, by this seed. Each schedule has one of its own.
+    pub(crate) fn of(seed: u32, schedule: u32) -> Chances
+        ensures { random_in result ≡ random_of seed schedule }
     {
+        let own = u64::from(seed) * 4294967296 + u64::from(schedule);
         Chances {
-            random: Xoshiro256PlusPlus::seed_from_u64(seed),
+            random: Xoshiro256PlusPlus::seed_from_u64(own),
         }
     }
 

@@ -1,6 +1,7 @@
 //! What a room may come to: it is run by many random schedules, and its outcomes are counted.
 #![tactic(auto)]
 
+mod active;
 mod chances;
 mod counts;
 pub mod laws;

@@ -1,5 +1,5 @@
 //! One run of a room, by a random schedule.
-ghost use Rattle.std.specs.Prelude.{◌≡◌, ◌<◌, ◌≤◌, ℕ, IfOk, OnOk, length, slice_set};
+ghost use Rattle.std.specs.Prelude.{◌≡◌, ◌<◌, ◌≤◌, ℕ, IfOk, OnOk, length};
 ghost use Rattle.rand_core.specs.Stream.{Stream};
 ghost use Rattle.room_spec.specs.Rooms.{RoomSpec};
 ghost use Rattle.room_core.specs.Calls.{room_after_settle};
@@ -7,24 +7,25 @@ ghost use Rattle.room_core.specs.Fields.{Fields};
 ghost use Rattle.room_core.specs.Reading.{AreFieldsOf};
 ghost use Rattle.ws_history.specs.Reports.{report_of};
 ghost use Rattle.room_sample.specs.Chances.{random_in};
-ghost use Rattle.room_sample.specs.Drawn.{Acts, Crashes, Draws, IsLed, IsThrough, Walks, active_from, fuse_from, length_from, most_steps, opening_way};
+ghost use Rattle.room_sample.specs.Drawn.{Acts, Crashes, Draws, EntersBy, IsLed, IsThrough, Walks, WalksInto, fuse_after, has_entered, is_look, opening_way, style_from};
 ghost use Rattle.room_sample.specs.Samples.{IsRunFrom};
-ghost use Rattle.room_sample.specs.Schedules.{longest};
 ghost use Rattle.room_sample.specs.Ways.{sampled_of, way_of};
 
+use crate::active::{
+    Active, AllActive, Fuse, Style, all_active, put, random_length, random_pick, random_rank,
+    random_style,
+};
 use crate::chances::Chances;
 use crate::stretch::Stretch;
 use arrayvec::ArrayVec;
 use room_core::{CrashReply, RoomCore};
-use room_spec::{MAX_PROCESSES, MAX_SIMULATORS, Spec};
+use room_spec::{MAX_PROCESSES, Spec};
+use simulator::Line;
 use std::alloc::{AllocError, Global};
 use ws_history::{ProcessState, process_states};
 
 /// The most stretches before the room settles.
 const MOST_STRETCHES: u32 = 65536;
-
-/// A stretch has at most 2 ^ k steps, for a k below this one.
-const POWERS: u32 = 7;
 
 /// What a room has come to by a schedule.
 #[derive(Drop)]
@@ -66,6 +67,19 @@ impl Scheduled {
         Ok(count)
     }
 
+    /// Lets a simulator take steps until it has entered an agreement, up to `most` of them. Gives how many it took, and whether it has
+    /// entered one.
+    fn steps_into(&mut self, simulator: u8, most: u16) -> Result<(u16, bool), AllocError>
+        ensures { IfOk result (λ walk. WalksInto simulator most walk.0 (way_of self.old) (way_of self.new) walk.1) }
+    {
+        let (count, entered) = steps_into(&mut self.room, usize::from(simulator), most);
+        if count > 0 {
+            let stretch = Stretch::Steps { simulator, count };
+            self.schedule.push(stretch)?;
+        }
+        Ok((count, entered))
+    }
+
     /// Crashes a simulator, where one may crash still and this one hasn't yet. Gives whether it has crashed now.
     fn crash(&mut self, simulator: u8) -> Result<bool, AllocError>
         ensures { IfOk result (λ crashed. Crashes simulator (way_of self.old) crashed (way_of self.new)) }
@@ -95,105 +109,94 @@ impl Scheduled {
     }
 }
 
-/// A simulator that may take more steps, and after how many of them it crashes, if it does.
-#[derive(Clone, Copy, Default)]
-struct Active {
-    simulator: u8,
-    fuse: Option<u32>,
-}
-
-/// All simulators of a room, about half of which have a fuse.
-fn all_active(spec: &Spec, chances: &mut Chances) -> ArrayVec<Active, MAX_SIMULATORS>
-    ensures { (result.items, random_in chances.new) ≡ active_from spec.now spec.now.simulators (random_in chances.old) }
+/// Lets simulator `i` of a room take steps until it has entered an agreement, up to `most` of them. Gives how many it took, and whether it
+/// has entered one.
+fn steps_into(room: &mut RoomCore, i: usize, most: u16) -> (u16, bool)
+    ensures { EntersBy i most result.0 room.old room.new result.1 }
 {
-    let mut all = ArrayVec::new();
-    for simulator in 0..spec.m() {
-        let simulator = simulator as u8;
-        let fuse = random_fuse(spec, chances);
-        all.push(Active { simulator, fuse });
+    for taken in 0..most {
+        if room.steps(i, 1) == 0 {
+            return (taken, false);
+        }
+        if has_entered(room, i) {
+            return (taken + 1, true);
+        }
     }
-    all
+    (most, false)
 }
 
-/// A fuse that burns down within the steps which a simulator takes for all processes and rounds, or none.
-fn random_fuse(spec: &Spec, chances: &mut Chances) -> Option<u32>
-    ensures { (result, random_in chances.new) ≡ fuse_from spec.now (random_in chances.old) }
+/// Whether simulator `i` has entered an agreement just now.
+fn has_entered(room: &RoomCore, i: usize) -> bool
+    ensures { result ≡ has_entered room.now i }
 {
-    let most = most_steps(spec);
-    if chances.below(2) == 0 {
-        Some(chances.below(most))
-    } else {
-        None
-    }
+    i < room.spec().m() && is_look(room.mind(i).line())
 }
 
-/// How many steps a simulator takes if it takes a turn for each process and round. A turn has n + 7 steps and two for each word of
-/// memory, and a scan: one load of a single word, or two collects of several.
-fn most_steps(spec: &Spec) -> u32
-    ensures value { result ≡ most_steps spec.now }
-    ensures some { 0 < result }
+fn is_look(line: Line) -> bool
+    ensures { result ≡ is_look line }
 {
-    let n = spec.n() as u32;
-    let words = spec.shape().memory_words() as u32;
-    let scan = if words == 1 { 1 } else { 2 * words };
-    n * spec.rounds() as u32 * (n + 7 + 2 * words + scan)
+    matches!(line, Line::Look)
 }
 
-/// How many steps a simulator is to take: short stretches and long ones.
-fn random_length(chances: &mut Chances) -> u16
-    ensures drawn { (result, random_in chances.new) ≡ length_from (random_in chances.old) }
-    ensures some { 1 ≤ result }
-    ensures few { result ≤ longest }
-{
-    let most = 1 << chances.below(POWERS);
-    chances.below(most) as u16 + 1
-}
-
-/// Lets a simulator take up to so many steps, or crash where its fuse has burnt down. Gives whether it may
-/// take more.
+/// Lets a simulator take up to so many steps, or crash if its fuse has burnt down. Gives whether it may take more.
 fn go_on(scheduled: &mut Scheduled, active: &mut Active, most: u16) -> Result<bool, AllocError>
     ensures acts { IfOk result (λ stays.
         Acts active.old.simulator most (way_of scheduled.old) active.old.fuse active.new.fuse (way_of scheduled.new) stays) }
     ensures same { OnOk result (active.new.simulator ≡ active.old.simulator) }
+    ensures rank { OnOk result (active.new.rank ≡ active.old.rank) }
 {
-    let Some(left) = active.fuse else {
-        return Ok(scheduled.steps(active.simulator, most)? == most);
-    };
-    if left == 0 {
-        active.fuse = None;
-        return Ok(!scheduled.crash(active.simulator)?);
+    match active.fuse {
+        Fuse::Never => Ok(scheduled.steps(active.simulator, most)? == most),
+        Fuse::After { steps: 0 } => {
+            active.fuse = Fuse::Never;
+            Ok(!scheduled.crash(active.simulator)?)
+        }
+        Fuse::After { steps } => {
+            let most = u32::from(most).min(steps) as u16;
+            let taken = scheduled.steps(active.simulator, most)?;
+            active.fuse = Fuse::After {
+                steps: steps - u32::from(taken),
+            };
+            Ok(taken == most)
+        }
+        Fuse::Inside { others } => {
+            let (taken, entered) = scheduled.steps_into(active.simulator, most)?;
+            active.fuse = fuse_after(others, entered);
+            Ok(entered | (taken == most))
+        }
     }
-    let most = u32::from(most).min(left) as u16;
-    let taken = scheduled.steps(active.simulator, most)?;
-    active.fuse = Some(left - u32::from(taken));
-    Ok(taken == most)
 }
 
-/// Puts a simulator in the place of another.
-fn put(active: &mut ArrayVec<Active, MAX_SIMULATORS>, at: usize, one: Active)
-    requires { at < length active.old.items }
-    ensures { active.new.items ≡ slice_set active.old.items at one }
+/// An aimed fuse after some steps: a simulator that has entered an agreement crashes there, or in a later one.
+fn fuse_after(others: u32, entered: bool) -> Fuse
+    ensures { result ≡ fuse_after others entered }
 {
-    active[at] = one;
+    match (entered, others) {
+        (false, _) => Fuse::Inside { others },
+        (true, 0) => Fuse::After { steps: 0 },
+        (true, _) => Fuse::Inside { others: others - 1 },
+    }
 }
 
-/// Draws one of those who may act, and for how many steps it does. One that may not act again is struck off.
+/// Picks one of those who may act, and for how many steps it does. One that may not act again is struck off.
 fn act_next(
     scheduled: &mut Scheduled,
-    active: &mut ArrayVec<Active, MAX_SIMULATORS>,
+    style: Style,
+    active: &mut AllActive,
     chances: &mut Chances,
 ) -> Result<(), AllocError>
     requires { 0 < length active.old.items }
-    ensures { OnOk result (Draws (way_of scheduled.old) active.old.items (random_in chances.old)
+    ensures { OnOk result (Draws style (way_of scheduled.old) active.old.items (random_in chances.old)
         (way_of scheduled.new) active.new.items (random_in chances.new)) }
 {
-    let at = chances.below(active.len() as u32) as usize;
+    let at = random_pick(style, active, chances);
     let most = random_length(chances);
     let Some(next) = active.get(at) else {
         unreachable!() // it is below their number
     };
     let mut one = *next;
     let stays = go_on(scheduled, &mut one, most)?;
+    one.rank = random_rank(one.rank, chances);
     put(active, at, one);
     if stays {
         return Ok(());
@@ -202,21 +205,22 @@ fn act_next(
     Ok(())
 }
 
-/// Lets those who may act do so, each as it is drawn, until nobody may or as many draws were made as may be.
+/// Lets those who may act do so, each as it is picked, until nobody may or as many draws were made as may be.
 fn act_by_chance(
     scheduled: &mut Scheduled,
-    active: &mut ArrayVec<Active, MAX_SIMULATORS>,
+    style: Style,
+    active: &mut AllActive,
     chances: &mut Chances,
 ) -> Result<(), AllocError>
-    ensures { OnOk result ((spec : RoomSpec) (crashes : ℕ) (random : Stream) →
+    ensures { OnOk result ((spec : RoomSpec) (crashes : ℕ) (random : Stream) → style ≡ (style_from random).0 →
         IsLed spec crashes random 0 (way_of scheduled.old) active.old.items (random_in chances.old) →
-        IsThrough spec crashes random (way_of scheduled.new) (random_in chances.new)) }
+        IsThrough spec crashes random (way_of scheduled.new)) }
 {
     for _ in 0..MOST_STRETCHES {
         if active.is_empty() {
             return Ok(());
         }
-        act_next(scheduled, active, chances)?;
+        act_next(scheduled, style, active, chances)?;
     }
     Ok(())
 }
@@ -228,10 +232,11 @@ pub(crate) fn run_by_chance(
     chances: &mut Chances,
     crashes: u32,
 ) -> Result<Run, AllocError>
-    ensures { IfOk result (λ run. IsRunFrom spec crashes (random_in chances.old) (sampled_of run) (random_in chances.new)) }
+    ensures { IfOk result (λ run. IsRunFrom spec crashes (random_in chances.old) (sampled_of run)) }
 {
-    let mut active = all_active(&spec, chances);
+    let style = random_style(chances);
+    let mut active = all_active(&spec, style, chances);
     let mut scheduled = Scheduled::fresh(alloc, spec, crashes)?;
-    act_by_chance(&mut scheduled, &mut active, chances)?;
+    act_by_chance(&mut scheduled, style, &mut active, chances)?;
     Ok(scheduled.settled())
 }

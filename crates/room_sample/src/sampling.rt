@@ -39,10 +39,10 @@ pub fn sample<P: Progress>(
     ensures among { IfOk result (AreAmongAll spec.now) }
 {
     let _shape = spec.shape(); // for the proof: the room is within its limits
-    let mut chances = Chances::of(u64::from(plan.seed));
     let mut tally = Tally::new(alloc);
     for done in 0..plan.schedules {
         progress.reached(u64::from(done));
+        let mut chances = Chances::of(plan.seed, done);
         let run = run_anew(alloc, spec, &mut chances, plan.crashes)?;
         tally.count(run)?;
     }
@@ -56,7 +56,7 @@ fn run_anew(
     chances: &mut Chances,
     crashes: u32,
 ) -> Result<Run, AllocError>
-    ensures { IfOk result (λ run. IsRunFrom spec.now crashes (random_in chances.old) (sampled_of run) (random_in chances.new)) }
+    ensures { IfOk result (λ run. IsRunFrom spec.now crashes (random_in chances.old) (sampled_of run)) }
 {
     run_by_chance(alloc, spec.clone()?, chances, crashes)
 }

@@ -5,7 +5,7 @@ use Rattle.room_sample.proofs.RoomTexts.{sample_told}
 use Rattle.room_sample.proofs.rooms.write_room.Goals as goal
 
 pub write_task-requires : goal.write_task-requires
-write_task-requires g c = let total = c.in_ok-outcomes.ensures.sample.1.total in omega (arith, total)
+write_task-requires g c = let total = c.in_ok-outcomes.ensures.sample.total in omega (arith, total)
 
 pub returns : goal.returns
 returns g c =
