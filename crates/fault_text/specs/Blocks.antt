@@ -97,15 +97,24 @@ unknown_if back fault = []
 abbrev pub token_fault_hints : List ℕ → ParseFault → List ℕ
 token_fault_hints back fault = token_hints back ++ unknown_if back fault
 
+-- the sentence about a place of a protocol's text, which has these bytes before it and after it; before the text there are this many lines of
+-- the block
+abbrev pub program_place : ℕ → ℕ → List ℕ → List ℕ → List ℕ → List ℕ
+program_place first lines sentence before behind = indented_all (place_notes (later_line first (lines + line_ends before)) sentence (last_line before) (first_line behind))
+
 -- what is said of the fault of a protocol's text, before which there are this many lines of the block
 abbrev pub fault_in : ℕ → ℕ × List ℕ → ParseFault → Option ℕ → List ℕ
 fault_in first program fault None = indented (heading (later_line first program.0) (protocol_sentence fault))
 fault_in first program fault (Some place) =
-    indented_all (place_notes (later_line first (program.0 + line_ends (take place program.1))) (protocol_sentence fault) (last_line (take place program.1)) (first_line (drop place program.1)))
+    program_place first program.0 (protocol_sentence fault) (take place program.1) (drop place program.1)
     ++ (choices_if (take place program.1) fault ++ token_fault_hints (first_line (drop place program.1)) fault)
 
+-- how many lines a block has up to its line `protocol`, and what comes after that line
+abbrev pub program_of : List ℕ → ℕ × List ℕ
+program_of text = program_from HEAD_LINES 0 text
+
 abbrev pub program_fault : ℕ → List ℕ → ParseFault → List ℕ
-program_fault first text fault = fault_in first (program_from HEAD_LINES 0 text) fault (place_of fault)
+program_fault first text fault = fault_in first (program_of text) fault (place_of fault)
 
 -- ---- blocks
 

@@ -6,3 +6,4 @@ pub mod Hints
 pub mod Choices
 pub mod Blocks
 pub mod Refusals
+pub mod Strangers

@@ -1,11 +1,12 @@
 -- What is said of the blocks that are refused.
-use Rattle.std.specs.Prelude.{ℕ, List, [], ◌∷◌, ◌++◌, take, drop, codes}
-use Rattle.std.specs.List.{flat_map}
+use Rattle.std.specs.Prelude.{ℕ, List, [], ◌∷◌, ◌++◌, take, drop, nat_eq, codes, decimal, if◌then◌else◌}
+use Rattle.std.specs.List.{flat_map, starts_with}
+use Rattle.std.specs.Str.{bytes_eq}
 use Rattle.room_files.specs.Blocks.{refused_line, why_text}
 use Rattle.room_files.specs.declared.fault.BlockFault.{BlockFault}
 use Rattle.room_files.specs.declared.fault.BlockFault.TheVariants as blocks
 use Rattle.fault_text.specs.Blocks.{block_fault, line_fault}
-use Rattle.fault_text.specs.Lines.{from_line}
+use Rattle.fault_text.specs.Lines.{from_line, line_at}
 use Rattle.fault_text.specs.declared.refusals.Refusal.{Refusal}
 use Rattle.fault_text.specs.declared.refusals.TheConstants.{ENOUGH, MOST_EXPLAINED}
 
@@ -43,3 +44,23 @@ all_noted input refusals = flat_map (λ refusal. noted_refusal (from_line refusa
 
 unfoldable pub noted_refusals : List ℕ → List Refusal → List ℕ
 noted_refusals input refusals = all_noted input (take MOST_EXPLAINED refusals) ++ enough_if (drop MOST_EXPLAINED refusals)
+
+-- ---- rooms that there are not, since their blocks are refused
+
+abbrev pub after_room : List ℕ → List ℕ
+after_room line = if starts_with nat_eq line (codes "room ") then drop 5 line else []
+
+-- what a block's second line has after the word `room`, or nothing if that isn't its word
+abbrev pub name_in : List ℕ → List ℕ
+name_in text = after_room (line_at 2 text)
+
+-- the block with this first line is refused, if it says this name
+abbrev pub named_if : List ℕ → List ℕ → ℕ → List ℕ
+named_if name text line = if bytes_eq (name_in text) name then codes "    the block of this room is refused: line" ++ ((32 ∷ decimal line) ++ codes "\n") else []
+
+abbrev pub all_named : List ℕ → List ℕ → List Refusal → List ℕ
+all_named input name refusals = flat_map (λ refusal. named_if name (from_line refusal.line input) refusal.line) refusals
+
+-- the blocks of a room of this name that are refused, of those that are explained
+abbrev pub named_refusals : List ℕ → List ℕ → List Refusal → List ℕ
+named_refusals input name refusals = all_named input name (take MOST_EXPLAINED refusals)

@@ -1,7 +1,7 @@
 //! What the fault of a block is about.
 ghost use Rattle.std.specs.Prelude.{◌≡◌, ◌++◌, ◌+◌, ◌≤◌, OnOk, length, map};
 ghost use Rattle.room_spec.specs.Blocks.{is_protocol};
-ghost use Rattle.fault_text.specs.Blocks.{block_fault, choices_if, first_form, forms_at, is_second, later_forms, later_line, line_ends, line_fault, line_of, other_kind, program_from, program_fault, token_fault_hints, widths_if};
+ghost use Rattle.fault_text.specs.Blocks.{block_fault, choices_if, first_form, forms_at, is_second, later_forms, later_line, line_ends, line_fault, line_of, other_kind, program_from, program_fault, program_of, program_place, token_fault_hints, widths_if};
 ghost use Rattle.fault_text.specs.Choices.{choices_note};
 ghost use Rattle.fault_text.specs.Lines.{indented};
 ghost use Rattle.fault_text.specs.Phrases.{form_fault};
@@ -18,7 +18,7 @@ use room_spec::SpecFault;
 use std::alloc::{AllocError, Global};
 
 /// How many lines of a block may come up to its line `protocol`: seven, one of a task, and those of eight crashes.
-const HEAD_LINES: usize = 16;
+pub const HEAD_LINES: usize = 16;
 
 /// What takes how many bits of the step numbers.
 const WIDTHS: &[u8] =
@@ -188,6 +188,34 @@ fn is_protocol(line: &[u8]) -> bool
     line == b"protocol".as_slice()
 }
 
+/// How many lines a block has up to its line `protocol`, and what comes after that line. With this text the block begins.
+pub fn program_of(text: &[u8]) -> (u64, &[u8])
+    ensures lines { result.0 ≡ (program_of text.now).0 }
+    ensures program { result.1.now ≡ (program_of text.now).1 }
+    ensures few { result.0 ≤ HEAD_LINES }
+{
+    program_from(HEAD_LINES, 0, text)
+}
+
+/// Writes the sentence about a place of a block's protocol, which has these bytes before it and after it. The block's first line has the number
+/// `first`, and this many of its lines come before the protocol's text.
+pub fn write_program_place(
+    alloc: Global,
+    output: &mut Text,
+    first: u64,
+    lines: u64,
+    sentence: &[u8],
+    before: &[u8],
+    behind: &[u8],
+) -> Result<(), AllocError>
+    requires { lines ≤ HEAD_LINES }
+    ensures { OnOk result (output.new ≡ output.old ++ program_place first lines sentence.now before.now behind.now) }
+{
+    let number = later_line(first, lines + line_ends(before));
+    let (back, _) = split_line(behind);
+    write_place(alloc, output, number, sentence, last_line(before), back)
+}
+
 /// Writes what is said of the fault of a block's protocol. With this text the block begins.
 fn write_program_fault(
     alloc: Global,
@@ -199,14 +227,13 @@ fn write_program_fault(
     ensures { OnOk result (output.new ≡ output.old ++ program_fault first text.now fault) }
 {
     let words = fault.sentence().as_bytes();
-    let (lines, program) = program_from(HEAD_LINES, 0, text);
+    let (lines, program) = program_of(text);
     let Some(place) = fault.place() else {
         return write_heading(output, later_line(first, lines), words);
     };
     let (before, behind) = split_text(program, place);
-    let number = later_line(first, lines + line_ends(before));
+    write_program_place(alloc, output, first, lines, words, before, behind)?;
     let (back, _) = split_line(behind);
-    write_place(alloc, output, number, words, last_line(before), back)?;
     write_choices_if(alloc, output, before, fault)?;
     write_token_fault_hints(output, back, fault)
 }

@@ -16,7 +16,7 @@ pub fn write_indented(output: &mut Text, line: &[u8]) -> Result<(), AllocError>
 }
 
 /// A text's line of this number, counted from 1.
-pub(crate) fn line_at(text: &[u8], number: u64) -> &[u8]
+pub fn line_at(text: &[u8], number: u64) -> &[u8]
     ensures { result.now ≡ line_at number text.now }
 {
     let (line, _) = split_line(behind_lines(text, number.saturating_sub(1)));

@@ -1,11 +1,11 @@
 //! The blocks of an input that are refused, in words.
-ghost use Rattle.std.specs.Prelude.{◌≡◌, ◌==◌, ◌++◌, [], OnOk, drop, length, take};
+ghost use Rattle.std.specs.Prelude.{◌≡◌, ◌==◌, ◌∷◌, ◌++◌, [], OnOk, drop, length, take};
 ghost use Rattle.std.specs.List.{flat_map};
 ghost use Rattle.fault_text.specs.Lines.{behind_lines};
-ghost use Rattle.fault_text.specs.Refusals.{all_noted, all_said, enough_if, noted_refusal, noted_refusals, refusal_line, said_refusal, said_refusals, why_said};
+ghost use Rattle.fault_text.specs.Refusals.{all_named, all_noted, all_said, enough_if, name_in, named_if, named_refusals, noted_refusal, noted_refusals, refusal_line, said_refusal, said_refusals, why_said};
 
 use crate::blocks::{write_block_fault, write_line_fault};
-use crate::lines::behind_lines;
+use crate::lines::{behind_lines, line_at, split_text};
 use history_checker::AddFault;
 use io_text::Text;
 use room_files::{BlockFault, Refuses, write_refused, write_refused_code};
@@ -51,6 +51,14 @@ impl Refusals {
         }
     }
 
+    /// Adds a block.
+    pub fn add(&mut self, refusal: Refusal) -> Result<(), AllocError>
+        ensures { OnOk result (self.new ≡ self.old ++ refusal ∷ []) }
+    {
+        self.all.push(refusal)?;
+        Ok(())
+    }
+
     /// Whether there are none.
     #[tactic(auto, using(crate::proofs::Passing::none_refused))]
     pub fn is_empty(&self) -> bool
@@ -84,6 +92,62 @@ impl Refusals {
         write_noted_all(alloc, output, input, explained)?;
         write_enough_if(output, others)
     }
+
+    /// Writes for each block of a room of this name, of those that are explained, that it is refused.
+    pub fn write_named(
+        &self,
+        output: &mut Text,
+        input: &[u8],
+        name: &[u8],
+    ) -> Result<(), AllocError>
+        ensures { OnOk result (output.new ≡ output.old ++ named_refusals input.now name.now self.now) }
+    {
+        let (explained, _) = first_of(&self.all, MOST_EXPLAINED);
+        write_named_all(output, input, name, explained)
+    }
+}
+
+fn write_named_all(
+    output: &mut Text,
+    input: &[u8],
+    name: &[u8],
+    refusals: &[Refusal],
+) -> Result<(), AllocError>
+    ensures { OnOk result (output.new ≡ output.old ++ all_named input.now name.now refusals.now) }
+{
+    let mut rest = input;
+    let mut passed = 0;
+    for refusal in refusals {
+        let lines = refusal.line.saturating_sub(1);
+        rest = go_behind(input, rest, passed, lines);
+        passed = lines;
+        write_named_if(output, name, rest, refusal.line)?;
+    }
+    Ok(())
+}
+
+/// Writes that the block with this first line is refused, if it says this name. With this text the block begins.
+fn write_named_if(output: &mut Text, name: &[u8], text: &[u8], line: u64) -> Result<(), AllocError>
+    ensures { OnOk result (output.new ≡ output.old ++ named_if name.now text.now line) }
+{
+    if name_in(text) != name {
+        return Ok(());
+    }
+    output.put(b"    the block of this room is refused: line")?;
+    output.put_number(line)?;
+    output.put(b"\n")
+}
+
+/// What a block's second line has after the word `room`, or nothing if that isn't its word. With this text the block begins.
+fn name_in(text: &[u8]) -> &[u8]
+    ensures { result.now ≡ name_in text.now }
+{
+    let line = line_at(text, 2);
+    if !line.starts_with(b"room ") {
+        return &[];
+    }
+    let (_, name) = split_text(line, 5);
+    name
 }
 
 /// The first blocks, of which there are at most this many, and those after them.
@@ -186,8 +250,7 @@ impl Refuses for Refusals {
     ghost lines = { λ refusals. flat_map refusal_line refusals };
 
     fn refuse(&mut self, line: u64, fault: BlockFault, _block: &[u8]) -> Result<(), AllocError> {
-        self.all.push(Refusal { line, fault })?;
-        Ok(())
+        self.add(Refusal { line, fault })
     }
 }
 

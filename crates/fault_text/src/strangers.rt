@@ -1,0 +1,80 @@
+//! Names that no room has.
+ghost use Rattle.std.specs.Prelude.{◌≡◌, ◌∷◌, ◌++◌, [], IfOk, OnOk};
+ghost use Rattle.std.specs.List.{list_any};
+ghost use Rattle.std.specs.Str.{bytes_eq};
+ghost use Rattle.fault_text.specs.Strangers.{is_met, met, more_note};
+
+use crate::refusals::MOST_EXPLAINED;
+use io_text::Text;
+use std::alloc::{AllocError, Global};
+use std::marker::Model;
+
+/// Names that commands or event lines have and no room has, and how many more came with one of these names. So each name is explained once.
+#[derive(Drop)]
+pub struct Strangers {
+    names: Vec<Text>,
+    more: u64,
+}
+
+impl Model for Strangers {
+    ghost use Rattle.fault_text.specs.Strangers.{MetNames};
+
+    ghost Value = { MetNames };
+
+    ghost view = { λ strangers. record { names = strangers.names.items; more = strangers.more } };
+}
+
+impl Strangers {
+    /// None yet.
+    pub fn new(alloc: Global) -> Strangers
+        ensures { result ≡ record { names = []; more = 0 } }
+    {
+        Strangers {
+            names: Vec::new(alloc),
+            more: 0,
+        }
+    }
+
+    /// Meets a name. Gives whether it was met before. No more names are kept than are explained.
+    pub fn meet(&mut self, alloc: Global, name: &[u8]) -> Result<bool, AllocError>
+        ensures before { IfOk result (λ before. before ≡ is_met name.now self.old) }
+        ensures met { OnOk result (self.new ≡ met name.now self.old) }
+    {
+        if self.has(name) {
+            self.more = self.more.saturating_add(1);
+            return Ok(true);
+        }
+        if self.names.len() < MOST_EXPLAINED {
+            self.keep(alloc, name)?;
+        }
+        Ok(false)
+    }
+
+    /// Whether a name was met before, and kept.
+    fn has(&self, name: &[u8]) -> bool
+        ensures { result ≡ is_met name.now self.now }
+    {
+        self.names.iter().any(|known| known.as_bytes() == name)
+    }
+
+    fn keep(&mut self, alloc: Global, name: &[u8]) -> Result<(), AllocError>
+        ensures { OnOk result (self.new ≡ record self.old { names = self.old.names ++ name.now ∷ [] }) }
+    {
+        let mut own = Text::new(alloc);
+        own.put(name)?;
+        self.names.push(own)?;
+        Ok(())
+    }
+
+    /// Writes how many more came with a name that was met before, if some did, and these words after the number.
+    pub fn write_more(&self, output: &mut Text, words: &[u8]) -> Result<(), AllocError>
+        ensures { OnOk result (output.new ≡ output.old ++ more_note words.now self.now) }
+    {
+        if self.more == 0 {
+            return Ok(());
+        }
+        output.put(b"    and")?;
+        output.put_number(self.more)?;
+        output.put_two(words, b"\n")
+    }
+}

@@ -1,0 +1,5 @@
+pub mod Words
+pub mod Calls
+pub mod Rules
+pub mod Warnings
+pub mod Laws

@@ -1,0 +1,54 @@
+-- What is warned of in a room that is valid.
+use Rattle.std.specs.Prelude.{ℕ, ◌-◌, ◌*◌, ◌==◌, ◌&&◌, Bool, not, List, [], ◌∷◌, ◌++◌, length, take, nat_lt, codes, if◌then◌else◌}
+use Rattle.room_spec.specs.Rooms.{RoomSpec, processes}
+use Rattle.fault_text.specs.Blocks.{later_line, program_of, program_place}
+use Rattle.fault_text.specs.Lines.{indented_all, line_at}
+use Rattle.fault_text.specs.Places.{place_notes}
+use Rattle.room_warnings.specs.Calls.{calls_none}
+use Rattle.room_warnings.specs.Rules.{holds_always}
+use Rattle.room_warnings.specs.Words.{has_word}
+use Rattle.room_warnings.specs.declared.warnings.TheConstants.{ALWAYS, NO_DECISION, NO_PROCESS, TOO_FEW, TOO_FEW_UNDECIDED}
+
+-- ---- turns
+
+-- A turn of a simulator takes one process through at most one round, and each simulator goes through the processes from the first on. So fewer
+-- turns than processes leave one that no simulator takes a step of; and a process that never decides ends after its last round.
+abbrev pub turns_sentence : Bool → RoomSpec → List ℕ
+turns_sentence decides spec =
+    if nat_lt spec.turns (processes spec) then TOO_FEW.now
+    else if not decides && nat_lt spec.turns (processes spec * spec.rounds) then TOO_FEW_UNDECIDED.now
+    else []
+
+abbrev pub turns_warning : ℕ → List ℕ → List ℕ → List ℕ
+turns_warning first block sentence = if length sentence == 0 then [] else indented_all (place_notes (later_line first 5) sentence [] (line_at 6 block))
+
+-- ---- protocols
+
+abbrev pub decide_warning : ℕ → ℕ → Bool → List ℕ
+decide_warning first lines decides = if decides then [] else indented_all (place_notes (later_line first (lines - 1)) NO_DECISION.now [] (codes "protocol"))
+
+-- at the place where a protocol's text has these bytes
+abbrev pub place_sentence : ℕ → List ℕ → List ℕ
+place_sentence n rest = if calls_none n rest then NO_PROCESS.now else if holds_always rest then ALWAYS.now else []
+
+abbrev pub sentence_if : ℕ → ℕ → List ℕ → List ℕ → List ℕ → List ℕ
+sentence_if first lines program rest sentence = if length sentence == 0 then [] else program_place first lines sentence (take (length program - length rest) program) rest
+
+abbrev pub at_place : ℕ → ℕ → ℕ → List ℕ → List ℕ → List ℕ
+at_place n first lines program rest = sentence_if first lines program rest (place_sentence n rest)
+
+-- from that place on
+unfoldable pub from_place : ℕ → ℕ → ℕ → List ℕ → List ℕ → List ℕ
+from_place n first lines program [] = []
+from_place n first lines program (byte ∷ rest) = at_place n first lines program (byte ∷ rest) ++ from_place n first lines program rest
+
+-- ---- rooms
+
+abbrev pub warnings_in : ℕ → List ℕ → RoomSpec → ℕ → List ℕ → List ℕ
+warnings_in first block spec lines program =
+    turns_warning first block (turns_sentence (has_word (codes "decide") program) spec)
+    ++ (decide_warning first lines (has_word (codes "decide") program) ++ from_place (processes spec) first lines program program)
+
+-- what is warned of in the room of this block, whose first line has this number
+abbrev pub room_warnings : ℕ → List ℕ → RoomSpec → List ℕ
+room_warnings first block spec = warnings_in first block spec (program_of block).0 (program_of block).1

@@ -1,0 +1,11 @@
+//! What a valid room may have that no fault covers and that its author can hardly have meant: calls that are always 0, rules that are never
+//! used, a protocol that never decides, and too few turns.
+#![tactic(auto)]
+
+mod calls;
+pub mod laws;
+mod rules;
+mod warnings;
+mod words;
+
+pub use warnings::write_warnings;
