@@ -24,7 +24,9 @@ AddsRoomFaults input old new = (said : List ℕ) × AreRoomFaults input said × 
 
 -- of the refused blocks and the event lines of a transcript; if it has no line `events`, of its blocks, and that it ends too early
 abbrev pub AreFaultsAfter : List ℕ → Result (Setup × List ℕ) FaultAt → List ℕ → Type 0
-AreFaultsAfter input (Ok read) said = (refused : List ℕ) × AreRefusalsSaid input read.0.refused refused × (said ≡ refused ++ event_faults read.0.rooms read.0.line read.1)
+AreFaultsAfter input (Ok read) said =
+    (refusals : List Refusal) × (read.0.refused ≡ flat_map refusal_line refusals)
+    × (said ≡ noted_refusals input refusals ++ event_faults (record { rooms = read.0.rooms; input = input; refused = refusals }) read.0.line read.1)
 AreFaultsAfter input (Err fault) said = (refused : List ℕ) × AreRoomFaults input refused × (said ≡ refused ++ (indented (heading fault.0 (text_sentence fault.1)) ++ indented NO_EVENTS.now))
 
 unfoldable pub AreTranscriptFaults : List ℕ → List ℕ → Type 0

@@ -3,3 +3,4 @@ pub mod Scripts
 pub mod Events
 pub mod Files
 pub mod Kinds
+pub mod Warnings

@@ -15,7 +15,7 @@ use Rattle.fault_text.specs.Hints.{advice, hint}
 use Rattle.fault_text.specs.Phrases.{form_fault}
 use Rattle.fault_text.specs.declared.hints.TheConstants.{NO_COMMAND}
 use Rattle.fault_text.specs.declared.phrases.TheConstants.{COMMANDS}
-use Rattle.file_faults.specs.Walks.{Parts, said_from}
+use Rattle.file_faults.specs.Walks.{Parts, alone, said_from}
 use Rattle.fault_text.specs.declared.refusals.TheConstants.{MOST_EXPLAINED}
 
 abbrev pub fault_of : {A : Type 0} → Result A SpecFault → Option SpecFault
@@ -56,12 +56,8 @@ entry_said number text = if is_open (first_line text) then block_said (later_lin
 abbrev pub next_number : ℕ → List ℕ → List ℕ → ℕ
 next_number number line later = later_line number (1 + length (text_lines (block_behind line later)))
 
-abbrev pub entries : Parts
-entries = record {
-  said = entry_said;
-  next = λ number text. next_number number (first_line text) (later_lines text);
-  later = λ text. text_behind (first_line text) (later_lines text);
-}
+abbrev pub entries : Parts (Unit {0})
+entries = alone entry_said (λ number text. next_number number (first_line text) (later_lines text)) (λ text. text_behind (first_line text) (later_lines text))
 
 abbrev pub begins_with_block : List ℕ → Bool
 begins_with_block script = starts_with nat_eq script (codes "bgsim ")
@@ -75,4 +71,4 @@ abbrev pub explained_at_most : List ℕ → ℕ
 explained_at_most script = if begins_with_block script || ends_as_elsewhere script then 1 else MOST_EXPLAINED
 
 unfoldable pub script_faults : List ℕ → List ℕ
-script_faults script = said_from entries (length script) (explained_at_most script) 1 script
+script_faults script = said_from entries (length script) (explained_at_most script) tt 1 script

@@ -2,11 +2,18 @@
 use Rattle.std.specs.Prelude.{ℕ, zero, suc, List, [], ◌∷◌, ◌++◌, Option, Some, None}
 use Rattle.fault_text.specs.declared.refusals.TheConstants.{ENOUGH}
 
--- what is said of the part with which a text begins, whose first line has this number; how many lines it has; and what comes after it
-pub record Parts : Type 0 where
-  pub said : ℕ → List ℕ → List ℕ
+-- what is said of the part with which a text begins, whose first line has this number, by what is known from the parts before it; what is known
+-- after it; the number of the line after it; what comes after it; and what is said at the end
+pub record Parts (Known : Type 0) : Type 0 where
+  pub said : Known → ℕ → List ℕ → List ℕ
+  pub known : Known → ℕ → List ℕ → Known
   pub next : ℕ → List ℕ → ℕ
   pub later : List ℕ → List ℕ
+  pub ends : Known → List ℕ
+
+-- parts of which each is explained by itself
+abbrev pub alone : (ℕ → List ℕ → List ℕ) → (ℕ → List ℕ → ℕ) → (List ℕ → List ℕ) → Parts (Unit {0})
+alone said next later = record { said = λ known. said; known = λ known number text. known; next = next; later = later; ends = λ known. [] }
 
 -- how many parts may still be explained after one more of which this is said; none ends the walk
 abbrev pub left_after : ℕ → List ℕ → Option ℕ
@@ -24,9 +31,10 @@ go_on later None = []
 go_on later (Some left) = later left
 
 -- what is said of a text, of which there are at most this many parts and this many of them are explained
-unfoldable pub said_from : Parts → ℕ → ℕ → ℕ → List ℕ → List ℕ
-said_from parts zero left number text = []
-said_from parts (suc most) left number [] = []
-said_from parts (suc most) left number (byte ∷ bytes) =
-    said_if_left left (parts.said number (byte ∷ bytes))
-    ++ go_on (λ fewer. said_from parts most fewer (parts.next number (byte ∷ bytes)) (parts.later (byte ∷ bytes))) (left_after left (parts.said number (byte ∷ bytes)))
+unfoldable pub said_from : {Known : Type 0} → Parts Known → ℕ → ℕ → Known → ℕ → List ℕ → List ℕ
+said_from parts zero left known number text = parts.ends known
+said_from parts (suc most) left known number [] = parts.ends known
+said_from parts (suc most) left known number (byte ∷ bytes) =
+    said_if_left left (parts.said known number (byte ∷ bytes))
+    ++ go_on (λ fewer. said_from parts most fewer (parts.known known number (byte ∷ bytes)) (parts.next number (byte ∷ bytes)) (parts.later (byte ∷ bytes)))
+    (left_after left (parts.said known number (byte ∷ bytes)))

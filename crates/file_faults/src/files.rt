@@ -3,7 +3,7 @@ ghost use Rattle.std.specs.Prelude.{◌≤◌, IfOk, OnOk, length};
 ghost use Rattle.io_text.specs.Reading.{most_bytes};
 ghost use Rattle.file_faults.specs.Files.{AreRoomFaults, AreTranscriptFaults, AddsRoomFaults};
 
-use crate::events::write_event_faults;
+use crate::events::{Opened, write_event_faults};
 use fault_text::{Refusals, write_heading, write_indented};
 use io_text::Text;
 use room_files::{InputFault, Setup, SpecList, read_all_blocks, read_blocks};
@@ -43,7 +43,8 @@ pub fn transcript_faults(alloc: Global, input: &[u8]) -> Result<Text, AllocError
     match read_blocks(alloc, no_blocks, input) {
         Ok((setup, transcript)) => {
             setup.refused.write_notes(alloc, &mut output, input)?;
-            write_event_faults(alloc, &mut output, &setup.rooms, setup.line, transcript)?;
+            let opened = Opened::of(&setup.rooms, input, &setup.refused);
+            write_event_faults(alloc, &mut output, &opened, setup.line, transcript)?;
             Ok(output)
         }
         Err(InputFault::Memory) => Err(AllocError),

@@ -1,4 +1,4 @@
-//! All faults of a file for people, by what it is read as: a script, a transcript, or rooms alone.
+//! All faults of a file for people, by what it is read as: a script, a transcript, or rooms alone; and what is warned of in its rooms.
 #![tactic(auto)]
 
 mod events;
@@ -6,7 +6,9 @@ mod files;
 mod kinds;
 mod scripts;
 mod walk;
+mod warnings;
 
 pub use files::{room_faults, transcript_faults};
 pub use kinds::{Kind, faults_of};
 pub use scripts::script_faults;
+pub use warnings::warnings_of;

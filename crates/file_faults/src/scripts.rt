@@ -50,7 +50,7 @@ fn explained_at_most(script: &[u8]) -> usize
     }
 }
 
-fn begins_with_block(script: &[u8]) -> bool
+pub(crate) fn begins_with_block(script: &[u8]) -> bool
     ensures { result ≡ begins_with_block script.now }
 {
     script.starts_with(b"bgsim ")
@@ -202,13 +202,13 @@ fn text_behind<'a>(line: &[u8], later: &'a [u8]) -> &'a [u8]
 }
 
 /// The block with which a text begins: up to its line `end`, or else all.
-fn block_in_front(text: &[u8]) -> &[u8]
+pub(crate) fn block_in_front(text: &[u8]) -> &[u8]
     ensures { result.now ≡ block_in_front text.now }
 {
     &text[..block_extent(text)]
 }
 
-fn block_extent(text: &[u8]) -> usize
+pub(crate) fn block_extent(text: &[u8]) -> usize
     ensures value { result ≡ block_extent text.now }
     ensures within { result ≤ length text.now }
 {

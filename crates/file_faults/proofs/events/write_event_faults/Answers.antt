@@ -1,6 +1,6 @@
 use Rattle.std.proofs.Common.{◌∙◌, ◌++◌, sym}
 use Rattle.file_faults.specs.Events.{event_faults, event_lines}
-use Rattle.file_faults.proofs.Walking.{none_left, some_left, walk_ends, walk_step, walk_stops}
+use Rattle.file_faults.proofs.Walking.{none_left, some_left, walk_ends, walk_step, walk_stops, with_end}
 use Rattle.file_faults.proofs.events.write_event_faults.Goals as goal
 
 pub walk-preserved : goal.walk-preserved
@@ -8,19 +8,21 @@ walk-preserved c =
     let inv = c.walk.invariant in
     let rest = c.walk.rest.now in
     let some = some_left c.is_empty.result rest c.is_empty.ensures c.walk-test.true in
-    walk_step (event_lines c.args.rooms.now) inv.0 c.walk.left c.walk.number c.later_line-number.result rest c.split_line.result.1.now c.walk.output (c.args.output.now ++ event_faults c.args.rooms.now c.args.first c.args.transcript.now) c.write_event.new.output c.in-Some.fewer
-    inv.1 some (c.split_line.ensures.shorter some) c.later_line-number.ensures c.split_line.ensures.later
+    walk_step (event_lines c.args.opened.now) inv.0 c.walk.left c.walk.number c.later_line-number.result c.walk.strangers c.write_event.new.strangers rest c.split_line.result.1.now c.walk.output
+    (c.args.output.now ++ event_faults c.args.opened.now c.args.first c.args.transcript.now) c.write_event.new.output c.in-Some.fewer
+    inv.1 some (c.split_line.ensures.shorter some) c.later_line-number.ensures c.split_line.ensures.later c.in_ok-fewer.ensures.strangers
     inv.2 (sym c.in-Some.is ∙ c.in_ok-fewer.ensures.left) c.in_ok-fewer.ensures.text
 
 pub returns-in_default : goal.returns-in_default
 returns-in_default c =
     let inv = c.walk.invariant in
     let rest = c.walk.rest.now in
-    walk_stops (event_lines c.args.rooms.now) inv.0 c.walk.left c.walk.number rest c.walk.output (c.args.output.now ++ event_faults c.args.rooms.now c.args.first c.args.transcript.now) c.write_event.new.output
+    walk_stops (event_lines c.args.opened.now) inv.0 c.walk.left c.walk.number c.walk.strangers rest c.walk.output (c.args.output.now ++ event_faults c.args.opened.now c.args.first c.args.transcript.now) c.write_event.new.output
     inv.1 (some_left c.is_empty.result rest c.is_empty.ensures c.walk-test.true) inv.2 (sym c.in_default.is ∙ c.in_ok-fewer.ensures.left) c.in_ok-fewer.ensures.text
 
 pub returns : goal.returns
 returns c =
     let inv = c.walk.invariant in
-    walk_ends (event_lines c.args.rooms.now) inv.0 c.walk.left c.walk.number c.walk.rest.now c.walk.output (c.args.output.now ++ event_faults c.args.rooms.now c.args.first c.args.transcript.now)
-    (none_left c.is_empty.result c.walk.rest.now c.is_empty.ensures c.walk-test.false) inv.2
+    with_end c.write_more.result _ _ _ c.write_more.ensures
+    (walk_ends (event_lines c.args.opened.now) inv.0 c.walk.left c.walk.number c.walk.strangers c.walk.rest.now c.walk.output (c.args.output.now ++ event_faults c.args.opened.now c.args.first c.args.transcript.now)
+    (none_left c.is_empty.result c.walk.rest.now c.is_empty.ensures c.walk-test.false) inv.2)

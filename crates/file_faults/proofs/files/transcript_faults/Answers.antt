@@ -3,7 +3,7 @@ use Rattle.std.specs.List.{flat_map}
 use Rattle.room_files.specs.Blocks.{Setup}
 use Rattle.room_files.specs.Faults.{FaultAt}
 use Rattle.fault_text.specs.Refusals.{refusal_line, noted_refusals}
-use Rattle.file_faults.specs.Events.{event_faults}
+use Rattle.file_faults.specs.Events.{OpenedParts, event_faults}
 use Rattle.file_faults.specs.Files.{AreFaultsAfter, AreTranscriptFaults}
 use Rattle.file_faults.proofs.files.transcript_faults.Goals as goal
 
@@ -15,10 +15,11 @@ returns-in_ok-write_event_faults-in-Ok c =
     let refusals = c.setup.inside.refused in
     let setup : Setup = record { rooms = c.setup.inside.rooms; refused = flat_map refusal_line refusals; line = c.setup.inside.line } in
     let said = noted_refusals input refusals in
-    let events = event_faults setup.rooms setup.line transcript in
+    let opened : OpenedParts = record { rooms = setup.rooms; input = input; refused = refusals } in
+    let events = event_faults opened setup.line transcript in
     let read = c.in-Ok.ensures.read ∙ ap (λ (s : Setup). Ok (s, transcript)) (sym c.setup.view_is) in
     subst (λ (r : Result (Setup × List ℕ) FaultAt). AreFaultsAfter input r c.write_event_faults.new.output) (sym read) (
-      said,
-      (refusals, refl, refl),
-      c.in_ok-write_event_faults-in-Ok.ensures ∙ ap (λ t. t ++ events) (c.in_ok-write_notes-in-Ok.ensures ∙ ap (λ t. t ++ said) c.new-output.ensures),
+      refusals,
+      refl,
+      c.in_ok-write_event_faults-in-Ok.ensures ∙ ap (λ (o : OpenedParts). c.write_notes.new.output ++ event_faults o setup.line transcript) c.of-opened.ensures ∙ ap (λ t. t ++ events) (c.in_ok-write_notes-in-Ok.ensures ∙ ap (λ t. t ++ said) c.new-output.ensures),
     )

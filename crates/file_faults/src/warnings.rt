@@ -1,0 +1,101 @@
+//! What is warned of in the rooms of a file.
+ghost use Rattle.std.specs.Prelude.{◌≡◌, ◌<◌, ◌++◌, IfOk, OnOk, length};
+ghost use Rattle.file_faults.specs.Walks.{left_after, said_if_left};
+ghost use Rattle.file_faults.specs.Warnings.{block_warnings, file_warnings, next_part, part_behind, part_warnings};
+
+use crate::scripts::{begins_with_block, block_extent, block_in_front};
+use crate::walk::write_part;
+use fault_text::{MOST_EXPLAINED, later_line, split_line};
+use io_text::Text;
+use room_files::{count_lines, read_room};
+use room_warnings::write_warnings;
+use std::alloc::{AllocError, Global};
+
+/// What is warned of in the valid blocks of a file, which may be rooms, a script or a transcript.
+#[tactic(auto, unfolding(crate::specs::Warnings::file_warnings))]
+pub fn warnings_of(alloc: Global, input: &[u8]) -> Result<Text, AllocError>
+    ensures { IfOk result (λ text. text ≡ file_warnings input.now) }
+{
+    let mut output = Text::new(alloc);
+    let mut rest = input;
+    let mut number = 1;
+    let mut left = MOST_EXPLAINED;
+    'walk: while !rest.is_empty() {
+        let Some(fewer) = write_first(alloc, &mut output, left, number, rest)? else {
+            return Ok(output);
+        };
+        left = fewer;
+        number = next_part(number, rest);
+        rest = part_behind(rest);
+    }
+    Ok(output)
+}
+
+/// Writes what is warned of in the block with which a text begins, if it does, whose first line has this number. Gives how many may still be
+/// warned of.
+fn write_first(
+    alloc: Global,
+    output: &mut Text,
+    left: usize,
+    number: u64,
+    text: &[u8],
+) -> Result<Option<usize>, AllocError>
+    ensures left { IfOk result (λ fewer. fewer ≡ left_after left (part_warnings number text.now)) }
+    ensures text { OnOk result (output.new ≡ output.old ++ said_if_left left (part_warnings number text.now)) }
+{
+    let mut said = Text::new(alloc);
+    write_part_warnings(alloc, &mut said, number, text)?;
+    write_part(output, left, said.as_bytes())
+}
+
+fn write_part_warnings(
+    alloc: Global,
+    output: &mut Text,
+    number: u64,
+    text: &[u8],
+) -> Result<(), AllocError>
+    ensures { OnOk result (output.new ≡ output.old ++ part_warnings number text.now) }
+{
+    if !begins_with_block(text) {
+        return Ok(());
+    }
+    write_block_warnings(alloc, output, number, block_in_front(text))
+}
+
+fn write_block_warnings(
+    alloc: Global,
+    output: &mut Text,
+    number: u64,
+    block: &[u8],
+) -> Result<(), AllocError>
+    ensures { OnOk result (output.new ≡ output.old ++ block_warnings number block.now) }
+{
+    match read_room(alloc, block)? {
+        Ok((spec, _)) => write_warnings(alloc, output, number, block, &spec),
+        Err(_) => Ok(()),
+    }
+}
+
+/// The number of the line after the block or the line with which a text begins, whose first line has this number.
+fn next_part(number: u64, text: &[u8]) -> u64
+    ensures { result ≡ next_part number text.now }
+{
+    if begins_with_block(text) {
+        later_line(number, count_lines(block_in_front(text)))
+    } else {
+        later_line(number, 1)
+    }
+}
+
+/// What comes after the block or the line with which a text begins.
+fn part_behind(text: &[u8]) -> &[u8]
+    ensures text { result.now ≡ part_behind text.now }
+    ensures shorter { 0 < length text.now → length result.now < length text.now }
+{
+    let (_, later) = split_line(text);
+    if begins_with_block(text) {
+        &later[block_extent(later)..]
+    } else {
+        later
+    }
+}
