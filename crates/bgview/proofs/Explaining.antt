@@ -74,7 +74,7 @@ one_more rooms start refused fed count output well room output_now well_now so_f
     let within = slice_get_within rooms count room there in
     let plus : count + 1 ≡ suc count = omega arith in
     let next : take (count + 1) rooms ≡ take count rooms ++ room ∷ [] = ap (λ n. take n rooms) plus ∙ take-suc rooms count room within ∙ ap (λ r. take count rooms ++ r ∷ []) (get_or_from_slice_get rooms count room room there) in
-    let P : RoomSpec → Type 0 = λ (r : RoomSpec). (IsVerdict r (fed_to r.name fed) one.judged.verdict × IsTaskAnswer r (fed_to r.name fed) one.judged.task) × IsReasonFor (told_of r fed) one.judged.verdict one.notes in
+    let P : RoomSpec → Type 0 = λ (r : RoomSpec). (IsVerdict r (fed_to r.name fed) one.judged.verdict × IsTaskAnswer r (fed_to r.name fed) one.judged.task) × IsReasonFor (told_of r fed) one.judged.verdict one.judged.task one.notes in
     let explained : IsExplained fed one = subst P (sym said.room) ((said.verdict, said.task), said.because) in (
       all ++ one ∷ [],
       map_push (λ (o : Explained). o.judged.room) all one ∙ ap (λ rs. rs ++ one.judged.room ∷ []) so_far.1 ∙ ap (λ r. take count rooms ++ r ∷ []) said.room ∙ sym next,

@@ -1,5 +1,6 @@
 mod Behind
 mod Breaking
+mod Deciding
 mod Explaining
 mod Finding
 mod Hearing

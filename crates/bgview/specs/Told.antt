@@ -1,12 +1,15 @@
--- What a transcript tells of rooms, and the line that breaks a room's run.
-use Rattle.std.specs.Prelude.{◌≡◌, ℕ, List, map, Option, Some, None, slice_get}
-use Rattle.std.specs.List.{All}
+-- What a transcript tells of rooms, the line that breaks a room's run, and the line that breaks its task.
+use Rattle.std.specs.Prelude.{◌≡◌, ℕ, List, map, take, Option, Some, None, slice_get}
+use Rattle.std.specs.List.{All, Contains}
 use Rattle.room_spec.specs.Rooms.{RoomSpec}
 use Rattle.transcript.specs.declared.event.Event.{Event}
 use Rattle.history_checker.specs.Verdicts.{FedEvent, events_of, fed_to, names_of}
 use Rattle.history_checker.specs.Reasons.{IsBreak}
 use Rattle.history_checker.specs.declared.reason.Reason.{Reason}
 use Rattle.history_checker.specs.declared.reason.Reason.TheVariants.{NoProcess, OtherLength, OutOfTurn, OtherAction, WrongEntry, TooManyWrites}
+use Rattle.transcript.specs.Tasks.{IsFirstExcess, decided_by, decided_in, different}
+use Rattle.bgview.specs.declared.told.Decision.{Decision}
+use Rattle.bgview.specs.declared.told.Excess.{Excess}
 use Rattle.bgview.specs.declared.told.LineBreak.{LineBreak}
 
 -- a room, the events that are told of it, and the line of each
@@ -30,6 +33,28 @@ pub record IsLineBreak (told : ToldRoom) (broken : LineBreak) : Type 0 where
   pub first : IsBreak told.spec told.events (record { at = broken.at; reason = broken.reason })
   pub line : slice_get told.lines broken.at ≡ Some broken.line
   pub earlier : line_behind told.lines broken.reason ≡ broken.earlier
+
+-- ---- decisions that a task doesn't allow
+
+-- the event on this line is the first that decides what the room's task doesn't allow, which allows this many values
+pub record IsExcess (told : ToldRoom) (excess : Excess) : Type 0 where
+  pub task : told.spec.task ≡ Some excess.most
+  pub first : IsFirstExcess told.spec excess.most told.events excess.at
+  pub line : slice_get told.lines excess.at ≡ Some excess.line
+
+-- an event on this line decides the value, and no event before it does
+pub record IsFirstDecision (told : ToldRoom) (one : Decision) : Type 0 where
+  pub at : ℕ
+  pub event : Event
+  pub there : slice_get told.events at ≡ Some event
+  pub decides : decided_by event ≡ Some one.value
+  pub line : slice_get told.lines at ≡ Some one.line
+  pub first : Contains (decided_in (take at told.events)) one.value → ⊥
+
+-- these are the different values that were decided before the event of this index, in order, each with the line of its first decision
+pub record AreDecidedBefore (told : ToldRoom) (at : ℕ) (before : List Decision) : Type 0 where
+  pub values : map (λ one. one.value) before ≡ different (decided_in (take at told.events))
+  pub each : All (IsFirstDecision told) before
 
 -- ---- what is told of each of many rooms
 

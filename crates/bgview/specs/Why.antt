@@ -1,5 +1,5 @@
--- What is said of rooms that are no run, and what `bgview why` answers.
-use Rattle.std.specs.Prelude.{◌≡◌, ℕ, ◌≤◌, ◌<◌, Bool, List, [], ◌∷◌, ◌++◌, length, map, Some, Result, Ok, Err, slice_get}
+-- What is said of rooms that are no run or break their task, and what `bgview why` answers.
+use Rattle.std.specs.Prelude.{◌≡◌, ℕ, ◌≤◌, ◌<◌, Bool, List, [], ◌∷◌, ◌++◌, length, map, Option, Some, None, Result, Ok, Err, slice_get}
 use Rattle.std.specs.List.{All, flat_map}
 use Rattle.io_text.specs.Reading.{most_bytes}
 use Rattle.io_text.specs.declared.fault.DeviceFault.TheVariants.{Read, Write, TooLong, Memory}
@@ -9,17 +9,21 @@ use Rattle.transcript.specs.declared.event.Event.{Event}
 use Rattle.history_checker.specs.Verdicts.{FedEvent, IsTaskAnswer, IsVerdict, events_of, fed_to}
 use Rattle.history_checker.specs.declared.verdict.Verdict.{Verdict}
 use Rattle.history_checker.specs.declared.verdict.Verdict.TheVariants.{Run, Broken}
+use Rattle.history_checker.specs.declared.verdict.TaskVerdict.{TaskVerdict}
+use Rattle.history_checker.specs.declared.verdict.TaskVerdict.TheVariants as tasks
 use Rattle.room_files.specs.Blocks.{Setup}
 use Rattle.room_files.specs.Inputs.{input_says}
 use Rattle.room_files.specs.Verdicts.{Judged, IsJustified, IsOutput, judged_line, is_well}
 use Rattle.room_files.specs.declared.outcome.Outcome.{Outcome}
 use Rattle.fault_text.specs.Lines.{indented_all}
 use Rattle.fault_text.specs.Refusals.{refusal_line, said_refusals}
-use Rattle.bgview.specs.Told.{ToldRoom, IsLineBreak, lines_of}
-use Rattle.bgview.specs.Words.{reason_words}
+use Rattle.bgview.specs.Told.{ToldRoom, AreDecidedBefore, IsExcess, IsLineBreak, lines_of}
+use Rattle.bgview.specs.Words.{excess_words, reason_words}
 use Rattle.fault_text.specs.declared.refusals.Refusal.{Refusal}
 use Rattle.bgview.specs.declared.fault.ViewFault.{ViewFault}
 use Rattle.bgview.specs.declared.fault.ViewFault.TheVariants.{BadInput, Device, Incomplete}
+use Rattle.bgview.specs.declared.told.Decision.{Decision}
+use Rattle.bgview.specs.declared.told.Excess.{Excess}
 use Rattle.bgview.specs.declared.told.LineBreak.{LineBreak}
 
 -- ---- the reason
@@ -37,30 +41,53 @@ pub record IsBecause (told : ToldRoom) (line : ℕ) (notes : List (List ℕ)) : 
   pub there : slice_get told.events broken.at ≡ Some event
   pub notes_are : notes ≡ notes_on told.spec.name event broken
 
--- of a run there is nothing to say
-abbrev pub IsReasonFor : ToldRoom → Verdict → List (List ℕ) → Type 0
-IsReasonFor told Run notes = notes ≡ []
-IsReasonFor told (Broken line) notes = IsBecause told line notes
+-- the line that breaks the task of a room, and why: what it decides, and which line decided each other value before it
+pub record IsExcessSaid (told : ToldRoom) (line : ℕ) (notes : List (List ℕ)) : Type 0 where
+  pub excess : Excess
+  pub exceeds : IsExcess told excess
+  pub line_is : excess.line ≡ line
+  pub event : Event
+  pub there : slice_get told.events excess.at ≡ Some event
+  pub before : List Decision
+  pub decided : AreDecidedBefore told excess.at before
+  pub notes_are : notes ≡ event_line told.spec.name event ∷ excess_words told.spec excess.most event before ∷ []
+
+-- of a task that holds there is nothing to say
+abbrev pub IsTaskReason : ToldRoom → Option TaskVerdict → List (List ℕ) → Type 0
+IsTaskReason told None notes = notes ≡ []
+IsTaskReason told (Some tasks.Holds) notes = notes ≡ []
+IsTaskReason told (Some (tasks.Broken line)) notes = IsExcessSaid told line notes
+
+-- why the room is no run, or else why it breaks its task
+abbrev pub IsReasonFor : ToldRoom → Verdict → Option TaskVerdict → List (List ℕ) → Type 0
+IsReasonFor told Run task notes = IsTaskReason told task notes
+IsReasonFor told (Broken line) task notes = IsBecause told line notes
 
 -- the verdict on a room whose run breaks there, or nowhere
 abbrev pub verdict_of : Result (Unit {0}) LineBreak → Verdict
 verdict_of (Ok run) = Run
 verdict_of (Err broken) = Broken broken.line
 
+-- the verdict on the task of a room that breaks it there, or nowhere, if it has one
+abbrev pub task_verdict_of : Option ℕ → Result (Unit {0}) Excess → Option TaskVerdict
+task_verdict_of None excess = None
+task_verdict_of (Some most) (Ok kept) = Some tasks.Holds
+task_verdict_of (Some most) (Err excess) = Some (tasks.Broken excess.line)
+
 -- ---- the answer
 
 pub record Explained : Type 0 where
   pub judged : Judged
-  -- why the room is no run
+  -- why the room is no run, or breaks its task
   pub notes : List (List ℕ)
 
 -- what a transcript tells of a room
 abbrev pub told_of : RoomSpec → List FedEvent → ToldRoom
 told_of room fed = record { spec = room; events = events_of (fed_to room.name fed); lines = lines_of (fed_to room.name fed) }
 
--- what `check` answers on the room, and why it is no run
+-- what `check` answers on the room, and why it is no run, or breaks its task
 abbrev pub IsExplained : List FedEvent → Explained → Type 0
-IsExplained fed one = IsJustified fed one.judged × IsReasonFor (told_of one.judged.room fed) one.judged.verdict one.notes
+IsExplained fed one = IsJustified fed one.judged × IsReasonFor (told_of one.judged.room fed) one.judged.verdict one.judged.task one.notes
 
 abbrev pub explained_lines : Explained → List ℕ
 explained_lines one = judged_line one.judged ++ indented_all one.notes
@@ -71,7 +98,7 @@ pub record IsRoomSaid (spec : RoomSpec) (fed : List FedEvent) (old new : List �
   pub room : one.judged.room ≡ spec
   pub verdict : IsVerdict spec fed one.judged.verdict
   pub task : IsTaskAnswer spec fed one.judged.task
-  pub because : IsReasonFor (record { spec = spec; events = events_of fed; lines = lines_of fed }) one.judged.verdict one.notes
+  pub because : IsReasonFor (record { spec = spec; events = events_of fed; lines = lines_of fed }) one.judged.verdict one.judged.task one.notes
   pub written : new ≡ old ++ explained_lines one
   pub well_is : well ≡ is_well one.judged.verdict one.judged.task
 

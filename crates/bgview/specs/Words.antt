@@ -1,5 +1,7 @@
 -- Reasons in words.
-use Rattle.std.specs.Prelude.{ℕ, List, [], ◌∷◌, ◌++◌, Option, Some, None, codes, decimal, slice_index_or}
+use Rattle.std.specs.Prelude.{ℕ, ◌==◌, List, [], ◌∷◌, ◌++◌, Option, Some, None, codes, decimal, slice_index_or, if◌then◌else◌}
+use Rattle.std.specs.List.{flat_map, list_any}
+use Rattle.room_spec.specs.Rooms.{RoomSpec}
 use Rattle.protocol_lang.specs.declared.meaning.Action.{Action}
 use Rattle.protocol_lang.specs.declared.meaning.Action.TheVariants as actions
 use Rattle.history_checker.specs.declared.process.Turn.{Turn}
@@ -10,6 +12,7 @@ use Rattle.history_checker.specs.declared.reason.Reason.TheVariants.{NoProcess, 
 use Rattle.transcript.specs.declared.event.Event.{Event}
 use Rattle.transcript.specs.declared.event.Event.TheVariants as events
 use Rattle.transcript.specs.Runs.{process_of}
+use Rattle.bgview.specs.declared.told.Decision.{Decision}
 
 -- what an event shows of process q
 abbrev pub shown_of : Event → ℕ → Option ℕ
@@ -57,3 +60,22 @@ reason_words event (OutOfTurn next) earlier = process_words (codes "process") (p
 reason_words event (OtherAction asked) earlier = process_words (codes "the protocol asks process") (process_of event) (codes " to ") ++ action_words asked
 reason_words event (WrongEntry q written) earlier = shown_words q (shown_of event q) ++ lacking_words q written earlier
 reason_words event TooManyWrites earlier = process_words (codes "process") (process_of event) (codes " has made all its writes")
+
+-- ---- why a task doesn't allow a decision
+
+abbrev pub decision_words : Decision → List ℕ
+decision_words one = process_words (codes "line") one.line [] ++ process_words (codes " decided") one.value (codes "; ")
+
+abbrev pub allowed_words : ℕ → List ℕ
+allowed_words most = if most == 1 then codes "the task allows 1 value" else process_words (codes "the task allows") most (codes " values")
+
+-- no process has the value as its input, or it is one too many after those that were decided before
+abbrev pub excess_why : RoomSpec → ℕ → ℕ → List Decision → List ℕ
+excess_why spec most v before =
+    if list_any (λ input. input == v) spec.inputs then flat_map decision_words before ++ allowed_words most else codes "no process has this input"
+
+-- why a task of this many values doesn't allow an event after these decisions
+abbrev pub excess_words : RoomSpec → ℕ → Event → List Decision → List ℕ
+excess_words spec most (events.Write p v) before = []
+excess_words spec most (events.Snap p row) before = []
+excess_words spec most (events.Decide p v) before = process_words (codes "decides") v (codes "; ") ++ excess_why spec most v before

@@ -16,6 +16,7 @@ ghost use Rattle.bgview.specs.Modes.{AreNotesIn, IsViewed};
 mod answer;
 mod command_line;
 mod engine;
+mod excess;
 mod fault;
 mod faults;
 mod inputs;

@@ -66,7 +66,7 @@ fn shown_of(event: &Event, process: usize) -> Option<u32>
 }
 
 /// Puts a number between words.
-fn write_of_process(
+pub(crate) fn write_of_process(
     output: &mut Text,
     before: &[u8],
     process: u64,

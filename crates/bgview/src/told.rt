@@ -1,10 +1,12 @@
 //! A room, and what a transcript tells of it.
-ghost use Rattle.std.specs.Prelude.{◌≡◌, ◌↔◌, ◌∷◌, ◌++◌, [], List, IsOk, Err, OnOk, OnErr, option_map, slice_get};
+ghost use Rattle.std.specs.Prelude.{◌≡◌, ◌↔◌, ◌+◌, ◌<◌, ◌≤◌, ◌==◌, ◌∷◌, ◌++◌, [], ℕ, Some, IsOk, IfErr, IfOk, Err, OnOk, OnErr, length, option_map, slice_get};
+ghost use Rattle.std.specs.List.{list_any};
 ghost use Rattle.transcript.specs.Runs.{IsRun};
-ghost use Rattle.history_checker.specs.Verdicts.{FedEvent, IsTaskAnswer};
-ghost use Rattle.bgview.specs.Told.{IsLineBreak, IsTold, line_behind};
+ghost use Rattle.transcript.specs.Tasks.{KeepsOwnTask};
+ghost use Rattle.transcript.specs.declared.event.Event.TheVariants.{Decide};
+ghost use Rattle.bgview.specs.Told.{AreDecidedBefore, IsExcess, IsLineBreak, line_behind};
 
-use history_checker::{Reason, TaskVerdict, check_task, why};
+use history_checker::{Reason, check_task, why};
 use room_spec::Spec;
 use std::alloc::{AllocError, Global};
 use std::marker::Model;
@@ -43,6 +45,25 @@ pub struct LineBreak {
     pub reason: Reason,
     /// The line of the write that the reason rests on, if it rests on one.
     pub earlier: Option<u64>,
+}
+
+/// The first event that decides what its room's task doesn't allow.
+#[derive(Clone, Copy, Debug, PartialEq, Eq)]
+pub struct Excess {
+    /// The index, from 0, of the event among those of its room.
+    pub at: usize,
+    /// The event's line.
+    pub line: u64,
+    /// How many different values the task allows, 1 to 16.
+    pub most: u8,
+}
+
+/// A value that was decided.
+#[derive(Clone, Copy, Debug, PartialEq, Eq)]
+pub struct Decision {
+    pub value: u32,
+    /// The line of the first event that decides it.
+    pub line: u64,
 }
 
 impl Told {
@@ -93,15 +114,61 @@ impl Told {
         self.events.get(at)
     }
 
-    /// Whether the decisions keep the room's task, if it has one.
-    pub fn task_verdict(&self) -> Option<TaskVerdict>
-        ensures { (fed : List FedEvent) → IsTold fed self.now → IsTaskAnswer self.now.spec fed result }
+    /// Whether the decisions keep the room's task, if it has one. Else the first event that decides what the task doesn't allow.
+    pub fn excess(&self) -> Result<(), Excess>
+        ensures keeps { IsOk result ↔ KeepsOwnTask self.now.spec self.now.events }
+        ensures first { IfErr result (IsExcess self.now) }
     {
-        self.spec.task()?;
+        let Some(most) = self.spec.task() else {
+            return Ok(());
+        };
         match check_task(&self.spec, self.events.as_slice()) {
-            Ok(()) => Some(TaskVerdict::Holds),
-            Err(at) => Some(TaskVerdict::Broken(self.lines[at])),
+            Ok(()) => Ok(()),
+            Err(at) => Err(Excess {
+                at,
+                line: self.lines[at],
+                most,
+            }),
         }
+    }
+
+    /// The different values that were decided before the event of this index, in the order of their first decisions.
+    pub fn decided_before(&self, alloc: Global, at: usize) -> Result<Vec<Decision>, AllocError>
+        requires { at ≤ length self.now.events }
+        ensures { IfOk result (λ before. AreDecidedBefore self.now at before.items) }
+    {
+        let mut before = Vec::new(alloc);
+        for index in 0..at {
+            self.note_decision(&mut before, index)?;
+        }
+        Ok(before)
+    }
+
+    /// Adds the value that the event of this index decides, unless an event before it decided the same.
+    fn note_decision(&self, before: &mut Vec<Decision>, index: usize) -> Result<(), AllocError>
+        requires { index < length self.now.events }
+        ensures { OnOk result (AreDecidedBefore self.now index before.old.items → AreDecidedBefore self.now (index + 1) before.new.items) }
+    {
+        match &self.events[index] {
+            Event::Decide { v, .. } => self.note_value(before, index, *v),
+            Event::Write { .. } => Ok(()),
+            Event::Snap { .. } => Ok(()),
+        }
+    }
+
+    /// The same of an event that decides this value.
+    fn note_value(&self, before: &mut Vec<Decision>, index: usize, v: u32) -> Result<(), AllocError>
+        requires { (p : ℕ) × (slice_get self.now.events index ≡ Some (Decide p v)) }
+        ensures { OnOk result (AreDecidedBefore self.now index before.old.items → AreDecidedBefore self.now (index + 1) before.new.items) }
+    {
+        if is_among(before.as_slice(), v) {
+            return Ok(());
+        }
+        before.push(Decision {
+            value: v,
+            line: self.lines[index],
+        })?;
+        Ok(())
     }
 
     /// The line of the write that the reason rests on.
@@ -116,4 +183,11 @@ impl Told {
             _ => None,
         }
     }
+}
+
+/// Whether one of these decisions is of this value.
+fn is_among(decisions: &[Decision], value: u32) -> bool
+    ensures { result ≡ list_any (λ one. one.value == value) decisions.now }
+{
+    decisions.iter().any(|one| one.value == value)
 }
