@@ -5,7 +5,7 @@ use Rattle.room_sample.specs.declared.sampling.Plan.{Plan}
 use Rattle.outcome_text.specs.declared.rooms.Search.{Search}
 use Rattle.bgview.specs.Draw.{IsDrawAnswer}
 use Rattle.bgview.specs.Lint.{IsLintAnswer}
-use Rattle.bgview.specs.Notes.{AreFileNotes, AreNotes, AreRoomNotes, AreScriptNotes}
+use Rattle.bgview.specs.Notes.{AreFileNotes, AreNotes, AreRoomNotes, AreScriptNotes, AreWarnings}
 use Rattle.bgview.specs.Outcomes.{IsOutcomesAnswer}
 use Rattle.bgview.specs.Page.{IsPageAnswer}
 use Rattle.bgview.specs.Sample.{IsSampleAnswer}
@@ -28,14 +28,14 @@ IsViewed Sample plan search input result output = IsSampleAnswer plan input resu
 IsViewed Outcomes plan search input result output = IsOutcomesAnswer search input result output
 IsViewed Lint plan search input result output = IsLintAnswer input result output
 
--- what each mode says of an input's faults on standard error
+-- what each mode says on standard error: of an input's faults, and `lint`, which says these as its answer, what it warns of
 abbrev pub AreNotesIn : Mode → List ℕ → Result Outcome ViewFault → List ℕ → List ℕ → Type 0
 AreNotesIn Why input result old new = AreNotes input result old new
 AreNotesIn Trace input result old new = AreScriptNotes input result new
 AreNotesIn Draw input result old new = AreScriptNotes input result new
-AreNotesIn Page input result old new = AreFileNotes (input ∷ []) result new
+AreNotesIn Page input result old new = AreFileNotes input result new
 AreNotesIn Transcript input result old new = AreScriptNotes input result new
 AreNotesIn Fault input result old new = AreNotes input result old new
 AreNotesIn Sample input result old new = AreRoomNotes input result new
 AreNotesIn Outcomes input result old new = AreRoomNotes input result new
-AreNotesIn Lint input result old new = new ≡ old
+AreNotesIn Lint input result old new = AreWarnings input result new

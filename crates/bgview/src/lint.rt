@@ -5,15 +5,17 @@ ghost use Rattle.io_text.specs.Devices.{HasRead, HasWritten, failed_writes};
 ghost use Rattle.io_text.specs.Reading.{most_bytes};
 ghost use Rattle.bgview.specs.Ends.{is_read_failed, is_write_failed};
 ghost use Rattle.bgview.specs.Lint.{IsLintAnswer, IsLintFor, kind_line, said_or_none};
+ghost use Rattle.bgview.specs.Notes.{AreWarnings};
 
 use crate::fault::ViewFault;
-use file_faults::{Kind, faults_of};
+use file_faults::{Kind, faults_of, warnings_of};
 use io_text::{Device, Text, read_input, write_output};
 use room_files::{Answer, Outcome, outcome_if};
 use std::alloc::{AllocError, Global};
 use std::io::{Read, Write};
 
-/// Writes what the input that the reader gives is read as (rooms, a script or a transcript), and what is said of all its faults.
+/// Writes what the input that the reader gives is read as (rooms, a script or a transcript), and what is said of all its faults. What is warned
+/// of in its valid rooms becomes `notes`.
 ///
 /// # Errors
 ///
@@ -22,6 +24,7 @@ pub fn lint_io<R: Read, W: Write>(
     alloc: Global,
     reader: &mut Device<R>,
     writer: &mut Device<W>,
+    notes: &mut Text,
 ) -> Result<Outcome, ViewFault>
     requires reader { reader.old.failed ≡ false }
     requires writer { writer.old.failed ≡ false }
@@ -31,8 +34,10 @@ pub fn lint_io<R: Read, W: Write>(
         × (writer.new.calls ≤ writer.old.calls + length output + failed_writes (is_write_failed result))) }
     ensures reader { HasRead reader.old reader.new (R.remaining reader.old.inner) (is_read_failed result) }
     ensures writer { HasWritten writer.old writer.new result (is_write_failed result) }
+    ensures notes { IfSome (R.remaining reader.old.inner) (λ input. AreWarnings input result notes.new) }
 {
     let input = read_input(alloc, reader)?;
+    *notes = warnings_of(alloc, &input)?;
     let answer = lint(alloc, &input)?;
     write_output(writer, answer.output.as_bytes())?;
     Ok(answer.outcome)

@@ -150,7 +150,8 @@ fn with_other<I: Inputs, R: Read + Drop, W: Write, P: Progress>(
         (record { first = R.remaining input; second = option_and_then (I.file_bytes inputs.now) (other_among (subcommand_rows_of matches.now)) }) result
         (record { before = W.contents writer.old.inner; after = W.contents writer.new.inner }) }
 {
-    match line_in(matches).other {
+    let line = line_in(matches);
+    match line.other {
         None => answered(alloc, input, writer, matches, notes, progress),
         Some(path) => match inputs.open(path) {
             Ok(next) => pages_io(
@@ -158,6 +159,8 @@ fn with_other<I: Inputs, R: Read + Drop, W: Write, P: Progress>(
                 &mut Device::new(input),
                 &mut Device::new(next),
                 writer,
+                line.file.unwrap_or("-"),
+                path,
                 notes,
             ),
             Err(_) => Err(ViewFault::Device(DeviceFault::Read)),
@@ -227,7 +230,7 @@ fn write_answer<R: Read, W: Write, P: Progress>(
         Mode::Transcript => transcript_io(alloc, reader, writer, notes),
         Mode::Sample => sample_io(alloc, reader, writer, &request.plan, notes, progress),
         Mode::Outcomes => outcomes_io(alloc, reader, writer, &request.search, notes, progress),
-        Mode::Lint => lint_io(alloc, reader, writer),
+        Mode::Lint => lint_io(alloc, reader, writer, notes),
     }
 }
 

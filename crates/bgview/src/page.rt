@@ -1,10 +1,10 @@
 //! A page that steps through the rooms of one file, or of two next to each other.
-ghost use Rattle.std.specs.Prelude.{◌≡◌, ◌+◌, ◌≤◌, ◌∷◌, [], ℕ, List, false, IfErr, IfOk, IfSome, length};
+ghost use Rattle.std.specs.Prelude.{◌≡◌, ◌+◌, ◌≤◌, ◌∷◌, ◌++◌, [], ℕ, List, false, IfErr, IfOk, IfSome, OnOk, length};
 ghost use Rattle.std.specs.Io.KnownBytes.{Appends};
 ghost use Rattle.io_text.specs.Devices.{HasRead, HasWritten, failed_writes};
 ghost use Rattle.io_text.specs.Reading.{most_bytes};
 ghost use Rattle.bgview.specs.Ends.{is_read_failed, is_write_failed};
-ghost use Rattle.bgview.specs.Notes.{AreAllFaults, AreFileFaults, AreFileNotes};
+ghost use Rattle.bgview.specs.Notes.{AreBothFaults, AreBothNotes, AreFileFaults, AreFileNotes, said_in};
 ghost use Rattle.bgview.specs.Page.{EndsPage, IsFaultOf, IsFileAnswer, IsPageAnswer, IsPageFor, both, first_fault, kind_of};
 
 use crate::answer::explain;
@@ -39,7 +39,7 @@ pub fn page_io<R: Read, W: Write>(
         × (writer.new.calls ≤ writer.old.calls + length output + failed_writes (is_write_failed result))) }
     ensures reader { HasRead reader.old reader.new (R.remaining reader.old.inner) (is_read_failed result) }
     ensures writer { HasWritten writer.old writer.new result (is_write_failed result) }
-    ensures notes { IfSome (R.remaining reader.old.inner) (λ file. AreFileNotes (file ∷ []) result notes.new) }
+    ensures notes { IfSome (R.remaining reader.old.inner) (λ file. AreFileNotes file result notes.new) }
 {
     let file = read_input(alloc, reader)?;
     write_one(alloc, &file, writer, notes)
@@ -59,7 +59,7 @@ fn write_one<W: Write>(
         × (writer.new.calls ≤ writer.old.calls + length output + failed_writes (is_write_failed result)) }
     ensures read { is_read_failed result ≡ false }
     ensures writer { HasWritten writer.old writer.new result (is_write_failed result) }
-    ensures notes { AreFileNotes (file.now ∷ []) result notes.new }
+    ensures notes { AreFileNotes file.now result notes.new }
 {
     *notes = faults_of(alloc, file)?;
     let paged = page(alloc, file)?;
@@ -67,7 +67,7 @@ fn write_one<W: Write>(
     written(paged.ending)
 }
 
-/// Answers the files that two readers give, and writes a page that steps through both next to each other, as `page_io` does for one.
+/// Answers the files of these names that two readers give, and writes a page that steps through both next to each other, as `page_io` does for one.
 ///
 /// # Errors
 ///
@@ -77,6 +77,8 @@ pub fn pages_io<R: Read, S: Read, W: Write>(
     reader: &mut Device<R>,
     other: &mut Device<S>,
     writer: &mut Device<W>,
+    name: &str,
+    next_name: &str,
     notes: &mut Text,
 ) -> Result<Outcome, ViewFault>
     requires reader { reader.old.failed ≡ false }
@@ -88,16 +90,18 @@ pub fn pages_io<R: Read, S: Read, W: Write>(
         × (writer.new.calls ≤ writer.old.calls + length output + failed_writes (is_write_failed result)))) }
     ensures writer { HasWritten writer.old writer.new result (is_write_failed result) }
     ensures notes { IfSome (R.remaining reader.old.inner) (λ file. IfSome (S.remaining other.old.inner) (λ next.
-        AreFileNotes (file ∷ next ∷ []) result notes.new)) }
+        AreBothNotes (record { name = name.now; bytes = file }) (record { name = next_name.now; bytes = next }) result notes.new)) }
 {
     let file = read_input(alloc, reader)?;
     let next = read_input(alloc, other)?;
-    write_both(alloc, &file, &next, writer, notes)
+    write_both(alloc, name, next_name, &file, &next, writer, notes)
 }
 
 /// Answers two files, and writes a page that steps through both. What is said of all their faults becomes `notes`.
 fn write_both<W: Write>(
     alloc: Global,
+    name: &str,
+    next_name: &str,
     file: &[u8],
     next: &[u8],
     writer: &mut Device<W>,
@@ -110,9 +114,9 @@ fn write_both<W: Write>(
         × Appends (W.contents writer.old.inner) (W.contents writer.new.inner) output
         × (writer.new.calls ≤ writer.old.calls + length output + failed_writes (is_write_failed result)) }
     ensures writer { HasWritten writer.old writer.new result (is_write_failed result) }
-    ensures notes { AreFileNotes (file.now ∷ next.now ∷ []) result notes.new }
+    ensures notes { AreBothNotes (record { name = name.now; bytes = file.now }) (record { name = next_name.now; bytes = next.now }) result notes.new }
 {
-    *notes = faults_of_both(alloc, file, next)?;
+    *notes = faults_of_both(alloc, name, next_name, file, next)?;
     let paged = page_of_both(alloc, file, next)?;
     write_output(writer, paged.output.as_bytes())?;
     written(paged.ending)
@@ -139,16 +143,35 @@ fn faults_of(alloc: Global, file: &[u8]) -> Result<Text, AllocError>
     }
 }
 
-/// What is said of all faults of two files.
-fn faults_of_both(alloc: Global, file: &[u8], next: &[u8]) -> Result<Text, AllocError>
+/// What is said of all faults of two files, each after the name of its file.
+fn faults_of_both(
+    alloc: Global,
+    name: &str,
+    next_name: &str,
+    file: &[u8],
+    next: &[u8],
+) -> Result<Text, AllocError>
     requires first { length file.now ≤ most_bytes }
     requires second { length next.now ≤ most_bytes }
-    ensures { IfOk result (AreAllFaults (file.now ∷ next.now ∷ [])) }
+    ensures { IfOk result (AreBothFaults (record { name = name.now; bytes = file.now }) (record { name = next_name.now; bytes = next.now })) }
 {
-    let mut faults = faults_of(alloc, file)?;
-    let more = faults_of(alloc, next)?;
-    faults.put(more.as_bytes())?;
+    let first = faults_of(alloc, file)?;
+    let later = faults_of(alloc, next)?;
+    let mut faults = Text::new(alloc);
+    write_said_in(&mut faults, name, first.as_bytes())?;
+    write_said_in(&mut faults, next_name, later.as_bytes())?;
     Ok(faults)
+}
+
+/// Writes what is said of the file of this name, after its name, if something is said.
+fn write_said_in(output: &mut Text, name: &str, said: &[u8]) -> Result<(), AllocError>
+    ensures { OnOk result (output.new ≡ output.old ++ said_in name.now said.now) }
+{
+    if said.is_empty() {
+        return Ok(());
+    }
+    output.put_two(b"    in ", name.as_bytes())?;
+    output.put_two(b":\n", said)
 }
 
 /// What `trace` answers to a script, and `why` to a transcript.
