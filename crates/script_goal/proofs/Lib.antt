@@ -1,0 +1,2 @@
+mod Claims
+mod Texts

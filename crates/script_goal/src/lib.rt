@@ -1,0 +1,13 @@
+//! Goals for scripts: what the final report of a script is to show, and whether it does.
+#![tactic(auto)]
+
+mod goal;
+mod grader;
+mod grading;
+mod judging;
+mod reading;
+mod text;
+
+pub use goal::{Claim, Fact, Goal, GoalFault, Joint};
+pub use grading::grade;
+pub use reading::read_goal;
