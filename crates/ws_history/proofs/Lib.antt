@@ -27,6 +27,7 @@ mod Ranges
 mod WordsRead
 mod Ordering
 mod Walking
+mod Showing
 mod Agreeing
 mod SameHistories
 mod SameReports

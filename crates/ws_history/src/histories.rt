@@ -71,9 +71,9 @@ fn read_history(alloc: Global, room: &RoomCore) -> Result<Vec<Event>, AllocError
     push_writes(
         &mut events,
         room,
-        shown.as_slice(),
-        greatest.as_slice(),
+        &mut shown,
         &mut view,
+        greatest.as_slice(),
     )?;
     Ok(events)
 }
@@ -122,11 +122,15 @@ fn push_block(
     ensures view { OnOk result (view.new.items ≡ shown_by room.now.spec (read_of room.now) shown.new.items) }
 {
     let row = row_in(room, snapshot);
-    push_writes(events, room, shown.as_slice(), row, view)?;
-    *shown = with_row(shown.as_slice(), row);
+    push_writes(events, room, shown, view, row)?;
     let seen = view_of(room, row, shown.as_slice(), view.as_slice());
-    push_snap(events, room, snapshot.process, seen)?;
-    push_decision(events, room, snapshot, greatest[snapshot.process])?;
+    push_snap(events, snapshot.process, seen)?;
+    push_decision(
+        events,
+        room,
+        snapshot,
+        greatest[usize::from(snapshot.process)],
+    )?;
     Ok(())
 }
 
@@ -141,19 +145,10 @@ fn row_in<'a>(room: &RoomCore, snapshot: &'a Agreed) -> &'a [u8]
 }
 
 /// The snapshot of process `p` that shows these values.
-fn push_snap(
-    events: &mut Vec<Event>,
-    room: &RoomCore,
-    p: usize,
-    row: View,
-) -> Result<(), AllocError>
-    requires { p < processes room.now.spec }
+fn push_snap(events: &mut Vec<Event>, p: u8, row: View) -> Result<(), AllocError>
     ensures { OnOk result (events.new.items ≡ events.old.items ++ Snap p (record { items = row.items }) ∷ []) }
 {
-    events.push(Event::Snap {
-        p: number_of(room, p),
-        row,
-    })?;
+    events.push(Event::Snap { p, row })?;
     Ok(())
 }
 
@@ -198,40 +193,38 @@ fn push_decision(
     requires greatest { greatest ≡ greatest_step room.now.spec (read_of room.now) snapshot.now.process }
     ensures { OnOk result (events.new.items ≡ events.old.items ++ decision_on room.now snapshot.now) }
 {
-    if usize::from(greatest) == snapshot.round {
-        if let Some(v) = decided_in(room, snapshot.process) {
-            events.push(Event::Decide {
-                p: number_of(room, snapshot.process),
-                v,
-            })?;
+    if greatest == snapshot.round {
+        if let Some(v) = decided_in(room, usize::from(snapshot.process)) {
+            let p = snapshot.process;
+            events.push(Event::Decide { p, v })?;
         }
     }
     Ok(())
 }
 
-/// The writes of each process after the first `from` of it, up to `upto`. `view` has the values of
-/// the former, and then of all.
+/// The writes of each process after those that are shown, up to `upto`. These are shown then too; `view` has the values of
+/// what is shown.
 #[inline(always)]
 fn push_writes(
     events: &mut Vec<Event>,
     room: &RoomCore,
-    from: &[u8],
-    upto: &[u8],
+    shown: &mut Row,
     view: &mut View,
+    upto: &[u8],
 ) -> Result<(), AllocError>
-    requires from { length from.now ≡ processes room.now.spec }
+    requires shown { length shown.old.items ≡ processes room.now.spec }
+    requires view { view.old.items ≡ shown_by room.now.spec (read_of room.now) shown.old.items }
     requires upto { length upto.now ≡ processes room.now.spec }
     requires range { (p : ℕ) → slice_index upto.now p ≤ room.now.spec.rounds }
-    requires view { view.old.items ≡ shown_by room.now.spec (read_of room.now) from.now }
-    ensures events { OnOk result (events.new.items ≡ events.old.items ++ writes_between room.now from.now upto.now) }
-    ensures view { OnOk result (view.new.items ≡ shown_by room.now.spec (read_of room.now) (shown_with from.now upto.now)) }
+    ensures events { OnOk result (events.new.items ≡ events.old.items ++ writes_between room.now shown.old.items upto.now) }
+    ensures shown { OnOk result (shown.new.items ≡ shown_with shown.old.items upto.now) }
+    ensures view { OnOk result (view.new.items ≡ shown_by room.now.spec (read_of room.now) shown.new.items) }
 {
-    let mut all = View::new();
-    let before = view.as_slice();
     for p in 0..process_count(room) {
-        all.push(push_writes_of(events, room, p, from[p], upto[p], before[p])?);
+        let from = shown[p];
+        view[p] = push_writes_of(events, room, p, from, upto[p], view[p])?;
+        shown[p] = from.max(upto[p]);
     }
-    *view = all;
     Ok(())
 }
 
@@ -260,17 +253,4 @@ fn push_writes_of(
         last = Some(v);
     }
     Ok(last)
-}
-
-/// What is shown once this row is shown too.
-fn with_row(shown: &[u8], row: &[u8]) -> Row
-    requires same { length shown.now ≡ length row.now }
-    requires few { length row.now ≤ MAX_PROCESSES }
-    ensures { result.items ≡ shown_with shown.now row.now }
-{
-    let mut all = Row::new();
-    for p in 0..row.len() {
-        all.push(shown[p].max(row[p]));
-    }
-    all
 }

@@ -11,7 +11,9 @@ ghost use Rattle.ws_history.specs.Readings.{read_of};
 ghost use Rattle.ws_history.specs.Sources.{source_of};
 
 use crate::agreements::{is_passed, view_at};
-use crate::reading::{Row, greatest_step, has_out, process_count, round_count, row_of, shape_of};
+use crate::reading::{
+    Row, greatest_step, has_out, number_of, process_count, round_count, row_of, shape_of,
+};
 use room_core::RoomCore;
 use room_spec::MAX_ROUNDS;
 use std::alloc::{AllocError, Global};
@@ -20,9 +22,9 @@ use std::alloc::{AllocError, Global};
 /// that sum, and then by process; no two that a room has passed share both.
 #[derive(Default, Drop, PartialEq, Eq, PartialOrd, Ord)]
 pub(crate) struct Agreed {
-    pub(crate) sum: usize,
-    pub(crate) process: usize,
-    pub(crate) round: usize,
+    pub(crate) sum: u8,
+    pub(crate) process: u8,
+    pub(crate) round: u8,
     pub(crate) row: Row,
 }
 
@@ -91,9 +93,9 @@ fn snapshot_at(room: &RoomCore, process: usize, round: usize) -> Agreed
     let rounds = round_count(room);
     prove!(rounds <= MAX_ROUNDS as usize);
     Agreed {
-        sum: sum(row.as_slice()),
-        process,
-        round,
+        sum: sum(row.as_slice()) as u8,
+        process: number_of(room, process),
+        round: round as u8,
         row,
     }
 }

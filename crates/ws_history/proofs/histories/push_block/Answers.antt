@@ -26,7 +26,6 @@ returns-clause-events c =
     let snap : List Event = Snap s.process (record { items = shown_by room.spec F all }) ∷ [] in
     let end = decided s.process (decision_after room.spec F s.process s.round) in
     let one = c.in_ok-push_writes.ensures.events
-    ∙ ap (λ (l : List ℕ). old ++ by_process (λ (p : ℕ). new_writes src p (get_or l p 0) (get_or c.row_in-row.result.now p 0)) n) c.as_slice.ensures.value
     ∙ ap (λ (l : List ℕ). old ++ by_process (λ (p : ℕ). new_writes src p (get_or shown p 0) (get_or l p 0)) n) row in
     let two = c.in_ok-push_snap.ensures
     ∙ ap (λ (l : List Event). l ++ Snap s.process (record { items = c.view_of-seen.result.items }) ∷ []) one
@@ -36,38 +35,25 @@ returns-clause-events c =
     ∙ append_assoc old (writes ++ snap) end
 
 pub returns-clause-shown : goal.returns-clause-shown
-returns-clause-shown c =
-    let room = c.args.room.now in
-    let s = c.args.snapshot.now in
-    let row = c.row_in-row.ensures.value in
-    c.with_row.ensures
-    ∙ ap (λ (l : List ℕ). shown_with l c.row_in-row.result.now) c.as_slice-2.ensures.value
-    ∙ ap (λ (l : List ℕ). shown_with c.args.shown.now.items l) row
+returns-clause-shown c = c.in_ok-push_writes.ensures.shown ∙ ap (λ (l : List ℕ). shown_with c.args.shown.now.items l) c.row_in-row.ensures.value
 
 pub returns-clause-view : goal.returns-clause-view
-returns-clause-view c =
-    let room = c.args.room.now in
-    let all = ap (λ (l : List ℕ). shown_with l c.row_in-row.result.now) (c.as_slice.ensures.value ∙ sym c.as_slice-2.ensures.value)
-    ∙ sym c.with_row.ensures in
-    c.in_ok-push_writes.ensures.view ∙ ap (shown_by room.spec (read_of room)) all
+returns-clause-view c = c.in_ok-push_writes.ensures.view
 
-pub bounds-greatest-snapshot : goal.bounds-greatest-snapshot
-bounds-greatest-snapshot c =
+pub bounds-greatest-from : goal.bounds-greatest-from
+bounds-greatest-from c =
     let room = c.args.room.now in
     let below : c.args.snapshot.now.process < processes room.spec = c.requires.is.process in
     let long = ap length c.requires.greatest ∙ row_length room.spec.simulators (processes room.spec) (read_of room).step in
-    omega (arith, below, long)
+    omega (arith, below, long, c.from.ensures)
 
 pub view_of-seen-requires-clause-view : goal.view_of-seen-requires-clause-view
 view_of-seen-requires-clause-view c =
     let room = c.args.room.now in
-    let all = ap (λ (l : List ℕ). shown_with l c.row_in-row.result.now) (c.as_slice.ensures.value ∙ sym c.as_slice-2.ensures.value)
-    ∙ sym c.with_row.ensures
-    ∙ sym c.as_slice-3.ensures.value in
-    c.as_slice-4.ensures.value ∙ c.in_ok-push_writes.ensures.view ∙ ap (shown_by room.spec (read_of room)) all
+    c.as_slice-2.ensures.value ∙ c.in_ok-push_writes.ensures.view ∙ ap (shown_by room.spec (read_of room)) (sym c.as_slice.ensures.value)
 
 pub push_decision-requires-clause-greatest : goal.push_decision-requires-clause-greatest
 push_decision-requires-clause-greatest c =
     let room = c.args.room.now in
     let p = c.args.snapshot.now.process in
-    ap (λ (l : List ℕ). get_or l p 0) c.requires.greatest ∙ row_entry room.spec.simulators (processes room.spec) (read_of room).step p c.requires.is.process
+    ap (λ (q : ℕ). get_or c.args.greatest.now q 0) c.from.ensures ∙ ap (λ (l : List ℕ). get_or l p 0) c.requires.greatest ∙ row_entry room.spec.simulators (processes room.spec) (read_of room).step p c.requires.is.process

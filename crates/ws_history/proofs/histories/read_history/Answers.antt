@@ -75,11 +75,6 @@ loop-snapshot-preserved c =
       view = c.in_ok-push_block.ensures.view;
     }
 
-pub push_writes-requires-clause-view : goal.push_writes-requires-clause-view
-push_writes-requires-clause-view c =
-    let room = c.args.room.now in
-    c.loop-snapshot.invariant.view ∙ ap (shown_by room.spec (read_of room)) (sym c.as_slice-4.ensures.value)
-
 pub returns : goal.returns
 returns c =
     let room = c.args.room.now in
@@ -93,8 +88,8 @@ returns c =
     let done : events ≡ blocks src n [] src.order = sym (append-nil events)
     ∙ ap (λ (l : List Snapshot). events ++ blocks src n (take i src.order) l) (sym (drop_past src.order i past))
     ∙ c.loop-snapshot.invariant.so_far in
-    let shown = c.as_slice-4.ensures.value ∙ c.loop-snapshot.invariant.shown ∙ ap (λ (l : List Snapshot). running room l) all in
+    let shown = c.loop-snapshot.invariant.shown ∙ ap (λ (l : List Snapshot). running room l) all in
     c.in_ok-push_writes.ensures.events
-    ∙ ap (λ (l : List ℕ). events ++ by_process (λ (p : ℕ). new_writes src p (get_or l p 0) (get_or c.as_slice-5.result.now p 0)) n) shown
-    ∙ ap (λ (l : List Event). events ++ l) (last_is room c.as_slice-5.result.now (c.as_slice-5.ensures.value ∙ c.greatest_steps-greatest.ensures.value))
+    ∙ ap (λ (l : List ℕ). events ++ by_process (λ (p : ℕ). new_writes src p (get_or l p 0) (get_or c.as_slice-4.result.now p 0)) n) shown
+    ∙ ap (λ (l : List Event). events ++ l) (last_is room c.as_slice-4.result.now (c.as_slice-4.ensures.value ∙ c.greatest_steps-greatest.ensures.value))
     ∙ ap (λ (l : List Event). l ++ last_writes src n) done
