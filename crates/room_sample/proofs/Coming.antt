@@ -10,7 +10,9 @@ use Rattle.room_spec.specs.Rooms.{IsWithinLimits, RoomSpec}
 use Rattle.room_sample.specs.Leads.{HasScript}
 use Rattle.room_sample.specs.Chances.{random_of}
 use Rattle.room_sample.specs.Samples.{Counted, IsRunFrom, IsSample, Sampled, counted, first_time, once_more, same_states}
+use Rattle.ws_history.specs.declared.states.ProcessState.{ProcessState}
 use Rattle.room_sample.specs.Schedules.{IsOutcome}
+use Rattle.room_sample.specs.Shown.{AreKept}
 use Rattle.room_sample.specs.Tasks.{breaks_task, first_broken}
 use Rattle.room_sample.specs.declared.sampling.Plan.{Plan}
 use Rattle.room_sample.proofs.Leading.{leads}
@@ -41,12 +43,24 @@ sample_come : (plan : Plan) (spec : RoomSpec) (outcomes : List Counted) → IsSa
 sample_come plan spec outcomes sample =
     subst (λ (all : List Counted). All (Comes spec plan.crashes) all) (sym sample.outcomes_are) (drawn_come spec plan.crashes (random_of plan.seed) sample.runs [] sample.drawn (λ k d below. absurd (omega (arith, below))))
 
+-- and so they do by schedules that were made short
+kept_come : (spec : RoomSpec) (crashes : ℕ) (outcomes short : List Counted) → AreKept spec crashes outcomes short → All (Comes spec crashes) outcomes → All (Comes spec crashes) short
+kept_come spec crashes [] [] kept all = λ k d below. absurd (omega (arith, below))
+kept_come spec crashes (one ∷ outcomes) (other ∷ short) kept all =
+    let here : IsOutcome spec crashes other.schedule one.states = kept.0.leads.keeps (all 0 one (omega arith)) in
+    All-cons (Comes spec crashes) other short (subst (λ (s : List ProcessState). IsOutcome spec crashes other.schedule s) (sym kept.0.states_are) here) (kept_come spec crashes outcomes short kept.1 (later_come spec crashes one outcomes all))
+kept_come spec crashes [] (other ∷ short) kept all = absurd kept
+kept_come spec crashes (one ∷ outcomes) [] kept all = absurd kept
+
+short_come : (plan : Plan) (spec : RoomSpec) (outcomes short : List Counted) → IsSample spec plan outcomes → AreKept spec plan.crashes outcomes short → All (Comes spec plan.crashes) short
+short_come plan spec outcomes short sample kept = kept_come spec plan.crashes outcomes short kept (sample_come plan spec outcomes sample)
+
 -- each script leads to its outcome
-pub scripts_lead : (plan : Plan) (spec : RoomSpec) (block : List ℕ) (outcomes shown : List Counted) → IsWithinLimits spec → block_in block ≡ Ok (spec, length block) → IsSample spec plan outcomes → IsPermutation outcomes shown
+pub scripts_lead : (plan : Plan) (spec : RoomSpec) (block : List ℕ) (outcomes short shown : List Counted) → IsWithinLimits spec → block_in block ≡ Ok (spec, length block) → IsSample spec plan outcomes → AreKept spec plan.crashes outcomes short → IsPermutation short shown
     → All (HasScript spec.name block) shown
-scripts_lead plan spec block outcomes shown limits says sample permuted =
-    let come = sample_come plan spec outcomes sample in
-    All-permutation (HasScript spec.name block) outcomes shown permuted (λ k d below. leads spec plan.crashes block (get_or outcomes k d).schedule (get_or outcomes k d).states limits says (come k d below))
+scripts_lead plan spec block outcomes short shown limits says sample kept permuted =
+    let come = short_come plan spec outcomes short sample kept in
+    All-permutation (HasScript spec.name block) short shown permuted (λ k d below. leads spec plan.crashes block (get_or short k d).schedule (get_or short k d).states limits says (come k d below))
 
 found_come : (P : Counted → Type 0) (test : Counted → Bool) (outcomes : List Counted) → All P outcomes → IfSome (find test outcomes) P
 found_come P test [] all = tt
@@ -62,7 +76,7 @@ if_some P Q None more is = tt
 if_some P Q (Some one) more is = more one is
 
 -- and so does that of the outcome that breaks the task first
-pub breaking_leads : (plan : Plan) (spec : RoomSpec) (block : List ℕ) (outcomes : List Counted) → IsWithinLimits spec → block_in block ≡ Ok (spec, length block) → IsSample spec plan outcomes → IfSome (first_broken spec outcomes) (HasScript spec.name block)
-breaking_leads plan spec block outcomes limits says sample =
-    if_some (Comes spec plan.crashes) (HasScript spec.name block) (first_broken spec outcomes) (λ one comes. leads spec plan.crashes block one.schedule one.states limits says comes)
-    (found_come (Comes spec plan.crashes) (breaks_task spec) outcomes (sample_come plan spec outcomes sample))
+pub breaking_leads : (plan : Plan) (spec : RoomSpec) (block : List ℕ) (outcomes short : List Counted) → IsWithinLimits spec → block_in block ≡ Ok (spec, length block) → IsSample spec plan outcomes → AreKept spec plan.crashes outcomes short → IfSome (first_broken spec short) (HasScript spec.name block)
+breaking_leads plan spec block outcomes short limits says sample kept =
+    if_some (Comes spec plan.crashes) (HasScript spec.name block) (first_broken spec short) (λ one comes. leads spec plan.crashes block one.schedule one.states limits says comes)
+    (found_come (Comes spec plan.crashes) (breaks_task spec) short (short_come plan spec outcomes short sample kept))

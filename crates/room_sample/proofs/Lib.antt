@@ -11,6 +11,7 @@ mod Ordering
 mod Ranking
 mod RoomTexts
 mod Schedules
+mod Shortening
 mod ScriptLines
 mod Stopping
 mod Taking

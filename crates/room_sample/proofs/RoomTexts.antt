@@ -8,6 +8,7 @@ use Rattle.room_spec.specs.Blocks.{block_in}
 use Rattle.room_spec.specs.Rooms.{IsWithinLimits, RoomSpec}
 use Rattle.room_files.specs.BlockLists.{IsBlockAt}
 use Rattle.room_sample.specs.Rooms.{AddsSamples, AreSampleTexts, IsSampleText}
+use Rattle.room_sample.specs.Shown.{AreKept}
 use Rattle.room_sample.specs.Samples.{AreAmongAll, AreMostFirst, Counted, IsSample}
 use Rattle.room_sample.specs.TaskTexts.{has_held, task_text}
 use Rattle.room_sample.specs.Texts.{sample_text}
@@ -53,25 +54,27 @@ same_read : (block : List ℕ) (one other : RoomSpec × ℕ) → block_in block 
 same_read block one other read says = cc
 
 -- what was written of the room that a block says
-pub sample_told : (plan : Plan) (block : List ℕ) (spec : RoomSpec) (len : ℕ) (outcomes shown : List Counted) (held : Bool) (task before middle after : List ℕ) → IsWithinLimits spec → block_in block ≡ Ok (spec, len) → IsSample spec plan outcomes → AreAmongAll spec outcomes
-    → IsPermutation outcomes shown → AreMostFirst shown → held ≡ has_held spec outcomes → task ≡ task_text spec block plan outcomes → middle ≡ before ++ sample_text spec.name block plan shown → after ≡ middle ++ task
+pub sample_told : (plan : Plan) (block : List ℕ) (spec : RoomSpec) (len : ℕ) (outcomes short shown : List Counted) (held : Bool) (task before middle after : List ℕ) → IsWithinLimits spec → block_in block ≡ Ok (spec, len) → IsSample spec plan outcomes → AreAmongAll spec outcomes → AreKept spec plan.crashes outcomes short
+    → IsPermutation short shown → AreMostFirst shown → held ≡ has_held spec short → task ≡ task_text spec block plan short → middle ≡ before ++ sample_text spec.name block plan shown → after ≡ middle ++ task
     → (said : RoomSpec) → block_in block ≡ Ok (said, length block) → (text : List ℕ) × IsSampleText plan said held text × (after ≡ before ++ text)
-sample_told plan block spec len outcomes shown held task before middle after limits read sample among permuted first held_is task_is middle_is after_is said says =
+sample_told plan block spec len outcomes short shown held task before middle after limits read sample among kept permuted first held_is task_is middle_is after_is said says =
     let same : spec ≡ said = ap (λ (one : RoomSpec × ℕ). one.0) (same_read block (spec, len) (said, length block) read says) in
     let own : block_in block ≡ Ok (spec, length block) = subst (λ (room : RoomSpec). block_in block ≡ Ok (room, length block)) (sym same) says in
     let listed = sample_text spec.name block plan shown in
-    let text = listed ++ task_text spec block plan outcomes in
+    let text = listed ++ task_text spec block plan short in
     let told : IsSampleText plan spec held text = record {
       block = block;
       says = own;
       outcomes = outcomes;
       sample = sample;
       among = among;
+      short = short;
+      kept = kept;
       shown = shown;
       all_shown = permuted;
       most_first = first;
-      scripts = scripts_lead plan spec block outcomes shown limits own sample permuted;
-      breaking = breaking_leads plan spec block outcomes limits own sample;
+      scripts = scripts_lead plan spec block outcomes short shown limits own sample kept permuted;
+      breaking = breaking_leads plan spec block outcomes short limits own sample kept;
       well_is = held_is;
       text_is = refl;
     } in (

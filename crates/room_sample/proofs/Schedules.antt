@@ -10,7 +10,7 @@ use Rattle.room_core.specs.Reading.{AreFieldsOf}
 use Rattle.room_core.specs.declared.reply.StepReply.TheVariants.{Stepped}
 use Rattle.ws_history.specs.Reports.{report_of}
 use Rattle.ws_history.specs.declared.states.ProcessState.{ProcessState}
-use Rattle.room_sample.specs.Drawn.{Acts, Crashes, IsLed, Walks, WalksInto, Way, aimed, burning, burnt, goes_on, sets_out, unburnt, with_steps}
+use Rattle.room_sample.specs.Drawn.{Acts, Crashes, IsLed, IsScheduled, Walks, WalksInto, Way, aimed, burning, burnt, goes_on, opening_way, sets_out, unburnt, with_steps}
 use Rattle.room_sample.specs.declared.active.Active.{Active}
 use Rattle.room_sample.specs.declared.active.Fuse.{Fuse}
 use Rattle.room_sample.specs.declared.stretch.Stretch.{Stretch}
@@ -28,12 +28,6 @@ leads_on room (first ∷ schedule) stretch = leads_on (room_after_stretch room f
 more_crashes : (schedule : List Stretch) (stretch : Stretch) → crashes_in (schedule ++ stretch ∷ []) ≡ crashes_in schedule + crashes_in (stretch ∷ [])
 more_crashes schedule stretch = sum_by-append _ schedule (stretch ∷ [])
 
--- the schedule of a room on its way has led to it
-pub record IsScheduled (spec : RoomSpec) (crashes : ℕ) (way : Way) : Type 0 where
-  pub may_come : IsSchedule (opening_state spec) way.schedule
-  pub leads : room_after_schedule (opening_state spec) way.schedule ≡ way.room
-  pub few : crashes_in way.schedule + way.crashes_left ≤ crashes
-
 module _ (spec : RoomSpec) (crashes : ℕ) where
   -- a stretch leads on, and charges what it has of crashes
   scheduled_on : (way : Way) (new : RoomState) (less : ℕ) (stretch : Stretch) → IsScheduled spec crashes way → MayCome way.room stretch → new ≡ room_after_stretch way.room stretch → less + crashes_in (stretch ∷ []) ≤ way.crashes_left
@@ -50,7 +44,7 @@ module _ (spec : RoomSpec) (crashes : ℕ) where
   one_crash : (simulator : ℕ) → crashes_in (Crash simulator ∷ []) ≡ 1
   one_crash simulator = refl
 
-  steps_by : (b : Bool) (way : Way) (simulator taken : ℕ) → eqb taken 0 ≡ b → IsScheduled spec crashes way → taken ≤ 64 → ((k : ℕ) → k < taken → step_reply (room_after_steps way.room simulator k) simulator ≡ Stepped)
+  steps_by : (b : Bool) (way : Way) (simulator taken : ℕ) → eqb taken 0 ≡ b → IsScheduled spec crashes way → taken ≤ 65535 → ((k : ℕ) → k < taken → step_reply (room_after_steps way.room simulator k) simulator ≡ Stepped)
       → IsScheduled spec crashes (with_steps way simulator taken)
   steps_by true way simulator taken is so few each =
       let none : taken ≡ 0 = eqb-true taken 0 is in
@@ -60,30 +54,33 @@ module _ (spec : RoomSpec) (crashes : ℕ) where
       let none = no_crash simulator taken in
       rw is (scheduled_on way (room_after_steps way.room simulator taken) way.crashes_left (Steps simulator taken) so (omega (arith, some), few, each) refl (omega (arith, none)))
 
-  walks_on : (way after : Way) (simulator most taken : ℕ) → IsScheduled spec crashes way → most ≤ 64 → Walks simulator most taken way after → IsScheduled spec crashes after
+  pub walks_on : (way after : Way) (simulator most taken : ℕ) → IsScheduled spec crashes way → taken ≤ 65535 → Walks simulator most taken way after → IsScheduled spec crashes after
   walks_on way after simulator most taken so short walks =
-      subst (IsScheduled spec crashes) (sym walks.leads) (steps_by (eqb taken 0) way simulator taken refl so (omega (arith, walks.few, short)) walks.each)
+      subst (IsScheduled spec crashes) (sym walks.leads) (steps_by (eqb taken 0) way simulator taken refl so short walks.each)
 
   enters_on : (way after : Way) (simulator most taken : ℕ) (entered : Bool) → IsScheduled spec crashes way → most ≤ 64 → WalksInto simulator most taken way after entered → IsScheduled spec crashes after
   enters_on way after simulator most taken entered so short walks =
       subst (IsScheduled spec crashes) (sym walks.1) (steps_by (eqb taken 0) way simulator taken refl so (omega (arith, walks.0.few, short)) walks.0.each)
 
-  crashes_on : (way after : Way) (simulator : ℕ) (crashed : Bool) → IsScheduled spec crashes way → Crashes simulator way crashed after → IsScheduled spec crashes after
+  pub crashes_on : (way after : Way) (simulator : ℕ) (crashed : Bool) → IsScheduled spec crashes way → Crashes simulator way crashed after → IsScheduled spec crashes after
   crashes_on way after simulator true so is =
       let one = one_crash simulator in
       subst (IsScheduled spec crashes) (sym is.2) (scheduled_on way (room_after_crash way.room simulator) (way.crashes_left - 1) (Crash simulator) so is.1 refl (omega (arith, one, is.0)))
   crashes_on way after simulator false so is = subst (IsScheduled spec crashes) (sym is.1) so
 
   acts_on : (way after : Way) (simulator most : ℕ) (fuse left : Fuse) (stays : Bool) → IsScheduled spec crashes way → most ≤ 64 → Acts simulator most way fuse left after stays → IsScheduled spec crashes after
-  acts_on way after simulator most fuse left stays so short (unburnt taken after' walks) = walks_on way after simulator most taken so short walks
+  acts_on way after simulator most fuse left stays so short (unburnt taken after' walks) = walks_on way after simulator most taken so (omega (arith, short, walks.few)) walks
   acts_on way after simulator most fuse left stays so short (burnt crashed after' is) = crashes_on way after simulator crashed so is
-  acts_on way after simulator most fuse left stays so short (burning steps taken after' some walks) = walks_on way after simulator (min most steps) taken so (omega (arith, short)) walks
+  acts_on way after simulator most fuse left stays so short (burning steps taken after' some walks) = walks_on way after simulator (min most steps) taken so (omega (arith, short, walks.few)) walks
   acts_on way after simulator most fuse left stays so short (aimed others taken entered after' walks) = enters_on way after simulator most taken entered so short walks
 
   pub led_so : (random : Stream) (draws : ℕ) (way : Way) (active : List Active) (later : Stream) → IsLed spec crashes random draws way active later → IsScheduled spec crashes way
   led_so random draws way active later (sets_out active' later' is) = record { may_come = tt; leads = refl; few = omega arith }
   led_so random draws way active later (goes_on before from to active' active'' middle later' led drawn) =
       acts_on from way drawn.one.simulator drawn.most drawn.one.fuse drawn.fuse drawn.stays (led_so random before from active' middle led) drawn.short drawn.acts
+
+pub opened : (spec : RoomSpec) (crashes : ℕ) → IsScheduled spec crashes (opening_way spec crashes)
+opened spec crashes = record { may_come = tt; leads = refl; few = omega arith }
 
 pub outcome_of : (spec : RoomSpec) (crashes : ℕ) (way : Way) (states : List ProcessState) → IsScheduled spec crashes way → ((fields : Fields) → AreFieldsOf (room_after_settle way.room) fields → states ≡ (report_of (room_after_settle way.room).spec fields).states.items) → IsOutcome spec crashes way.schedule states
 outcome_of spec crashes way states is reported = record {

@@ -13,7 +13,7 @@ use Rattle.room_sample.specs.declared.active.Active.{Active}
 use Rattle.room_sample.specs.declared.active.Fuse.{Fuse}
 use Rattle.room_sample.specs.declared.active.Fuse.TheVariants.{Never, After, Inside}
 use Rattle.room_sample.specs.declared.active.Style.{Style}
-use Rattle.room_sample.specs.Schedules.{longest}
+use Rattle.room_sample.specs.Schedules.{IsSchedule, crashes_in, room_after_schedule}
 use Rattle.room_sample.specs.declared.stretch.Stretch.{Stretch}
 use Rattle.room_sample.specs.declared.stretch.Stretch.TheVariants.{Steps, Crash}
 
@@ -54,6 +54,10 @@ fuse_by spec style coin = if coin.0 == 0 then (Never, coin.1) else burning_by sp
 
 abbrev pub fuse_from : RoomSpec → Style → Stream → Fuse × Stream
 fuse_from spec style random = fuse_by spec style (below 2 random)
+
+-- a stretch that is drawn has at most so many steps
+abbrev pub most_drawn : ℕ
+most_drawn = 64
 
 -- for how many steps a simulator acts: short stretches and long ones
 abbrev pub length_by : ℕ × Stream → ℕ × Stream
@@ -170,6 +174,12 @@ pub data Acts (simulator most : ℕ) (way : Way) : Fuse → Fuse → Way → Boo
   burning : (left taken : ℕ) (after : Way) → 0 < left → Walks simulator (min most left) taken way after → Acts simulator most way (After left) (After (left - taken)) after (taken == min most left)
   aimed : (others taken : ℕ) (entered : Bool) (after : Way) → WalksInto simulator most taken way after entered → Acts simulator most way (Inside others) (fuse_after others entered) after (entered || (taken == most))
 
+-- the schedule of a room on its way has led to it
+pub record IsScheduled (spec : RoomSpec) (crashes : ℕ) (way : Way) : Type 0 where
+  pub may_come : IsSchedule (opening_state spec) way.schedule
+  pub leads : room_after_schedule (opening_state spec) way.schedule ≡ way.room
+  pub few : crashes_in way.schedule + way.crashes_left ≤ crashes
+
 -- ---- a schedule
 
 -- one of those that may act is picked, and for how many steps; if it may not act again it is struck off
@@ -181,7 +191,7 @@ pub record Draws (style : Style) (way : Way) (active : List Active) (random : St
   pub next : IsPicked style active random at picked
   pub long : (most, measured) ≡ length_from picked
   pub some : 1 ≤ most
-  pub short : most ≤ longest
+  pub short : most ≤ most_drawn
   pub one : Active
   pub there : slice_get active at ≡ Some one
   pub fuse : Fuse

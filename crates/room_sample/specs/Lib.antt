@@ -5,6 +5,7 @@ pub mod Leads
 pub mod Rooms
 pub mod Samples
 pub mod Schedules
+pub mod Shown
 pub mod TaskTexts
 pub mod Tasks
 pub mod Texts

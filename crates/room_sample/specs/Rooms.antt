@@ -5,13 +5,14 @@ use Rattle.room_spec.specs.Blocks.{block_in}
 use Rattle.room_spec.specs.Rooms.{RoomSpec}
 use Rattle.room_sample.specs.Leads.{HasScript}
 use Rattle.room_sample.specs.Samples.{AreAmongAll, AreMostFirst, Counted, IsSample}
+use Rattle.room_sample.specs.Shown.{AreKept}
 use Rattle.room_sample.specs.Tasks.{first_broken}
 use Rattle.room_sample.specs.TaskTexts.{has_held, task_text}
 use Rattle.room_sample.specs.Texts.{sample_text}
 use Rattle.room_sample.specs.declared.sampling.Plan.{Plan}
 
--- The text shows a sample of the room: those outcomes first that came most often, each with a script that leads to it, and each among the
--- outcomes of all runs of the room's protocol. It then says in how many schedules the room's task was broken, with a script that leads to an
+-- The text shows a sample of the room: those outcomes first that came most often, each with a short script that leads to it, and each among
+-- the outcomes of all runs of the room's protocol. It then says in how many schedules the room's task was broken, with a script that leads to an
 -- outcome that breaks it; all is well if none broke it. The block says the room.
 pub record IsSampleText (plan : Plan) (spec : RoomSpec) (well : Bool) (text : List ℕ) : Type 0 where
   pub block : List ℕ
@@ -19,14 +20,17 @@ pub record IsSampleText (plan : Plan) (spec : RoomSpec) (well : Bool) (text : Li
   pub outcomes : List Counted
   pub sample : IsSample spec plan outcomes
   pub among : AreAmongAll spec outcomes
+  -- the same, with schedules that were made short
+  pub short : List Counted
+  pub kept : AreKept spec plan.crashes outcomes short
   pub shown : List Counted
-  pub all_shown : IsPermutation outcomes shown
+  pub all_shown : IsPermutation short shown
   pub most_first : AreMostFirst shown
   -- the script of each outcome leads to it
   pub scripts : All (HasScript spec.name block) shown
-  pub breaking : IfSome (first_broken spec outcomes) (HasScript spec.name block)
-  pub well_is : well ≡ has_held spec outcomes
-  pub text_is : text ≡ sample_text spec.name block plan shown ++ task_text spec block plan outcomes
+  pub breaking : IfSome (first_broken spec short) (HasScript spec.name block)
+  pub well_is : well ≡ has_held spec short
+  pub text_is : text ≡ sample_text spec.name block plan shown ++ task_text spec block plan short
 
 -- a text for each room, in order; all is well if it is for each
 abbrev pub AreSampleTexts : Plan → List RoomSpec → Bool → List (List ℕ) → Type 0

@@ -21,9 +21,9 @@ abbrev pub room_after_schedule : RoomState → List Stretch → RoomState
 room_after_schedule room [] = room
 room_after_schedule room (stretch ∷ stretches) = room_after_schedule (room_after_stretch room stretch) stretches
 
--- the most steps of a stretch
+-- the most steps of a stretch, as many as a command of a script may ask for
 abbrev pub longest : ℕ
-longest = 64
+longest = 65535
 
 -- the simulator takes all these steps, of which there are few; or it crashes now
 abbrev pub MayCome : RoomState → Stretch → Type 0

@@ -1,8 +1,7 @@
 //! Who acts in a schedule, in what order, and when who crashes, as far as it is drawn before the first step.
 ghost use Rattle.std.specs.Prelude.{◌≡◌, ◌<◌, ◌≤◌, length, slice_set};
 ghost use Rattle.room_sample.specs.Chances.{random_in};
-ghost use Rattle.room_sample.specs.Drawn.{IsFirstHighest, IsPicked, active_from, fuse_from, length_from, most_steps, one_from, rank_from, style_from};
-ghost use Rattle.room_sample.specs.Schedules.{longest};
+ghost use Rattle.room_sample.specs.Drawn.{IsFirstHighest, IsPicked, active_from, fuse_from, length_from, most_drawn, most_steps, one_from, rank_from, style_from};
 
 use crate::chances::Chances;
 use arrayvec::ArrayVec;
@@ -121,7 +120,7 @@ fn most_steps(spec: &Spec) -> u32
 pub(crate) fn random_length(chances: &mut Chances) -> u16
     ensures drawn { (result, random_in chances.new) ≡ length_from (random_in chances.old) }
     ensures some { 1 ≤ result }
-    ensures few { result ≤ longest }
+    ensures few { result ≤ most_drawn }
 {
     let most = 1 << chances.below(POWERS);
     chances.below(most) as u16 + 1

@@ -4,6 +4,7 @@
 mod active;
 mod chances;
 mod counts;
+mod cuts;
 pub mod laws;
 mod rooms;
 mod run;

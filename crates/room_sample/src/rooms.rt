@@ -53,6 +53,7 @@ fn write_room<P: Progress>(
     };
     let _shape = spec.shape(); // for the proof: the room is within its limits
     let mut outcomes = sample(alloc, &spec, plan, progress)?;
+    outcomes.shorten(alloc, &spec, plan.crashes)?;
     let mut task = Text::new(alloc);
     let held = write_task(&mut task, &spec, block, plan, &outcomes)?;
     outcomes.sort_by_times()?;

@@ -7,8 +7,9 @@ ghost use Rattle.room_core.specs.Fields.{Fields};
 ghost use Rattle.room_core.specs.Reading.{AreFieldsOf};
 ghost use Rattle.ws_history.specs.Reports.{report_of};
 ghost use Rattle.room_sample.specs.Chances.{random_in};
-ghost use Rattle.room_sample.specs.Drawn.{Acts, Crashes, Draws, EntersBy, IsLed, IsThrough, Walks, WalksInto, fuse_after, has_entered, is_look, opening_way, style_from};
+ghost use Rattle.room_sample.specs.Drawn.{Acts, Crashes, Draws, EntersBy, IsLed, IsScheduled, IsThrough, Walks, WalksInto, fuse_after, has_entered, is_look, opening_way, style_from};
 ghost use Rattle.room_sample.specs.Samples.{IsRunFrom};
+ghost use Rattle.room_sample.specs.Schedules.{IsOutcome, longest};
 ghost use Rattle.room_sample.specs.Ways.{sampled_of, way_of};
 
 use crate::active::{
@@ -59,6 +60,7 @@ impl Scheduled {
     fn steps(&mut self, simulator: u8, most: u16) -> Result<u16, AllocError>
         ensures walks { IfOk result (λ taken. Walks simulator most taken (way_of self.old) (way_of self.new)) }
         ensures few { IfOk result (λ taken. taken ≤ most) }
+        ensures short { IfOk result (λ taken. taken ≤ longest) }
     {
         let count = self.room.steps(usize::from(simulator), u64::from(most)) as u16;
         if count > 0 {
@@ -93,6 +95,22 @@ impl Scheduled {
         self.crashes_left -= 1;
         self.schedule.push(Stretch::Crash { simulator })?;
         Ok(true)
+    }
+
+    /// Follows a stretch as far as it may come.
+    fn follow(&mut self, stretch: Stretch) -> Result<(), AllocError>
+        ensures { OnOk result ((spec : RoomSpec) (crashes : ℕ) → IsScheduled spec crashes (way_of self.old) → IsScheduled spec crashes (way_of self.new)) }
+    {
+        match stretch {
+            Stretch::Steps { simulator, count } => {
+                self.steps(simulator, count)?;
+                Ok(())
+            }
+            Stretch::Crash { simulator } => {
+                self.crash(simulator)?;
+                Ok(())
+            }
+        }
     }
 
     /// Settles the room, and says where its processes stand.
@@ -223,6 +241,22 @@ fn act_by_chance(
         act_next(scheduled, style, active, chances)?;
     }
     Ok(())
+}
+
+/// Runs a room of this spec by a schedule, as far as each of its stretches may come, and settles it. At most so many simulators crash.
+pub(crate) fn run_by(
+    alloc: Global,
+    spec: Spec,
+    crashes: u32,
+    schedule: &[Stretch],
+) -> Result<Run, AllocError>
+    ensures { IfOk result (λ run. IsOutcome spec crashes run.schedule.items run.states.items) }
+{
+    let mut scheduled = Scheduled::fresh(alloc, spec, crashes)?;
+    for stretch in schedule {
+        scheduled.follow(*stretch)?;
+    }
+    Ok(scheduled.settled())
 }
 
 /// Runs a room of this spec by a random schedule, in which at most so many simulators crash, and settles it.

@@ -1,17 +1,22 @@
 //! Outcomes, and how often each came.
-ghost use Rattle.std.specs.Prelude.{◌≡◌, [], IsPermutation, OnOk, length, option_map, slice_get};
+ghost use Rattle.std.specs.Prelude.{◌≡◌, ◌<◌, [], IsPermutation, OnOk, length, option_map, slice_get};
 ghost use Rattle.room_sample.specs.Samples.{AreMostFirst, counted, counted_of};
+ghost use Rattle.room_sample.specs.Shown.{AreKept, with_schedule_at};
 ghost use Rattle.room_sample.specs.Ways.{sampled_of};
 
+use crate::cuts::shorten;
 use crate::run::Run;
 use crate::stretch::Stretch;
 use arrayvec::ArrayVec;
 use indexmap::IndexMap;
-use room_spec::MAX_PROCESSES;
+use room_spec::{MAX_PROCESSES, Spec};
 use std::alloc::{AllocError, Global};
 use std::cmp::Reverse;
 use std::marker::Model;
 use ws_history::ProcessState;
+
+/// How many times a room is run at most to make the schedules of its outcomes short.
+const MOST_TRIES: u32 = 10000;
 
 /// Where each process of a room stands, in order of their numbers.
 pub type States = ArrayVec<ProcessState, MAX_PROCESSES>;
@@ -21,7 +26,7 @@ pub type States = ArrayVec<ProcessState, MAX_PROCESSES>;
 pub struct Outcome {
     /// By how many schedules it came.
     pub times: u32,
-    /// The first of them.
+    /// One that leads to it: the first that came, or a shorter one.
     pub schedule: Vec<Stretch>,
 }
 
@@ -67,6 +72,53 @@ impl Tally {
         };
         outcome.times = outcome.times.saturating_add(1);
         Ok(())
+    }
+
+    /// Makes the schedules short that lead to the outcomes of the room of this spec, by at most 10000 runs of it.
+    pub(crate) fn shorten(
+        &mut self,
+        alloc: Global,
+        spec: &Spec,
+        crashes: u32,
+    ) -> Result<(), AllocError>
+        ensures { OnOk result (AreKept spec.now crashes self.old self.new) }
+    {
+        let mut left = MOST_TRIES;
+        for index in 0..self.len() {
+            self.shorten_one(alloc, spec, crashes, index, &mut left)?;
+        }
+        Ok(())
+    }
+
+    /// Makes the schedule short that leads to one of the outcomes, by at most `left` runs.
+    fn shorten_one(
+        &mut self,
+        alloc: Global,
+        spec: &Spec,
+        crashes: u32,
+        index: usize,
+        left: &mut u32,
+    ) -> Result<(), AllocError>
+        ensures { OnOk result (AreKept spec.now crashes self.old self.new) }
+    {
+        let Some((states, outcome)) = self.get(index) else {
+            return Ok(());
+        };
+        let schedule = outcome.schedule.as_slice();
+        let short = shorten(alloc, spec, crashes, states, schedule, left)?;
+        self.set_schedule(index, short);
+        Ok(())
+    }
+
+    /// Gives an outcome another schedule.
+    fn set_schedule(&mut self, index: usize, schedule: Vec<Stretch>)
+        requires { index < length self.old }
+        ensures { self.new ≡ with_schedule_at self.old index schedule.items }
+    {
+        let Some(outcome) = self.outcomes.get_index_mut(index) else {
+            unreachable!() // there is an outcome of each index below their number
+        };
+        outcome.schedule = schedule;
     }
 
     /// Puts those first that came most often.
