@@ -13,7 +13,7 @@ use Rattle.step_page.specs.declared.page.FileKind.TheVariants.{Script, Transcrip
 use Rattle.step_page.specs.declared.parts.TheConstants.{BEGIN, END}
 use Rattle.bgview.specs.Page.{AllFit, EndsPage, IsFaultOf, IsFileAnswer, IsPageFor, both, fault_among, fault_in, first_fault, kind_of}
 use Rattle.bgview.specs.declared.fault.ViewFault.{ViewFault}
-use Rattle.bgview.specs.declared.fault.ViewFault.TheVariants.{BadInput, Device, Incomplete}
+use Rattle.bgview.specs.declared.fault.ViewFault.TheVariants.{BadGoal, BadInput, Device, Incomplete}
 
 pub ends : (files : List (List ℕ)) (fault : ViewFault) → AllFit files → IsFaultOf (fault_among files) fault → EndsPage files fault
 ends files (BadInput line at) fit known = (fit, known)
@@ -22,6 +22,7 @@ ends files (Device Read) fit known = known
 ends files (Device Write) fit known = known
 ends files (Device TooLong) fit known = known
 ends files Incomplete fit known = known
+ends files (BadGoal bad) fit known = known
 
 -- a file that was answered has start fault
 answered_well : (kind : FileKind) (file : List ℕ) (ending : Result Outcome AllocError) (answer : List ℕ) → IsFileAnswer kind file ending answer → first_fault kind file ≡ None
@@ -35,6 +36,7 @@ of_first known later (Device Read) is = is
 of_first known later (Device Write) is = is
 of_first known later (Device TooLong) is = is
 of_first known later Incomplete is = is
+of_first known later (BadGoal bad) is = is
 
 -- the first of two has a fault,
 pub ends_first : (file next : List ℕ) (fault : ViewFault) → length file ≤ most_bytes → length next ≤ most_bytes → IsFaultOf (first_fault (kind_of file) file) fault → EndsPage (file ∷ next ∷ []) fault

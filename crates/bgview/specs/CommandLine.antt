@@ -10,7 +10,9 @@ use Rattle.clap.specs.declared.builder.value_parser.ValueParser.TheVariants.{Sig
 use Rattle.room_sample.specs.declared.sampling.Plan.{Plan}
 use Rattle.outcome_text.specs.declared.rooms.Search.{Search}
 use Rattle.bgview.specs.declared.command_line.Mode.{Mode}
-use Rattle.bgview.specs.declared.command_line.Mode.TheVariants.{Why, Trace, Draw, Page, Transcript, Fault, Sample, Outcomes, Lint}
+use Rattle.bgview.specs.declared.command_line.Mode.TheVariants.{Why, Trace, Draw, Page, Transcript, Fault, Grade, Sample, Outcomes, Lint}
+use Rattle.bgview.specs.declared.command_line.Request.{Request}
+use Rattle.bgview.specs.declared.grade.Grading.{Grading}
 
 -- the subcommand of a word, which takes a file
 abbrev pub file_app : List ℕ → App
@@ -51,6 +53,17 @@ brief_rule = record (new_rule (codes "brief")) { long = Some (codes "brief"); ac
 abbrev pub outcomes_app : App
 outcomes_app = with_rule (with_rule (with_rule (file_app (codes "outcomes")) stopped_rule) states_rule) brief_rule
 
+-- an option that takes a text, and has to be there
+abbrev pub goal_rule : Rule
+goal_rule = record (new_rule (codes "goal")) { long = Some (codes "goal"); value_names = 1; required = true }
+
+abbrev pub commands_rule : Rule
+commands_rule = number_rule (codes "commands") 0 1000000
+
+-- the subcommand `grade`, which takes a file, a goal and a number
+abbrev pub grade_app : App
+grade_app = with_rule (with_rule (file_app (codes "grade")) goal_rule) commands_rule
+
 -- one number at least
 abbrev pub code_rule : Rule
 code_rule = record (new_rule (codes "CODE")) { required = true; range = Some (record { start_inclusive = 1; end_inclusive = usize_max }) }
@@ -68,12 +81,13 @@ plain_app = record { top = plain_shape; subs = [] }
 abbrev pub bgview_app : App
 bgview_app =
     let showing = with_subcommand (with_subcommand (with_subcommand (with_subcommand plain_app (file_app (codes "why")).top) (file_app (codes "trace")).top) (file_app (codes "draw")).top) page_app.top in
-    with_subcommand (with_subcommand (with_subcommand (with_subcommand (with_subcommand showing (file_app (codes "transcript")).top) fault_app.top) sample_app.top) outcomes_app.top) (file_app (codes "lint")).top
+    let finding = with_subcommand (with_subcommand (with_subcommand (with_subcommand showing (file_app (codes "transcript")).top) fault_app.top) sample_app.top) outcomes_app.top in
+    with_subcommand (with_subcommand finding (file_app (codes "lint")).top) grade_app.top
 
 -- the mode of a word, which is that of a subcommand
 abbrev pub mode_of : List ℕ → Mode
 mode_of word =
-    if bytes_eq word (codes "trace") then Trace else if bytes_eq word (codes "draw") then Draw else if bytes_eq word (codes "page") then Page else if bytes_eq word (codes "transcript") then Transcript else if bytes_eq word (codes "fault") then Fault else if bytes_eq word (codes "sample") then Sample else if bytes_eq word (codes "outcomes") then Outcomes else if bytes_eq word (codes "lint") then Lint else Why
+    if bytes_eq word (codes "trace") then Trace else if bytes_eq word (codes "draw") then Draw else if bytes_eq word (codes "page") then Page else if bytes_eq word (codes "transcript") then Transcript else if bytes_eq word (codes "fault") then Fault else if bytes_eq word (codes "sample") then Sample else if bytes_eq word (codes "outcomes") then Outcomes else if bytes_eq word (codes "lint") then Lint else if bytes_eq word (codes "grade") then Grade else Why
 
 -- the mode of the subcommand that was found
 abbrev pub mode_among : Option (List ℕ × List Row) → Mode
@@ -121,3 +135,15 @@ pub record IsSearchAmong (found : Option (List ℕ × List Row)) (search : Searc
   pub crashes : IsNumberIfAny (value_among (codes "crashes") found) search.crashes
   pub states : IsNumber (value_among (codes "states") found) 1000000 search.states
   pub brief : search.brief ≡ is_given (value_among (codes "brief") found)
+
+-- what the values of `grade` say that a script is graded by
+pub record IsGradingAmong (found : Option (List ℕ × List Row)) (grading : Grading) : Type 0 where
+  pub goal : grading.goal.now ≡ unwrap_or (value_among (codes "goal") found) []
+  pub most : IsNumberIfAny (value_among (codes "commands") found) grading.most
+
+-- what the words request
+pub record IsRequestAmong (found : Option (List ℕ × List Row)) (request : Request) : Type 0 where
+  pub mode : request.mode ≡ mode_among found
+  pub plan : IsPlanAmong found request.plan
+  pub search : IsSearchAmong found request.search
+  pub grading : IsGradingAmong found request.grading

@@ -7,7 +7,7 @@ use Rattle.script_play.specs.Script.{script_says}
 use Rattle.room_files.specs.declared.outcome.Outcome.{Outcome}
 use Rattle.script_picture.specs.Drawn.{IsDrawn}
 use Rattle.bgview.specs.declared.fault.ViewFault.{ViewFault}
-use Rattle.bgview.specs.declared.fault.ViewFault.TheVariants.{BadInput, Device, Incomplete}
+use Rattle.bgview.specs.declared.fault.ViewFault.TheVariants.{BadGoal, BadInput, Device, Incomplete}
 
 -- a beginning of a picture
 abbrev pub IsDrawnPart : List ℕ → List ℕ → Type 0
@@ -20,6 +20,7 @@ IsDrawAnswer input (Ok outcome) output = (length input ≤ most_bytes) × IsDraw
 IsDrawAnswer input (Err (Device TooLong)) output = (most_bytes < length input) × (output ≡ [])
 IsDrawAnswer input (Err (BadInput line fault)) output = (length input ≤ most_bytes) × (script_says input ≡ Err (line, fault)) × (output ≡ [])
 IsDrawAnswer input (Err Incomplete) output = (length input ≤ most_bytes) × IsDrawn input (Err alloc_error) output
+IsDrawAnswer input (Err (BadGoal fault)) output = ⊥
 IsDrawAnswer input (Err (Device Memory)) output = output ≡ []
 IsDrawAnswer input (Err (Device Read)) output = output ≡ []
 IsDrawAnswer input (Err (Device Write)) output = (length input ≤ most_bytes) × IsDrawnPart input output

@@ -6,15 +6,14 @@ use Rattle.clap.specs.Words.{Row, fault_of, subcommand_of}
 use Rattle.clap.specs.declared.error.kind.ErrorKind.{ErrorKind}
 use Rattle.clap.specs.declared.error.kind.ErrorKind.TheVariants.{OutOfMemory}
 use Rattle.io_text.specs.declared.fault.DeviceFault.TheVariants.{Read}
-use Rattle.outcome_text.specs.declared.rooms.Search.{Search}
 use Rattle.room_files.specs.declared.outcome.Outcome.{Outcome}
-use Rattle.room_sample.specs.declared.sampling.Plan.{Plan}
-use Rattle.bgview.specs.CommandLine.{IsPlanAmong, IsSearchAmong, bgview_app, codes_among, file_among, mode_among, other_among}
+use Rattle.bgview.specs.CommandLine.{IsRequestAmong, bgview_app, codes_among, file_among, mode_among, other_among}
 use Rattle.bgview.specs.Ends.{ending_status, words_status}
 use Rattle.bgview.specs.Faults.{AreFaultsSaid}
 use Rattle.bgview.specs.Modes.{IsViewed}
 use Rattle.bgview.specs.Page.{IsPageAnswer}
 use Rattle.bgview.specs.declared.command_line.Mode.TheVariants.{Fault}
+use Rattle.bgview.specs.declared.command_line.Request.{Request}
 use Rattle.bgview.specs.declared.fault.ViewFault.{ViewFault}
 use Rattle.bgview.specs.declared.fault.ViewFault.TheVariants.{Device}
 
@@ -30,14 +29,12 @@ pub record Writes : Type 0 where
 abbrev pub HasAppended : Writes → List ℕ → Type 0
 HasAppended writes output = Appends writes.before writes.after output
 
--- An input is answered in the mode that the words say, by the plan and the search that they say.
+-- An input is answered as the words request.
 pub record IsAnswered (found : Found) (input : List ℕ) (result : Result Outcome ViewFault) (writes : Writes) : Type 0 where
-  pub plan : Plan
-  pub planned : IsPlanAmong found plan
-  pub search : Search
-  pub searched : IsSearchAmong found search
+  pub request : Request
+  pub requested : IsRequestAmong found request
   pub output : List ℕ
-  pub viewed : IsViewed (mode_among found) plan search input result output
+  pub viewed : IsViewed request input result output
   pub appended : HasAppended writes output
 
 -- what the input gives that the words name, if it is known: a file, or standard input if they name none

@@ -9,7 +9,7 @@ use Rattle.room_files.specs.Verdicts.{outcome_if}
 use Rattle.room_files.specs.declared.outcome.Outcome.{Outcome}
 use Rattle.bgview.specs.declared.faults.TheConstants.{NO_FAULT}
 use Rattle.bgview.specs.declared.fault.ViewFault.{ViewFault}
-use Rattle.bgview.specs.declared.fault.ViewFault.TheVariants.{BadInput, Device, Incomplete}
+use Rattle.bgview.specs.declared.fault.ViewFault.TheVariants.{BadGoal, BadInput, Device, Incomplete}
 
 -- what the fault says that a text is the number of
 abbrev pub said_by : List ℕ → Option (List ℕ)
@@ -30,6 +30,7 @@ faults_outcome texts = outcome_if (list_all (λ text. is_some (said_by text)) te
 abbrev pub AreFaultsSaid : List (List ℕ) → Result Outcome ViewFault → List ℕ → Type 0
 AreFaultsSaid texts (Ok outcome) output = (output ≡ flat_map fault_line texts) × (outcome ≡ faults_outcome texts)
 AreFaultsSaid texts (Err Incomplete) output = ⊥
+AreFaultsSaid texts (Err (BadGoal fault)) output = ⊥
 AreFaultsSaid texts (Err (Device Memory)) output = output ≡ []
 AreFaultsSaid texts (Err (Device Write)) output = (rest : List ℕ) × (output ++ rest ≡ flat_map fault_line texts)
 AreFaultsSaid texts (Err (Device Read)) output = ⊥

@@ -3,6 +3,7 @@ pub mod Draw
 pub mod Endings
 pub mod Ends
 pub mod Faults
+pub mod Grade
 pub mod Notes
 pub mod Page
 pub mod Outcomes

@@ -8,7 +8,7 @@ use Rattle.file_faults.specs.declared.kinds.Kind.TheVariants.{Rooms, Script, Tra
 use Rattle.room_files.specs.Verdicts.{outcome_if}
 use Rattle.room_files.specs.declared.outcome.Outcome.{Outcome}
 use Rattle.bgview.specs.declared.fault.ViewFault.{ViewFault}
-use Rattle.bgview.specs.declared.fault.ViewFault.TheVariants.{BadInput, Device, Incomplete}
+use Rattle.bgview.specs.declared.fault.ViewFault.TheVariants.{BadGoal, BadInput, Device, Incomplete}
 
 abbrev pub kind_line : Kind → List ℕ
 kind_line Rooms = codes "read as rooms\n"
@@ -38,6 +38,7 @@ abbrev pub IsLintAnswer : List ℕ → Result Outcome ViewFault → List ℕ →
 IsLintAnswer input (Ok outcome) output = (length input ≤ most_bytes) × IsLintFor input outcome output
 IsLintAnswer input (Err (BadInput line fault)) output = ⊥
 IsLintAnswer input (Err Incomplete) output = ⊥
+IsLintAnswer input (Err (BadGoal fault)) output = ⊥
 IsLintAnswer input (Err (Device TooLong)) output = (most_bytes < length input) × (output ≡ [])
 IsLintAnswer input (Err (Device Memory)) output = output ≡ []
 IsLintAnswer input (Err (Device Read)) output = output ≡ []

@@ -8,13 +8,14 @@ use Rattle.step_page.specs.declared.page.FileKind.{FileKind}
 use Rattle.step_page.specs.declared.page.FileKind.TheVariants.{Script, Transcript}
 use Rattle.bgview.specs.Page.{kind_of}
 use Rattle.bgview.specs.declared.fault.ViewFault.{ViewFault}
-use Rattle.bgview.specs.declared.fault.ViewFault.TheVariants.{BadInput, Device, Incomplete}
+use Rattle.bgview.specs.declared.fault.ViewFault.TheVariants.{BadGoal, BadInput, Device, Incomplete}
 
 -- of a transcript with a malformed line, and of no other: the answer to those has it
 abbrev pub AreNotes : {A : Type 0} → List ℕ → Result A ViewFault → List ℕ → List ℕ → Type 0
 AreNotes input (Ok value) old new = new ≡ old
 AreNotes input (Err (Device fault)) old new = new ≡ old
 AreNotes input (Err Incomplete) old new = new ≡ old
+AreNotes input (Err (BadGoal fault)) old new = new ≡ old
 AreNotes input (Err (BadInput line fault)) old new = AreTranscriptFaults input new
 
 -- this is said wherever the input was read, unless an allocation failed
@@ -22,6 +23,7 @@ abbrev pub AreSaid : {A : Type 0} → (List ℕ → Type 0) → Result A ViewFau
 AreSaid said (Ok value) notes = said notes
 AreSaid said (Err (BadInput line fault)) notes = said notes
 AreSaid said (Err Incomplete) notes = said notes
+AreSaid said (Err (BadGoal fault)) notes = ⊤
 AreSaid said (Err (Device Write)) notes = said notes
 AreSaid said (Err (Device Read)) notes = ⊤
 AreSaid said (Err (Device TooLong)) notes = ⊤

@@ -6,7 +6,7 @@ use Rattle.room_files.specs.declared.outcome.Outcome.{Outcome}
 use Rattle.outcome_text.specs.Blocks.{IsOutcomesFor}
 use Rattle.outcome_text.specs.declared.rooms.Search.{Search}
 use Rattle.bgview.specs.declared.fault.ViewFault.{ViewFault}
-use Rattle.bgview.specs.declared.fault.ViewFault.TheVariants.{BadInput, Device, Incomplete}
+use Rattle.bgview.specs.declared.fault.ViewFault.TheVariants.{BadGoal, BadInput, Device, Incomplete}
 
 -- a beginning of it
 abbrev pub IsOutcomesPart : Search → List ℕ → List ℕ → Type 0
@@ -18,6 +18,7 @@ abbrev pub IsOutcomesAnswer : Search → List ℕ → Result Outcome ViewFault �
 IsOutcomesAnswer search input (Ok outcome) output = (length input ≤ most_bytes) × IsOutcomesFor search input outcome output
 IsOutcomesAnswer search input (Err (BadInput line fault)) output = ⊥
 IsOutcomesAnswer search input (Err Incomplete) output = ⊥
+IsOutcomesAnswer search input (Err (BadGoal fault)) output = ⊥
 IsOutcomesAnswer search input (Err (Device TooLong)) output = (most_bytes < length input) × (output ≡ [])
 IsOutcomesAnswer search input (Err (Device Memory)) output = output ≡ []
 IsOutcomesAnswer search input (Err (Device Read)) output = output ≡ []

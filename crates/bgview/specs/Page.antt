@@ -19,7 +19,7 @@ use Rattle.step_page.specs.declared.page.FileKind.TheVariants.{Script, Transcrip
 use Rattle.bgview.specs.Trace.{IsTraceFor}
 use Rattle.bgview.specs.Why.{IsExplanationFor}
 use Rattle.bgview.specs.declared.fault.ViewFault.{ViewFault}
-use Rattle.bgview.specs.declared.fault.ViewFault.TheVariants.{BadInput, Device, Incomplete}
+use Rattle.bgview.specs.declared.fault.ViewFault.TheVariants.{BadGoal, BadInput, Device, Incomplete}
 
 abbrev pub answered_as : Kind → FileKind
 answered_as kinds.Transcript = Transcript
@@ -106,6 +106,7 @@ IsPageAnswer files (Ok outcome) output = AllFit files × IsPageFor files (Ok out
 IsPageAnswer files (Err (Device TooLong)) output = (list_any (λ (file : List ℕ). nat_lt most_bytes (length file)) files ≡ true) × (output ≡ [])
 IsPageAnswer files (Err (BadInput line fault)) output = AllFit files × (fault_among files ≡ Some (line, fault)) × (output ≡ [])
 IsPageAnswer files (Err Incomplete) output = AllFit files × IsPageFor files (Err alloc_error) output
+IsPageAnswer files (Err (BadGoal fault)) output = ⊥
 IsPageAnswer files (Err (Device Memory)) output = output ≡ []
 IsPageAnswer files (Err (Device Read)) output = output ≡ []
 IsPageAnswer files (Err (Device Write)) output = AllFit files × IsPagePart files output
@@ -120,6 +121,7 @@ IsFaultOf known (Device Read) = ⊥
 IsFaultOf known (Device Write) = ⊥
 IsFaultOf known (Device TooLong) = ⊥
 IsFaultOf known Incomplete = ⊥
+IsFaultOf known (BadGoal fault) = ⊥
 
 -- with it nothing is written
 abbrev pub EndsPage : List (List ℕ) → ViewFault → Type 0
@@ -129,3 +131,4 @@ EndsPage files (Device Read) = ⊥
 EndsPage files (Device Write) = ⊥
 EndsPage files (Device TooLong) = ⊥
 EndsPage files Incomplete = ⊥
+EndsPage files (BadGoal fault) = ⊥

@@ -9,7 +9,7 @@ use Rattle.room_files.specs.declared.outcome.Outcome.{Outcome}
 use Rattle.room_sample.specs.Rooms.{AddsSamples}
 use Rattle.room_sample.specs.declared.sampling.Plan.{Plan}
 use Rattle.bgview.specs.declared.fault.ViewFault.{ViewFault}
-use Rattle.bgview.specs.declared.fault.ViewFault.TheVariants.{BadInput, Device, Incomplete}
+use Rattle.bgview.specs.declared.fault.ViewFault.TheVariants.{BadGoal, BadInput, Device, Incomplete}
 
 -- The lines of the refused blocks, and then a sample of each room; and that it is none but a sample. All is well if no block was refused and
 -- no schedule broke a room's task.
@@ -34,6 +34,7 @@ IsSampleAnswer plan input (Ok outcome) output = (length input ≤ most_bytes) ×
 IsSampleAnswer plan input (Err (BadInput line fault)) output = ⊥
 IsSampleAnswer plan input (Err (Device TooLong)) output = (most_bytes < length input) × (output ≡ [])
 IsSampleAnswer plan input (Err Incomplete) output = ⊥
+IsSampleAnswer plan input (Err (BadGoal fault)) output = ⊥
 IsSampleAnswer plan input (Err (Device Memory)) output = output ≡ []
 IsSampleAnswer plan input (Err (Device Read)) output = output ≡ []
 IsSampleAnswer plan input (Err (Device Write)) output = (length input ≤ most_bytes) × IsSamplePart plan input output

@@ -19,7 +19,7 @@ use Rattle.script_play.specs.Play.{AreDone, AreReplies, Done, Faulty, IsPlayText
 use Rattle.step_words.specs.Told.{IsTold, Telling, nothing_told}
 use Rattle.fault_text.specs.Lines.{indented}
 use Rattle.bgview.specs.declared.fault.ViewFault.{ViewFault}
-use Rattle.bgview.specs.declared.fault.ViewFault.TheVariants.{BadInput, Device, Incomplete}
+use Rattle.bgview.specs.declared.fault.ViewFault.TheVariants.{BadGoal, BadInput, Device, Incomplete}
 
 -- ---- notes
 
@@ -91,6 +91,7 @@ IsTraced input (Ok outcome) output = (length input ≤ most_bytes) × IsTraceFor
 IsTraced input (Err (Device TooLong)) output = (most_bytes < length input) × (output ≡ [])
 IsTraced input (Err (BadInput line fault)) output = (length input ≤ most_bytes) × (script_says input ≡ Err (line, fault)) × (output ≡ [])
 IsTraced input (Err Incomplete) output = (length input ≤ most_bytes) × IsTraceFor input (Err alloc_error) output
+IsTraced input (Err (BadGoal fault)) output = ⊥
 IsTraced input (Err (Device Memory)) output = output ≡ []
 IsTraced input (Err (Device Read)) output = output ≡ []
 IsTraced input (Err (Device Write)) output = (length input ≤ most_bytes) × IsTracePart input output

@@ -7,7 +7,7 @@ use Rattle.script_play.specs.Script.{script_says}
 use Rattle.room_files.specs.declared.outcome.Outcome.{Outcome}
 use Rattle.script_transcript.specs.Transcripts.{IsTranscribed}
 use Rattle.bgview.specs.declared.fault.ViewFault.{ViewFault}
-use Rattle.bgview.specs.declared.fault.ViewFault.TheVariants.{BadInput, Device, Incomplete}
+use Rattle.bgview.specs.declared.fault.ViewFault.TheVariants.{BadGoal, BadInput, Device, Incomplete}
 
 -- a beginning of a transcript
 abbrev pub IsTranscriptPart : List ℕ → List ℕ → Type 0
@@ -20,6 +20,7 @@ IsTranscriptAnswer input (Ok outcome) output = (length input ≤ most_bytes) × 
 IsTranscriptAnswer input (Err (Device TooLong)) output = (most_bytes < length input) × (output ≡ [])
 IsTranscriptAnswer input (Err (BadInput line fault)) output = (length input ≤ most_bytes) × (script_says input ≡ Err (line, fault)) × (output ≡ [])
 IsTranscriptAnswer input (Err Incomplete) output = (length input ≤ most_bytes) × IsTranscribed input (Err alloc_error) output
+IsTranscriptAnswer input (Err (BadGoal fault)) output = ⊥
 IsTranscriptAnswer input (Err (Device Memory)) output = output ≡ []
 IsTranscriptAnswer input (Err (Device Read)) output = output ≡ []
 IsTranscriptAnswer input (Err (Device Write)) output = (length input ≤ most_bytes) × IsTranscriptPart input output

@@ -21,7 +21,7 @@ use Rattle.bgview.specs.Told.{ToldRoom, AreDecidedBefore, IsExcess, IsLineBreak,
 use Rattle.bgview.specs.Words.{excess_words, reason_words}
 use Rattle.fault_text.specs.declared.refusals.Refusal.{Refusal}
 use Rattle.bgview.specs.declared.fault.ViewFault.{ViewFault}
-use Rattle.bgview.specs.declared.fault.ViewFault.TheVariants.{BadInput, Device, Incomplete}
+use Rattle.bgview.specs.declared.fault.ViewFault.TheVariants.{BadGoal, BadInput, Device, Incomplete}
 use Rattle.bgview.specs.declared.told.Decision.{Decision}
 use Rattle.bgview.specs.declared.told.Excess.{Excess}
 use Rattle.bgview.specs.declared.told.LineBreak.{LineBreak}
@@ -128,6 +128,7 @@ IsWhyAnswer input (Ok outcome) output = (length input ≤ most_bytes) × IsExpla
 IsWhyAnswer input (Err (BadInput line fault)) output = (length input ≤ most_bytes) × (input_says input ≡ Err (line, fault)) × (output ≡ [])
 IsWhyAnswer input (Err (Device TooLong)) output = (most_bytes < length input) × (output ≡ [])
 IsWhyAnswer input (Err Incomplete) output = ⊥
+IsWhyAnswer input (Err (BadGoal fault)) output = ⊥
 IsWhyAnswer input (Err (Device Memory)) output = output ≡ []
 IsWhyAnswer input (Err (Device Read)) output = output ≡ []
 IsWhyAnswer input (Err (Device Write)) output = (length input ≤ most_bytes) × IsPartFor input output
@@ -136,6 +137,7 @@ IsWhyAnswer input (Err (Device Write)) output = (length input ≤ most_bytes) ×
 abbrev pub MayEndWhy : List ℕ → ViewFault → Type 0
 MayEndWhy input (BadInput line fault) = input_says input ≡ Err (line, fault)
 MayEndWhy input Incomplete = ⊥
+MayEndWhy input (BadGoal fault) = ⊥
 MayEndWhy input (Device Memory) = Unit {0}
 MayEndWhy input (Device Read) = ⊥
 MayEndWhy input (Device Write) = ⊥

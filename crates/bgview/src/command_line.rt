@@ -1,11 +1,12 @@
 //! The words of the command line.
-ghost use Rattle.std.specs.Prelude.{◌≡◌, IfOk, IsOkAnd, Some, codes, false, map, option_map};
+ghost use Rattle.std.specs.Prelude.{◌≡◌, [], IfOk, IsOkAnd, Some, codes, false, map, option_map, unwrap_or};
 ghost use Rattle.clap.specs.Kinds.{FailsBy};
 ghost use Rattle.clap.specs.declared.builder.command.Command.TheViews.{out-Command};
 ghost use Rattle.clap.specs.Words.{app_of, fault_of, first_value, found_of, subcommand_of, subcommand_rows_of, with_subcommand};
 ghost use Rattle.clap.specs.Walk.{rule_of};
-ghost use Rattle.bgview.specs.CommandLine.{bgview_app, brief_rule, crashes_rule, fault_app, file_among, file_app, is_given, mode_among, mode_of, other_among, outcomes_app, page_app, plain_app, sample_app, schedules_rule, seed_rule, states_rule, stopped_rule, IsNumber, IsNumberIfAny, IsPlanAmong, IsSearchAmong};
+ghost use Rattle.bgview.specs.CommandLine.{bgview_app, brief_rule, crashes_rule, fault_app, file_among, file_app, goal_rule, commands_rule, grade_app, is_given, mode_among, mode_of, other_among, outcomes_app, page_app, plain_app, sample_app, schedules_rule, seed_rule, states_rule, stopped_rule, IsGradingAmong, IsNumber, IsNumberIfAny, IsPlanAmong, IsRequestAmong, IsSearchAmong};
 
+use crate::grade::Grading;
 use clap::{Arg, ArgAction, ArgMatches, Command, Error, value_parser};
 use outcome_text::Search;
 use room_sample::Plan;
@@ -33,6 +34,8 @@ pub enum Mode {
     Outcomes,
     /// Explains all faults of a file.
     Lint,
+    /// Says whether a script reaches a goal.
+    Grade,
 }
 
 impl Mode {
@@ -56,6 +59,8 @@ impl Mode {
             Mode::Outcomes
         } else if word == "lint" {
             Mode::Lint
+        } else if word == "grade" {
+            Mode::Grade
         } else {
             Mode::Why
         }
@@ -271,6 +276,48 @@ fn lint_command<'a>(alloc: Global) -> Result<Command<'a>, AllocError>
     )
 }
 
+/// The subcommand `grade`, which takes a file, a goal and a number.
+fn grade_command<'a>(alloc: Global) -> Result<Command<'a>, AllocError>
+    ensures app { IfOk result (λ command. app_of command ≡ grade_app) }
+    ensures local { IfOk result (λ command. (out-Command command).has_globals ≡ false) }
+{
+    let grade = file_command(
+        alloc,
+        "grade",
+        "Plays a script, and says whether its last report satisfies a goal",
+        "bgview grade --goal GOAL [--commands N] [FILE]",
+        "The script; without it, standard input is read",
+    )?;
+    let with_goal = grade.arg(goal_option(alloc))?;
+    with_goal.arg(commands_option(alloc))
+}
+
+/// The option `--goal GOAL`.
+fn goal_option<'a>(alloc: Global) -> Arg<'a>
+    ensures rule { rule_of result ≡ goal_rule }
+    ensures local { result.global ≡ false }
+{
+    Arg::new(alloc, "goal")
+        .long("goal")
+        .value_name("GOAL")
+        .required(true)
+        .help("What the report is to show, for example 'held 0 and not decided 1 3'")
+}
+
+/// The option `--commands N`.
+fn commands_option<'a>(alloc: Global) -> Arg<'a>
+    ensures rule { rule_of result ≡ commands_rule }
+    ensures local { result.global ≡ false }
+{
+    Arg::new(alloc, "commands")
+        .long("commands")
+        .value_name("N")
+        .value_parser(value_parser!(u32).range(0..=1000000))
+        .help(
+            "How many commands `step` and `crash` the script may have, 0 to 1000000; without it, any number",
+        )
+}
+
 /// The subcommand `fault`.
 fn fault_command<'a>(alloc: Global) -> Result<Command<'a>, AllocError>
     ensures app { IfOk result (λ command. app_of command ≡ fault_app) }
@@ -321,7 +368,8 @@ fn command<'a>(alloc: Global) -> Result<Command<'a>, AllocError>
     let with_fault = with_subcommand(with_transcript, fault_command(alloc))?;
     let with_sample = with_subcommand(with_fault, sample_command(alloc))?;
     let with_outcomes = with_subcommand(with_sample, outcomes_command(alloc))?;
-    with_subcommand(with_outcomes, lint_command(alloc))
+    let with_lint = with_subcommand(with_outcomes, lint_command(alloc))?;
+    with_subcommand(with_lint, grade_command(alloc))
 }
 
 /// What `clap` finds in the words after the program's name.
@@ -368,22 +416,38 @@ pub fn line_in<'a>(matches: &ArgMatches<'a>) -> Line<'a>
 
 /// What is requested of an input.
 #[derive(Clone, Copy, Debug, PartialEq, Eq)]
-pub struct Request {
+pub struct Request<'a> {
     pub mode: Mode,
     pub plan: Plan,
     pub search: Search,
+    pub grading: Grading<'a>,
 }
 
 /// What the words request of an input.
-pub fn request_in(matches: &ArgMatches<'_>) -> Request
-    ensures mode { result.mode ≡ mode_among (subcommand_rows_of matches.now) }
-    ensures plan { IsPlanAmong (subcommand_rows_of matches.now) result.plan }
-    ensures search { IsSearchAmong (subcommand_rows_of matches.now) result.search }
+pub fn request_in<'a>(matches: &ArgMatches<'a>) -> Request<'a>
+    ensures { IsRequestAmong (subcommand_rows_of matches.now) result }
 {
     Request {
         mode: line_in(matches).command,
         plan: plan_in(matches),
         search: search_in(matches),
+        grading: grading_in(matches),
+    }
+}
+
+/// What a script is graded by, as the words say.
+fn grading_in<'a>(matches: &ArgMatches<'a>) -> Grading<'a>
+    ensures { IsGradingAmong (subcommand_rows_of matches.now) result }
+{
+    match matches.subcommand() {
+        Some((_, inner)) => Grading {
+            goal: text_among(inner, "goal"),
+            most: number_if_any(inner, "commands"),
+        },
+        None => Grading {
+            goal: "",
+            most: None,
+        },
     }
 }
 
@@ -402,6 +466,16 @@ fn plan_in(matches: &ArgMatches<'_>) -> Plan
             crashes: 1,
             seed: 1,
         },
+    }
+}
+
+/// The text after an option, which is empty if the option isn't there.
+fn text_among<'a>(matches: &ArgMatches<'a>, name: &str) -> &'a str
+    ensures { result.now ≡ unwrap_or (first_value (found_of matches.now) name.now) [] }
+{
+    match matches.get_str(name) {
+        Some(text) => text,
+        None => "",
     }
 }
 

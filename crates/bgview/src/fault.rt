@@ -6,6 +6,7 @@ ghost use Rattle.io_text.specs.declared.fault.DeviceFault.TheVariants.{Memory};
 
 use io_text::DeviceFault;
 use room_files::{InputFault, Outcome, TextFault};
+use script_goal::GoalFault;
 use std::alloc::AllocError;
 use thiserror::Error;
 
@@ -21,6 +22,9 @@ pub enum ViewFault {
     /// The input has this fault on this line, counted from 1. A message has the fault's number.
     #[error("line {line}: fault {}", .fault.code())]
     BadInput { line: u64, fault: TextFault },
+    /// The goal that a script is graded by has this fault.
+    #[error("{0}")]
+    BadGoal(GoalFault),
 }
 
 impl ViewFault {

@@ -19,6 +19,7 @@ mod engine;
 mod excess;
 mod fault;
 mod faults;
+mod grade;
 mod inputs;
 mod lint;
 mod page;
@@ -35,6 +36,7 @@ use clap::error::ErrorKind;
 use command_line::{Mode, Request, line_in, read_words, request_in};
 use engine::{draw_io, fault_io, outcomes_io, sample_io, transcript_io, why_io};
 use fault::ViewFault;
+use grade::grade_io;
 use inputs::Inputs;
 use io_text::{Device, DeviceFault, Text};
 use lint::lint_io;
@@ -197,7 +199,6 @@ fn answered<R: Read + Drop, W: Write, P: Progress>(
     progress: &mut P,
 ) -> Result<Outcome, ViewFault>
     requires { writer.old.failed ≡ false }
-    // The mode, the plan and the search are those of the words.
     ensures answer { IfSome (R.remaining input) (λ bytes. IsAnswered (subcommand_rows_of matches.now) bytes result
         (record { before = W.contents writer.old.inner; after = W.contents writer.new.inner })) }
     ensures notes { IfSome (R.remaining input) (λ bytes. AreNotesIn (mode_among (subcommand_rows_of matches.now)) bytes result notes.old notes.new) }
@@ -212,13 +213,13 @@ fn write_answer<R: Read, W: Write, P: Progress>(
     alloc: Global,
     reader: &mut Device<R>,
     writer: &mut Device<W>,
-    request: &Request,
+    request: &Request<'_>,
     notes: &mut Text,
     progress: &mut P,
 ) -> Result<Outcome, ViewFault>
     requires reader { reader.old.failed ≡ false }
     requires writer { writer.old.failed ≡ false }
-    ensures answer { IfSome (R.remaining reader.old.inner) (λ input. (output : List ℕ) × IsViewed request.now.mode request.now.plan request.now.search input result output
+    ensures answer { IfSome (R.remaining reader.old.inner) (λ input. (output : List ℕ) × IsViewed request.now input result output
         × Appends (W.contents writer.old.inner) (W.contents writer.new.inner) output) }
     ensures notes { IfSome (R.remaining reader.old.inner) (λ input. AreNotesIn request.now.mode input result notes.old notes.new) }
 {
@@ -231,6 +232,7 @@ fn write_answer<R: Read, W: Write, P: Progress>(
         Mode::Sample => sample_io(alloc, reader, writer, &request.plan, notes, progress),
         Mode::Outcomes => outcomes_io(alloc, reader, writer, &request.search, notes, progress),
         Mode::Lint => lint_io(alloc, reader, writer, notes),
+        Mode::Grade => grade_io(alloc, reader, writer, &request.grading, notes),
     }
 }
 

@@ -115,7 +115,7 @@ are_few None moves = true
 are_few (Some most) moves = nat_le moves most
 
 abbrev pub many_text : ℕ → List ℕ
-many_text moves = and_number (codes ": no, the commands `step` and `crash` are") moves ++ codes "\n"
+many_text moves = and_number (codes ": no, the number of commands `step` and `crash` is") moves ++ codes "\n"
 
 abbrev pub few_end : ℕ → ℕ → List ℕ
 few_end most moves = if nat_le moves most then codes ": yes\n" else many_text moves

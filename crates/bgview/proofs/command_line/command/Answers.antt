@@ -11,4 +11,5 @@ returns c =
     let fault_is = grown _ _ _ c.fault_command.result _ transcript_is c.fault_command.ensures.app c.fault_command.ensures.local c.in_ok-with_fault.ensures in
     let sample_is = grown _ _ _ c.sample_command.result _ fault_is c.sample_command.ensures.app c.sample_command.ensures.local c.in_ok-with_sample.ensures in
     let outcomes_is = grown _ _ _ c.outcomes_command.result _ sample_is c.outcomes_command.ensures.app c.outcomes_command.ensures.local c.in_ok-with_outcomes.ensures in
-    all_grown _ _ _ c.lint_command.result _ outcomes_is c.lint_command.ensures.app c.lint_command.ensures.local c.with_subcommand-9.ensures
+    let lint_is = grown _ _ _ c.lint_command.result _ outcomes_is c.lint_command.ensures.app c.lint_command.ensures.local c.in_ok-with_lint.ensures in
+    all_grown _ _ _ c.grade_command.result _ lint_is c.grade_command.ensures.app c.grade_command.ensures.local c.with_subcommand-10.ensures
