@@ -25,7 +25,7 @@ turn_after due (Some (events.Write p v)) = Snap
 turn_after due (Some (events.Snap p row)) = turn_for due
 turn_after due (Some (events.Decide p v)) = Over
 
--- how many snapshots a process is behind its writes
+-- how many snapshots a process is after its writes
 abbrev pub owed : Turn → ℕ
 owed Snap = 1
 owed (Write v) = 0
@@ -62,19 +62,19 @@ is_action (Decide v) = true
 is_action Snap = false
 is_action Over = false
 
--- what is left to do where no write is
+-- what is left to do if no write is
 abbrev pub without_write : Turn → Turn
 without_write (Write v) = Over
 without_write (Decide v) = Decide v
 without_write Snap = Snap
 without_write Over = Over
 
--- what a process may do next in a room of so many rounds
+-- what a process may do next in a room of this many rounds
 abbrev pub could_do : ℕ → Process → Turn
 could_do rounds process = if nat_lt process.writes rounds then process.turn else without_write process.turn
 
 -- Whatever the events before it were: where the answer is yes, the event may follow them and the processes then
--- track it too; where it is no, it may not, by the rule that is said, and nothing has changed.
+-- track it too; if it is no, it may not, by the rule that is said, and nothing has changed.
 abbrev pub Follows : RoomSpec → Event → List Process → Result (Unit {0}) Rule → List Process → Type 0
 Follows spec event old answer new =
     (before : List Event) → Tracks spec old before

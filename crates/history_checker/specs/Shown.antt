@@ -12,7 +12,7 @@ use Rattle.history_checker.specs.Verdicts.{FedEvent, HasProcessed, IsAfter, Room
 use Rattle.history_checker.specs.declared.fault.FeedFault.{FeedFault}
 use Rattle.history_checker.specs.declared.fault.FeedFault.TheVariants.{BadLine, NoRoom}
 
--- entries, each behind a space
+-- entries, each after a space
 abbrev pub spaced : List (Option ℕ) → List ℕ
 spaced entries = flat_map (λ entry. 32 ∷ entry_text entry) entries
 
@@ -21,11 +21,11 @@ pub record SaysRow (text : List ℕ) (entries : List (Option ℕ)) : Type 0 wher
   pub text_is : text ≡ spaced entries
   pub values : AllByRecursion IsEntry entries
 
--- how many bytes an entry has behind a space
+-- how many bytes an entry has after a space
 abbrev pub width : Option ℕ → ℕ
 width entry = suc (length (entry_text entry))
 
--- how many bytes stand before the entry at a place, by the widths of all
+-- how many bytes are before the entry at a place, by the widths of all
 abbrev pub before : List ℕ → ℕ → ℕ
 before widths p = sum_by (λ w. w) (take p widths)
 
@@ -35,7 +35,7 @@ pub record IsShown (entries : List (Option ℕ)) (text widths : List ℕ) : Type
   pub widths_are : widths ≡ map width entries
   pub few : length entries ≤ MAX_PROCESSES
 
--- a row of these last writes: it shows all of them, or nothing where an allocation failed
+-- a row of these last writes: it shows all of them, or nothing if an allocation failed
 abbrev pub ShowsLasts : List (Option ℕ) → List (Option ℕ) → Type 0
 ShowsLasts lasts [] = ⊤
 ShowsLasts lasts (entry ∷ row) = entry ∷ row ≡ lasts

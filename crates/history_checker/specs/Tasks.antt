@@ -6,7 +6,7 @@ use Rattle.std.specs.List.{Contains}
 use Rattle.transcript.specs.Runs.{IsRun}
 use Rattle.transcript.specs.Tasks.{MayBeDecided, IsInTask, decided_in, different}
 
--- in each run of the room at most so many different values are decided
+-- in each run of the room at most this many different values are decided
 abbrev pub DecidesAtMost : RoomSpec → ℕ → Type 0
 DecidesAtMost spec most = (events : List Event) → IsRun spec events → length (different (decided_in events)) ≤ most
 

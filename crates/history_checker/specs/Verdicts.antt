@@ -133,6 +133,6 @@ feed_sentence (NoRoom none) = no_room_sentence
 abbrev pub rooms_in : List (List ℕ × RoomState) → List RoomState
 rooms_in entries = map (λ entry. entry.1) entries
 
--- each room stands under its own name
+-- each room is under its own name
 abbrev pub IsKeyed : List (List ℕ × RoomState) → Type 0
 IsKeyed entries = map (λ entry. entry.0) entries ≡ names_of (specs_of (rooms_in entries))

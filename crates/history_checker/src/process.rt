@@ -94,7 +94,7 @@ impl Turn {
 }
 
 impl Process {
-    /// What stands where there is no process yet.
+    /// What is there as long as there is no process.
     pub const BLANK: Process = Process {
         input: 0,
         turn: Turn::Over,

@@ -17,7 +17,7 @@ pub struct LastWrite {
     pub at: usize,
 }
 
-/// Why an event may not follow those before it. Where several reasons hold, it is the first in this order.
+/// Why an event may not follow those before it. If several reasons hold, it is the first in this order.
 #[derive(Clone, Copy, Debug, PartialEq, Eq)]
 pub enum Reason {
     /// The room has no such process.
@@ -32,7 +32,7 @@ pub enum Reason {
     OtherAction {
         asked: Action,
     },
-    /// A snapshot's entry for this process, the first that is wrong, isn't the last write of the process. This is, or nothing where
+    /// A snapshot's entry for this process, the first that is wrong, isn't the last write of the process. This is, or nothing if
     /// it has written nothing.
     WrongEntry {
         process: usize,

@@ -65,7 +65,7 @@ impl Room {
         })
     }
 
-    /// Processes an event, which stands on this line.
+    /// Processes an event, which is on this line.
     pub(crate) fn feed(&mut self, event: &Event, line: u64)
         ensures spec { self.new.spec ≡ self.old.spec }
         ensures processed { StaysSo event.now line (λ fed. IsAfter fed self.old) (λ fed. IsAfter fed self.new) }
@@ -93,7 +93,7 @@ impl Room {
         }
     }
 
-    /// Processes a write, which stands on this line. It counts for no task.
+    /// Processes a write, which is on this line. It counts for no task.
     #[inline(always)]
     fn feed_write(&mut self, p: usize, v: u32, line: u64)
         ensures spec { self.new.spec ≡ self.old.spec }
@@ -116,7 +116,7 @@ impl Room {
         self.feed_read(line, number)
     }
 
-    /// Processes a snapshot of process `p`, which stands on this line, if the room's row shows that it is right: its entries are this
+    /// Processes a snapshot of process `p`, which is on this line, if the room's row shows that it is right: its entries are this
     /// text. It counts for no task.
     fn feed_said(&mut self, p: usize, text: &[u8], line: u64) -> bool
         ensures spec { self.new.spec ≡ self.old.spec }

@@ -76,8 +76,8 @@ impl Rooms {
         Ok(())
     }
 
-    /// Feeds the room of this name the event that stands on this line of the transcript. This
-    /// takes no memory. Where no room has the name, nothing changes.
+    /// Feeds the room of this name the event that is on this line of the transcript. This
+    /// takes no memory. If no room has the name, nothing changes.
     pub fn feed(&mut self, name: &Name, event: &Event, line: u64) -> Result<(), NoRoom>
         ensures known { IsOk result ↔ IsTrue (has_room name.now (specs_of self.old)) }
         ensures rooms { specs_of self.new ≡ specs_of self.old }
@@ -101,7 +101,7 @@ impl Rooms {
     pub fn feed_line(&mut self, line: &EventLine<'_>, number: u64) -> Result<(), FeedFault>
         ensures fed { OnOk result (HasFed line.now number self.old self.new) }
         ensures rooms { specs_of self.new ≡ specs_of self.old }
-        // A bad line comes before an unknown room.
+        // A malformed line comes before an unknown room.
         ensures fault { IfErr result (IsUnfed line.now (specs_of self.old)) }
         ensures err { OnErr result (self.new ≡ self.old) }
     {
@@ -126,7 +126,7 @@ impl Rooms {
         self.rooms.len()
     }
 
-    /// The name of the room of this index, from 0 in order of adding, or `None` where there is none.
+    /// The name of the room of this index, from 0 in order of adding, or `None` if there is none.
     pub fn name(&self, index: usize) -> Option<&Name>
         ensures { option_map (λ name. name.now) result ≡ slice_get (names_of (specs_of self.now)) index }
     {
@@ -134,7 +134,7 @@ impl Rooms {
         Some(name)
     }
 
-    /// The verdict on the room of this index, from 0 in order of adding, or `None` where there is
+    /// The verdict on the room of this index, from 0 in order of adding, or `None` if there is
     /// none.
     pub fn verdict(&self, index: usize) -> Option<Verdict>
         ensures { (fed : List FedEvent) → HasProcessed self.now fed
@@ -146,8 +146,8 @@ impl Rooms {
         }
     }
 
-    /// Whether the decisions of the room of this index, from 0 in order of adding, keep its task, also where its events are no
-    /// run; or `None` where there is no such room, or it has no task.
+    /// Whether the decisions of the room of this index, from 0 in order of adding, keep its task, also if its events are no
+    /// run; or `None` if there is no such room, or it has no task.
     pub fn task_verdict(&self, index: usize) -> Option<TaskVerdict>
         ensures { (fed : List FedEvent) → HasProcessed self.now fed
             → MatchOption (slice_get (specs_of self.now) index) (result ≡ None) (λ spec. IsTaskAnswer spec (fed_to spec.name fed) result) }

@@ -12,8 +12,8 @@ use std::mem::swap;
 /// The most bytes of an entry: a space, and the digits of the greatest value.
 const MAX_WIDTH: usize = 11;
 
-/// The last writes of a room's processes, and their text, in which each entry stands behind a space.
-/// Where memory was refused it shows nothing at all.
+/// The last writes of a room's processes, and their text, in which each entry comes after a space.
+/// If an allocation failed it shows nothing.
 #[derive(Drop)]
 pub(crate) struct Row {
     last: View,
@@ -179,7 +179,7 @@ fn splice(
     next.extend_from_slice(&text[end..])
 }
 
-/// How many bytes stand before an entry, by the widths of all.
+/// How many bytes are before an entry, by the widths of all.
 fn before(widths: &[u8], p: usize) -> usize
     requires { (p ≤ length widths.now) × (length widths.now ≤ MAX_PROCESSES) }
     ensures value { result ≡ before widths.now p }

@@ -40,7 +40,7 @@ impl Tally {
         Ok(Some(Box::new(alloc, tally)?))
     }
 
-    /// Takes in an event, which stands on this line, of a room whose task allows `most` values.
+    /// Takes in an event, which is on this line, of a room whose task allows `most` values.
     pub fn feed(&mut self, spec: &Spec, most: usize, event: &Event, line: u64)
         requires { most ≤ MAX_AGREED }
         ensures { StaysSo event.now line

@@ -3,7 +3,7 @@ use Rattle.std.specs.Prelude.{◌≡◌, ℕ, ◌+◌, ◌≤◌, Bool, true, fa
 use Rattle.io_text.specs.Reading.{most_bytes}
 use Rattle.io_text.specs.declared.device.Device.{Device}
 
--- The reader failed exactly where reading ended the call. Of what it had to give each read but the last gave a byte at least, and
+-- The reader failed exactly if reading ended the call. Of what it had to give each read but the last gave a byte at least, and
 -- once it had said that nothing is left it was not asked again.
 abbrev pub HasRead : {R : Type 0} → Device R → Device R → Option (List ℕ) → Bool → Type 0
 HasRead old new given is_failed =
@@ -12,7 +12,7 @@ HasRead old new given is_failed =
     × IfSome given (λ input. new.calls ≤ old.calls + length input + 1)
     × (old.ended ≡ false → new.asked_past_end ≡ old.asked_past_end)
 
--- The writer failed exactly where writing ended the call. What was written has left its hands, also where the call ended with a
+-- The writer failed exactly if writing ended the call. What was written was passed on, also if the call ended with a
 -- fault, unless that is of the writer. No write was of nothing.
 abbrev pub HasWritten : {W A E : Type 0} → Device W → Device W → Result A E → Bool → Type 0
 HasWritten old new result is_failed =

@@ -14,7 +14,7 @@ abbrev pub is_end : {E : Type 0} → Result ℕ E → ℕ → Bool
 is_end (Ok count) room = (count == 0) && nat_lt 0 room
 is_end (Err fault) room = false
 
--- the next bytes of the reader, so many, went behind the text; there are none only at its end
+-- the next bytes of the reader, this many, were appended to the text; there are none only at its end
 pub record IsPiece (old new : Option (List ℕ)) (before after : List ℕ) (count : ℕ) : Type 0 where
   pub bytes : List ℕ
   pub behind : after ≡ before ++ bytes
@@ -29,7 +29,7 @@ pub record IsTooMuch (old : Option (List ℕ)) (before : List ℕ) : Type 0 wher
   pub consumed : Consumes old new bytes
   pub long : most_bytes < length before + length bytes
 
--- the reader's next bytes fit behind the text
+-- the reader's next bytes fit after the text
 pub record IsInRoom (old : Option (List ℕ)) (before : List ℕ) : Type 0 where
   pub new : Option (List ℕ)
   pub bytes : List ℕ

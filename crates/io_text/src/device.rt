@@ -139,7 +139,7 @@ impl<W: Write> Device<W> {
         }
     }
 
-    /// Hands on what the writer may still hold back.
+    /// Passes on what the writer may still hold back.
     ///
     /// # Errors
     ///

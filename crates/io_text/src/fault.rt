@@ -17,7 +17,7 @@ pub enum DeviceFault {
     /// The input has more than 16777216 bytes.
     #[error("input too long")]
     TooLong,
-    /// Memory was refused.
+    /// An allocation failed.
     #[error("out of memory")]
     Memory,
 }

@@ -39,7 +39,7 @@ fn empty_piece(alloc: Global) -> Result<Vec<u8>, AllocError>
     vec![in alloc; 0; PIECE]
 }
 
-/// Makes one read, and puts what it gave behind the text.
+/// Makes one read, and appends what it gave to the text.
 fn read_piece<R: Read>(
     reader: &mut Device<R>,
     piece: &mut [u8],

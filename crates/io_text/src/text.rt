@@ -5,7 +5,7 @@ use itoa::write_digits;
 use std::alloc::{AllocError, Global};
 use std::marker::Model;
 
-/// How much room a text takes beyond what it needs, where it has to take more.
+/// How much room a text takes beyond what it needs, if it has to take more.
 const SPARE: usize = 1024;
 
 /// The most bytes of a number and the space before it, and some to spare.
@@ -17,7 +17,7 @@ pub struct Numeral {
     pub value: u64,
     start: usize,
     bytes: [u8; 48],
-    /// A space and the number stand in these bytes from `start` to the 24th.
+    /// A space and the number are in these bytes from `start` to the 24th.
     ghost right: { slice_range bytes start 24 ≡ 32 ∷ decimal value },
     ghost within: { start ≤ 24 },
 }
@@ -48,7 +48,7 @@ impl Numeral {
     }
 }
 
-/// A text, and room behind it.
+/// A text, and room after it.
 #[derive(Drop)]
 pub struct Text {
     bytes: Vec<u8>,
@@ -92,7 +92,7 @@ impl Text {
         &self.bytes[..self.len]
     }
 
-    /// Puts more behind the text. An `Err` leaves it as it was.
+    /// Appends more to the text. An `Err` leaves it as it was.
     #[inline(always)]
     pub fn put(&mut self, more: &[u8]) -> Result<(), AllocError>
         ensures text { OnOk result (self.new ≡ self.old ++ more.now) }
@@ -103,7 +103,7 @@ impl Text {
         Ok(())
     }
 
-    /// Puts two pieces behind the text. An `Err` leaves it as it was, or with the first piece.
+    /// Appends two pieces to the text. An `Err` leaves it as it was, or with the first piece.
     #[inline(always)]
     pub fn put_two(&mut self, first: &[u8], second: &[u8]) -> Result<(), AllocError>
         ensures text { OnOk result (self.new ≡ self.old ++ (first.now ++ second.now)) }
@@ -113,7 +113,7 @@ impl Text {
         self.put(second)
     }
 
-    /// Puts a space and a number behind the text. An `Err` leaves it as it was.
+    /// Appends a space and a number to the text. An `Err` leaves it as it was.
     #[inline]
     pub fn put_number(&mut self, value: u64) -> Result<(), AllocError>
         ensures text { OnOk result (self.new ≡ self.old ++ 32 ∷ decimal value) }
@@ -139,7 +139,7 @@ impl Text {
         self.put_spaced(&bytes, start)
     }
 
-    /// Puts a space and a number, whose text is there, behind the text. An `Err` leaves it as it was.
+    /// Appends a space and a number, whose text is there, to the text. An `Err` leaves it as it was.
     #[inline(always)]
     pub fn put_numeral(&mut self, numeral: &Numeral) -> Result<(), AllocError>
         ensures text { OnOk result (self.new ≡ self.old ++ 32 ∷ decimal numeral.now.value) }
@@ -148,7 +148,7 @@ impl Text {
         self.put_spaced(&numeral.bytes, numeral.start)
     }
 
-    /// Puts what stands in these bytes from `start` to the 24th behind the text.
+    /// Appends what is in these bytes from `start` to the 24th to the text.
     #[inline(always)]
     fn put_spaced(&mut self, number: &[u8; 48], start: usize) -> Result<(), AllocError>
         requires { start ≤ 24 }
@@ -172,7 +172,7 @@ fn write_spaced(value: u64, bytes: &mut [u8; 48]) -> usize
     first - 1
 }
 
-/// Makes room for `count` bytes behind the first `len`.
+/// Makes room for `count` bytes after the first `len`.
 #[inline(always)]
 fn make_room(bytes: &mut Vec<u8>, len: usize, count: usize) -> Result<(), AllocError>
     requires within { len ≤ length bytes.old.items }
@@ -198,7 +198,7 @@ fn grow(bytes: &mut Vec<u8>, len: usize) -> Result<(), AllocError>
     bytes.resize(len.saturating_add(SPARE), 0)
 }
 
-/// Puts bytes at this place. Gives the place behind them.
+/// Puts bytes at this place. Gives the place after them.
 #[inline(always)]
 fn place(bytes: &mut [u8], at: usize, more: &[u8]) -> usize
     requires { at + length more.now ≤ length bytes.old }
@@ -211,7 +211,7 @@ fn place(bytes: &mut [u8], at: usize, more: &[u8]) -> usize
     end
 }
 
-/// Puts what stands in the number's bytes from `start` to the 24th at this place. Gives the place behind it.
+/// Puts what is in the number's bytes from `start` to the 24th at this place. Gives the place after it.
 #[inline(always)]
 fn place_spaced(bytes: &mut [u8], at: usize, number: &[u8; 48], start: usize) -> usize
     requires within { start ≤ 24 }
@@ -220,7 +220,7 @@ fn place_spaced(bytes: &mut [u8], at: usize, number: &[u8; 48], start: usize) ->
     ensures len { length bytes.new ≡ length bytes.old }
     ensures text { take result bytes.new ≡ take at bytes.old ++ slice_range number.now start 24 }
 {
-    // As many bytes for each number are copied faster; those behind it count as room.
+    // As many bytes for each number are copied faster; those after it count as room.
     let end = place(bytes, at, &number[start..start + WIDTH]);
     end - start
 }

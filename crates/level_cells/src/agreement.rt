@@ -10,7 +10,7 @@ use arrayvec::ArrayVec;
 pub const MAX_LEVELS: usize = 8;
 
 /// The agreement levels of the first `m` simulators, in the order of their numbers: that of
-/// simulator `i` stands in the two bits from bit `2 * i`. `m` is at most [`MAX_LEVELS`].
+/// simulator `i` is in the two bits from bit `2 * i`. `m` is at most [`MAX_LEVELS`].
 pub fn levels(word: u64, m: usize) -> ArrayVec<u8, MAX_LEVELS>
     requires { m ≤ MAX_LEVELS }
     ensures value { result.items ≡ levels_of word m }

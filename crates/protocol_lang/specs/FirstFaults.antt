@@ -69,7 +69,7 @@ IsLocal text fault = IfSome (place_of fault) (λ at. RestsOn text at fault)
 abbrev pub Begins : List Token → Type 0
 Begins before = (written : TreeOf Written) × IsFormed written × (more : List Token) × (tree_tokens written ≡ before ++ more)
 
--- the token can stand behind these in some text of the language, or that text can end there
+-- the token can follow these in some text of the language, or that text can end there
 abbrev pub CanFollow : List Token → Token → Type 0
 CanFollow before tokens.End = (written : TreeOf Written) × IsFormed written × (tree_tokens written ≡ before)
 CanFollow before token = Begins (before ++ token ∷ [])
@@ -90,20 +90,20 @@ is_semicolon token = false
 abbrev pub AsksForView : Token → Type 0
 AsksForView token = ((name : Name) × (token ≡ tokens.Word (word_for name)) × (reads_view name ≡ true)) ⊎ ((function : Call) × (token ≡ tokens.Word (call_word function)))
 
--- an operand can stand behind these
+-- an operand can follow these
 abbrev pub WantOperand : List Token → Type 0
 WantOperand before = CanFollow before (tokens.Number 0)
 
--- the last of these is the word of a call, which stands where an operand can
+-- the last of these is the word of a call, which is where an operand can be
 abbrev pub EndInCall : List Token → Type 0
 EndInCall before = (front : List Token) × (function : Call) × (before ≡ front ++ tokens.Word (call_word function) ∷ []) × WantOperand front
 
--- The tokens begin a text of the language. The word of a call may be the last of them where no room is left for its
+-- The tokens begin a text of the language. The word of a call may be the last of them if no room is left for its
 -- parenthesis.
 abbrev pub AreBegun : List Token → Type 0
 AreBegun before = Begins before ⊎ EndInCall before
 
--- a parenthesis can stand behind these, but for the depth
+-- a parenthesis can follow these, but for the depth
 abbrev pub WantOpen : List Token → Type 0
 WantOpen before = WantOperand before ⊎ EndInCall before
 
@@ -119,7 +119,7 @@ pub record IsOutOfPlace (text : List ℕ) (at : ℕ) (Reason : List Token → To
   pub never : CanFollow before read.token → ⊥
   pub reason : Reason before read.token
 
--- What stands at this place is no token, for this fault of its own, and the tokens before it begin a text of the language.
+-- What is at this place is no token, for this fault of its own, and the tokens before it begin a text of the language.
 pub record IsNoToken (text : List ℕ) (at : ℕ) (fault : ParseFault) : Type 0 where
   pub before : List Token
   pub from : ℕ

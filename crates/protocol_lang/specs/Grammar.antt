@@ -182,7 +182,7 @@ IsSpelled (tokens.Number number) bytes = (bytes ≡ decimal number) × (number �
 IsSpelled (tokens.Symbol symbol) bytes = bytes ≡ symbol_spelling symbol
 IsSpelled tokens.End bytes = ⊥
 
--- whether a byte right behind the token would make it a longer one
+-- whether a byte right after the token would make it a longer one
 abbrev pub goes_on : Token → ℕ → Bool
 goes_on (tokens.Word word) byte = is_letter byte
 goes_on (tokens.Number number) byte = is_digit byte
@@ -190,12 +190,12 @@ goes_on (tokens.Symbol symbols.Less) byte = byte == 61
 goes_on (tokens.Symbol symbols.Greater) byte = byte == 61
 goes_on token byte = false
 
--- what stands before the text ends there: the text's first byte, if it has one, would not make it longer
+-- what comes before the text ends there: the text's first byte, if it has one, would not make it longer
 abbrev pub EndsBefore : (ℕ → Bool) → List ℕ → Type 0
 EndsBefore longer [] = Unit {0}
 EndsBefore longer (byte ∷ bytes) = longer byte ≡ false
 
--- the text is these tokens, with any blanks before, between and behind them, each token the longest that fits
+-- the text is these tokens, with any blanks before, between and after them, each token the longest that fits
 abbrev pub Spells : List Token → List ℕ → Type 0
 Spells [] text = list_all is_blank text ≡ true
 Spells (token ∷ more) text =

@@ -64,7 +64,7 @@ spelling tokens.End = []
 abbrev pub gap : Bool → Token → List ℕ
 gap behind_word token = if behind_word && is_word token then 32 ∷ [] else []
 
--- the bytes of tokens, behind a word or behind something else
+-- the bytes of tokens, after a word or after something else
 abbrev pub spelled_behind : Bool → List Token → List ℕ
 spelled_behind behind_word [] = []
 spelled_behind behind_word (token ∷ more) = gap behind_word token ++ (spelling token ++ spelled_behind (is_word token) more)
@@ -74,7 +74,7 @@ printed tree = spelled_behind false (tree_tokens (shortest_tree tree))
 
 -- ---- an expression's tokens, made of those of its parts
 
--- the tokens, and where they may stand without parentheses
+-- the tokens, and where they may be without parentheses
 pub record Piece : Type 0 where
   pub tokens : List Token
   pub is_term : Bool

@@ -61,7 +61,7 @@ abbrev pub symbol_extent : Option Symbol → ℕ
 symbol_extent (Some symbol) = length (symbol_spelling symbol)
 symbol_extent None = 1
 
--- how many bytes stand together at the front: the longest token that fits, or what is none
+-- how many bytes belong together at the front: the longest token that fits, or what is none
 abbrev pub extent_of : List ℕ → ℕ
 extent_of [] = 0
 extent_of (byte ∷ bytes) =
@@ -83,9 +83,9 @@ placed_at at read = Ok (record { at = at; token = read.0; end = at + read.1 })
 unfoldable pub next_token : List ℕ → ℕ → Result Placed ParseFault
 next_token text from = token_and_extent (past_blanks text from) (drop (past_blanks text from) text) >>= placed_at (past_blanks text from)
 
--- ---- what may stand next
+-- ---- what may come next
 
--- Where reading stands in a text, in which an expression is an A: what may stand next, and to which part of the text
+-- The state of reading in a text, in which an expression is an A: what may come next, and to which part of the text
 -- it belongs; the levels of open parentheses, the innermost first, and the operands that wait; and what was read.
 pub record State (A : Type 0) : Type 0 where
   pub expected : Expected
@@ -109,7 +109,7 @@ abbrev pub with_waiting : {A : Type 0} → Operands A → Option Operator → Li
 with_waiting made None stack = stack
 with_waiting made (Some operator) stack = with_operator made operator stack
 
--- behind an operand, which a product takes at once
+-- after an operand, which a product takes at once
 abbrev pub behind_operand : {A : Type 0} → Operands A → State A → State A
 behind_operand made s = record s { expected = next.Operator; level = record s.level { product = None }; stack = with_waiting made s.level.product s.stack }
 
@@ -146,7 +146,7 @@ abbrev pub call_opened : {A : Type 0} → Call → State A → Token → Result 
 call_opened function s (tokens.Symbol symbols.Open) = opened (openers.Call function) s
 call_opened function s token = Err refusals.Unexpected
 
--- ---- behind an operand
+-- ---- after an operand
 
 abbrev pub with_infix : {A : Type 0} → Operands A → Operator → State A → State A
 with_infix made operator s =
@@ -241,7 +241,7 @@ step_at next.Rule made s token = rule s token
 step_at next.Last made s token = last s (kind_of token)
 step_at next.End made s token = ending s token
 
--- what follows a token, or why it can't stand there
+-- what follows a token, or why it is not allowed there
 abbrev pub step : {A : Type 0} → Operands A → State A → Token → Result (State A) Refusal
 step made s token = step_at s.expected made s token
 
@@ -291,24 +291,24 @@ reading text = if nat_lt MAX_TEXT (length text) then Err TooLong else run trees 
 
 -- ---- what a function returned
 
--- a step ended so, or memory was refused to a token that has no fault
+-- a step ended so, or an allocation for a token failed that has no fault
 abbrev pub Ends : {A : Type 0} → Result (State A) Refusal → Result ⊤ Refusal → State A → Type 0
 Ends wanted (Ok done) s = wanted ≡ Ok s
 Ends wanted (Err refusals.OutOfMemory) s = IsOk wanted
 Ends wanted (Err refusal) s = wanted ≡ Err refusal
 
--- a token was taken so, or memory was refused to one that has no fault
+-- a token was taken so, or an allocation for one that has no fault failed
 abbrev pub Takes : {A : Type 0} → Result (State A × Option ℕ) ParseFault → Result (Option ℕ) ParseFault → State A → Type 0
 Takes wanted (Ok end) s = wanted ≡ Ok (s, end)
 Takes wanted (Err OutOfMemory) s = IsOk wanted
 Takes wanted (Err fault) s = wanted ≡ Err fault
 
--- reading comes to a place in this state, and no token before that place has a fault
+-- reading reaches a place in this state, and no token before that place has a fault
 pub data Reaches (text : List ℕ) : ℕ → State Expression → Type 0 where
   at_start : Reaches text 0 (opening trees)
   one_further : (from end : ℕ) (s s' : State Expression) → Reaches text from s → one_token trees text from s ≡ Ok (s', Some end) → Reaches text end s'
 
--- where memory may be refused: at a token that has no fault, behind others that have none
+-- where an allocation may fail: at a token that has no fault, after others that have none
 pub record MayLackMemory (text : List ℕ) : Type 0 where
   pub short : length text ≤ MAX_TEXT
   pub from : ℕ
@@ -316,13 +316,13 @@ pub record MayLackMemory (text : List ℕ) : Type 0 where
   pub reached : Reaches text from state
   pub taken : IsOk (one_token trees text from state)
 
--- what the text says, or memory was refused
+-- what the text says, or an allocation failed
 abbrev pub IsReading : List ℕ → Result Tree ParseFault → Type 0
 IsReading text (Ok tree) = reading text ≡ Ok tree
 IsReading text (Err OutOfMemory) = MayLackMemory text
 IsReading text (Err fault) = reading text ≡ Err fault
 
--- this tree was read, or memory was refused
+-- this tree was read, or an allocation failed
 abbrev pub IsReadAs : Tree → Result Tree ParseFault → Type 0
 IsReadAs tree (Ok read) = read ≡ tree
 IsReadAs tree (Err OutOfMemory) = ⊤

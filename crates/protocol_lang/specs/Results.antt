@@ -2,7 +2,7 @@
 use Rattle.std.specs.Prelude.{◌≡◌, Result, Ok, Err}
 
 infixl 10 ◌>>=◌
--- one step, and then the next where it had no fault
+-- one step, and then the next if it had no fault
 abbrev pub ◌>>=◌ : {A B E : Type 0} → Result A E → (A → Result B E) → Result B E
 (Ok x) >>= next = next x
 (Err fault) >>= next = Err fault

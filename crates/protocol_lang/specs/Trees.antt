@@ -15,7 +15,7 @@ is_sum Add = true
 is_sum Subtract = true
 is_sum operator = false
 
--- an expression, in which it is told what each operator works on
+-- an expression, with the operands of each operator
 pub data Expression : Type 0 where
   Number : (value : ℕ) → Expression
   Named : (name : Name) → Expression
@@ -38,7 +38,7 @@ pub record RuleOf (A : Type 0) : Type 0 where
   pub conditions : List (ComparisonOf A)
   pub action_rule : ActionRuleOf A
 
--- the first value, the rules in order, and the action that holds where no rule does
+-- the first value, the rules in order, and the action that holds if no rule does
 pub record TreeOf (A : Type 0) : Type 0 where
   pub first : A
   pub rules : List (RuleOf A)

@@ -14,7 +14,7 @@ pub enum ParseFault {
     TooLong,
     /// A byte that begins no token, an unknown word, or a number with a leading zero.
     BadToken(usize),
-    /// A token that can't stand there, or the text's end where more is needed.
+    /// A token that is not allowed there, or the text's end where more is needed.
     Unexpected(usize),
     /// The 33rd parenthesis that is open at once.
     TooDeep(usize),

@@ -29,7 +29,7 @@ pub fn next_is_value()
         action_value (next_action tree input id round view) ≤ greatest }
 {}
 
-/// A process that waits for all but f first writes its input. Where its view shows fewer, it writes its own entry again; else it
+/// A process that waits for all but f first writes its input. If its view shows fewer, it writes its own entry again; else it
 /// decides the least value.
 pub fn waits_for_all_but_some()
     ensures first { (f input id n : ℕ) → first_value (waits_for_all_but f) input id n ≡ input }

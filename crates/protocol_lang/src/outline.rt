@@ -1,4 +1,4 @@
-//! What is remembered of an expression while it is read: enough to tell a single name, and `n - f` with a number f, from all others.
+//! What is remembered of an expression while it is read: enough to distinguish a single name, and `n - f` with a number f, from all others.
 ghost use Rattle.std.specs.Prelude.{◌≡◌};
 ghost use Rattle.protocol_lang.specs.Outlines.{alone, number_in, operated_on, with_number};
 

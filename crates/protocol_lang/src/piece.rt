@@ -75,7 +75,7 @@ impl Tokens {
     }
 }
 
-/// The tokens of an expression, and where they may stand without parentheses.
+/// The tokens of an expression, and where they may be without parentheses.
 #[derive(Drop)]
 struct Piece {
     tokens: Tokens,
@@ -92,7 +92,7 @@ impl Model for Piece {
 }
 
 impl Piece {
-    /// What may stand wherever an operand may.
+    /// What is allowed wherever an operand is.
     fn factor(tokens: Tokens) -> Piece
         ensures { result ≡ factor tokens }
     {
@@ -204,7 +204,7 @@ impl Pieces {
         }
     }
 
-    /// Puts a piece on top, or does nothing where more wait than in any expression of the language.
+    /// Puts a piece on top, or does nothing if more wait than in any expression of the language.
     fn push(&mut self, piece: Piece) -> Result<(), AllocError>
         ensures { OnOk result (self.new ≡ pushed most_waiting piece self.old) }
     {

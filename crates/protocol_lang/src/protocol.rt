@@ -43,7 +43,7 @@ pub fn parse(alloc: Global, text: &str) -> Result<Protocol, ParseFault>
     ensures exact { IsReading text.now result }
     // A fault rests on the bytes up to its token's end alone.
     ensures local { IfErr result (IsLocal text.now) }
-    // Before a fault's place stands the beginning of a text; what stands there can't follow it, or is no token.
+    // Before a fault's place is the beginning of a text; what is there can't follow it, or is no token.
     ensures first { IfErr result (IsFirstFault text.now) }
 {
     parse_bytes(alloc, text.as_bytes())
@@ -58,7 +58,7 @@ pub fn parse_bytes(alloc: Global, text: &[u8]) -> Result<Protocol, ParseFault>
     ensures exact { IsReading text.now result }
     // A fault rests on the bytes up to its token's end alone.
     ensures local { IfErr result (IsLocal text.now) }
-    // Before a fault's place stands the beginning of a text; what stands there can't follow it, or is no token.
+    // Before a fault's place is the beginning of a text; what is there can't follow it, or is no token.
     ensures first { IfErr result (IsFirstFault text.now) }
 {
     let tree = parser::read(alloc, text)?;

@@ -29,7 +29,7 @@ impl<T: Copy + Default, const MOST: usize> Stack<T, MOST> {
         }
     }
 
-    /// Puts an element on top, or does nothing where the stack is full.
+    /// Puts an element on top, or does nothing if the stack is full.
     pub(crate) fn push(&mut self, element: T)
         ensures { self.new ≡ pushed MOST element self.old }
     {

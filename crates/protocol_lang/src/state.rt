@@ -1,4 +1,4 @@
-//! Where in a text the parser stands.
+//! The state of the parser in a text.
 ghost use Rattle.std.specs.Prelude.{◌≡◌, ◌<◌, Option, None};
 ghost use Rattle.protocol_lang.specs.Reading.{opening, operand, opened, behind, rule, last, is_hidden, is_first, last_kind, fault_at};
 
@@ -7,7 +7,7 @@ use crate::rules::{ActionRule, Rule};
 use crate::tree::{Call, Comparator, Kind, Name, Operator};
 use std::alloc::AllocError;
 
-/// What may stand next.
+/// What may come next.
 #[derive(Clone, Copy)]
 pub enum Expected {
     /// The word `first`.
@@ -20,7 +20,7 @@ pub enum Expected {
     Operator,
     /// `when` or `else`.
     Rule,
-    /// `write` or `decide` behind `else`.
+    /// `write` or `decide` after `else`.
     Last,
     /// The text's end.
     End,
@@ -44,7 +44,7 @@ pub enum Part {
 /// What opened an expression.
 #[derive(Clone, Copy)]
 pub enum Opener {
-    /// A parenthesis, or nothing where it is the outermost.
+    /// A parenthesis, or nothing if it is the outermost.
     Group,
     /// A call.
     Call(Call),
@@ -76,14 +76,14 @@ impl Default for Level {
     }
 }
 
-/// Why a token can't stand where it stands.
+/// Why a token is not allowed where it is.
 #[derive(Clone, Copy)]
 pub enum Refusal {
     Unexpected,
     TooDeep,
     TooManyRules,
     ViewInFirst,
-    /// Nothing is wrong with the token, but memory was refused.
+    /// Nothing is wrong with the token, but an allocation failed.
     OutOfMemory,
 }
 

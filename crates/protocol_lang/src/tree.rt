@@ -52,7 +52,7 @@ impl Name {
 }
 
 /// Where the value of a number or a name comes from: a name, in the order of [`Name`], or a number
-/// that is kept beside it. So it is found without a jump.
+/// that is kept with it. So it is found without a jump.
 #[derive(Clone, Copy)]
 pub enum Source {
     Input,
@@ -71,7 +71,7 @@ pub enum Source {
 pub enum Call {
     /// The entry of this number, or 0.
     Cell,
-    /// 1 where the entry of this number is there, or 0.
+    /// 1 if the entry of this number is there, or 0.
     Seen,
     /// How many entries are there and have this value.
     Equal,
@@ -86,9 +86,9 @@ pub enum Operator {
     Subtract,
     /// Stops at 4294967295.
     Multiply,
-    /// 0 where the divisor is 0.
+    /// 0 if the divisor is 0.
     Divide,
-    /// 0 where the divisor is 0.
+    /// 0 if the divisor is 0.
     Remainder,
 }
 

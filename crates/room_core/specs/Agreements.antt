@@ -131,7 +131,7 @@ pub record HasAgreed (spec : RoomSpec) (fields : Fields) : Type 0 where
   pub own_entry_is_exact : (j k : ℕ) → j < processes spec → 1 ≤ k → k ≤ spec.rounds → is_passed spec fields j k ≡ true → slice_index (row_at spec fields j k) j ≡ k
   pub snapshots_compare : (j k p r : ℕ) → j < processes spec → 1 ≤ k → k ≤ spec.rounds → is_passed spec fields j k ≡ true → p < processes spec → 1 ≤ r → r ≤ spec.rounds → is_passed spec fields p r ≡ true
       → DoCompare (row_at spec fields j k) (row_at spec fields p r)
-  -- a row shows no write that nobody has counted
+  -- a row shows no write that no simulator has counted
   pub row_is_within : (j k p : ℕ) → j < processes spec → 1 ≤ k → k ≤ spec.rounds → is_passed spec fields j k ≡ true → p < processes spec → slice_index (row_at spec fields j k) p ≤ greatest_step spec fields p
   pub steps_are_within : (p : ℕ) → p < processes spec → greatest_step spec fields p ≤ spec.rounds
   pub first_is_due : (p : ℕ) → p < processes spec → 1 ≤ greatest_step spec fields p → written spec fields p 1 ≡ first_value spec.protocol (slice_index spec.inputs p) p (processes spec)

@@ -149,7 +149,7 @@ line_on (GetView chosen) spec fields i j k mind = with_taken fields i (got_view 
 line_on Values spec fields i j k mind = with_taken fields i (got_value (entry_of_steps spec mind.snapshot) spec (shown_value spec fields mind.snapshot (length mind.entries)) mind)
 line_on (Out decision) spec fields i j k mind = with_taken (record fields { out = changed_pair fields.out i j (decision + 1) }) i (decided mind)
 
--- the fields after the line at which simulator i stands
+-- the fields after the line at which simulator i is
 abbrev pub line : RoomSpec → Fields → ℕ → Fields
 line spec fields i = line_on (fields.mind i).line spec fields i (fields.mind i).process (current_round (fields.mind i)) (counted (fields.mind i))
 

@@ -1,4 +1,4 @@
--- Moments of a schedule, and the step numbers that stood then.
+-- Moments of a schedule, and the step numbers at that moment.
 use Rattle.std.specs.Prelude.{◌≡◌, ◌≢◌, ℕ, ◌+◌, ◌≤◌, List, [], ◌∷◌, ◌++◌, length, take}
 use Rattle.room_spec.specs.Rooms.{RoomSpec, processes}
 use Rattle.sim_memory.specs.Steps.{AreSameSteps}
@@ -12,7 +12,7 @@ use Rattle.room_core.specs.Fields.{StepMap, Fields, opening_fields, replay_field
 abbrev pub fields_at : RoomSpec → List ScheduleEvent → ℕ → Fields
 fields_at spec schedule time = replay_fields spec (opening_fields spec) (take time schedule)
 
--- A map is the step numbers as they stood at some moment, at which simulator i had counted k writes of process j.
+-- A map is the step numbers at some moment, at which simulator i had counted k writes of process j.
 pub record IsMoment (spec : RoomSpec) (schedule : List ScheduleEvent) (i j k : ℕ) (map : StepMap) : Type 0 where
   pub time : ℕ
   pub early : time ≤ length schedule
@@ -42,7 +42,7 @@ pub record EndsCollect (spec : RoomSpec) (schedule : List ScheduleEvent) (i j k 
   pub round : current_round ((fields_at spec schedule time).mind i) ≡ k
 
 -- The content of a scan, and the collect before it: the step numbers at a moment at which the simulator had counted the round.
--- Where the memory has more than one word, the scan ended with two equal collects, and it is the moment at which the first of
+-- If the memory has more than one word, the scan ended with two equal collects, and it is the moment at which the first of
 -- them ended.
 pub record IsScan (spec : RoomSpec) (schedule : List ScheduleEvent) (now i j k : ℕ) (before map : StepMap) (collects : ℕ) : Type 0 where
   pub time : ℕ

@@ -14,7 +14,7 @@ use Rattle.room_core.specs.Rooms.{Configuration, IsOneInterleaving, mind_at, cra
 use Rattle.room_core.specs.Calls.{RoomState, configuration_of, has_crashed, sweep_at}
 use Rattle.room_core.specs.Fields.{Fields, StepMap, opening_fields, replay_fields}
 
--- the memory words that stand at these places have these step numbers
+-- the memory words at these places have these step numbers
 pub record AreWordsAt (sizes : Sizes) (words : List ℕ) (place : ℕ → Place) (steps : StepMap) : Type 0 where
   pub within : AreWithin sizes steps
   pub same : (w : ℕ) → IsMemoryWord sizes w → word_at sizes words (place w) ≡ memory_word sizes steps w
@@ -87,7 +87,7 @@ unworded sizes mind = record {
   entries = mind.entries;
 }
 
--- the words that stand at the places of all memory words
+-- the words at the places of all memory words
 abbrev pub words_from : Sizes → List ℕ → (ℕ → Place) → List ℕ
 words_from sizes words place = map (λ w. word_at sizes words (place w)) (range_with_len 0 (memory_words sizes))
 

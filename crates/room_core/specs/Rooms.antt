@@ -83,7 +83,7 @@ abbrev pub IsLegal : Configuration → List ScheduleEvent → Type 0
 IsLegal room [] = ⊤
 IsLegal room (event ∷ schedule) = MayHappen room event × IsLegal (after_event room event) schedule
 
--- One interleaving of the steps of its simulators, and of crashes after which nobody steps, leads from the opening room to
+-- One interleaving of the steps of its simulators, and of crashes after which the simulator takes no step, leads from the opening room to
 -- this one.
 pub record IsOneInterleaving (room : Configuration) : Type 0 where
   pub schedule : List ScheduleEvent

@@ -1,4 +1,4 @@
--- What settling comes to, as a relation: nobody's steps are counted, and none is cut off.
+-- Settling, as a relation: no steps are counted, and none is cut off.
 use Rattle.std.specs.Prelude.{◌≡◌, ℕ, suc, Bool, true, false}
 use Rattle.room_core.specs.Settling.{KindOf}
 

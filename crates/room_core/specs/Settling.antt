@@ -2,7 +2,7 @@
 use Rattle.std.specs.Prelude.{ℕ, zero, suc, Bool, if◌then◌else◌}
 
 -- What settling sees of a room and does with it. count: how many simulators it has. most: a number of atomic steps that none
--- of them exceeds in all its turns. has_crashed, in_turn, has_step: whether a simulator has crashed, stands in an open turn,
+-- of them exceeds in all its turns. has_crashed, in_turn, has_step: whether a simulator has crashed, is in an open turn,
 -- has a step to take. step: the room after a call of its step. wake: the room where its quiet turns are counted anew.
 pub record KindOf (R : Type 0) : Type 0 where
   pub count : R → ℕ

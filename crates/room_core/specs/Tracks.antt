@@ -1,4 +1,4 @@
--- What a room and its fields keep while they take the same steps: the words stand for the fields, and each mind tells what its
+-- What a room and its fields keep while they take the same steps: the words stand for the fields, and each mind says what its
 -- simulator has made of the fields.
 use Rattle.std.specs.Prelude.{◌≡◌, ◌≢◌, ℕ, ◌+◌, ◌<◌, ◌≤◌, ◌==◌, if◌then◌else◌, ⊤}
 use Rattle.room_spec.specs.Rooms.{RoomSpec}
@@ -42,7 +42,7 @@ IsZeroFrom round level = (k : ℕ) → round ≤ k → level k ≡ 0
 abbrev pub NoOneBelow : ℕ → (ℕ → ℕ) → Type 0
 NoOneBelow round level = (k : ℕ) → k < round → level k ≢ 1
 
--- what a goal for a process tells of its step number
+-- what a goal for a process says of its step number
 abbrev pub Counts : ℕ → Goal → Stage → ℕ → Type 0
 Counts rounds (goals.Write k value) AtRest step = step + 1 ≡ k
 Counts rounds (goals.Write k value) Stored step = step + 1 ≡ k
@@ -59,7 +59,7 @@ Counts rounds goals.Done stage step = ⊥
 Counts rounds goals.Spent AtRest step = step ≡ rounds
 Counts rounds goals.Spent stage step = ⊥
 
--- What a step number tells of the levels, whatever the goal: nobody has entered a later round, and the earlier rounds are left.
+-- What a step number says of the levels, whatever the goal: no simulator has entered a later round, and the earlier rounds are left.
 abbrev pub Levels : Stage → ℕ → (ℕ → ℕ) → Type 0
 Levels AtRest step level = IsZeroFrom (step + 1) level × NoOneBelow (step + 1) level
 Levels Stored step level = IsZeroFrom (step + 1) level × NoOneBelow (step + 1) level
@@ -67,16 +67,16 @@ Levels Counted step level = IsZeroFrom step level × NoOneBelow step level
 Levels Inside step level = IsZeroFrom (step + 1) level × NoOneBelow step level × (level step ≡ 1)
 Levels Past step level = IsZeroFrom (step + 1) level × NoOneBelow (step + 1) level
 
--- what a goal for a process tells of its step number and levels
+-- what a goal for a process says of its step number and levels
 pub record Tells (rounds : ℕ) (goal : Goal) (stage : Stage) (step : ℕ) (level : ℕ → ℕ) : Type 0 where
   pub counts : Counts rounds goal stage step
   pub levels : Levels stage step level
 
--- where a mind stands with a process: at rest, but for that of its open turn
+-- where a mind is with a process: at rest, but for that of its open turn
 abbrev pub stage_for : {S : Type 0} → MindOf S → ℕ → Stage
 stage_for mind p = if p == mind.process then stage_of mind.line else AtRest
 
--- the goals of a mind tell, each of its own process
+-- the goals of a mind say, each of its own process
 abbrev pub ToldBy : ℕ → MindOf StepMap → (ℕ → ℕ) → (ℕ → ℕ → ℕ) → Type 0
 ToldBy rounds mind step level = (p : ℕ) → Tells rounds (goal_at mind.goals p) (stage_for mind p) (step p) (level p)
 
@@ -86,7 +86,7 @@ pub record AreInRange (spec : RoomSpec) (fields : Fields) : Type 0 where
   pub level : (i j k : ℕ) → fields.level i j k ≤ 2
   pub view : (i j k : ℕ) → AreWithin (sizes_in spec) (fields.view i j k)
 
--- What the fields of every room keep: each mind tells of its simulator's fields, and all numbers are in range.
+-- What the fields of every room keep: each mind says what its simulator's fields are, and all numbers are in range.
 pub record KeepsTrack (spec : RoomSpec) (fields : Fields) : Type 0 where
   pub told : (i : ℕ) → ToldBy spec.rounds (fields.mind i) (fields.step i) (fields.level i)
   pub range : AreInRange spec fields

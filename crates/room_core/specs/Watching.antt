@@ -1,4 +1,4 @@
--- The atomic steps that a room takes at a command, in their order, and how somebody who looks on sees them.
+-- The atomic steps that a room takes at a command, in their order, and how an observer sees them.
 use Rattle.std.specs.Prelude.{◌≡◌, ℕ, zero, suc, Bool, true, false, List, [], ◌∷◌, ◌++◌, if◌then◌else◌}
 use Rattle.room_core.specs.declared.reply.StepReply.{StepReply}
 use Rattle.room_core.specs.declared.reply.StepReply.TheVariants.{Stepped}
@@ -56,16 +56,16 @@ Follow room [] after = room ≡ after
 Follow room (step ∷ steps) after =
     (configuration_of step.room ≡ room) × (step_reply step.room step.simulator ≡ Stepped) × Follow (configuration_of (room_after_step step.room step.simulator)) steps after
 
--- ---- somebody who looks on
+-- ---- an observer
 
--- Of these steps, each of which `sees` says what it may make of who looks on, each was seen, in their order.
+-- Of these steps, each of which `sees` says what it may make of the observer, each was seen, in their order.
 abbrev pub AreSeen : {W : Type 0} → (W → RoomState → ℕ → W → Type 0) → W → List TakenStep → W → Type 0
 AreSeen sees old [] new = old ≡ new
 AreSeen sees old (step ∷ steps) new = (middle : _) × sees old step.room step.simulator middle × AreSeen sees middle steps new
 
 -- ---- inside the crate
 
--- Where all steps so far were seen, so are those of such a change, which leads from this room to that one.
+-- If all steps so far were seen, so are those of such a change, which leads from this room to that one.
 abbrev pub IsWatched : {W : Type 0} → (W → RoomState → ℕ → W → Type 0) → (Traced → Traced) → RoomState → W → RoomState → W → Type 0
 IsWatched sees change room old after new = (first : _) (taken : List TakenStep) → AreSeen sees first taken old
     → (since : List TakenStep) × (change (record { room = room; taken = taken }) ≡ record { room = after; taken = since }) × AreSeen sees first since new

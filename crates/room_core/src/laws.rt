@@ -53,7 +53,7 @@ pub fn shapes()
     ensures { (room : Configuration) → IsWithinLimits room.spec → IsOneInterleaving room → IsShaped room }
 {}
 
-/// Each simulator stands in the list as often as its mind counts steps.
+/// Each simulator occurs in the list as often as its mind counts steps.
 pub fn counts_steps()
     ensures { (room : Configuration) →
         IsWithinLimits room.spec → (one : IsOneInterleaving room) (i : ℕ) → i < room.spec.simulators →
@@ -163,7 +163,7 @@ pub fn agreements_last()
         view_at room.spec (fields_after_calls room.spec fields calls) j k ≡ view_at room.spec fields j k }
 {}
 
-/// While nobody else steps, a simulator that hasn't crashed comes to the end of its open turn, and
+/// While no other simulator steps, a simulator that hasn't crashed reaches the end of its open turn, and
 /// where it goes on to an end, idle or out of turns, within `(n * rounds + 1) * n` turns. So the
 /// number of steps at which settling gives up is never reached.
 pub fn runs_end()
@@ -179,7 +179,7 @@ pub fn runs_end()
         (processes room.spec * room.spec.rounds + 1) * processes room.spec }
 {}
 
-/// An agreement that was left, and in which nobody is at level 1, is clean: only a simulator that
+/// An agreement that was left, and in which no simulator is at level 1, is clean: only a simulator that
 /// stopped inside can hold it.
 pub fn left_is_clean()
     ensures { (room : RoomState) (fields : Fields) →
@@ -190,7 +190,7 @@ pub fn left_is_clean()
 
 /// The proposals that stand, of whatever agreements, are snapshots of one simulated memory.
 pub fn snapshots()
-    // Each is the step numbers as they stood at some moment of the run.
+    // Each is the step numbers at some moment of the run.
     ensures moments { (room : RoomState) (fields : Fields) →
         IsWithinLimits room.spec → (are : AreFieldsOf room fields) (i j k : ℕ) → i < room.spec.simulators → 1 ≤ k → fields.level i j k ≡ 2 →
         IsMoment room.spec are.run.schedule i j k (fields.view i j k) }
@@ -257,7 +257,7 @@ pub fn values_in_range()
 
 /// After settling, where a simulator that hasn't crashed has a turn left, each process has decided,
 /// or has made all its writes and is asked for one more, or is held by a simulator that has crashed
-/// inside an agreement on one of its snapshots. And everyone else stands between two turns.
+/// inside an agreement on one of its snapshots. And everyone else is between two turns.
 pub fn settles()
     ensures settled { (room : RoomState) (fields : Fields) →
         IsWithinLimits room.spec → AreFieldsOf room fields → HasTurnLeft room.spec (fields_after_settle room.spec fields) → (j : ℕ) →

@@ -7,7 +7,7 @@ pub enum StepReply {
     Stepped,
     /// It took none: since it last came further it has asked in vain for each unfinished process.
     Idle,
-    /// It took none: it stands between two turns, and has used up all that the room gives it.
+    /// It took none: it is between two turns, and has used up all that the room gives it.
     OutOfTurns,
     /// It took none: it has crashed.
     Crashed,

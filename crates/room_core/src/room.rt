@@ -58,11 +58,11 @@ impl Model for RoomCore {
 }
 
 impl RoomCore {
-    /// A room in which nobody has taken a step.
+    /// A room in which no simulator has taken a step.
     ///
     /// # Errors
     ///
-    /// Where memory is refused to the words of the room or to its sweeps, which are all that it takes
+    /// If an allocation fails for the words of the room or for its sweeps, which are all that it allocates
     /// memory for. The spec is dropped then.
     pub fn fresh(alloc: Global, spec: Spec) -> Result<RoomCore, AllocError>
         ensures room { IfOk result (λ room. room ≡ opening_state spec) }
@@ -111,12 +111,12 @@ impl RoomCore {
         }
     }
 
-    /// What the room was told when it was made.
+    /// What the room was given when it was made.
     pub fn spec(&self) -> &Spec
         ensures value { result.now ≡ self.now.spec }
         // One interleaving of its simulators' atomic steps, and of crashes, leads to this room.
         ensures run { IsOneInterleaving (configuration_of self.now) }
-        // In every such list each simulator stands as often as its mind counts steps.
+        // In every such list each simulator occurs as often as its mind counts steps.
         ensures counts { (one : IsOneInterleaving (configuration_of self.now)) (i : ℕ) →
             i < self.now.spec.simulators →
             (mind_at (configuration_of self.now) i).steps ≡ times i one.schedule }
@@ -173,7 +173,7 @@ impl RoomCore {
     pub fn step(&mut self, i: usize) -> StepReply
         ensures reply { result ≡ step_reply self.old i }
         ensures room { self.new ≡ room_after_step self.old i }
-        // An idle simulator has no write left to make: each process stands at an ask, or is done or spent.
+        // An idle simulator has no write left to make: each process is at an ask, or is done or spent.
         ensures waits { result ≡ replies.Idle → (process : ℕ) → HasNoWrite (goal_at (sweep_at self.new i).mind.goals process) }
         // In its fields it is one call of the replay, with its reply.
         ensures fields { (fields : Fields) →

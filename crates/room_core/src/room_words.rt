@@ -44,7 +44,7 @@ impl RoomWords {
     }
 }
 
-/// Words that nobody else has. They need nothing beside.
+/// Words that no other has. They need nothing else.
 impl Memory<()> for RoomWords {
     ghost use Rattle.std.specs.Prelude.{◌≡◌, length};
     ghost use Rattle.room_spec.specs.Sizes.{sizes_in};

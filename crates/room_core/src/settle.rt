@@ -1,4 +1,4 @@
-//! Settling: what simulators that are left come to, each by itself.
+//! Settling: what becomes of the simulators that are left, each by itself.
 ghost use Rattle.std.specs.Prelude.{ℕ, ◌≡◌, ◌<◌, ◌≤◌};
 ghost use Rattle.room_spec.specs.Rooms.{IsCertified, processes};
 ghost use Rattle.room_core.specs.Rooms.{IsRoom};
@@ -27,7 +27,7 @@ impl RoomCore {
         ensures fields { (fields : Fields) → AreFieldsOf self.old fields → AreFieldsOf self.new (fields_after_settle self.old.spec fields) }
         // What was agreed on stays.
         ensures agreement { (fields : Fields) → AreFieldsOf self.old fields → AgreementsStay self.old.spec fields (fields_after_settle self.old.spec fields) }
-        // Where a simulator that hasn't crashed has a turn left, each process has decided, is spent, or is held by one that has.
+        // If a simulator that hasn't crashed has a turn left, each process has decided, is spent, or is held by one that has.
         ensures settled { (fields : Fields) →
             AreFieldsOf self.old fields → HasTurnLeft self.old.spec (fields_after_settle self.old.spec fields) → (j : ℕ) →
             j < processes self.old.spec →
@@ -42,7 +42,7 @@ impl RoomCore {
         self.settle_watched(&mut Unwatched);
     }
 
-    /// Does what [`settle`](RoomCore::settle) does, and has each atomic step taken by somebody who looks on.
+    /// Does what [`settle`](RoomCore::settle) does, and has each atomic step seen by an observer.
     pub fn settle_watched<W: Watch>(&mut self, watch: &mut W)
         ensures room { self.new ≡ room_after_settle self.old }
         // The steps that were taken were seen, and no others, in their order.

@@ -1,10 +1,10 @@
-//! Somebody who looks on while a room takes its steps.
+//! An observer of the steps of a room.
 ghost use Rattle.std.specs.Prelude.{◌≡◌, ◌≢◌};
 
 use crate::reply::StepReply;
 use crate::room::RoomCore;
 
-/// Who has the simulators of a room take their steps: nobody who looks on ([`Unwatched`]), or somebody who does.
+/// Has the simulators of a room take their steps, without an observer ([`Unwatched`]) or with one.
 pub trait Watch {
     ghost use Rattle.std.specs.Prelude.{◌≡◌, ◌≢◌, ℕ};
     ghost use Rattle.room_core.specs.Calls.{RoomState, room_after_step, step_reply};
@@ -22,7 +22,7 @@ pub trait Watch {
         ensures blind { result ≢ Stepped → self.new ≡ self.old };
 }
 
-/// Nobody looks on.
+/// No observer.
 #[derive(Clone, Copy, Debug)]
 pub struct Unwatched;
 

@@ -28,7 +28,7 @@ is_end line = bytes_eq line (codes "end")
 abbrev pub extent_of : List (List ℕ) → ℕ
 extent_of lines = sum_by (λ line. length line + 1) lines
 
--- how many bytes stand before the first line `end`
+-- how many bytes are before the first line `end`
 unfoldable pub body_len : List ℕ → Option ℕ
 body_len text = option_map (λ before. extent_of (take before (lines_of text))) (position is_end (lines_of text))
 
@@ -36,7 +36,7 @@ body_len text = option_map (λ before. extent_of (take before (lines_of text))) 
 abbrev pub block_len : List ℕ → Option ℕ
 block_len text = option_map (λ body. min (body + 4) (length text)) (body_len text)
 
--- the text ends with its first line `end`: what stands before that line, and how many lines these are
+-- the text ends with its first line `end`: what comes before that line, and how many lines these are
 pub record IsEnded (text body : List ℕ) (lines : ℕ) : Type 0 where
   pub body_is : body_len text ≡ Some (length body)
   pub bytes : body ≡ take (length body) text
@@ -45,7 +45,7 @@ pub record IsEnded (text body : List ℕ) (lines : ℕ) : Type 0 where
 
 -- ---- the lines, each read from the front of a text; it gives what it says and the lines after it
 
--- what stands behind a word and its space at the front of a line
+-- what comes after a word and its space at the front of a line
 abbrev pub value_after : List ℕ → List ℕ → Option (List ℕ)
 value_after word line = if starts_with nat_eq line word then Some (drop (length word) line) else None
 
@@ -62,7 +62,7 @@ named (Some name) = if is_name name then Ok name else Err BadName
 abbrev pub name_line : List ℕ → Result (List ℕ × List ℕ) SpecFault
 name_line text = named (value_after (codes "room ") (first_line text)) >>= λ name. Ok (name, later_lines text)
 
--- all of the numbers that the fields are, or nothing where one is none
+-- all of the numbers that the fields are, or nothing if one is none
 abbrev pub with_number : Option ℕ → Option (List ℕ) → Option (List ℕ)
 with_number None numbers = None
 with_number (Some number) None = None
@@ -72,7 +72,7 @@ abbrev pub numbers_of : List (List ℕ) → Option (List ℕ)
 numbers_of [] = Some []
 numbers_of (field ∷ fields) = with_number (number_of field) (numbers_of fields)
 
--- the numbers behind the word `inputs`
+-- the numbers after the word `inputs`
 abbrev pub inputs_of : List (List ℕ) → Option (List ℕ)
 inputs_of [] = None
 inputs_of (word ∷ fields) = if bytes_eq word (codes "inputs") then numbers_of fields else None
@@ -99,16 +99,16 @@ number_line line word most fault text =
 abbrev pub fitting : ℕ → ℕ → Result ℕ SpecFault
 fitting most bits = if nat_le bits most then Ok bits else Err TooWide
 
--- how many values the task of the line behind the turns allows
+-- how many values the task of the line after the turns allows
 abbrev pub agreed : Option ℕ → Result ℕ SpecFault
 agreed None = Err (TaskLine 7)
 agreed (Some most) = if nat_le 1 most && nat_le most MAX_AGREED then Ok most else Err (TaskLine 7)
 
--- the same, by the words behind `task`
+-- the same, by the words after `task`
 abbrev pub task_of : List ℕ → Result ℕ SpecFault
 task_of words = agreed (option_and_then number_of (value_after (codes "agree ") words))
 
--- what stands behind the word `task` at the front of that line; in version 1 no line is one of a task
+-- what comes after the word `task` at the front of that line; in version 1 no line is one of a task
 abbrev pub task_words : Version → List ℕ → Option (List ℕ)
 task_words One line = None
 task_words Two line = value_after (codes "task ") line
@@ -117,11 +117,11 @@ abbrev pub task_in : List ℕ → Option (List ℕ) → Result (Option ℕ × Li
 task_in text None = Ok (None, text)
 task_in text (Some words) = task_of words >>= λ most. Ok (Some most, later_lines text)
 
--- the task, if the next line is one of a task, and what stands behind it
+-- the task, if the next line is one of a task, and what comes after it
 abbrev pub task_line : Version → List ℕ → Result (Option ℕ × List ℕ) SpecFault
 task_line version text = task_in text (task_words version (first_line text))
 
--- the number of the line behind the turns and the task
+-- the number of the line after the turns and the task
 abbrev pub line_behind_task : Option ℕ → ℕ
 line_behind_task None = 7
 line_behind_task (Some most) = 8
@@ -134,7 +134,7 @@ both None other = None
 both (Some number) None = None
 both (Some number) (Some other) = Some (number, other)
 
--- the fuse that the words behind `crash` tell
+-- the fuse that the words after `crash` say
 abbrev pub fuse_in : List (List ℕ) → Option (ℕ × ℕ)
 fuse_in (simulator ∷ word ∷ steps ∷ []) = if bytes_eq word (codes "after") then both (number_of simulator) (number_of steps) else None
 fuse_in words = None
@@ -151,7 +151,7 @@ has_fuse fuses simulator = list_any (λ fuse. fuse.0 == simulator) fuses
 abbrev pub unrepeated : ℕ → List (ℕ × ℕ) → ℕ × ℕ → Result (Option (ℕ × ℕ)) SpecFault
 unrepeated line fuses fuse = if has_fuse fuses fuse.0 then Err (Repeated line) else Ok (Some fuse)
 
--- the number of the line behind the crash lines of these fuses, of which the first has the number `first`
+-- the number of the line after the crash lines of these fuses, of which the first has the number `first`
 abbrev pub line_behind : ℕ → List (ℕ × ℕ) → ℕ
 line_behind first fuses = first + length fuses
 
@@ -159,7 +159,7 @@ abbrev pub said : ℕ → ℕ → List (ℕ × ℕ) → List ℕ → Option (Lis
 said first m fuses line None = if is_protocol line then Ok None else Err (BadLine (line_behind first fuses))
 said first m fuses line (Some words) = of_simulator (line_behind first fuses) m (fuse_in (fields_of words)) >>= unrepeated (line_behind first fuses) fuses
 
--- what the line behind the crash lines of these fuses tells: one more fuse, or nothing where it is `protocol`
+-- what the line after the crash lines of these fuses says: one more fuse, or nothing if it is `protocol`
 abbrev pub said_next : ℕ → ℕ → List (ℕ × ℕ) → List ℕ → Result (Option (ℕ × ℕ)) SpecFault
 said_next first m fuses line = said first m fuses line (value_after (codes "crash ") line)
 
@@ -167,7 +167,7 @@ abbrev pub onward : (List (ℕ × ℕ) → List ℕ → Result (List (ℕ × ℕ
 onward fuses_from fuses later None = Ok (fuses, later)
 onward fuses_from fuses later (Some fuse) = fuses_from (fuses ++ fuse ∷ []) later
 
--- the fuses of m simulators, of which some were said, and what stands behind the line `protocol`; that is one of the
+-- the fuses of m simulators, of which some were said, and what comes after the line `protocol`; that is one of the
 -- next `most` lines, since each simulator has one crash line at most
 unfoldable pub fuses_from : ℕ → ℕ → ℕ → List (ℕ × ℕ) → List ℕ → Result (List (ℕ × ℕ) × List ℕ) SpecFault
 fuses_from zero first m fuses text = Err (BadLine (line_behind first fuses))
@@ -202,7 +202,7 @@ with_protocol room text = protocol_of (reading text) >>= λ protocol. Ok (room p
 unfoldable pub room_in : List ℕ → Result RoomSpec SpecFault
 room_in body = lines_in with_protocol body
 
--- the protocol's text, where no line before it has a fault
+-- the protocol's text, if no line before it has a fault
 unfoldable pub protocol_text_in : List ℕ → Result (List ℕ) SpecFault
 protocol_text_in body = lines_in (λ room text. Ok text) body
 
@@ -214,12 +214,12 @@ room_before text (Some body) = room_in (take body text) >>= λ room. Ok (room, m
 abbrev pub block_in : List ℕ → Result (RoomSpec × ℕ) SpecFault
 block_in text = room_before text (body_len text)
 
--- memory was refused to the protocol
+-- an allocation for the protocol failed
 abbrev pub out_of_memory : SpecFault
 out_of_memory = BadProtocol OutOfMemory
 
 -- Where memory may be refused to lines: none of those before the protocol's text has a fault, and in that text it is refused at a
--- token that has none, behind others that have none.
+-- token that has none, after others that have none.
 pub record MayLackIn (body : List ℕ) : Type 0 where
   pub text : List ℕ
   pub head : protocol_text_in body ≡ Ok text
@@ -231,11 +231,11 @@ pub record MayLackAt (text : List ℕ) : Type 0 where
   pub ends : body_len text ≡ Some body
   pub lines : MayLackIn (take body text)
 
--- what a function returned is this; or, where `lacks` holds, memory was refused to the protocol
+-- what a function returned is this; or, if `lacks` holds, an allocation for the protocol failed
 abbrev pub OrMemory : {A : Type 0} → Type 0 → Result A SpecFault → Result A SpecFault → Type 0
 OrMemory lacks result wanted = (result ≡ wanted) ⊎ ((result ≡ Err out_of_memory) × lacks)
 
--- memory was refused to the protocol of the block at the front of a text
+-- an allocation for the protocol failed of the block at the front of a text
 abbrev pub LacksMemory : List ℕ → Type 0
 LacksMemory text = OrMemory (MayLackAt text) (Err out_of_memory) (block_in text)
 

@@ -36,7 +36,7 @@ IsInFront bytes input len = ((len ≡ length bytes + 1) × (take len input ≡ b
 
 -- ---- where a block ends
 
--- lines that can stand before the line `end`
+-- lines that can come before the line `end`
 abbrev pub are_before_end : List (List ℕ) → Bool
 are_before_end lines = list_all (λ line. is_line line && not (is_end line)) lines
 
@@ -92,7 +92,7 @@ pub record IsBlock (input : List ℕ) (room : RoomSpec) (len : ℕ) : Type 0 whe
 
 -- ---- faults
 
--- the number of the line that has the fault; none where it is of the whole block or of the protocol's text
+-- the number of the line that has the fault; none if it is of the whole block or of the protocol's text
 abbrev pub line_of : SpecFault → Option ℕ
 line_of Truncated = None
 line_of (BadLine line) = Some line
@@ -112,11 +112,11 @@ abbrev pub IsLocal : List ℕ → SpecFault → Type 0
 IsLocal text fault =
     IfSome (line_of fault) (λ line. (other : List ℕ) (len : ℕ) → EndsAt other len → take line (lines_of other) ≡ take line (lines_of text) → block_in other ≡ Err fault)
 
--- the lines behind the first line `protocol`
+-- the lines after the first line `protocol`
 abbrev pub behind_protocol : List (List ℕ) → List (List ℕ)
 behind_protocol lines = after_first is_protocol lines
 
--- a fault of no one line: there is no line `end`, or the text behind the line `protocol` has the protocol's fault
+-- a fault of no one line: there is no line `end`, or the text after the line `protocol` has the protocol's fault
 abbrev pub IsOfText : List ℕ → SpecFault → Type 0
 IsOfText text Truncated = All (λ line. line ≢ codes "end") (lines_of text)
 IsOfText text (BadProtocol fault) = (len : ℕ) × (at : EndsAt text len) × (reading (text_of (behind_protocol at.lines)) ≡ Err fault)
@@ -152,7 +152,7 @@ pub record Begin (lines : List (List ℕ)) : Type 0 where
 abbrev pub IsNumberLine : List ℕ → List ℕ → ℕ → Type 0
 IsNumberLine word line number = (numeral : List ℕ) × (line ≡ word ++ numeral) × (number_of numeral ≡ Some number)
 
--- between the line's spaces stand the word `inputs` and numerals of these numbers
+-- between the line's spaces are the word `inputs` and numerals of these numbers
 abbrev pub IsInputsLine : List ℕ → List ℕ → Type 0
 IsInputsLine line numbers = (numerals : List (List ℕ)) × (fields_of line ≡ codes "inputs" ∷ numerals) × (numbers_of numerals ≡ Some numbers)
 
@@ -162,7 +162,7 @@ BeginsWith word line = (rest : List ℕ) × (line ≡ word ++ rest)
 abbrev pub IsCrashOrProtocol : List ℕ → Type 0
 IsCrashOrProtocol line = BeginsWith (codes "crash ") line ⊎ (line ≡ codes "protocol")
 
--- the line has the form of the line behind these in a block, whatever name or numbers it has
+-- the line has the form of the line after these in a block, whatever name or numbers it has
 abbrev pub HasForm : List (List ℕ) → List ℕ → Type 0
 HasForm [] line = (line ≡ codes "bgsim 1") ⊎ (line ≡ codes "bgsim 2")
 HasForm (version ∷ []) line = BeginsWith (codes "room ") line
@@ -177,7 +177,7 @@ HasForm (version ∷ name ∷ inputs ∷ simulators ∷ rounds ∷ turns ∷ nex
 abbrev pub IsOutOfRange : List ℕ → ℕ → List ℕ → Type 0
 IsOutOfRange word most line = (number : ℕ) × IsNumberLine word line number × ((number < 1) ⊎ (most < number))
 
--- with the number of rounds that the line tells the step numbers of the room need more bits than its version allows
+-- with the number of rounds that the line says the step numbers of the room need more bits than its version allows
 abbrev pub IsTooWide : RoomSpec → List ℕ → Type 0
 IsTooWide room line = (rounds : ℕ) × (line ≡ codes "rounds " ++ decimal rounds) × (1 ≤ rounds) × (rounds ≤ MAX_ROUNDS) × (most_bits room.version < width_of room rounds)
 
@@ -193,7 +193,7 @@ IsTaskLine line most = (line ≡ agree_line most) × (1 ≤ most) × (most ≤ M
 abbrev pub HasCrashOf : List (List ℕ) → ℕ → Type 0
 HasCrashOf lines simulator = (front : List (List ℕ)) × (steps : ℕ) × (rest : List (List ℕ)) × (lines ≡ front ++ crash_line (simulator, steps) ∷ rest)
 
--- what the fault says of the line behind these, which begin the head of this room
+-- what the fault says of the line after these, which begin the head of this room
 abbrev pub IsReason : SpecFault → RoomSpec → List (List ℕ) → List ℕ → Type 0
 IsReason Truncated room before line = ⊥
 IsReason (BadLine number) room before line = HasForm before line → ⊥

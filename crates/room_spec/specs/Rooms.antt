@@ -1,4 +1,4 @@
--- What a room is told when it is made, and how large it may be.
+-- What a room is given when it is made, and how large it may be.
 use Rattle.std.specs.Prelude.{◌≡◌, ℕ, ◌*◌, ◌<◌, ◌≤◌, Bool, true, List, length, map, Option, Some, None, nat_eq, nat_le, nat_lt, ◌==◌, if◌then◌else◌, ⊤}
 use Rattle.std.specs.List.{IsDistinct, find, list_all}
 use Rattle.std.specs.Option.{option_map}
@@ -14,7 +14,7 @@ use Rattle.room_spec.specs.declared.spec.TheConstants.{MAX_AGREED, MAX_ROUNDS, M
 
 -- The version of its block, the room's name, the input of each process, the number of simulators, how often a process may
 -- write, how many turns each simulator has, how many different values its task lets the processes decide, if it has one, the
--- fuses, and the protocol. A fuse is a simulator and the number of steps after which it crashes; they stand in the order of
+-- fuses, and the protocol. A fuse is a simulator and the number of steps after which it crashes; they are in the order of
 -- their lines.
 pub record RoomSpec : Type 0 where
   pub version : Version
@@ -30,7 +30,7 @@ pub record RoomSpec : Type 0 where
 abbrev pub processes : RoomSpec → ℕ
 processes spec = length spec.inputs
 
--- after how many steps a simulator crashes; nothing where it has no fuse
+-- after how many steps a simulator crashes; nothing if it has no fuse
 abbrev pub fuse_of : List (ℕ × ℕ) → ℕ → Option ℕ
 fuse_of fuses simulator = option_map (λ fuse. fuse.1) (find (λ fuse. fuse.0 == simulator) fuses)
 

@@ -14,11 +14,11 @@ first_line text = before_first is_line_end text
 abbrev pub later_lines : List ℕ → List ℕ
 later_lines text = after_first is_line_end text
 
--- the lines without their line ends; what stands behind the last line end is the last of them
+-- the lines without their line ends; what comes after the last line end is the last of them
 abbrev pub lines_of : List ℕ → List (List ℕ)
 lines_of text = slice_split is_line_end text
 
--- what stands between a line's spaces
+-- what is between a line's spaces
 abbrev pub fields_of : List ℕ → List (List ℕ)
 fields_of line = slice_split is_space line
 

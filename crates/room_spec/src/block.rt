@@ -16,7 +16,7 @@ use std::alloc::Global;
 use std::marker::Model;
 
 /// How many bytes a room block at the front of `text` takes: up to and with the first line `end`,
-/// or `None` where there is no such line.
+/// or `None` if there is no such line.
 pub fn block_len(text: &[u8]) -> Option<usize>
     // It is the block's lines up to and with the first `end`.
     ensures ends { IfSome result (λ len. EndsAt text.now len) }
@@ -51,7 +51,7 @@ impl<'a> Model for Block<'a> {
 }
 
 impl<'a> Block<'a> {
-    /// The block at the front of `text`, or `None` where no line is `end`.
+    /// The block at the front of `text`, or `None` if no line is `end`.
     pub fn at_front(text: &'a [u8]) -> Option<Block<'a>>
         ensures block { IfSome result (λ block. (block_len text.now ≡ Some (length block)) × (block ≡ take (length block) text.now)) }
         ensures none { IfNone result (block_len text.now ≡ None) }
@@ -91,13 +91,13 @@ impl<'a> Block<'a> {
 /// Where the room block at the front of a text ends.
 #[derive(Drop)]
 struct BlockEnd {
-    /// How many bytes stand before its line `end`.
+    /// How many bytes are before its line `end`.
     body: usize,
     /// How many lines it has, with that one.
     lines: usize,
 }
 
-/// Finds where the room block at the front of `text` ends, or `None` where no line is `end`.
+/// Finds where the room block at the front of `text` ends, or `None` if no line is `end`.
 fn find_end(text: &[u8]) -> Option<BlockEnd>
     ensures body { option_map (λ end. end.body) result ≡ body_len text.now }
     // The lines up to and with the first `end`.
@@ -137,7 +137,7 @@ pub fn read_block(alloc: Global, text: &[u8]) -> Result<(Spec, usize), SpecFault
     ensures of_text { IfErr result (λ fault. UnlessMemory fault (IsOfText text.now fault)) }
     // The lines before a fault's own begin some block; it can't follow them, or the protocol's text has its fault.
     ensures first { IfErr result (λ fault. UnlessMemory fault (IsFirstFault text.now fault)) }
-    // Which fault it is. Want of memory hides none that is found before memory is asked for.
+    // Which fault it is. An allocation that fails hides none that is found before it.
     ensures exact { OrMemory (MayLackAt text.now) result (block_in text.now) }
 {
     read_front(alloc, text)

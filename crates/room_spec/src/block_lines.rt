@@ -19,7 +19,7 @@ use arrayvec::ArrayVec;
 use protocol_lang::read_number;
 use std::alloc::Global;
 
-/// Reads the lines of a room block that stand before its line `end`. The fault is that of the first
+/// Reads the lines of a room block that come before its line `end`. The fault is that of the first
 /// line that has one.
 #[tactic(auto, unfolding(crate::specs::Blocks::room_in))]
 pub(crate) fn read_lines<'a>(
@@ -160,7 +160,7 @@ fn read_task(text: &[u8], version: Version) -> Result<(Option<u8>, &[u8]), SpecF
     Ok((Some(most), rest))
 }
 
-/// What stands behind the word `task` at the front of a line behind the turns.
+/// What comes after the word `task` at the front of a line after the turns.
 fn task_words(line: &[u8], version: Version) -> Option<&[u8]>
     ensures words { option_copied result ≡ task_words version line.now }
     ensures two { IsSome result → version ≡ Version.Two }
@@ -171,7 +171,7 @@ fn task_words(line: &[u8], version: Version) -> Option<&[u8]>
     }
 }
 
-/// How many values a task allows, by the words behind `task`.
+/// How many values a task allows, by the words after `task`.
 fn read_agreed(words: &[u8]) -> Result<u8, SpecFault>
     ensures value { result ≡ task_of words.now }
     ensures range { IfOk result (λ most. (1 ≤ most) × (most ≤ MAX_AGREED)) }
@@ -187,7 +187,7 @@ fn read_agreed(words: &[u8]) -> Result<u8, SpecFault>
     }
 }
 
-/// The number of the line behind the turns and the task.
+/// The number of the line after the turns and the task.
 fn line_behind_task(task: Option<u8>) -> usize
     ensures value { result ≡ line_behind_task task }
     ensures few { result ≤ 8 }

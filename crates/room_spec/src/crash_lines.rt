@@ -36,8 +36,8 @@ pub(crate) fn read_fuses(
     }
 }
 
-/// Reads the line behind the crash lines of these fuses, of which the first has this number: one more,
-/// or `None` where it is `protocol`.
+/// Reads the line after the crash lines of these fuses, of which the first has this number: one more,
+/// or `None` if it is `protocol`.
 fn read_fuse(
     line: &[u8],
     first: usize,
@@ -91,7 +91,7 @@ fn read_fuse_of_simulator(
     }
 }
 
-/// The numbers in the words behind `crash`, as they are read.
+/// The numbers in the words after `crash`, as they are read.
 fn fuse_from(words: &[u8]) -> Option<(u64, u64)>
     ensures { result ≡ option_map (λ fuse. (min fuse.0 (2 ^ 32), min fuse.1 (2 ^ 32))) (fuse_in (fields_of words.now)) }
 {

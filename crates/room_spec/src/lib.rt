@@ -1,4 +1,4 @@
-//! Rooms of bgsim: what each is told, and the text that tells it.
+//! Rooms of bgsim: what each is given, and the text that says it.
 #![tactic(auto)]
 
 mod block;

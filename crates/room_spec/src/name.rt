@@ -36,7 +36,7 @@ impl Model for Name {
 }
 
 impl Name {
-    /// The name that these bytes are, or `None` where they are none.
+    /// The name that these bytes are, or `None` if they are none.
     pub fn read(bytes: &[u8]) -> Option<Name>
         ensures { result ≡ (if is_name bytes.now then Some bytes.now else None) }
     {

@@ -92,7 +92,7 @@ impl<'a> Protocols<'a> {
         None
     }
 
-    /// Remembers a protocol and its text, in place of the oldest where there are many, unless memory
+    /// Remembers a protocol and its text, in place of the oldest if there are many, unless memory
     /// is refused.
     fn remember(&mut self, text: &'a [u8], protocol: &Arc<Protocol, Global>)
         requires { reading text.now ≡ Ok (arc_value protocol.now) }

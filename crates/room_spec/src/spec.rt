@@ -1,4 +1,4 @@
-//! What a room is told when it is made.
+//! What a room is given when it is made.
 ghost use Rattle.std.specs.Prelude.{◌≡◌, ◌==◌, ◌*◌, ◌<◌, ◌≤◌, IfSome, length, slice_index};
 ghost use Rattle.std.specs.List.{list_any};
 ghost use Rattle.room_spec.specs.Rooms.{IsShape, IsWithinLimits, bits_of, fuse_of, processes};
@@ -212,7 +212,7 @@ impl Spec {
         self.inputs.contains(&value)
     }
 
-    /// How many different values the room's task lets the processes decide, 1 to 16, or `None` where it has no task.
+    /// How many different values the room's task lets the processes decide, 1 to 16, or `None` if it has no task.
     pub fn task(&self) -> Option<u8>
         ensures value { result ≡ self.now.task }
         ensures range { IfSome result (λ most. (1 ≤ most) × (most ≤ MAX_AGREED)) }
@@ -220,7 +220,7 @@ impl Spec {
         self.task
     }
 
-    /// After how many steps simulator `i` crashes, up to 4294967295, or `None` where it has no fuse.
+    /// After how many steps simulator `i` crashes, up to 4294967295, or `None` if it has no fuse.
     pub fn fuse(&self, i: usize) -> Option<u32>
         requires { i < self.now.simulators }
         ensures { result ≡ fuse_of self.now.fuses i }

@@ -7,7 +7,7 @@ ghost use Rattle.room_spec.specs.Texts.{first_line, later_lines, pieces_of};
 use memchr::memchr;
 use std::simd::prelude::*;
 
-/// What stands before the first `byte` of `text`, and what stands behind it. Where there is none,
+/// What comes before the first `byte` of `text`, and what comes after it. Where there is none,
 /// all of `text` and `None`.
 pub fn cut(text: &[u8], byte: u8) -> (&[u8], Option<&[u8]>)
     ensures before { result.0.now ≡ before_first (λ b. b == byte) text.now }

@@ -26,7 +26,7 @@ pub record IsClean (levels : List ℕ) : Type 0 where
 abbrev pub is_clean : List ℕ → Bool
 is_clean levels = has_level 2 levels && not (has_level 1 levels)
 
--- the least simulator at level 2, where none is at level 1
+-- the least simulator at level 2, if none is at level 1
 pub record IsResolvedTo (levels : List ℕ) (simulator : ℕ) : Type 0 where
   pub below : simulator < length levels
   pub two : slice_index levels simulator ≡ 2
@@ -37,6 +37,6 @@ pub record IsResolvedTo (levels : List ℕ) (simulator : ℕ) : Type 0 where
 abbrev pub least_two : List ℕ → Option ℕ
 least_two levels = position (λ one. one == 2) levels
 
--- the same, where none is at level 1
+-- the same, if none is at level 1
 abbrev pub resolved_of : List ℕ → Option ℕ
 resolved_of levels = if has_level 1 levels then None else least_two levels

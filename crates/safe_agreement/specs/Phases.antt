@@ -61,7 +61,7 @@ pub record IsFixed (m : ℕ) (phases : ℕ → Phase) : Type 0 where
   pub two : HasTwo m phases
   pub seen : (i : ℕ) (saw : Bool) → i < m → phases i ≡ Looked saw → saw ≡ true
 
--- Whoever has seen a 2 or has left has one beside it: some simulator is at level 2.
+-- If a simulator has seen a 2 or has left, some simulator is at level 2.
 pub record HasTwoBeside (m : ℕ) (phases : ℕ → Phase) : Type 0 where
   pub seen : (i : ℕ) → i < m → phases i ≡ Looked true → HasTwo m phases
   pub left : (i level : ℕ) → i < m → phases i ≡ Left level → HasTwo m phases

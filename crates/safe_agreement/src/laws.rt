@@ -22,7 +22,7 @@ pub fn leaves_as_seen()
     ensures { (seen now : List ℕ) (i : ℕ) → moved now (Leaves i) (moved seen (Looks i) Entered) ≡ Left (leave_of seen) }
 {}
 
-/// An agreement resolves to the least simulator at level 2 where none is at level 1, and a clean
+/// An agreement resolves to the least simulator at level 2 if none is at level 1, and a clean
 /// agreement always has one.
 pub fn resolves()
     ensures to { (levels : List ℕ) (i : ℕ) → (resolved_of levels ≡ Some i) ↔ IsResolvedTo levels i }
@@ -72,7 +72,7 @@ pub fn agrees()
         resolved_of (phase_levels m (after_changes m phases changes)) ≡ least_two (phase_levels m phases) }
 {}
 
-/// Where the same simulators are at level 2, the least of them is the same; and that they are the
+/// If the same simulators are at level 2, the least of them is the same; and that they are the
 /// same passes on from change to change.
 pub fn same_twos()
     ensures least { (m : ℕ) (before after : ℕ → Phase) → HaveSameTwos m before after → least_two (phase_levels m before) ≡ least_two (phase_levels m after) }
@@ -80,8 +80,8 @@ pub fn same_twos()
     ensures of_same { (m : ℕ) (phases others : ℕ → Phase) → ((i : ℕ) → i < m → others i ≡ phases i) → HaveSameTwos m phases others }
 {}
 
-/// Whoever has seen a 2 or has left has one beside it. So an agreement that one has left, and in
-/// which nobody is at level 1, is clean: only a simulator that stopped inside can hold it.
+/// If a simulator has seen a 2 or has left, some simulator is at level 2. So an agreement that one has left, and in
+/// which no simulator is at level 1, is clean: only a simulator that stopped inside can hold it.
 pub fn has_two_beside()
     ensures begins { (m : ℕ) → HasTwoBeside m before_all }
     ensures stays { (m : ℕ) (before : ℕ → Phase) (change : Change) (after : ℕ → Phase) →

@@ -15,7 +15,7 @@ mod packed;
 pub use packed::{has_level, is_clean, least_at, resolved_in};
 
 /// The level to which a simulator goes when it leaves an agreement, by the levels that it saw when
-/// it looked, one for each simulator, each 0 to 2: 0 where some level was 2, and else 2 (the end of a
+/// it looked, one for each simulator, each 0 to 2: 0 if some level was 2, and else 2 (the end of a
 /// proposal in the safe agreement of Borowsky et al. 2001).
 pub fn leave_level(levels: &[u8]) -> u8
     ensures { result ≡ leave_of levels.now }
@@ -23,8 +23,8 @@ pub fn leave_level(levels: &[u8]) -> u8
     if levels.contains(&2) { 0 } else { 2 }
 }
 
-/// The simulator whose proposal an agreement has come to, by the levels of all simulators: the
-/// least that is at level 2, where none is at level 1. `None` where one is at level 1 or none is
+/// The simulator whose proposal an agreement has chosen, by the levels of all simulators: the
+/// least that is at level 2, if none is at level 1. `None` if one is at level 1 or none is
 /// at level 2: then there is nothing to agree on yet (the safe agreement of Borowsky et al. 2001).
 #[tactic(auto, using(crate::proofs::Clean::found_in, crate::proofs::Clean::none_in))]
 pub fn resolved(levels: &[u8]) -> Option<usize>

@@ -1,4 +1,4 @@
-//! An agreement whose levels stand in one word: that of simulator `i` in the two bits from bit `2 * i`.
+//! An agreement whose levels are in one word: that of simulator `i` in the two bits from bit `2 * i`.
 ghost use Rattle.std.specs.Prelude.{◌≡◌, ℕ, ◌*◌, ◌%◌, ◌==◌, ◌<◌, ◌≤◌, IfSome, ◌↔◌, position};
 ghost use Rattle.std.specs.Int.{bit_at};
 ghost use Rattle.level_cells.specs.Fields.{level_of, levels_of};

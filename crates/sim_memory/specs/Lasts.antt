@@ -4,7 +4,7 @@ use Rattle.room_spec.specs.Sizes.{Sizes}
 use Rattle.sim_memory.specs.Steps.{holder_of, merged_of, step_in}
 use Rattle.protocol_lang.specs.declared.meaning.TheConstants.{MAX_PROCESSES}
 
--- those of the first m simulators, and 0 behind the last process
+-- those of the first m simulators, and 0 after the last process
 pub record AreLast (sizes : Sizes) (words : List ℕ) (m : ℕ) (holders rounds : List ℕ) : Type 0 where
   pub holder : (p : ℕ) → p < sizes.n → slice_index holders p ≡ holder_of m (step_in sizes words) p
   pub round : (p : ℕ) → p < sizes.n → slice_index rounds p ≡ merged_of m (step_in sizes words) p

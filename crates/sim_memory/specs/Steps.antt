@@ -22,7 +22,7 @@ merged_of m steps p = greatest_of m (λ i. steps i p)
 abbrev pub holder_of : ℕ → (ℕ → ℕ → ℕ) → ℕ → ℕ
 holder_of m steps p = position_or_len (λ step. step == merged_of m steps p) (map (λ i. steps i p) (range_with_len 0 m))
 
--- the same: nobody has a greater number than this simulator, and nobody before it has as great a one
+-- the same: no simulator has a greater number than this one, and none before it has as great a one
 pub record IsHolder (m : ℕ) (steps : ℕ → ℕ → ℕ) (p holder : ℕ) : Type 0 where
   pub below : holder < m
   pub greatest : (i : ℕ) → i < m → steps i p ≤ steps holder p
@@ -61,7 +61,7 @@ one_more steps i p k q = if (k == i) && (q == p) then steps k q + 1 else steps k
 abbrev pub field_number : Sizes → ℕ → ℕ → ℕ
 field_number sizes i p = i * sizes.n + p
 
--- the memory word in which it stands, and its lowest bit there
+-- the memory word in which it is, and its lowest bit there
 abbrev pub word_of : Sizes → ℕ → ℕ → ℕ
 word_of sizes i p = field_number sizes i p / fields_in_word sizes
 
@@ -85,7 +85,7 @@ abbrev pub memory_word : Sizes → (ℕ → ℕ → ℕ) → ℕ → ℕ
 memory_word sizes steps w =
     packed (λ x. steps ((w * fields_in_word sizes + x) / sizes.n) ((w * fields_in_word sizes + x) % sizes.n)) sizes.bits (fields_of_word sizes w)
 
--- as many words as any room has; those behind the room's own are 0
+-- as many words as any room has; those after the room's own are 0
 abbrev pub memory_of : Sizes → (ℕ → ℕ → ℕ) → List ℕ
 memory_of sizes steps = map (memory_word sizes steps) (range_with_len 0 MAX_MEMORY_WORDS)
 

@@ -23,7 +23,7 @@ pub fn holds()
     ensures merged { (m : ℕ) (steps : ℕ → ℕ → ℕ) (p holder : ℕ) → IsHolder m steps p holder → merged_of m steps p ≡ steps holder p }
 {}
 
-/// A row has the merged number of each process. Where no number is lower, no entry is.
+/// A row has the merged number of each process. If no number is lower, no entry is.
 pub fn rows()
     ensures length { (m n : ℕ) (steps : ℕ → ℕ → ℕ) → length (row_of m n steps) ≡ n }
     ensures entry { (m n : ℕ) (steps : ℕ → ℕ → ℕ) (p : ℕ) → p < n → slice_index (row_of m n steps) p ≡ merged_of m steps p }

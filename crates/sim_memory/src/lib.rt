@@ -1,8 +1,8 @@
 //! The memory of a room: the step numbers that its simulators have raised.
 //!
 //! Simulator i raises its own number of process p by one each time it writes for it, so the number
-//! tells how many writes of p it has made. All numbers stand in one to four words, none across two.
-//! One load of one word is a snapshot of what stands in it; of several words, two equal collects give
+//! says how many writes of p it has made. All numbers are in one to four words, none across two.
+//! One load of one word is a snapshot of what is in it; of several words, two equal collects give
 //! one (Y. Afek, H. Attiya, D. Dolev, E. Gafni, M. Merritt, N. Shavit, "Atomic snapshots of shared
 //! memory", J. ACM 40(4), 1993). What a process has written is then the
 //! greatest number that a simulator has for it: the merging of the simulators' memories in
@@ -22,7 +22,7 @@ use level_cells::field;
 use room_spec::Shape;
 pub use writes::{LastWrites, last_writes, note_last};
 
-/// Where the step number of simulator `i` for process `p` stands: in which memory word, and from which
+/// Where the step number of simulator `i` for process `p` is: in which memory word, and from which
 /// bit on. The field has `shape.bits` bits, and lies within the word.
 pub fn place(shape: &Shape, i: usize, p: usize) -> (usize, usize)
     requires simulator { i < shape.now.m }
@@ -76,7 +76,7 @@ pub fn holder(shape: &Shape, words: &[u64], p: usize) -> usize
 }
 
 /// The last write of process `p` that the memory words show: the least simulator that has the greatest
-/// step number for it, and that number. Where they show none, both are 0.
+/// step number for it, and that number. If they show none, both are 0.
 pub fn last_write(shape: &Shape, words: &[u64], p: usize) -> (usize, usize)
     requires words { memory_words (sizes_of shape.now) ≤ length words.now }
     requires process { p < shape.now.n }

@@ -9,13 +9,13 @@ use level_cells::field;
 use room_spec::{MAX_PROCESSES, Shape};
 use std::simd::prelude::*;
 
-/// The last write of each process that memory words show. Behind the last process all numbers
+/// The last write of each process that memory words show. After the last process all numbers
 /// are 0.
 #[derive(Clone, Copy)]
 pub struct LastWrites {
     /// The least simulator that has the greatest step number for the process.
     pub holders: [u8; MAX_PROCESSES],
-    /// That number: 0 where the words show no write.
+    /// That number: 0 if the words show no write.
     pub rounds: [u8; MAX_PROCESSES],
 }
 

@@ -1,4 +1,4 @@
--- Which processes a simulator's sweep has come to.
+-- Which processes a simulator's sweep has reached.
 use Rattle.std.specs.Prelude.{◌≤◌, List, [], ◌∷◌, ⊤}
 use Rattle.std.specs.List.{AllByRecursion}
 use Rattle.simulator.specs.declared.goal.Goal.{Goal}
@@ -11,7 +11,7 @@ IsVisited (Ask round) = ⊤
 IsVisited Done = ⊤
 IsVisited Spent = ⊤
 
--- no goal behind one that was visited is one that wasn't
+-- no goal after one that was visited is one that wasn't
 abbrev pub AreVisitedLast : List Goal → Type 0
 AreVisitedLast [] = ⊤
 AreVisitedLast (goal ∷ goals) = (IsVisited goal → AllByRecursion IsVisited goals) × AreVisitedLast goals

@@ -11,10 +11,10 @@ use Rattle.simulator.specs.declared.line.Line.{Line}
 use Rattle.simulator.specs.declared.line.Line.TheVariants.{Rest}
 use Rattle.room_spec.specs.declared.spec.TheConstants.{MAX_MEMORY_WORDS}
 
--- number: which simulator it is. goals: what is left to do for each process. process: the one at which its sweep stands,
+-- number: which simulator it is. goals: what is left to do for each process. process: the one at which its sweep is,
 -- on which its open turn works. turns: how many turns it has begun. steps, turn_steps: how many atomic steps it has taken
 -- in all, and in its open turn. line: its next step in that turn. word: on which of the memory's words that step works; 0
--- where it works on none. collects: how many whole collects the scan of its open turn has made, where the memory has more
+-- where it works on none. collects: how many whole collects the scan of its open turn has made, if the memory has more
 -- than one word. before: the last of them. snapshot: the collect that is being made, and then what it loaded of the simulated
 -- memory last. entries: the values that it has gathered for the snapshot of its process.
 pub record MindOf (S : Type 0) : Type 0 where

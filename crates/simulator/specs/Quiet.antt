@@ -14,11 +14,11 @@ abbrev pub HasNoWrite : Goal → Type 0
 HasNoWrite (Write round value) = ⊥
 HasNoWrite goal = ⊤
 
--- the unfinished goals in the order in which the sweep comes to them: from its place on, going round
+-- the unfinished goals in the order in which the sweep reaches them: from its place on, going round
 abbrev pub unfinished_from : List Goal → ℕ → List Goal
 unfinished_from goals sweep = filter is_unfinished (drop sweep goals ++ take sweep goals)
 
--- going back from the end, the first `count` goals are asks, or all where there are fewer
+-- going back from the end, the first `count` goals are asks, or all if there are fewer
 abbrev pub AreAsksAtTheEnd : List Goal → ℕ → Type 0
 AreAsksAtTheEnd goals count = AllByRecursion IsAsk (take count (reverse goals))
 

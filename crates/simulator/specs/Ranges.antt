@@ -95,7 +95,7 @@ pub record IsMind (spec : RoomSpec) (mind : MindState) : Type 0 where
   pub few : mind.turn_steps ≤ most_steps spec mind.line mind.word mind.collects (length mind.entries)
   pub counted : charged_steps mind.line mind.steps ≤ greatest_limit * mind.turns + mind.turn_steps
   pub at : IsOpenAt mind.line spec mind
-  -- the processes that its sweep hasn't come to yet are the next ones
+  -- the processes that its sweep hasn't reached yet are the next ones
   pub order : AreVisitedLast (unfinished_from mind.goals mind.process)
 
 -- at some line of its own it is one of the room's; which line doesn't matter

@@ -26,7 +26,7 @@ LeavesTurn spec mind (answer ∷ []) turn = (taken spec mind answer).turn ≡ tu
 LeavesTurn spec mind (answer ∷ next ∷ answers) turn =
     ((taken spec mind answer).turn ≡ Still) × LeavesTurn spec (taken spec mind answer).mind (next ∷ answers) turn
 
--- So many atomic steps, each the operation that the mind wanted then, lead from this memory and mind to those others, and
+-- This many atomic steps, each the operation that the mind wanted then, lead from this memory and mind to those others, and
 -- no turn ended before the last of them, which made this of the turn.
 pub record Runs {M : Type 0} (does : M → Move → ℕ → M → Type 0) (spec : RoomSpec) (memory : M) (mind : MindState) (count : ℕ) (last : M) (after : MindState) (turn : Turn) : Type 0 where
   pub answers : List ℕ
@@ -41,7 +41,7 @@ pub record Wants {M C : Type 0} (serves : M → C → RoomSpec → MindState →
   pub operation : turn ≡ Still → IsOperation (move_of spec mind)
   pub served : serves memory context spec mind
 
--- From wherever so many atomic steps led to this memory and mind, so many lead on to those others.
+-- From wherever this many atomic steps led to this memory and mind, this many lead on to those others.
 abbrev pub Continues : {M : Type 0} → (M → Move → ℕ → M → Type 0) → RoomSpec → ℕ → M → MindState → Turn → ℕ → M → MindState → Turn → Type 0
 Continues does spec count memory mind turn later_count later_memory later_mind later_turn =
     (first : _) (start : MindState) → Runs does spec first start count memory mind turn → Runs does spec first start later_count later_memory later_mind later_turn

@@ -1,4 +1,4 @@
--- A simulator's mind and, beside it, how often in a row its turns were quiet.
+-- A simulator's mind, and how often in a row its turns were quiet.
 use Rattle.std.specs.Prelude.{ℕ, ◌+◌, Bool, true, false, Option, Some, min, nat_lt, nat_le, if◌then◌else◌}
 use Rattle.room_spec.specs.Rooms.{RoomSpec}
 use Rattle.simulator.specs.declared.line.Line.{Line}
@@ -20,7 +20,7 @@ opening_sweep spec i = record { mind = opening_mind spec i; quiet = 0 }
 abbrev pub with_mind : SweepState → MindState → SweepState
 with_mind sweep mind = record { mind = mind; quiet = sweep.quiet }
 
--- it stands between two turns
+-- it is between two turns
 abbrev pub is_resting : Line → Bool
 is_resting Rest = true
 is_resting line = false
@@ -29,7 +29,7 @@ is_resting line = false
 abbrev pub works_on : {S : Type 0} → MindOf S → Option ℕ
 works_on mind = if is_resting mind.line then next_process mind.goals mind.process else Some mind.process
 
--- between two turns: idle where the quiet turns have reached the unfinished processes, and else out of turns where all turns are used up
+-- between two turns: idle where the quiet turns have reached the unfinished processes, and else out of turns if all turns are used up
 abbrev pub ready_between : {S : Type 0} → RoomSpec → MindOf S → ℕ → Ready
 ready_between spec mind quiet =
     if nat_le (unfinished_in mind.goals) quiet then Idle else if nat_lt mind.turns spec.turns then Step else OutOfTurns

@@ -24,7 +24,7 @@ pub record TakenOf (S : Type 0) : Type 0 where
 abbrev pub counted : {S : Type 0} → MindOf S → MindOf S
 counted mind = record mind { steps = mind.steps + 1; turn_steps = mind.turn_steps + 1 }
 
--- so many atomic steps more, of one turn
+-- this many atomic steps more, of one turn
 abbrev pub counted_by : {S : Type 0} → ℕ → MindOf S → MindOf S
 counted_by count mind = record mind { steps = mind.steps + count; turn_steps = mind.turn_steps + count }
 
@@ -61,7 +61,7 @@ collected spec same mind =
     if (same && nat_lt 1 mind.collects) || (mind.collects == most_collects spec) then goes_on Show mind
     else goes_on Snap (record mind { before = mind.snapshot })
 
--- where the memory is one word, one load of it is a snapshot
+-- if the memory is one word, one load of it is a snapshot
 abbrev pub scanned : {S : Type 0} → RoomSpec → Bool → MindOf S → TakenOf S
 scanned spec same mind = if words_in spec == 1 then goes_on Show mind else collected spec same (record mind { collects = mind.collects + 1 })
 
@@ -73,7 +73,7 @@ snapped spec same mind = on_word spec Snap mind (scanned spec same (record mind 
 abbrev pub showed : {S : Type 0} → RoomSpec → MindOf S → TakenOf S
 showed spec mind = on_word spec Show mind (goes_on Enter (record mind { word = 0 }))
 
--- It has asked which proposal was chosen. Where none is yet, the turn is quiet.
+-- It has asked which proposal was chosen. If none is yet, the turn is quiet.
 abbrev pub asked : {S : Type 0} → Option ℕ → MindOf S → TakenOf S
 asked None mind = ended Quiet (goals.Ask (current_round mind)) mind
 asked (Some chosen) mind = goes_on (GetView chosen) mind
@@ -90,7 +90,7 @@ acted spec (actions.Decide decision) mind = goes_on (Out decision) mind
 abbrev pub silent_from : (ℕ → ℕ) → ℕ → ℕ → List ℕ
 silent_from row n p = take_while (λ q. row q == 0) (range_with_len p (n - p))
 
--- the entries of the first of n processes, and nothing for each of the silent ones behind them
+-- the entries of the first of n processes, and nothing for each of the silent ones after them
 abbrev pub padded : (ℕ → ℕ) → ℕ → List (Option ℕ) → List (Option ℕ)
 padded row n entries = entries ++ map (λ q. None) (silent_from row n (length entries))
 

@@ -35,7 +35,7 @@ impl Goal {
         }
     }
 
-    /// The round of the next write or of the snapshot that is asked for; 0 where nothing is left.
+    /// The round of the next write or of the snapshot that is asked for; 0 if nothing is left.
     pub fn round(self) -> u8
         ensures { result ≡ round_of self }
     {

@@ -63,8 +63,8 @@ pub fn step_means_operation()
         move_of spec mind ≡ moves.OutOfTurns }
 {}
 
-/// Between two turns a mind is finished exactly where no process is unfinished; else it wants an
-/// operation where a turn is left, and `OutOfTurns` where none is.
+/// Between two turns a mind is finished exactly if no process is unfinished; else it wants an
+/// operation if a turn is left, and `OutOfTurns` if none is.
 pub fn rest_by_cases()
     ensures finished { (spec : RoomSpec) (mind : MindState) →
         IsMind spec mind →
@@ -77,7 +77,7 @@ pub fn rest_by_cases()
         move_of spec mind ≡ moves.OutOfTurns }
 {}
 
-/// A sweep's quiet count stays one of its mind, over every answer and where it is counted anew.
+/// A sweep's quiet count stays one of its mind, over every answer and if it is counted anew.
 pub fn quiet_counts_stay()
     ensures opens { (spec : RoomSpec) (i : ℕ) → IsQuietCount (opening_sweep spec i).mind (opening_sweep spec i).quiet }
     ensures steps { (spec : RoomSpec) (mind : MindState) (quiet answer : ℕ) →
@@ -86,7 +86,7 @@ pub fn quiet_counts_stay()
     ensures wakes { (mind : MindState) → IsQuietCount mind 0 }
 {}
 
-/// An idle simulator has no write left to make: each process stands at an ask, or is done or spent.
+/// An idle simulator has no write left to make: each process is at an ask, or is done or spent.
 pub fn idle_waits()
     ensures { (spec : RoomSpec) (mind : MindState) (quiet : ℕ) →
         IsQuietCount mind quiet → ready_of spec mind quiet ≡ answers.Idle → (process : ℕ) →
@@ -110,12 +110,12 @@ pub fn steps_are_bounded()
         (processes spec * spec.rounds + 1) * processes spec * turn_limit spec }
 {}
 
-/// No scan makes more collects than the room has writes, and two; and none is counted where the memory is one word, or
+/// No scan makes more collects than the room has writes, and two; and none is counted if the memory is one word, or
 /// no turn is open.
 pub fn scans_are_bounded()
     ensures most { (spec : RoomSpec) (mind : MindState) → IsMind spec mind → mind.collects ≤ most_collects spec }
     ensures rests { (spec : RoomSpec) (mind : MindState) → IsMind spec mind → is_resting mind.line ≡ true → mind.collects ≡ 0 }
-    // The limit of a turn where the memory is one word, and where it is more.
+    // The limit of a turn if the memory is one word, and if it is more.
     ensures one { (spec : RoomSpec) → words_in spec ≡ 1 → turn_limit spec ≡ processes spec + 10 }
     ensures several { (spec : RoomSpec) →
         words_in spec ≢ 1 →

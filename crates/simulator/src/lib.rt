@@ -5,7 +5,7 @@
 //! and counts the process's next write, proposes a snapshot to the safe agreement on it, and, once
 //! that is resolved, works out what the process does next. This is the simulation of E. Borowsky,
 //! E. Gafni, N. Lynch and S. Rajsbaum, "The BG distributed simulation algorithm", Distributed
-//! Computing 14(3), 2001. It is told here step by step: a mind says which operation on one word it
+//! Computing 14(3), 2001. It is given here step by step: a mind says which operation on one word it
 //! wants next, and takes in what that operation answered.
 #![tactic(auto)]
 

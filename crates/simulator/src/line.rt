@@ -1,9 +1,9 @@
-//! Where a simulator stands in its turn.
+//! Where a simulator is in its turn.
 
-/// The atomic step that a simulator takes next, on the process at which its sweep stands.
+/// The atomic step that a simulator takes next, on the process at which its sweep is.
 #[derive(Clone, Copy, Debug, PartialEq, Eq, Default)]
 pub enum Line {
-    /// None yet: it stands between two turns. A turn begins with the store of the process's next
+    /// None yet: it is between two turns. A turn begins with the store of the process's next
     /// write or, where that was made, with an ask.
     #[default]
     Rest,
@@ -17,7 +17,7 @@ pub enum Line {
     Enter,
     /// Load the levels of the agreement.
     Look,
-    /// Leave the agreement: to level 0 where it saw a level 2, and else to level 2.
+    /// Leave the agreement: to level 0 if it saw a level 2, and else to level 2.
     Leave { saw_two: bool },
     /// Load the levels of the agreement, to learn whose proposal was chosen.
     Ask,

@@ -5,7 +5,7 @@ ghost use Rattle.simulator.specs.Ranges.{IsMind};
 
 use crate::operation::Move;
 
-/// What does the operations of minds, one word at a time. `C` is what it needs beside itself for that.
+/// What does the operations of minds, one word at a time. `C` is what it needs for that in addition.
 pub trait Memory<C> {
     ghost use Rattle.std.specs.Prelude.{◌≡◌, ℕ};
     ghost use Rattle.room_spec.specs.Rooms.{RoomSpec};
@@ -32,7 +32,7 @@ pub trait Memory<C> {
         serves next context spec (taken spec mind answer).mind };
 }
 
-/// A memory that nobody looks into: this is its answer to each operation.
+/// A memory that is not looked into: this is its answer to each operation.
 #[derive(Drop)]
 pub(crate) struct Told {
     pub(crate) answer: u64,

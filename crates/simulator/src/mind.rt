@@ -16,7 +16,7 @@ use protocol_lang::View;
 use room_spec::{MAX_MEMORY_WORDS, MAX_PROCESSES, Spec};
 use std::marker::Model;
 
-/// What a simulator knows of its processes, where its sweep stands, how many turns and atomic steps
+/// What a simulator knows of its processes, where its sweep is, how many turns and atomic steps
 /// it has taken, and its place in an open turn. A mind is that of one room: each call is given that
 /// room's spec. No call takes memory.
 #[derive(Drop)]
@@ -81,8 +81,8 @@ impl Mind {
         }
     }
 
-    /// The atomic step that comes next. Where no process is unfinished it is `Finished`, and else,
-    /// where a turn would begin and all turns are used up, `OutOfTurns`.
+    /// The atomic step that comes next. If no process is unfinished it is `Finished`, and else,
+    /// if a turn would begin and all turns are used up, `OutOfTurns`.
     #[tactic(auto, using(crate::proofs::Ranging::within_of))]
     pub fn next_move(&self, spec: &Spec) -> Move
         requires { IsMind spec.now self.now }
@@ -92,7 +92,7 @@ impl Mind {
         self.move_at(spec, self.line)
     }
 
-    /// Whether it stands between two turns.
+    /// Whether it is between two turns.
     pub fn resting(&self) -> bool
         ensures { result ≡ is_resting self.now.line }
     {
@@ -120,7 +120,7 @@ impl Mind {
         self.turns_taken() < spec.turns()
     }
 
-    /// How many whole collects the scan of its open turn has made; 0 where no turn is open, and where
+    /// How many whole collects the scan of its open turn has made; 0 if no turn is open, and where
     /// the room's memory is one word.
     pub fn collects(&self) -> u32
         ensures { result ≡ self.now.collects }
@@ -135,7 +135,7 @@ impl Mind {
         u64::from(self.turn_steps)
     }
 
-    /// The line of its open turn at which it stands, or `Rest` between two turns.
+    /// The line of its open turn at which it is, or `Rest` between two turns.
     pub fn line(&self) -> Line
         ensures { result ≡ self.now.line }
     {
@@ -153,7 +153,7 @@ impl Mind {
     }
 
     /// The process on which its next atomic step works: that of its open turn, or between two turns that of the
-    /// turn which would begin. `None` where no process is unfinished then.
+    /// turn which would begin. `None` if no process is unfinished then.
     pub fn works_on(&self, spec: &Spec) -> Option<usize>
         requires { IsMind spec.now self.now }
         ensures { result ≡ works_on self.now }
@@ -181,7 +181,7 @@ impl Mind {
         usize::from(self.number)
     }
 
-    /// The process at which its sweep stands.
+    /// The process at which its sweep is.
     pub(crate) fn process(&self) -> usize
         ensures { result ≡ self.now.process }
     {

@@ -257,7 +257,7 @@ impl Mind {
         ensures mind { self.new ≡ (taken spec.now self.old answer).mind }
         ensures turn { result ≡ (taken spec.now self.old answer).turn }
         ensures is_mind { IsMind spec.now self.new }
-        // A turn takes fewer atomic steps than its limit: n + 10 where the memory is one word, and for c words n + 7 + 2 * c and c for
+        // A turn takes fewer atomic steps than its limit: n + 10 if the memory is one word, and for c words n + 7 + 2 * c and c for
         // each of m * n * rounds + 2 collects.
         ensures bound { self.new.turn_steps < turn_limit spec.now }
         // A scan makes no more collects than the room has writes, and two.
@@ -284,7 +284,7 @@ impl Mind {
         self.line = line;
     }
 
-    /// Takes the atomic step of this line, which is known beside the mind: what the mind has for its line
+    /// Takes the atomic step of this line, which is known in addition to the mind: what the mind has for its line
     /// makes no difference, and may be an earlier one afterwards.
     #[inline(always)]
     fn take_step<C, M: Memory<C>>(

@@ -10,7 +10,7 @@ use room_spec::{MAX_MEMORY_WORDS, MAX_PROCESSES, Spec};
 use sim_memory::{LastWrites, last_write, last_writes, note_last};
 use std::marker::Model;
 
-/// As many memory words as any room has; those behind the room's own are 0. Beside them the last
+/// As many memory words as any room has; those after the room's own are 0. With them are the last
 /// writes that they show, where these were worked out once for all processes, and the numbers of the
 /// room by which they were. Asked by another room's numbers it answers from the words themselves; no
 /// run asks so, but no call has to promise that.

@@ -17,14 +17,14 @@ use std::marker::Model;
 pub enum Ready {
     /// It takes one.
     Step,
-    /// It stands between two turns, and has asked in vain for each unfinished process since it last
+    /// It is between two turns, and has asked in vain for each unfinished process since it last
     /// came further.
     Idle,
-    /// It stands between two turns, and has used up all that the room gives it.
+    /// It is between two turns, and has used up all that the room gives it.
     OutOfTurns,
 }
 
-/// A mind and, beside it, how many of its turns were quiet since the last useful one, 0 to 255.
+/// A mind, and how many of its turns were quiet since the last useful one, 0 to 255.
 #[derive(Drop)]
 pub struct Sweep {
     mind: Mind,

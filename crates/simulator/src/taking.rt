@@ -129,7 +129,7 @@ impl Mind {
             && words[3] == self.before[3]
     }
 
-    /// Goes on behind the store of a word of its proposal.
+    /// Goes on after the store of a word of its proposal.
     pub(crate) fn show(&mut self, spec: &Spec) -> Turn
         requires { self.old.word < MAX_MEMORY_WORDS }
         ensures mind { self.new ≡ (showed spec.now self.old).mind }
@@ -143,7 +143,7 @@ impl Mind {
         self.go_on(Line::Enter)
     }
 
-    /// Whether the memory has a word behind that of its line.
+    /// Whether the memory has a word after that of its line.
     fn has_next_word(&self, spec: &Spec) -> bool
         requires { self.now.word < MAX_MEMORY_WORDS }
         ensures { result ≡ nat_lt (self.now.word + 1) (words_in spec.now) }

@@ -1,4 +1,4 @@
-//! The words of a room, by its spec: where they stand, and what is read of them.
+//! The words of a room, by its spec: their places, and what is read of them.
 ghost use Rattle.std.specs.Prelude.{◌≡◌, ◌<◌};
 ghost use Rattle.room_spec.specs.Sizes.{sizes_in};
 ghost use Rattle.view_table.specs.Places.{IsPlace, words_of};

@@ -43,7 +43,7 @@ is_word word = bytes_eq word (codes "write") || bytes_eq word (codes "decide") |
 abbrev pub most_fields : List ℕ → ℕ
 most_fields word = if is_snap word then 19 else 4
 
--- what may stand behind the word: a value, or in a snapshot `.` too
+-- what may come after the word: a value, or in a snapshot `.` too
 abbrev pub is_entry : List ℕ → List ℕ → Bool
 is_entry word field = (is_snap word && bytes_eq field (codes ".")) || is_number greatest field
 
@@ -70,7 +70,7 @@ abbrev pub first_of : List (Bool × LineFault) → Option LineFault
 first_of [] = None
 first_of (wrong ∷ others) = if wrong.0 then Some wrong.1 else first_of others
 
--- the fault of a line, or nothing where it says an event
+-- the fault of a line, or nothing if it says an event
 abbrev pub first_fault : List ℕ → Option LineFault
 first_fault line = first_of (wrongs line (fields_of line))
 

@@ -16,7 +16,7 @@ abbrev pub entry_text : Option ℕ → List ℕ
 entry_text None = codes "."
 entry_text (Some value) = decimal value
 
--- what stands behind the name: the process, what it did, and the value or the row
+-- what comes after the name: the process, what it did, and the value or the row
 abbrev pub event_fields : Event → List (List ℕ)
 event_fields (Write p v) = decimal p ∷ codes "write" ∷ decimal v ∷ []
 event_fields (Snap p row) = decimal p ∷ codes "snap" ∷ map entry_text row.items

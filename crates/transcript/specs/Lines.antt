@@ -33,7 +33,7 @@ abbrev pub entries_in : List (List ℕ) → Result (List (Option ℕ)) LineFault
 entries_in [] = Ok []
 entries_in (field ∷ fields) = entry_in field >>= λ entry. entries_in fields >>= λ entries. Ok (entry ∷ entries)
 
--- the one value behind `write` and `decide`
+-- the one value after `write` and `decide`
 abbrev pub value_in : List (List ℕ) → Result ℕ LineFault
 value_in [] = Err BadLength
 value_in (field ∷ []) = number_in greatest field
@@ -51,7 +51,7 @@ snap_by p entries = Ok (Snap p (record { items = entries }))
 abbrev pub decide_by : ℕ → ℕ → Result Event LineFault
 decide_by p v = Ok (Decide p v)
 
--- the event of process p, by its word and the fields behind it
+-- the event of process p, by its word and the fields after it
 abbrev pub event_of : List ℕ → List (List ℕ) → ℕ → Result Event LineFault
 event_of word fields p =
     if bytes_eq word (codes "write") then value_in fields >>= write_by p
@@ -59,7 +59,7 @@ event_of word fields p =
     else if bytes_eq word (codes "decide") then value_in fields >>= decide_by p
     else Err BadWord
 
--- the fields behind the name: the process, the word and at least one more
+-- the fields after the name: the process, the word and at least one more
 abbrev pub event_in : List (List ℕ) → Result Event LineFault
 event_in [] = Err BadLength
 event_in (process ∷ []) = Err BadLength

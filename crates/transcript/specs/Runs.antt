@@ -52,7 +52,7 @@ latest pick (event ∷ events) = option_or (latest pick events) (pick event)
 abbrev pub last_write : List Event → ℕ → Option ℕ
 last_write events p = latest (written_by p) events
 
--- What the protocol asks of process p: its first value where it has no snapshot yet, and then what follows its
+-- What the protocol asks of process p: its first value if it has no snapshot yet, and then what follows its
 -- latest one, as its input, its number and the number of its snapshots have it.
 abbrev pub action_due : RoomSpec → List Event → ℕ → Action
 action_due spec events p =

@@ -195,7 +195,7 @@ fn fault_of_stray(process: &[u8], deed: &[u8]) -> LineFault
     }
 }
 
-/// The first fault of a line with this name and this fault behind it.
+/// The first fault of a line with this name and this fault after it.
 fn fault_behind(name: &[u8], fault: LineFault) -> LineFault
     ensures { result ≡ (if is_name name.now then fault else BadName) }
 {

@@ -48,15 +48,15 @@ pub fn write_event(alloc: Global, name: &Name, event: &Event) -> Result<Vec<u8>,
     Ok(line.into_bytes())
 }
 
-/// Writes the line of an event in the room of this name behind the text, without a line end. The one
-/// error is want of memory.
+/// Writes the line of an event in the room of this name after the text, without a line end. The one
+/// error is an allocation that failed.
 pub fn append_event(text: &mut String, name: &Name, event: &Event) -> Result<(), AllocError>
     ensures { OnOk result (string_bytes text.new ≡ string_bytes text.old ++ event_line name.now event.now) }
 {
     append_named_event(text, name.as_str(), event)
 }
 
-/// Writes the name and the fields behind it.
+/// Writes the name and the fields after it.
 fn append_named_event(text: &mut String, name: &str, event: &Event) -> Result<(), AllocError>
     ensures { OnOk result (string_bytes text.new ≡ string_bytes text.old ++ event_line name.now event.now) }
 {
@@ -72,7 +72,7 @@ fn append_named_event(text: &mut String, name: &str, event: &Event) -> Result<()
     }
 }
 
-/// Writes a process and its value, each behind a space, and between them the word for what it did.
+/// Writes a process and its value, each after a space, and between them the word for what it did.
 fn write_value(text: &mut String, p: u8, word: &str, v: u32) -> Result<(), AllocError>
     ensures { OnOk result (string_bytes text.new ≡ string_bytes text.old ++ 32 ∷ (decimal p ++ word.now ++ 32 ∷ decimal v)) }
 {
@@ -81,7 +81,7 @@ fn write_value(text: &mut String, p: u8, word: &str, v: u32) -> Result<(), Alloc
     write_number(text, v)
 }
 
-/// Writes the entries of a snapshot, each behind a space.
+/// Writes the entries of a snapshot, each after a space.
 fn write_entries(line: &mut String, entries: &[Option<u32>]) -> Result<(), AllocError>
     ensures { OnOk result (string_bytes line.new ≡ join_with_byte 32 (string_bytes line.old ∷ map entry_text entries.now)) }
 {

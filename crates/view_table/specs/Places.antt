@@ -14,7 +14,7 @@ IsProcess sizes j = j < sizes.n
 abbrev pub IsRound : Sizes → ℕ → Type 0
 IsRound sizes k = (1 ≤ k) × (k ≤ sizes.rounds)
 
--- the step numbers of all simulators stand in these words, numbered from 0
+-- the step numbers of all simulators are in these words, numbered from 0
 abbrev pub IsMemoryWord : Sizes → ℕ → Type 0
 IsMemoryWord sizes w = w < memory_words sizes
 
@@ -26,7 +26,7 @@ IsPlace sizes (View i j k w) = IsSimulator sizes i × IsProcess sizes j × IsRou
 IsPlace sizes (Value i j k) = IsSimulator sizes i × IsProcess sizes j × IsRound sizes k
 IsPlace sizes (Out i j) = IsSimulator sizes i × IsProcess sizes j
 
--- ---- the words of each kind stand together
+-- ---- the words of each kind are next to each other
 
 abbrev pub pairs : Sizes → ℕ
 pairs sizes = sizes.m * sizes.n

@@ -45,7 +45,7 @@ pub fn words_of_zeros()
     ensures { (sizes : Sizes) (place : Place) → IsPlace sizes place → word_at sizes (replicate (words_of sizes) 0) place ≡ 0 }
 {}
 
-/// The memory words come first, and the words of one view stand side by side.
+/// The memory words come first, and the words of one view are side by side.
 pub fn words_stand_together()
     ensures memory { (sizes : Sizes) (w : ℕ) → index_of sizes (places.Memory w) ≡ w }
     ensures view { (sizes : Sizes) (i j k w : ℕ) → index_of sizes (places.View i j k w) ≡ index_of sizes (places.View i j k 0) + w }

@@ -1,4 +1,4 @@
-//! The places of a room's shared memory, and where each stands among the memory's words.
+//! The places of a room's shared memory, and the place of each among the memory's words.
 #![tactic(auto)]
 
 mod inverse;

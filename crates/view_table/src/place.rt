@@ -41,7 +41,7 @@ pub enum Place {
     },
 }
 
-/// Where a place stands among a room's words. Its numbers are those of a simulator, a process, a
+/// The index of a place among a room's words. Its numbers are those of a simulator, a process, a
 /// round and a memory word of the room.
 #[tactic(auto, unfolding(crate::specs::Places::index_of, crate::specs::Places::words_of))]
 pub fn index(shape: &Shape, place: Place) -> usize
