@@ -35,19 +35,29 @@ crashes_rule = number_rule (codes "crashes") 0 8
 abbrev pub seed_rule : Rule
 seed_rule = number_rule (codes "seed") 0 4294967295
 
--- the subcommand `sample`, which takes a file and three numbers
+abbrev pub top_rule : Rule
+top_rule = number_rule (codes "top") 1 1000000
+
+abbrev pub outcome_rule : Rule
+outcome_rule = number_rule (codes "outcome") 1 1000000
+
+-- an option that takes no value
+abbrev pub brief_rule : Rule
+brief_rule = record (new_rule (codes "brief")) { long = Some (codes "brief"); action = Some SetTrue }
+
+-- the subcommand `sample` as far as it says which schedules are drawn: a file and three numbers
+abbrev pub drawing_app : App
+drawing_app = with_rule (with_rule (with_rule (file_app (codes "sample")) schedules_rule) crashes_rule) seed_rule
+
+-- the subcommand `sample`, which takes besides two numbers and a flag
 abbrev pub sample_app : App
-sample_app = with_rule (with_rule (with_rule (file_app (codes "sample")) schedules_rule) crashes_rule) seed_rule
+sample_app = with_rule (with_rule (with_rule drawing_app top_rule) outcome_rule) brief_rule
 
 abbrev pub stopped_rule : Rule
 stopped_rule = number_rule (codes "crashes") 0 16
 
 abbrev pub states_rule : Rule
 states_rule = number_rule (codes "states") 1 100000000
-
--- an option that takes no value
-abbrev pub brief_rule : Rule
-brief_rule = record (new_rule (codes "brief")) { long = Some (codes "brief"); action = Some SetTrue }
 
 -- the subcommand `outcomes`, which takes a file, two numbers and a flag
 abbrev pub outcomes_app : App
@@ -114,12 +124,6 @@ IsNumber None default number = number ≡ default
 IsNumber (Some text) default number =
     IsNumeral 10 (without_leading_plus text) → digits_value 10 (without_leading_plus text) < 2 ^ 32 → number ≡ digits_value 10 (without_leading_plus text)
 
--- the plan that the values of `sample` say
-pub record IsPlanAmong (found : Option (List ℕ × List Row)) (plan : Plan) : Type 0 where
-  pub schedules : IsNumber (value_among (codes "schedules") found) 1000 plan.schedules
-  pub crashes : IsNumber (value_among (codes "crashes") found) 1 plan.crashes
-  pub seed : IsNumber (value_among (codes "seed") found) 1 plan.seed
-
 -- the number that a text gives, or none without a text
 abbrev pub IsNumberIfAny : Option (List ℕ) → Option ℕ → Type 0
 IsNumberIfAny None number = number ≡ None
@@ -129,6 +133,15 @@ IsNumberIfAny (Some text) number = IsNumeral 10 (without_leading_plus text) → 
 abbrev pub is_given : Option (List ℕ) → Bool
 is_given None = false
 is_given (Some text) = bytes_eq text (codes "true")
+
+-- the plan that the values of `sample` say
+pub record IsPlanAmong (found : Option (List ℕ × List Row)) (plan : Plan) : Type 0 where
+  pub schedules : IsNumber (value_among (codes "schedules") found) 1000 plan.schedules
+  pub crashes : IsNumber (value_among (codes "crashes") found) 1 plan.crashes
+  pub seed : IsNumber (value_among (codes "seed") found) 1 plan.seed
+  pub brief : plan.brief ≡ is_given (value_among (codes "brief") found)
+  pub top : IsNumberIfAny (value_among (codes "top") found) plan.top
+  pub outcome : IsNumberIfAny (value_among (codes "outcome") found) plan.outcome
 
 -- the search that the values of `outcomes` say
 pub record IsSearchAmong (found : Option (List ℕ × List Row)) (search : Search) : Type 0 where

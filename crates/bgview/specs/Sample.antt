@@ -1,5 +1,5 @@
 -- What `bgview sample` answers for a file of rooms.
-use Rattle.std.specs.Prelude.{◌≡◌, ℕ, ◌≤◌, ◌<◌, ◌==◌, ◌&&◌, Bool, List, [], ◌++◌, length, Result, Ok, Err, codes}
+use Rattle.std.specs.Prelude.{◌≡◌, ℕ, ◌≤◌, ◌<◌, ◌==◌, ◌&&◌, Bool, List, [], ◌++◌, Option, None, Some, length, Result, Ok, Err, codes}
 use Rattle.io_text.specs.Reading.{most_bytes}
 use Rattle.io_text.specs.declared.fault.DeviceFault.TheVariants.{Read, Write, TooLong, Memory}
 use Rattle.room_files.specs.Blocks.{Setup}
@@ -11,13 +11,24 @@ use Rattle.room_sample.specs.declared.sampling.Plan.{Plan}
 use Rattle.bgview.specs.declared.fault.ViewFault.{ViewFault}
 use Rattle.bgview.specs.declared.fault.ViewFault.TheVariants.{BadGoal, BadInput, Device, Incomplete}
 
+-- what comes before the samples: the lines of the refused blocks, unless scripts alone are written
+abbrev pub head_of : Option ℕ → List ℕ → List ℕ
+head_of None refused = refused
+head_of (Some number) refused = []
+
+-- what comes after them: that they are samples
+abbrev pub last_of : Option ℕ → List ℕ
+last_of None = codes "\nthis is a sample of simulations: other outcomes may come, and with fewer simulators than processes a protocol has runs to which no schedule leads\n"
+last_of (Some number) = []
+
 -- The lines of the refused blocks, and then a sample of each room; and that it is none but a sample. All is well if no block was refused and
--- no schedule broke a room's task.
+-- no schedule broke a room's task. Or the scripts of one outcome of each room, and nothing else; all is well if no block was refused and each
+-- room has that outcome.
 pub record IsSampleOutput (plan : Plan) (setup : Setup) (outcome : Outcome) (output : List ℕ) : Type 0 where
   pub told : List ℕ
   pub well : Bool
-  pub samples : AddsSamples plan setup.rooms well setup.refused told
-  pub output_is : output ≡ told ++ codes "\nother outcomes may come\n"
+  pub samples : AddsSamples plan setup.rooms well (head_of plan.outcome setup.refused) told
+  pub output_is : output ≡ told ++ last_of plan.outcome
   pub outcome_is : outcome ≡ outcome_if ((length setup.refused == 0) && well)
 
 abbrev pub IsSampleFor : Plan → List ℕ → Outcome → List ℕ → Type 0

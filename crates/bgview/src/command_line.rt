@@ -4,7 +4,7 @@ ghost use Rattle.clap.specs.Kinds.{FailsBy};
 ghost use Rattle.clap.specs.declared.builder.command.Command.TheViews.{out-Command};
 ghost use Rattle.clap.specs.Words.{app_of, fault_of, first_value, found_of, subcommand_of, subcommand_rows_of, with_subcommand};
 ghost use Rattle.clap.specs.Walk.{rule_of};
-ghost use Rattle.bgview.specs.CommandLine.{bgview_app, brief_rule, crashes_rule, fault_app, file_among, file_app, goal_rule, commands_rule, grade_app, is_given, mode_among, mode_of, other_among, outcomes_app, page_app, plain_app, sample_app, schedules_rule, seed_rule, states_rule, stopped_rule, IsGradingAmong, IsNumber, IsNumberIfAny, IsPlanAmong, IsRequestAmong, IsSearchAmong};
+ghost use Rattle.bgview.specs.CommandLine.{bgview_app, brief_rule, commands_rule, crashes_rule, drawing_app, fault_app, file_among, file_app, goal_rule, grade_app, is_given, mode_among, mode_of, other_among, outcome_rule, outcomes_app, page_app, plain_app, sample_app, schedules_rule, seed_rule, states_rule, stopped_rule, top_rule, IsGradingAmong, IsNumber, IsNumberIfAny, IsPlanAmong, IsRequestAmong, IsSearchAmong};
 
 use crate::grade::Grading;
 use clap::{Arg, ArgAction, ArgMatches, Command, Error, value_parser};
@@ -157,16 +157,27 @@ fn transcript_command<'a>(alloc: Global) -> Result<Command<'a>, AllocError>
     )
 }
 
-/// The subcommand `sample`, which takes a file and numbers.
+/// The subcommand `sample`, which takes a file, numbers and a flag.
 fn sample_command<'a>(alloc: Global) -> Result<Command<'a>, AllocError>
     ensures app { IfOk result (λ command. app_of command ≡ sample_app) }
+    ensures local { IfOk result (λ command. (out-Command command).has_globals ≡ false) }
+{
+    let sample = drawing_command(alloc)?;
+    let with_top = sample.arg(top_option(alloc))?;
+    let with_outcome = with_top.arg(outcome_option(alloc))?;
+    with_outcome.arg(brief_option(alloc, "Leaves out the scripts"))
+}
+
+/// The subcommand `sample` with the options that say which schedules are drawn.
+fn drawing_command<'a>(alloc: Global) -> Result<Command<'a>, AllocError>
+    ensures app { IfOk result (λ command. app_of command ≡ drawing_app) }
     ensures local { IfOk result (λ command. (out-Command command).has_globals ≡ false) }
 {
     let sample = file_command(
         alloc,
         "sample",
         "Runs each room of a file by random schedules, and counts the outcomes",
-        "bgview sample [--schedules N] [--crashes F] [--seed S] [FILE]",
+        "bgview sample [--schedules N] [--crashes F] [--seed S] [--top K] [--outcome K] [--brief] [FILE]",
         "The rooms; without it, standard input is read",
     )?;
     let with_schedules = sample.arg(schedules_option(alloc))?;
@@ -210,6 +221,30 @@ fn seed_option<'a>(alloc: Global) -> Arg<'a>
         .help("What the schedules are drawn from, 0 to 4294967295; without it, 1")
 }
 
+/// The option `--top K`.
+fn top_option<'a>(alloc: Global) -> Arg<'a>
+    ensures rule { rule_of result ≡ top_rule }
+    ensures local { result.global ≡ false }
+{
+    Arg::new(alloc, "top")
+        .long("top")
+        .value_name("K")
+        .value_parser(value_parser!(u32).range(1..=1000000))
+        .help("Shows only the K most frequent outcomes of each room; without it, all")
+}
+
+/// The option `--outcome K`.
+fn outcome_option<'a>(alloc: Global) -> Arg<'a>
+    ensures rule { rule_of result ≡ outcome_rule }
+    ensures local { result.global ≡ false }
+{
+    Arg::new(alloc, "outcome")
+        .long("outcome")
+        .value_name("K")
+        .value_parser(value_parser!(u32).range(1..=1000000))
+        .help("Writes nothing but the script of the K-th most frequent outcome of each room")
+}
+
 /// The subcommand `outcomes`, which takes a file, numbers and a flag.
 fn outcomes_command<'a>(alloc: Global) -> Result<Command<'a>, AllocError>
     ensures app { IfOk result (λ command. app_of command ≡ outcomes_app) }
@@ -224,7 +259,7 @@ fn outcomes_command<'a>(alloc: Global) -> Result<Command<'a>, AllocError>
     )?;
     let with_crashes = outcomes.arg(stopped_option(alloc))?;
     let with_states = with_crashes.arg(states_option(alloc))?;
-    with_states.arg(brief_option(alloc))
+    with_states.arg(brief_option(alloc, "Leaves out the transcripts"))
 }
 
 /// The option `--crashes F` of `outcomes`.
@@ -252,14 +287,14 @@ fn states_option<'a>(alloc: Global) -> Arg<'a>
 }
 
 /// The option `--brief`.
-fn brief_option<'a>(alloc: Global) -> Arg<'a>
+fn brief_option<'a>(alloc: Global, help: &'a str) -> Arg<'a>
     ensures rule { rule_of result ≡ brief_rule }
     ensures local { result.global ≡ false }
 {
     Arg::new(alloc, "brief")
         .long("brief")
         .action(ArgAction::SetTrue)
-        .help("Leaves out the transcripts")
+        .help(help)
 }
 
 /// The subcommand `lint`.
@@ -460,11 +495,17 @@ fn plan_in(matches: &ArgMatches<'_>) -> Plan
             schedules: number_among(inner, "schedules", 1000),
             crashes: number_among(inner, "crashes", 1),
             seed: number_among(inner, "seed", 1),
+            brief: is_given(inner, "brief"),
+            top: number_if_any(inner, "top"),
+            outcome: number_if_any(inner, "outcome"),
         },
         None => Plan {
             schedules: 1000,
             crashes: 1,
             seed: 1,
+            brief: false,
+            top: None,
+            outcome: None,
         },
     }
 }

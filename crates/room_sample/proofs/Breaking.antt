@@ -22,6 +22,14 @@ fewer spec (one ∷ others) =
     let later = fewer spec others in
     omega (arith, mine, all, here, later)
 
+-- one more is summed up
+pub one_summed : (f : Counted → ℕ) (outcomes : List Counted) (i : ℕ) (one : Counted) → slice_get outcomes i ≡ Some one → sum_by f (take (i + 1) outcomes) ≡ sum_by f (take i outcomes) + f one
+one_summed f outcomes i one there =
+    let more = sum_by-append f (take i outcomes) (one ∷ []) in
+    let last = sum_by-cons f one [] in
+    let next = ap (sum_by f) (took outcomes i one there) in
+    omega (arith, more, last, next)
+
 one_times : (spec : RoomSpec) (one : Counted) → times_broken spec (one ∷ []) ≡ times_if_broken spec one
 one_times spec one = let mine = sum_by-cons (times_if_broken spec) one [] in omega (arith, mine)
 

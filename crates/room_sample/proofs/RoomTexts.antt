@@ -1,17 +1,17 @@
 -- The texts of rooms, one by one.
-use Rattle.std.proofs.Common.{◌≡◌, ℕ, ◌+◌, ◌≤◌, ◌&&◌, Bool, true, false, List, [], ◌∷◌, ◌++◌, Ok, length, take, refl, sym, ap, ◌∙◌, subst, arith}
-use Rattle.std.specs.Prelude.{IsPermutation}
+use Rattle.std.proofs.Common.{◌≡◌, ℕ, ◌+◌, ◌≤◌, ◌-◌, ◌&&◌, Bool, true, false, List, [], ◌∷◌, ◌++◌, Option, None, Some, Ok, length, take, refl, sym, ap, ◌∙◌, subst, arith}
+use Rattle.std.specs.Prelude.{IsPermutation, is_some, slice_get}
 use Rattle.std.specs.List.{concat}
 use Rattle.std.proofs.lemmas.List.{append-nil, append_assoc, take_all}
 use Rattle.std.proofs.lemmas.List.Folds.{concat-append}
 use Rattle.room_spec.specs.Blocks.{block_in}
 use Rattle.room_spec.specs.Rooms.{IsWithinLimits, RoomSpec}
 use Rattle.room_files.specs.BlockLists.{IsBlockAt}
-use Rattle.room_sample.specs.Rooms.{AddsSamples, AreSampleTexts, IsSampleText}
+use Rattle.room_sample.specs.Rooms.{AddsSamples, AreSampleTexts, IsSampleText, is_well, room_text}
 use Rattle.room_sample.specs.Shown.{AreKept}
 use Rattle.room_sample.specs.Samples.{AreAmongAll, AreMostFirst, Counted, IsSample}
 use Rattle.room_sample.specs.TaskTexts.{has_held, task_text}
-use Rattle.room_sample.specs.Texts.{sample_text}
+use Rattle.room_sample.specs.Texts.{alone_text, sample_text}
 use Rattle.room_sample.specs.declared.sampling.Plan.{Plan}
 use Rattle.room_sample.proofs.Coming.{breaking_leads, scripts_lead}
 use Rattle.room_sample.proofs.Taking.{took}
@@ -54,15 +54,14 @@ same_read : (block : List ℕ) (one other : RoomSpec × ℕ) → block_in block 
 same_read block one other read says = cc
 
 -- what was written of the room that a block says
-pub sample_told : (plan : Plan) (block : List ℕ) (spec : RoomSpec) (len : ℕ) (outcomes short shown : List Counted) (held : Bool) (task before middle after : List ℕ) → IsWithinLimits spec → block_in block ≡ Ok (spec, len) → IsSample spec plan outcomes → AreAmongAll spec outcomes → AreKept spec plan.crashes outcomes short
-    → IsPermutation short shown → AreMostFirst shown → held ≡ has_held spec short → task ≡ task_text spec block plan short → middle ≡ before ++ sample_text spec.name block plan shown → after ≡ middle ++ task
-    → (said : RoomSpec) → block_in block ≡ Ok (said, length block) → (text : List ℕ) × IsSampleText plan said held text × (after ≡ before ++ text)
-sample_told plan block spec len outcomes short shown held task before middle after limits read sample among kept permuted first held_is task_is middle_is after_is said says =
+sample_shown : (plan : Plan) (block : List ℕ) (spec : RoomSpec) (len : ℕ) (outcomes short shown : List Counted) (well : Bool) (before after : List ℕ) → IsWithinLimits spec → block_in block ≡ Ok (spec, len) → IsSample spec plan outcomes → AreAmongAll spec outcomes → AreKept spec plan.crashes outcomes short
+    → IsPermutation short shown → AreMostFirst shown → well ≡ is_well plan.outcome spec short shown → after ≡ before ++ room_text plan.outcome plan spec block short shown
+    → (said : RoomSpec) → block_in block ≡ Ok (said, length block) → (text : List ℕ) × IsSampleText plan said well text × (after ≡ before ++ text)
+sample_shown plan block spec len outcomes short shown well before after limits read sample among kept permuted first well_is after_is said says =
     let same : spec ≡ said = ap (λ (one : RoomSpec × ℕ). one.0) (same_read block (spec, len) (said, length block) read says) in
     let own : block_in block ≡ Ok (spec, length block) = subst (λ (room : RoomSpec). block_in block ≡ Ok (room, length block)) (sym same) says in
-    let listed = sample_text spec.name block plan shown in
-    let text = listed ++ task_text spec block plan short in
-    let told : IsSampleText plan spec held text = record {
+    let text = room_text plan.outcome plan spec block short shown in
+    let told : IsSampleText plan spec well text = record {
       block = block;
       says = own;
       outcomes = outcomes;
@@ -75,10 +74,26 @@ sample_told plan block spec len outcomes short shown held task before middle aft
       most_first = first;
       scripts = scripts_lead plan spec block outcomes short shown limits own sample kept permuted;
       breaking = breaking_leads plan spec block outcomes short limits own sample kept;
-      well_is = held_is;
+      well_is = well_is;
       text_is = refl;
-    } in (
-      text,
-      subst (λ (room : RoomSpec). IsSampleText plan room held text) same told,
-      after_is ∙ ap (λ (t : List ℕ). t ++ task) middle_is ∙ append_assoc before listed task ∙ ap (λ (t : List ℕ). before ++ (listed ++ t)) task_is,
-    )
+    } in
+    (text, subst (λ (room : RoomSpec). IsSampleText plan room well text) same told, after_is)
+
+-- all of it
+pub sample_told : (plan : Plan) (block : List ℕ) (spec : RoomSpec) (len : ℕ) (outcomes short shown : List Counted) (held : Bool) (task before middle after : List ℕ) → plan.outcome ≡ None → IsWithinLimits spec → block_in block ≡ Ok (spec, len) → IsSample spec plan outcomes → AreAmongAll spec outcomes
+    → AreKept spec plan.crashes outcomes short → IsPermutation short shown → AreMostFirst shown → held ≡ has_held spec short → task ≡ task_text spec block plan short → middle ≡ before ++ sample_text spec.name block plan shown → after ≡ middle ++ task
+    → (said : RoomSpec) → block_in block ≡ Ok (said, length block) → (text : List ℕ) × IsSampleText plan said held text × (after ≡ before ++ text)
+sample_told plan block spec len outcomes short shown held task before middle after none limits read sample among kept permuted first held_is task_is middle_is after_is =
+    let listed = sample_text spec.name block plan shown in
+    sample_shown plan block spec len outcomes short shown held before after limits read sample among kept permuted first
+    (held_is ∙ ap (λ (o : Option ℕ). is_well o spec short shown) (sym none))
+    (after_is ∙ ap (λ (t : List ℕ). t ++ task) middle_is ∙ append_assoc before listed task ∙ ap (λ (t : List ℕ). before ++ (listed ++ t)) task_is ∙ ap (λ (o : Option ℕ). before ++ room_text o plan spec block short shown) (sym none))
+
+-- the script of one outcome
+pub script_told : (plan : Plan) (block : List ℕ) (spec : RoomSpec) (len : ℕ) (outcomes short shown : List Counted) (there : Bool) (number : ℕ) (before after : List ℕ) → plan.outcome ≡ Some number → IsWithinLimits spec → block_in block ≡ Ok (spec, len) → IsSample spec plan outcomes → AreAmongAll spec outcomes
+    → AreKept spec plan.crashes outcomes short → IsPermutation short shown → AreMostFirst shown → there ≡ is_some (slice_get shown (number - 1)) → after ≡ before ++ alone_text spec.name block (slice_get shown (number - 1))
+    → (said : RoomSpec) → block_in block ≡ Ok (said, length block) → (text : List ℕ) × IsSampleText plan said there text × (after ≡ before ++ text)
+script_told plan block spec len outcomes short shown there number before after some limits read sample among kept permuted first there_is after_is =
+    sample_shown plan block spec len outcomes short shown there before after limits read sample among kept permuted first
+    (there_is ∙ ap (λ (o : Option ℕ). is_well o spec short shown) (sym some))
+    (after_is ∙ ap (λ (o : Option ℕ). before ++ room_text o plan spec block short shown) (sym some))

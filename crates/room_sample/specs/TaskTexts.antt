@@ -3,7 +3,7 @@ use Rattle.std.specs.Prelude.{ℕ, Bool, ◌||◌, List, [], ◌++◌, Option, S
 use Rattle.room_spec.specs.Rooms.{RoomSpec}
 use Rattle.room_sample.specs.Samples.{Counted}
 use Rattle.room_sample.specs.Tasks.{first_broken, times_broken}
-use Rattle.room_sample.specs.Texts.{number_line, number_words, script_text}
+use Rattle.room_sample.specs.Texts.{number_line, number_words, script_unless}
 use Rattle.room_sample.specs.declared.sampling.Plan.{Plan}
 use Rattle.room_sample.specs.declared.stretch.Stretch.{Stretch}
 
@@ -15,7 +15,7 @@ abbrev pub times_words : List ℕ → ℕ → List ℕ
 times_words name times = number_line name (codes " task broken in") times (codes " of")
 
 abbrev pub of_words : ℕ → List ℕ
-of_words schedules = number_words schedules (codes " schedules, as in this one:\n")
+of_words schedules = number_words schedules (codes " schedules\n")
 
 -- in how many schedules it was broken
 abbrev pub broken_line : List ℕ → Plan → ℕ → List ℕ
@@ -23,7 +23,7 @@ broken_line name plan times = times_words name times ++ of_words plan.schedules
 
 -- with the script of one that broke it
 abbrev pub broken_text : List ℕ → List ℕ → Plan → ℕ → List Stretch → List ℕ
-broken_text name block plan times schedule = broken_line name plan times ++ script_text name block schedule
+broken_text name block plan times schedule = broken_line name plan times ++ script_unless plan.brief name block schedule
 
 -- what is said of the task, with the script of the first schedule that broke it
 abbrev pub verdict_text : List ℕ → List ℕ → Plan → ℕ → Option Counted → List ℕ

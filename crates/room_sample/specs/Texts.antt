@@ -1,9 +1,9 @@
 -- What is written of a room that was sampled.
-use Rattle.std.specs.Prelude.{ℕ, List, ◌∷◌, ◌++◌, codes, decimal}
+use Rattle.std.specs.Prelude.{ℕ, min, Bool, List, [], ◌∷◌, ◌++◌, length, take, Option, None, Some, if◌then◌else◌, codes, decimal}
 use Rattle.std.specs.List.{flat_map}
 use Rattle.room_files.specs.BlockLists.{whole_block}
 use Rattle.script_play.specs.ReplyTexts.{process_lines}
-use Rattle.room_sample.specs.Counts.{held_in, most_of, values_in}
+use Rattle.room_sample.specs.Counts.{held_in, most_of, once_in, values_in}
 use Rattle.room_sample.specs.Samples.{Counted}
 use Rattle.room_sample.specs.declared.sampling.Plan.{Plan}
 use Rattle.room_sample.specs.declared.stretch.Stretch.{Stretch}
@@ -26,10 +26,13 @@ abbrev pub plan_line : List ℕ → Plan → List ℕ
 plan_line name plan =
     (name ++ (codes " sample" ++ (32 ∷ decimal plan.schedules))) ++ ((codes " crashes" ++ (32 ∷ decimal plan.crashes)) ++ ((codes " seed" ++ (32 ∷ decimal plan.seed)) ++ codes "\n"))
 
+abbrev pub script_unless : Bool → List ℕ → List ℕ → List Stretch → List ℕ
+script_unless brief name block schedule = if brief then [] else script_text name block schedule
+
 -- how often an outcome came, where the processes stand in it, and a script that leads there
-abbrev pub outcome_text : List ℕ → List ℕ → Counted → List ℕ
-outcome_text name block one =
-    (codes "\n" ++ (name ++ (codes " came" ++ ((32 ∷ decimal one.times) ++ codes " times\n")))) ++ (process_lines name one.states ++ script_text name block one.schedule)
+abbrev pub outcome_text : Bool → List ℕ → List ℕ → Counted → List ℕ
+outcome_text brief name block one =
+    (codes "\n" ++ (name ++ (codes " came" ++ ((32 ∷ decimal one.times) ++ codes " times\n")))) ++ (process_lines name one.states ++ script_unless brief name block one.schedule)
 
 abbrev pub number_words : ℕ → List ℕ → List ℕ
 number_words number things = (32 ∷ decimal number) ++ things
@@ -43,5 +46,26 @@ most_lines name outcomes =
     codes "\n"
     ++ (number_line name (codes " decided at most") (most_of values_in outcomes) (codes " values\n") ++ number_line name (codes " held at most") (most_of held_in outcomes) (codes " processes\n"))
 
+-- how many outcomes are shown
+abbrev pub shown_count : Option ℕ → ℕ → ℕ
+shown_count None count = count
+shown_count (Some top) count = min top count
+
+abbrev pub outcome_texts : List ℕ → List ℕ → Plan → List Counted → List ℕ
+outcome_texts name block plan outcomes = flat_map (outcome_text plan.brief name block) (take (shown_count plan.top (length outcomes)) outcomes)
+
+-- how many outcomes there are, and how likely a further schedule leads to a new one: as often as one came that came only once (Good 1953)
+abbrev pub new_words : List ℕ → ℕ → ℕ → ℕ → List ℕ
+new_words name count once schedules =
+    number_line name (codes " has") count (codes " outcomes,") ++ (number_words once (codes " of them once: about") ++ (number_words once (codes " in") ++ number_words schedules (codes " more schedules give a new one\n")))
+
+abbrev pub new_line : List ℕ → Plan → List Counted → List ℕ
+new_line name plan outcomes = new_words name (length outcomes) (once_in outcomes) plan.schedules
+
 abbrev pub sample_text : List ℕ → List ℕ → Plan → List Counted → List ℕ
-sample_text name block plan outcomes = plan_line name plan ++ (flat_map (outcome_text name block) outcomes ++ most_lines name outcomes)
+sample_text name block plan outcomes = plan_line name plan ++ (outcome_texts name block plan outcomes ++ (most_lines name outcomes ++ new_line name plan outcomes))
+
+-- the script of one outcome, if there is one
+abbrev pub alone_text : List ℕ → List ℕ → Option Counted → List ℕ
+alone_text name block None = []
+alone_text name block (Some one) = script_text name block one.schedule

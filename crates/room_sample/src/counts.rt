@@ -1,11 +1,12 @@
 //! How many values are decided in an outcome, and how many processes are held.
-ghost use Rattle.std.specs.Prelude.{◌≡◌, ◌&&◌, not};
+ghost use Rattle.std.specs.Prelude.{◌≡◌, ◌≤◌, ◌&&◌, not};
 ghost use Rattle.std.specs.List.{list_any};
 ghost use Rattle.ws_history.specs.Reports.{is_decided};
 ghost use Rattle.ws_history.specs.contracts.states.ProcessStatePartialEq.TheImpl.{ghosts};
-ghost use Rattle.room_sample.specs.Counts.{held_in, most_of, values_in};
+ghost use Rattle.room_sample.specs.Samples.{counted_of};
+ghost use Rattle.room_sample.specs.Counts.{held_in, most_of, once_in, one_if_once, values_in};
 
-use crate::tally::Tally;
+use crate::tally::{Outcome, States, Tally};
 use ws_history::ProcessState;
 
 /// The most different values that any outcome has, and the most held processes.
@@ -23,6 +24,28 @@ pub(crate) fn most_of(outcomes: &Tally) -> (usize, usize)
         held = held_in(states.as_slice()).max(held);
     }
     (values, held)
+}
+
+/// How many outcomes came only once.
+pub(crate) fn once_in(outcomes: &Tally) -> usize
+    ensures { result ≡ once_in outcomes.now }
+{
+    let mut once = 0;
+    for index in 0..outcomes.len() {
+        let Some((states, outcome)) = outcomes.get(index) else {
+            unreachable!() // there is an outcome of each index below their number
+        };
+        once += one_if_once(states, outcome);
+    }
+    once
+}
+
+fn one_if_once(states: &States, outcome: &Outcome) -> usize
+    ensures value { result ≡ one_if_once (counted_of (states.now, outcome.now)) }
+    ensures few { result ≤ 1 }
+{
+    let _ = states;
+    if outcome.times == 1 { 1 } else { 0 }
 }
 
 /// How many different values are decided.

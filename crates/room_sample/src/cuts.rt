@@ -17,7 +17,7 @@ const MOST_ROUNDS: u32 = 8;
 const MOST_HALVES: u32 = 17;
 
 /// How many times a room is run at most to make one schedule short.
-const MOST_TRIES: u32 = 1000;
+const MOST_TRIES: u32 = 300;
 
 /// What is tried to make a schedule shorter.
 #[derive(Clone, Copy)]
@@ -28,7 +28,7 @@ enum Cut {
     Lower { at: usize, less: u16 },
 }
 
-/// A short schedule that leads to these states if the given one does. The room is run at most 1000 times for it, and at most `left` times,
+/// A short schedule that leads to these states if the given one does. The room is run at most 300 times for it, and at most `left` times,
 /// which are counted down.
 ///
 /// # Errors

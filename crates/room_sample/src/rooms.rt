@@ -7,11 +7,14 @@ ghost use Rattle.room_sample.specs.Rooms.{AddsSamples, IsSampleText};
 
 use crate::sampling::{Plan, sample};
 use crate::task_text::write_task;
-use crate::text::write_sample;
+use crate::text::{write_alone, write_sample};
 use io_text::Text;
 use room_files::{BlockList, read_room};
 use run_search::Progress;
 use std::alloc::{AllocError, Global};
+
+/// How many times more a room is run at most to make its scripts short than to sample it.
+const MORE_TRIES: u32 = 2000;
 
 /// Samples each room by a plan, and writes its outcomes and whether they keep its task. Gives whether each room's task held.
 ///
@@ -35,6 +38,15 @@ pub fn write_samples<P: Progress>(
     Ok(well)
 }
 
+/// How many times a room is run at most to make its scripts short.
+fn tries_for(plan: &Plan) -> u32 {
+    if plan.brief {
+        0
+    } else {
+        plan.schedules.saturating_add(MORE_TRIES)
+    }
+}
+
 /// Samples the room of a block, and writes its outcomes, those first that came most often, and whether they keep its task. Gives whether
 /// it held.
 fn write_room<P: Progress>(
@@ -53,11 +65,15 @@ fn write_room<P: Progress>(
     };
     let _shape = spec.shape(); // for the proof: the room is within its limits
     let mut outcomes = sample(alloc, &spec, plan, progress)?;
-    outcomes.shorten(alloc, &spec, plan.crashes)?;
+    outcomes.shorten(alloc, &spec, plan.crashes, tries_for(plan))?;
     let mut task = Text::new(alloc);
     let held = write_task(&mut task, &spec, block, plan, &outcomes)?;
     outcomes.sort_by_times()?;
     let name = spec.name().as_str().as_bytes();
+    if let Some(number) = plan.outcome {
+        let is_there = write_alone(output, name, block, &outcomes, number)?;
+        return Ok(is_there);
+    }
     write_sample(output, name, block, plan, &outcomes)?;
     output.put(task.as_bytes())?;
     Ok(held)

@@ -11,7 +11,7 @@ use room_spec::Spec;
 use run_search::Progress;
 use std::alloc::{AllocError, Global};
 
-/// How a room is sampled.
+/// How a room is sampled, and what is written of it.
 #[derive(Clone, Copy, Debug, PartialEq, Eq)]
 pub struct Plan {
     /// By how many schedules it is run.
@@ -20,6 +20,12 @@ pub struct Plan {
     pub crashes: u32,
     /// What the schedules are drawn from: the same seed gives the same ones.
     pub seed: u32,
+    /// Whether scripts are left out.
+    pub brief: bool,
+    /// How many outcomes are shown at most; if it is not said, all.
+    pub top: Option<u32>,
+    /// The outcome of which nothing but the script is written, by its number in the order in which they are shown, from 1.
+    pub outcome: Option<u32>,
 }
 
 /// Runs the room of a spec by random schedules, from its beginning each time, and counts where its processes stand once it has

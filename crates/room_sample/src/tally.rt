@@ -15,9 +15,6 @@ use std::cmp::Reverse;
 use std::marker::Model;
 use ws_history::ProcessState;
 
-/// How many times a room is run at most to make the schedules of its outcomes short.
-const MOST_TRIES: u32 = 10000;
-
 /// Where each process of a room stands, in order of their numbers.
 pub type States = ArrayVec<ProcessState, MAX_PROCESSES>;
 
@@ -74,16 +71,17 @@ impl Tally {
         Ok(())
     }
 
-    /// Makes the schedules short that lead to the outcomes of the room of this spec, by at most 10000 runs of it.
+    /// Makes the schedules short that lead to the outcomes of the room of this spec, by at most so many runs of it.
     pub(crate) fn shorten(
         &mut self,
         alloc: Global,
         spec: &Spec,
         crashes: u32,
+        tries: u32,
     ) -> Result<(), AllocError>
         ensures { OnOk result (AreKept spec.now crashes self.old self.new) }
     {
-        let mut left = MOST_TRIES;
+        let mut left = tries;
         for index in 0..self.len() {
             self.shorten_one(alloc, spec, crashes, index, &mut left)?;
         }

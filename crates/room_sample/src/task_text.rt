@@ -7,7 +7,7 @@ use crate::sampling::Plan;
 use crate::stretch::Stretch;
 use crate::tally::Tally;
 use crate::task::{first_broken, times_broken};
-use crate::text::{write_number_line, write_number_words, write_script};
+use crate::text::{write_number_line, write_number_words, write_script_unless};
 use io_text::Text;
 use room_spec::Spec;
 use std::alloc::AllocError;
@@ -68,7 +68,7 @@ fn write_broken(
     ensures { OnOk result (output.new ≡ output.old ++ broken_text name.now block.now plan.now times schedule.now) }
 {
     write_broken_line(output, name, plan, times)?;
-    write_script(output, name, block, schedule)
+    write_script_unless(output, plan.brief, name, block, schedule)
 }
 
 fn write_broken_line(
@@ -93,9 +93,5 @@ fn write_times_words(output: &mut Text, name: &[u8], times: u32) -> Result<(), A
 fn write_of_words(output: &mut Text, schedules: u32) -> Result<(), AllocError>
     ensures { OnOk result (output.new ≡ output.old ++ of_words schedules) }
 {
-    write_number_words(
-        output,
-        u64::from(schedules),
-        b" schedules, as in this one:\n",
-    )
+    write_number_words(output, u64::from(schedules), b" schedules\n")
 }

@@ -1,10 +1,10 @@
 //! A sample, as text.
-ghost use Rattle.std.specs.Prelude.{◌≡◌, ◌++◌, ◌∷◌, OnOk, codes, decimal};
+ghost use Rattle.std.specs.Prelude.{◌≡◌, ◌-◌, ◌≤◌, ◌++◌, ◌∷◌, IfOk, OnOk, codes, decimal, is_some, slice_get};
 ghost use Rattle.std.specs.List.{flat_map};
 ghost use Rattle.room_sample.specs.Samples.{counted_of};
-ghost use Rattle.room_sample.specs.Texts.{most_lines, number_line, number_words, outcome_text, plan_line, sample_text, script_text, stretch_line};
+ghost use Rattle.room_sample.specs.Texts.{alone_text, most_lines, new_line, new_words, number_line, number_words, outcome_text, outcome_texts, plan_line, sample_text, script_text, script_unless, shown_count, stretch_line};
 
-use crate::counts::most_of;
+use crate::counts::{most_of, once_in};
 use crate::sampling::Plan;
 use crate::stretch::Stretch;
 use crate::tally::{Outcome, States, Tally};
@@ -25,8 +25,9 @@ pub fn write_sample(
     ensures { OnOk result (output.new ≡ output.old ++ sample_text name.now block.now plan.now outcomes.now) }
 {
     write_plan(output, name, plan)?;
-    write_outcomes(output, name, block, outcomes)?;
-    write_most(output, name, outcomes)
+    write_outcomes(output, name, block, plan, outcomes)?;
+    write_most(output, name, outcomes)?;
+    write_new(output, name, plan, outcomes)
 }
 
 fn write_plan(output: &mut Text, name: &[u8], plan: &Plan) -> Result<(), AllocError>
@@ -63,31 +64,44 @@ fn write_outcomes(
     output: &mut Text,
     name: &[u8],
     block: &[u8],
+    plan: &Plan,
     outcomes: &Tally,
 ) -> Result<(), AllocError>
-    ensures { OnOk result (output.new ≡ output.old ++ flat_map (outcome_text name.now block.now) outcomes.now) }
+    ensures { OnOk result (output.new ≡ output.old ++ outcome_texts name.now block.now plan.now outcomes.now) }
 {
-    for index in 0..outcomes.len() {
+    for index in 0..shown_count(plan.top, outcomes.len()) {
         let Some((states, outcome)) = outcomes.get(index) else {
             unreachable!() // there is an outcome of each index below their number
         };
-        write_outcome(output, name, block, states, outcome)?;
+        write_outcome(output, plan.brief, name, block, states, outcome)?;
     }
     Ok(())
 }
 
+/// How many outcomes are shown.
+fn shown_count(top: Option<u32>, count: usize) -> usize
+    ensures value { result ≡ shown_count top count }
+    ensures few { result ≤ count }
+{
+    match top {
+        None => count,
+        Some(top) => (top as usize).min(count),
+    }
+}
+
 fn write_outcome(
     output: &mut Text,
+    brief: bool,
     name: &[u8],
     block: &[u8],
     states: &States,
     outcome: &Outcome,
 ) -> Result<(), AllocError>
-    ensures { OnOk result (output.new ≡ output.old ++ outcome_text name.now block.now (counted_of (states.now, outcome.now))) }
+    ensures { OnOk result (output.new ≡ output.old ++ outcome_text brief name.now block.now (counted_of (states.now, outcome.now))) }
 {
     write_times(output, name, outcome.times)?;
     write_processes(output, name, states.as_slice())?;
-    write_script(output, name, block, outcome.schedule.as_slice())
+    write_script_unless(output, brief, name, block, outcome.schedule.as_slice())
 }
 
 fn write_times(output: &mut Text, name: &[u8], times: u32) -> Result<(), AllocError>
@@ -98,8 +112,42 @@ fn write_times(output: &mut Text, name: &[u8], times: u32) -> Result<(), AllocEr
     output.put(b" times\n")
 }
 
+/// Writes a script for `play`, unless scripts are left out.
+pub(crate) fn write_script_unless(
+    output: &mut Text,
+    brief: bool,
+    name: &[u8],
+    block: &[u8],
+    schedule: &[Stretch],
+) -> Result<(), AllocError>
+    ensures { OnOk result (output.new ≡ output.old ++ script_unless brief name.now block.now schedule.now) }
+{
+    if brief {
+        return Ok(());
+    }
+    write_script(output, name, block, schedule)
+}
+
+/// Writes the script of the outcome of this number, from 1, and nothing else. Gives whether there is one.
+pub(crate) fn write_alone(
+    output: &mut Text,
+    name: &[u8],
+    block: &[u8],
+    outcomes: &Tally,
+    number: u32,
+) -> Result<bool, AllocError>
+    ensures text { OnOk result (output.new ≡ output.old ++ alone_text name.now block.now (slice_get outcomes.now (number - 1))) }
+    ensures there { IfOk result (λ there. there ≡ is_some (slice_get outcomes.now (number - 1))) }
+{
+    let Some((_, outcome)) = outcomes.get(number.saturating_sub(1) as usize) else {
+        return Ok(false);
+    };
+    write_script(output, name, block, outcome.schedule.as_slice())?;
+    Ok(true)
+}
+
 /// Writes a script for `play` that follows the schedule in the room of this block.
-pub(crate) fn write_script(
+fn write_script(
     output: &mut Text,
     name: &[u8],
     block: &[u8],
@@ -174,6 +222,59 @@ fn write_most_held(output: &mut Text, name: &[u8], held: usize) -> Result<(), Al
     ensures { OnOk result (output.new ≡ output.old ++ number_line name.now (codes " held at most") held (codes " processes\n")) }
 {
     write_number_line(output, name, b" held at most", held as u64, b" processes\n")
+}
+
+/// Writes how many outcomes there are, and how likely a further schedule leads to a new one.
+fn write_new(
+    output: &mut Text,
+    name: &[u8],
+    plan: &Plan,
+    outcomes: &Tally,
+) -> Result<(), AllocError>
+    ensures { OnOk result (output.new ≡ output.old ++ new_line name.now plan.now outcomes.now) }
+{
+    let count = outcomes.len() as u64;
+    let once = once_in(outcomes) as u64;
+    write_new_words(output, name, count, once, u64::from(plan.schedules))
+}
+
+fn write_new_words(
+    output: &mut Text,
+    name: &[u8],
+    count: u64,
+    once: u64,
+    schedules: u64,
+) -> Result<(), AllocError>
+    ensures { OnOk result (output.new ≡ output.old ++ new_words name.now count once schedules) }
+{
+    write_count(output, name, count)?;
+    write_once(output, once)?;
+    write_in(output, once)?;
+    write_more(output, schedules)
+}
+
+fn write_count(output: &mut Text, name: &[u8], count: u64) -> Result<(), AllocError>
+    ensures { OnOk result (output.new ≡ output.old ++ number_line name.now (codes " has") count (codes " outcomes,")) }
+{
+    write_number_line(output, name, b" has", count, b" outcomes,")
+}
+
+fn write_once(output: &mut Text, once: u64) -> Result<(), AllocError>
+    ensures { OnOk result (output.new ≡ output.old ++ number_words once (codes " of them once: about")) }
+{
+    write_number_words(output, once, b" of them once: about")
+}
+
+fn write_in(output: &mut Text, once: u64) -> Result<(), AllocError>
+    ensures { OnOk result (output.new ≡ output.old ++ number_words once (codes " in")) }
+{
+    write_number_words(output, once, b" in")
+}
+
+fn write_more(output: &mut Text, schedules: u64) -> Result<(), AllocError>
+    ensures { OnOk result (output.new ≡ output.old ++ number_words schedules (codes " more schedules give a new one\n")) }
+{
+    write_number_words(output, schedules, b" more schedules give a new one\n")
 }
 
 /// Writes a number, followed by words.

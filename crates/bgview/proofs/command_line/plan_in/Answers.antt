@@ -1,7 +1,7 @@
-use Rattle.std.proofs.Common.{◌≡◌, ℕ, List, Option, refl, subst}
+use Rattle.std.proofs.Common.{◌≡◌, ◌∙◌, ℕ, List, Option, refl, ap, subst}
 use Rattle.std.specs.Prelude.{codes}
 use Rattle.clap.specs.Words.{first_value, found_of, subcommand_rows_of}
-use Rattle.bgview.specs.CommandLine.{IsNumber, value_among}
+use Rattle.bgview.specs.CommandLine.{IsNumber, IsNumberIfAny, is_given, value_among}
 use Rattle.bgview.proofs.Finding.{value_found}
 use Rattle.bgview.proofs.command_line.plan_in.Goals as goal
 
@@ -14,4 +14,7 @@ returns-in-Some c =
       schedules = subst (λ (text : Option (List ℕ)). IsNumber text 1000 c.number_among.result) (among (codes "schedules")) c.number_among.ensures;
       crashes = subst (λ (text : Option (List ℕ)). IsNumber text 1 c.number_among-in-Some.result) (among (codes "crashes")) c.number_among-in-Some.ensures;
       seed = subst (λ (text : Option (List ℕ)). IsNumber text 1 c.number_among-in-Some-2.result) (among (codes "seed")) c.number_among-in-Some-2.ensures;
+      brief = c.is_given.ensures ∙ ap is_given (among (codes "brief"));
+      top = subst (λ (text : Option (List ℕ)). IsNumberIfAny text c.number_if_any.result) (among (codes "top")) c.number_if_any.ensures;
+      outcome = subst (λ (text : Option (List ℕ)). IsNumberIfAny text c.number_if_any-in-Some.result) (among (codes "outcome")) c.number_if_any-in-Some.ensures;
     }

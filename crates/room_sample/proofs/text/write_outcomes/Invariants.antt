@@ -4,4 +4,4 @@ use Rattle.room_sample.specs.Texts.{outcome_text}
 use Rattle.room_sample.proofs.text.write_outcomes.Given as goal
 
 abbrev pub invariant-loop-index : goal.invariant-loop-index
-invariant-loop-index l = l.output ≡ l.initial.output ++ flat_map (outcome_text l.name l.block) (take l.index l.outcomes)
+invariant-loop-index l = l.output ≡ l.initial.output ++ flat_map (outcome_text l.plan.brief l.name l.block) (take l.index l.outcomes)
