@@ -11,8 +11,8 @@ use Rattle.room_warnings.specs.declared.warnings.TheConstants.{ALWAYS, NO_DECISI
 
 -- ---- turns
 
--- A turn of a simulator takes one process through at most one round, and each simulator goes through the processes from the first on. So fewer
--- turns than processes leave one that no simulator takes a step of; and a process that never decides ends after its last round.
+-- A turn takes one process through at most one round. So a simulator that runs alone needs a turn for each process, and, if no process decides,
+-- for each round of each. Several simulators may finish with fewer turns each.
 abbrev pub turns_sentence : Bool → RoomSpec → List ℕ
 turns_sentence decides spec =
     if nat_lt spec.turns (processes spec) then TOO_FEW.now

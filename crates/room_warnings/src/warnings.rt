@@ -24,11 +24,11 @@ const NO_DECISION: &[u8] = b"warning: no process ever decides, since no rule has
 
 /// At the line of the turns.
 const TOO_FEW: &[u8] =
-    b"warning: too few turns to finish: even alone, a simulator needs one for each process";
+    b"warning: too few turns for a simulator to finish alone: it needs one for each process";
 
 /// The same if no process decides.
 const TOO_FEW_UNDECIDED: &[u8] =
-    b"warning: too few turns to finish: even alone, a simulator needs one for each round of each process";
+    b"warning: too few turns for a simulator to finish alone: it needs one for each round of each process";
 
 /// Writes what may be warned of in a room, whose block this is. The block's first line has this number.
 pub fn write_warnings(
@@ -48,7 +48,7 @@ pub fn write_warnings(
     write_from(alloc, output, spec.n(), first, lines, program, program)
 }
 
-/// What is wrong with a room's turns, or nothing: they are fewer than the turns that bring all processes to their ends.
+/// What is wrong with a room's turns, or nothing: they are fewer than a simulator needs that brings all processes to their ends alone.
 fn turns_sentence(decides: bool, spec: &Spec) -> &'static [u8]
     ensures { result.now ≡ turns_sentence decides spec.now }
 {
