@@ -22,6 +22,7 @@ mod faults;
 mod grade;
 mod inputs;
 mod lint;
+mod missed;
 mod page;
 mod progress;
 mod reasons;

@@ -11,9 +11,10 @@ ghost use Rattle.service_core.specs.declared.reply.Refusal.TheVariants.{NoRoom};
 ghost use Rattle.script_play.specs.Play.{IsPerformed, refusal_in};
 ghost use Rattle.bgview.specs.Ends.{is_read_failed, is_write_failed};
 ghost use Rattle.bgview.specs.Notes.{AreScriptNotes};
-ghost use Rattle.bgview.specs.Trace.{HasTraced, IsTraceFor, IsTraced, notes_after};
+ghost use Rattle.bgview.specs.Trace.{HasTraced, IsTraceFor, IsTraced, missed_by, missed_refused, notes_after, refusal_notes};
 
 use crate::fault::{ViewFault, written};
+use crate::missed::Missed;
 use fault_text::write_indented;
 use file_faults::script_faults;
 use io_text::{Device, Text, read_input, write_output};
@@ -57,6 +58,7 @@ pub fn trace_io<R: Read, W: Write>(
 }
 
 /// Judges a script, and tells what it comes to where it has no fault.
+#[tactic(auto, using(crate::proofs::Tracing::traced_script))]
 pub(crate) fn trace(alloc: Global, script: &[u8]) -> Result<PlayText, InputFault>
     requires { length script.now ≤ most_bytes }
     ensures text { IfOk result (λ traced. IsTraceFor script.now traced.ending traced.output) }
@@ -64,10 +66,13 @@ pub(crate) fn trace(alloc: Global, script: &[u8]) -> Result<PlayText, InputFault
     ensures err { IfErr result (IsFaultOr (IsOk (script_says script.now)) (script_says script.now)) }
 {
     let Played { performer, ending } = play_script(alloc, Tracer::new(alloc), script)?;
-    Ok(PlayText {
-        output: performer.output,
-        ending,
-    })
+    let Tracer {
+        mut output,
+        missed,
+        ..
+    } = performer;
+    missed.write_end(&mut output, script)?;
+    Ok(PlayText { output, ending })
 }
 
 /// A service, and what is said of what it did.
@@ -75,50 +80,71 @@ pub(crate) fn trace(alloc: Global, script: &[u8]) -> Result<PlayText, InputFault
 struct Tracer {
     service: Service,
     output: Text,
+    missed: Missed,
 }
 
 impl Tracer {
     fn new(alloc: Global) -> Tracer
         ensures service { result.service ≡ [] }
         ensures output { result.output ≡ [] }
+        ensures missed { result.missed ≡ record { refused = []; strangers = record { names = []; more = 0 } } }
     {
         Tracer {
             service: Service::new(alloc),
             output: Text::new(alloc),
+            missed: Missed::new(alloc),
         }
     }
 
     /// Does a command, and writes the reply to it and the steps that it took, or why it was refused.
     fn tell(&mut self, alloc: Global, command: Command) -> Result<Option<Refusal>, AllocError>
-        ensures { IfOk result (λ refusal. IsPerformed self.old.service (HasTraced self.old.service self.old.output)
-            command refusal self.new.service (HasTraced self.new.service self.new.output)) }
+        ensures { IfOk result (λ refusal. IsPerformed self.old.service (HasTraced self.old.service self.old.missed self.old.output)
+            command refusal self.new.service (HasTraced self.new.service self.new.missed self.new.output)) }
     {
         let name = command.name().clone()?;
         let sim = sim_in(&command);
         let mut steps = StepTexts::new(alloc);
         let reply = self.service.apply_watched(alloc, command, &mut steps);
-        write_reply(&mut self.output, name.as_str().as_bytes(), sim, &reply)?;
-        write_notes(&mut self.output, &reply, steps)?;
+        let bytes = name.as_str().as_bytes();
+        write_reply(&mut self.output, bytes, sim, &reply)?;
+        write_notes(
+            alloc,
+            &mut self.output,
+            &mut self.missed,
+            bytes,
+            &reply,
+            steps,
+        )?;
         Ok(refusal_in(&reply))
     }
 
     /// Has steps refused where the bytes are no name.
     fn refuse_steps(
         &mut self,
+        alloc: Global,
         bytes: &[u8],
         sim: u8,
         count: u16,
     ) -> Result<Option<Refusal>, AllocError>
         requires { is_name bytes.now ≡ false }
-        ensures performed { IfOk result (λ refusal. IsPerformed self.old.service (HasTraced self.old.service self.old.output)
-            (Step bytes.now sim count) refusal self.new.service (HasTraced self.new.service self.new.output)) }
+        ensures performed { IfOk result (λ refusal. IsPerformed self.old.service (HasTraced self.old.service self.old.missed self.old.output)
+            (Step bytes.now sim count) refusal self.new.service (HasTraced self.new.service self.new.missed self.new.output)) }
         ensures nowhere { IfOk result (λ refusal. refusal ≡ Some NoRoom) }
     {
         let Err(refusal) = self.service.step(bytes, sim, count) else {
             unreachable!() // each room has a name
         };
-        write_reply(&mut self.output, bytes, sim, &Reply::Refused(refusal))?;
-        write_indented(&mut self.output, refusal.sentence().as_bytes())?;
+        let reply = Reply::Refused(refusal);
+        write_reply(&mut self.output, bytes, sim, &reply)?;
+        let steps = StepTexts::new(alloc);
+        write_notes(
+            alloc,
+            &mut self.output,
+            &mut self.missed,
+            bytes,
+            &reply,
+            steps,
+        )?;
         Ok(Some(refusal))
     }
 }
@@ -128,7 +154,7 @@ impl Performs for Tracer {
 
     ghost rooms = { λ tracer. tracer.service };
 
-    ghost has_done = { λ tracer. HasTraced tracer.service tracer.output };
+    ghost has_done = { λ tracer. HasTraced tracer.service tracer.missed tracer.output };
 
     fn open(
         &mut self,
@@ -152,11 +178,12 @@ impl Performs for Tracer {
     ) -> Result<Option<Refusal>, AllocError> {
         match Name::read(name) {
             Some(name) => self.tell(alloc, Command::Step { name, sim, count }),
-            None => self.refuse_steps(name, sim, count),
+            None => self.refuse_steps(alloc, name, sim, count),
         }
     }
 
     fn refuse(&mut self, line: u64, fault: SpecFault) -> Result<(), AllocError> {
+        self.missed.refuse(line, fault)?;
         write_refused(&mut self.output, line, fault)?;
         write_indented(&mut self.output, fault.sentence().as_bytes())
     }
@@ -168,16 +195,48 @@ impl Performs for Tracer {
     }
 }
 
-/// Writes under a reply why the command was refused, or the steps that it took.
-fn write_notes(output: &mut Text, reply: &Reply, steps: StepTexts) -> Result<(), AllocError>
-    ensures notes { OnOk result (output.new ≡ output.old ++ notes_after reply.now steps) }
+/// Writes under a reply to a command with this name why the command was refused, or the steps that it took.
+fn write_notes(
+    alloc: Global,
+    output: &mut Text,
+    missed: &mut Missed,
+    name: &[u8],
+    reply: &Reply,
+    steps: StepTexts,
+) -> Result<(), AllocError>
+    ensures notes { OnOk result (output.new ≡ output.old ++ notes_after missed.old name.now reply.now steps) }
+    ensures missed { OnOk result (missed.new ≡ missed_by missed.old name.now reply.now) }
     ensures whole { OnOk result (refusal_in reply.now ≡ None → steps.lacks ≡ false) }
 {
-    match refusal_in(reply) {
-        Some(refusal) => write_indented(output, refusal.sentence().as_bytes()),
-        None => {
+    match reply {
+        Reply::Refused(refusal) => write_refusal(alloc, output, missed, name, *refusal),
+        Reply::Begun
+        | Reply::Steps { .. }
+        | Reply::Crash(_)
+        | Reply::Settled
+        | Reply::Report(_)
+        | Reply::Closed => {
             let lines = steps.into_lines()?;
             output.put(lines.as_bytes())
+        }
+    }
+}
+
+/// Writes under a command with this name why it was refused.
+fn write_refusal(
+    alloc: Global,
+    output: &mut Text,
+    missed: &mut Missed,
+    name: &[u8],
+    refusal: Refusal,
+) -> Result<(), AllocError>
+    ensures notes { OnOk result (output.new ≡ output.old ++ refusal_notes missed.old name.now refusal) }
+    ensures missed { OnOk result (missed.new ≡ missed_refused missed.old name.now refusal) }
+{
+    match refusal {
+        Refusal::NoRoom => missed.write_stranger(alloc, output, name),
+        Refusal::NameTaken | Refusal::NoSimulator | Refusal::OutOfMemory => {
+            write_indented(output, refusal.sentence().as_bytes())
         }
     }
 }

@@ -8,7 +8,7 @@ use Rattle.room_files.specs.declared.fault.BlockFault.TheVariants as blocks
 use Rattle.fault_text.specs.Blocks.{block_fault, line_fault}
 use Rattle.fault_text.specs.Lines.{from_line, line_at}
 use Rattle.fault_text.specs.declared.refusals.Refusal.{Refusal}
-use Rattle.fault_text.specs.declared.refusals.TheConstants.{ENOUGH, MOST_EXPLAINED}
+use Rattle.fault_text.specs.declared.refusals.TheConstants.{ENOUGH, IS_REFUSED, MOST_EXPLAINED, THE_BLOCK}
 
 -- what is said of the fault, if the block may be valid but for its name
 abbrev pub why_said : ℕ → List ℕ → BlockFault → List ℕ
@@ -54,9 +54,12 @@ after_room line = if starts_with nat_eq line (codes "room ") then drop 5 line el
 abbrev pub name_in : List ℕ → List ℕ
 name_in text = after_room (line_at 2 text)
 
+abbrev pub named_line : List ℕ → ℕ → List ℕ
+named_line name line = THE_BLOCK.now ++ (name ++ (IS_REFUSED.now ++ ((32 ∷ decimal line) ++ codes "\n")))
+
 -- the block with this first line is refused, if it says this name
 abbrev pub named_if : List ℕ → List ℕ → ℕ → List ℕ
-named_if name text line = if bytes_eq (name_in text) name then codes "    the block of this room is refused: line" ++ ((32 ∷ decimal line) ++ codes "\n") else []
+named_if name text line = if bytes_eq (name_in text) name then named_line name line else []
 
 abbrev pub all_named : List ℕ → List ℕ → List Refusal → List ℕ
 all_named input name refusals = flat_map (λ refusal. named_if name (from_line refusal.line input) refusal.line) refusals

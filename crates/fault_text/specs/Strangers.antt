@@ -1,7 +1,9 @@
 -- Names that no room has.
 use Rattle.std.specs.Prelude.{ℕ, ◌+◌, ◌==◌, Bool, List, [], ◌∷◌, ◌++◌, length, min, nat_lt, codes, decimal, if◌then◌else◌}
-use Rattle.std.specs.List.{list_any}
+use Rattle.std.specs.List.{flat_map, list_any}
 use Rattle.std.specs.Str.{bytes_eq}
+use Rattle.fault_text.specs.Refusals.{named_refusals}
+use Rattle.fault_text.specs.declared.refusals.Refusal.{Refusal}
 use Rattle.fault_text.specs.declared.refusals.TheConstants.{MOST_EXPLAINED}
 
 -- the names that were met first, and how many more came with one of them
@@ -18,6 +20,10 @@ met name strangers =
     if is_met name strangers then record { names = strangers.names; more = min (strangers.more + 1) 18446744073709551615 }
     else if nat_lt (length strangers.names) MOST_EXPLAINED then record { names = strangers.names ++ name ∷ []; more = strangers.more }
     else strangers
+
+-- which blocks of rooms of these names are refused, of the first hundred
+abbrev pub refused_strangers : List ℕ → List Refusal → List (List ℕ) → List ℕ
+refused_strangers input refused names = flat_map (λ name. named_refusals input name refused) names
 
 abbrev pub more_note : List ℕ → MetNames → List ℕ
 more_note words strangers = if strangers.more == 0 then [] else codes "    and" ++ ((32 ∷ decimal strangers.more) ++ (words ++ codes "\n"))

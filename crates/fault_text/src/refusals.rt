@@ -2,7 +2,7 @@
 ghost use Rattle.std.specs.Prelude.{◌≡◌, ◌==◌, ◌∷◌, ◌++◌, [], OnOk, drop, length, take};
 ghost use Rattle.std.specs.List.{flat_map};
 ghost use Rattle.fault_text.specs.Lines.{behind_lines};
-ghost use Rattle.fault_text.specs.Refusals.{all_named, all_noted, all_said, enough_if, name_in, named_if, named_refusals, noted_refusal, noted_refusals, refusal_line, said_refusal, said_refusals, why_said};
+ghost use Rattle.fault_text.specs.Refusals.{all_named, all_noted, all_said, enough_if, name_in, named_if, named_line, named_refusals, noted_refusal, noted_refusals, refusal_line, said_refusal, said_refusals, why_said};
 
 use crate::blocks::{write_block_fault, write_line_fault};
 use crate::lines::{behind_lines, line_at, split_text};
@@ -17,6 +17,12 @@ pub const MOST_EXPLAINED: usize = 100;
 
 /// Says that no more is explained.
 pub const ENOUGH: &[u8] = b"    further faults are not explained\n";
+
+/// Comes before the name of a refused block.
+const THE_BLOCK: &[u8] = b"    the block of room ";
+
+/// Comes after it, and before the number of its line.
+const IS_REFUSED: &[u8] = b" is refused: line";
 
 /// A block that opens no room.
 #[derive(Clone, Copy, Debug, PartialEq, Eq)]
@@ -133,7 +139,15 @@ fn write_named_if(output: &mut Text, name: &[u8], text: &[u8], line: u64) -> Res
     if name_in(text) != name {
         return Ok(());
     }
-    output.put(b"    the block of this room is refused: line")?;
+    write_named_line(output, name, line)
+}
+
+/// Writes that the block of this name with this first line is refused.
+fn write_named_line(output: &mut Text, name: &[u8], line: u64) -> Result<(), AllocError>
+    ensures { OnOk result (output.new ≡ output.old ++ named_line name.now line) }
+{
+    output.put_two(THE_BLOCK, name)?;
+    output.put(IS_REFUSED)?;
     output.put_number(line)?;
     output.put(b"\n")
 }

@@ -2,9 +2,9 @@
 ghost use Rattle.std.specs.Prelude.{◌≡◌, ◌∷◌, ◌++◌, [], IfOk, OnOk};
 ghost use Rattle.std.specs.List.{list_any};
 ghost use Rattle.std.specs.Str.{bytes_eq};
-ghost use Rattle.fault_text.specs.Strangers.{is_met, met, more_note};
+ghost use Rattle.fault_text.specs.Strangers.{is_met, met, more_note, refused_strangers};
 
-use crate::refusals::MOST_EXPLAINED;
+use crate::refusals::{MOST_EXPLAINED, Refusals};
 use io_text::Text;
 use std::alloc::{AllocError, Global};
 use std::marker::Model;
@@ -66,6 +66,18 @@ impl Strangers {
         Ok(())
     }
 
+    /// Writes which blocks of rooms of these names are refused, of those that are explained.
+    pub fn write_refused(
+        &self,
+        output: &mut Text,
+        input: &[u8],
+        refused: &Refusals,
+    ) -> Result<(), AllocError>
+        ensures { OnOk result (output.new ≡ output.old ++ refused_strangers input.now refused.now self.now.names) }
+    {
+        write_refused_names(output, input, refused, self.names.as_slice())
+    }
+
     /// Writes how many more came with a name that was met before, if some did, and these words after the number.
     pub fn write_more(&self, output: &mut Text, words: &[u8]) -> Result<(), AllocError>
         ensures { OnOk result (output.new ≡ output.old ++ more_note words.now self.now) }
@@ -77,4 +89,18 @@ impl Strangers {
         output.put_number(self.more)?;
         output.put_two(words, b"\n")
     }
+}
+
+fn write_refused_names(
+    output: &mut Text,
+    input: &[u8],
+    refused: &Refusals,
+    names: &[Text],
+) -> Result<(), AllocError>
+    ensures { OnOk result (output.new ≡ output.old ++ refused_strangers input.now refused.now names.now) }
+{
+    for name in names {
+        refused.write_named(output, input, name.as_bytes())?;
+    }
+    Ok(())
 }

@@ -14,8 +14,7 @@ returns c =
     let command = Step c.args.bytes.now c.args.sim c.args.count in
     let refusal = c.in-Err.refusal in
     let applies : Applies rooms command (Refused refusal) c.step.new.self = search rules in
-    let words = c.in_ok-write_indented.ensures ∙ ap (λ (said : List ℕ). c.write_reply.new.output ++ indented said) (c.as_bytes.ensures.value ∙ c.sentence.ensures) in
     record {
-      performed = refused_command rooms c.step.new.self output c.write_reply.new.output c.write_indented.new.output command refusal applies c.in_ok-write_reply.ensures words;
+      performed = refused_command c.args.self.now.missed rooms c.step.new.self output c.write_reply.new.output c.write_notes.new.output c.write_notes.new.missed command refusal applies c.in_ok-write_reply.ensures c.in_ok-write_notes.ensures.notes c.in_ok-write_notes.ensures.missed;
       nowhere = nowhere refusal (is_name c.args.bytes.now) (search rules) c.requires;
     }
