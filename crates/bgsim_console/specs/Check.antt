@@ -17,7 +17,7 @@ IsOutputFor input outcome output = (setup : Setup) × (fed : List FedEvent) × (
 abbrev pub IsPartFor : List ℕ → List ℕ → Type 0
 IsPartFor input part = (outcome : Outcome) × (rest : List ℕ) × IsOutputFor input outcome (part ++ rest)
 
--- the answer to a whole input is an outcome, with its output, or a fault, with none; where writing failed a beginning of the output is there
+-- the answer to a whole input is an outcome, with its output, or a fault, with none; if writing failed a beginning of the output is there
 abbrev pub IsAnswer : List ℕ → Result Outcome IoFault → List ℕ → Type 0
 IsAnswer input (Ok outcome) output = (length input ≤ most_bytes) × IsOutputFor input outcome output
 IsAnswer input (Err TooLong) output = (most_bytes < length input) × (output ≡ [])

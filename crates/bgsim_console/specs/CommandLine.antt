@@ -17,7 +17,7 @@ word_of Check = codes "check"
 word_of Play = codes "play"
 word_of Run = codes "run"
 
--- the file that these words name: the first of them, or the second where the first is `--`
+-- the file that these words name: the first of them, or the second if the first is `--`
 abbrev pub file_named : List (List ℕ) → Option (List ℕ)
 file_named [] = None
 file_named (word ∷ words) = if bytes_eq word (codes "--") then slice_get words 0 else Some word
@@ -26,7 +26,7 @@ abbrev pub begins_with_dash : List ℕ → Bool
 begins_with_dash [] = false
 begins_with_dash (byte ∷ bytes) = byte == 45
 
--- the words behind those that give the number of workers, which is `--workers=W`, or `--workers` and then `W`; `is_next` says that
+-- the words after those that give the number of workers, which is `--workers=W`, or `--workers` and then `W`; `is_next` says that
 -- the first word is such a `W`
 abbrev pub behind_workers : (is_next : Bool) → List (List ℕ) → List (List ℕ)
 behind_workers is_next [] = []
@@ -36,19 +36,19 @@ behind_workers false (word ∷ words) =
     else if bytes_eq (take 10 word) (codes "--workers=") then behind_workers false words
     else word ∷ words
 
--- the words behind a mode's name that name the file
+-- the words after a mode's name that name the file
 abbrev pub file_words : Mode → List (List ℕ) → List (List ℕ)
 file_words Check words = words
 file_words Play words = words
 file_words Run words = behind_workers false words
 
 -- the words ask for the mode and the file: there are no words, the mode is `check` and there is no file; or the first word is the
--- mode's, and those behind it name the file
+-- mode's, and those after it name the file
 abbrev pub IsAsked : List (List ℕ) → Mode → Option (List ℕ) → Type 0
 IsAsked [] mode file = (mode ≡ Check) × (file ≡ None)
 IsAsked (word ∷ words) mode file = (word ≡ word_of mode) × (file ≡ file_named (file_words mode words))
 
--- the words are the mode's, and at most a file behind it that doesn't begin with `-`
+-- the words are the mode's, and at most a file after it that doesn't begin with `-`
 abbrev pub IsPlainly : List (List ℕ) → Mode → Type 0
 IsPlainly [] mode = ⊥
 IsPlainly (word ∷ []) mode = word ≡ word_of mode

@@ -17,7 +17,7 @@ use Rattle.room_files.specs.Verdicts.{outcome_status}
 use Rattle.bgsim_console.specs.declared.fault.IoFault.{IoFault}
 use Rattle.bgsim_console.specs.declared.fault.IoFault.TheVariants.{Read, Write, TooLong, BadInput, Incomplete, Run, Memory}
 
--- want of memory ends the run of rooms as it ends an engine
+-- an allocation that fails ends the run of rooms as it ends an engine
 abbrev pub run_status : RunFault → ℕ
 run_status run.Workers = 2
 run_status run.Spawn = 2
@@ -36,7 +36,7 @@ abbrev pub ending_status : Result Outcome IoFault → ℕ
 ending_status (Ok outcome) = outcome_status outcome
 ending_status (Err fault) = fault_status fault
 
--- where the words couldn't be taken over: one is no text, unless memory was refused
+-- where the words couldn't be taken over: one is no text, unless an allocation failed
 abbrev pub unread_status : WordsFault → ℕ
 unread_status words.OutOfMemory = 3
 unread_status _ = 2

@@ -8,7 +8,7 @@ use Rattle.bgsim_console.specs.declared.command_line.words.Mode.{Mode}
 use Rattle.bgsim_console.specs.declared.command_line.words.Mode.TheVariants.{Check, Play, Run}
 use Rattle.bgsim_console.specs.declared.fault.IoFault.{IoFault}
 
--- the mode's answer to an input, and what it writes; `run` has so many workers
+-- the mode's answer to an input, and what it writes; `run` has this many workers
 abbrev pub IsAnswerIn : Mode → ℕ → List ℕ → Result Outcome IoFault → List ℕ → Type 0
 IsAnswerIn Check workers input answer output = IsAnswer input answer output
 IsAnswerIn Play workers input answer output = IsPlayed input answer output

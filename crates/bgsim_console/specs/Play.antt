@@ -13,8 +13,8 @@ use Rattle.bgsim_console.specs.declared.fault.IoFault.TheVariants.{Read, Write, 
 abbrev pub IsPlayPart : List ℕ → List ℕ → Type 0
 IsPlayPart input part = (ending : Result Outcome AllocError) × (rest : List ℕ) × IsPlayFor input ending (part ++ rest)
 
--- The answer to a whole script is an outcome, with its text, or a fault. Where memory was refused to a part of the script the whole
--- text is there, with the refusals in it; where writing failed a beginning of it; at each other fault none.
+-- The answer to a whole script is an outcome, with its text, or a fault. If an allocation failed for a part of the script the whole
+-- text is there, with the refusals in it; if writing failed a beginning of it; at each other fault none.
 abbrev pub IsPlayed : List ℕ → Result Outcome IoFault → List ℕ → Type 0
 IsPlayed input (Ok outcome) output = (length input ≤ most_bytes) × IsPlayFor input (Ok outcome) output
 IsPlayed input (Err TooLong) output = (most_bytes < length input) × (output ≡ [])

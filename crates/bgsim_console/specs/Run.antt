@@ -22,14 +22,14 @@ report_texts [] results = []
 report_texts (spec ∷ specs) [] = []
 report_texts (spec ∷ specs) (result ∷ results) = report_text spec.name result.report ++ report_texts specs results
 
--- Behind a text stand the reports of rooms of these specs, in order: each of some room that its own spec allows.
+-- After a text come the reports of rooms of these specs, in order: each of some room that its own spec allows.
 pub record AddsReports (specs : List RoomSpec) (before after : List ℕ) : Type 0 where
   pub results : List RoomResult
   pub each_room : AreRoomRuns specs results
   pub behind : after ≡ before ++ report_texts specs results
 
 -- The lines of the refused blocks, and then a report of each room: of some room that its own spec allows, whatever the schedule
--- of its simulators. All is well where no block was refused.
+-- of its simulators. All is well if no block was refused.
 pub record IsRunText (setup : Setup) (outcome : Outcome) (output : List ℕ) : Type 0 where
   pub results : List RoomResult
   pub each_room : AreRoomRuns setup.rooms results
@@ -50,7 +50,7 @@ IsRunFor workers input outcome output = AreWorkers workers × IsRunText (all_blo
 abbrev pub IsRunPart : ℕ → List ℕ → List ℕ → Type 0
 IsRunPart workers input part = (outcome : Outcome) × (rest : List ℕ) × IsRunFor workers input outcome (part ++ rest)
 
--- the rooms can't be run by so many workers, or not for another cause
+-- the rooms can't be run by this many workers, or not for another cause
 abbrev pub IsRunFault : ℕ → RunFault → Type 0
 IsRunFault workers Workers = (workers ≡ 0) ⊎ (16 < workers)
 IsRunFault workers Spawn = AreWorkers workers
@@ -66,7 +66,7 @@ MayEndRun workers Write = ⊥
 MayEndRun workers TooLong = ⊥
 MayEndRun workers (BadInput line code) = ⊥
 
--- The answer to a whole file of rooms is an outcome, with its text, or a fault, with none; where writing failed a beginning of
+-- The answer to a whole file of rooms is an outcome, with its text, or a fault, with none; if writing failed a beginning of
 -- a text is there. No input is bad, and the number of workers is judged after the input's length.
 abbrev pub IsRan : ℕ → List ℕ → Result Outcome IoFault → List ℕ → Type 0
 IsRan workers input (Ok outcome) output = (length input ≤ most_bytes) × IsRunFor workers input outcome output

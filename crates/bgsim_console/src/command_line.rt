@@ -99,7 +99,7 @@ fn plain_command<'a>(alloc: Global) -> Command<'a>
         .subcommand_required(true)
 }
 
-/// The command with one more subcommand, where there is one.
+/// The command with one more subcommand, if there is one.
 fn with_subcommand<'a>(
     command: Command<'a>,
     subcommand: Result<Command<'a>, AllocError>,
@@ -126,7 +126,7 @@ fn read_words<'a, S: AsStr>(alloc: Global, words: &'a [S]) -> Result<ArgMatches<
     command(alloc)?.try_get_matches_from(words)
 }
 
-/// What the subcommand and the words behind it ask for.
+/// What the subcommand and the words after it ask for.
 fn line_in<'a>(matches: &ArgMatches<'a>) -> Line<'a>
     ensures command { result.command ≡ mode_among (subcommand_rows_of matches.now) }
     ensures file { option_map (λ file. file.now) result.file ≡ file_among (subcommand_rows_of matches.now) }
@@ -143,7 +143,7 @@ fn line_in<'a>(matches: &ArgMatches<'a>) -> Line<'a>
     }
 }
 
-/// How many workers the words behind a mode's ask for.
+/// How many workers the words after a mode's ask for.
 fn workers_for(mode: Mode, matches: &ArgMatches<'_>) -> u8
     ensures run { mode ≡ ModeVariants.Run → IsWorkers (first_value (found_of matches.now) (codes "workers")) result }
     ensures default { mode ≢ ModeVariants.Run → result ≡ 2 }
@@ -162,7 +162,7 @@ fn workers_for(mode: Mode, matches: &ArgMatches<'_>) -> u8
 ///
 /// # Errors
 ///
-/// Bad words, a request for help or the version, and want of memory, each of `clap`'s own kind.
+/// A usage error, a request for help or the version, and an allocation that failed, each of `clap`'s own kind.
 pub fn line<'a, S: AsStr>(alloc: Global, words: &'a [S]) -> Result<Line<'a>, Error>
     ensures workers { IfOk result (λ line. (1 ≤ line.workers) × (line.workers ≤ 16)) }
     ensures nothing { map S.text words.entry.now ≡ [] → IsOkAnd result (λ line. (line.command ≡ ModeVariants.Check) × (line.file ≡ None)) }
@@ -170,9 +170,9 @@ pub fn line<'a, S: AsStr>(alloc: Global, words: &'a [S]) -> Result<Line<'a>, Err
     ensures default { IfOk result (λ line. line.command ≢ ModeVariants.Run → line.workers ≡ 2) }
     ensures number { IfOk result (λ line. line.command ≡ ModeVariants.Run →
         IsWorkers (workers_among (subcommand_of bgsim_app (map S.text words.entry.now))) line.workers) }
-    // The first word is the mode's, and those behind it name the file; or there are no words.
+    // The first word is the mode's, and those after it name the file; or there are no words.
     ensures asked { IfOk result (λ line. IsAsked (map S.text words.entry.now) line.command (option_map (λ file. file.now) line.file)) }
-    // Words that are plainly a mode and a file are refused for want of memory alone.
+    // Words that are plainly a mode and a file are refused only if an allocation fails.
     ensures plain { (mode : ModeData) → IsPlainly (map S.text words.entry.now) mode → IfErr result (λ error. kind_of error ≡ OutOfMemory) }
     ensures kinds { FailsBy (words_fault (map S.text words.entry.now)) result }
 {

@@ -51,7 +51,7 @@ pub fn check_io<R: Read, W: Write>(
 /// # Errors
 ///
 /// The script's first fault, found before anything is written; a device that failed; or want of
-/// memory. Where a block or a command was refused for want of memory, the script goes on to its end.
+/// memory. If an allocation failed for a block or a command, the script goes on to its end.
 pub fn play_io<R: Read, W: Write>(
     alloc: Global,
     reader: &mut Device<R>,
@@ -79,7 +79,7 @@ pub fn play_io<R: Read, W: Write>(
 /// # Errors
 ///
 /// A device that failed; an input that is too long; what ended the rooms, found before anything is
-/// written; or want of memory.
+/// written; or an allocation that failed.
 pub fn run_io<H: Threads + Wait + Sync, R: Read, W: Write, G: Gate + Sync>(
     rt: &H,
     alloc: Global,

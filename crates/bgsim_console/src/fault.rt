@@ -27,10 +27,10 @@ pub enum IoFault {
     /// The rooms could not be run to their end.
     #[error("{0}")]
     Run(RunFault),
-    /// Memory was refused.
+    /// An allocation failed.
     #[error("out of memory")]
     Memory,
-    /// The answer was written, and says where memory was refused.
+    /// The answer was written, and says for which command an allocation failed.
     #[error("out of memory")]
     Incomplete,
 }

@@ -32,7 +32,7 @@ pub fn judge(alloc: Global, input: &[u8]) -> Result<Answer, InputFault>
     Ok(answer_of(&rooms, refused)?)
 }
 
-/// Puts the rooms' verdicts behind the lines of the refused blocks.
+/// Appends the rooms' verdicts to the lines of the refused blocks.
 fn answer_of(rooms: &Rooms, refused: Text) -> Result<Answer, AllocError>
     requires { (fed : List FedEvent) × HasProcessed rooms.now fed }
     ensures { IfOk result (λ answer. (fed : List FedEvent) →

@@ -130,7 +130,7 @@ fn ending_status(rt: &HostRuntime, ending: Result<Outcome, IoFault>) -> u8
     }
 }
 
-/// The status of a run that this fault ended, once it is told on standard error.
+/// The status of a run that this fault ended, once it is printed on standard error.
 fn fault_status(rt: &HostRuntime, fault: IoFault) -> u8
     ensures { result ≡ fault_status fault }
 {
@@ -138,7 +138,7 @@ fn fault_status(rt: &HostRuntime, fault: IoFault) -> u8
     fault.status()
 }
 
-/// The status where the words could not be taken over, once that is told on standard error.
+/// The status where the words could not be taken over, once that is printed on standard error.
 fn unread_status(rt: &HostRuntime, error: &io::Error) -> u8
     ensures { result ≡ unread_status (error_kind error.now) }
 {

@@ -3,7 +3,7 @@ use protocol_lang::{parse, print};
 use std::alloc::{AllocError, Global};
 use std::test::*;
 
-/// The printed text of the protocol of `text`, or nothing where it has none.
+/// The printed text of the protocol of `text`, or nothing if it has none.
 fn reprinted(alloc: Global, text: &str) -> Result<String, AllocError> {
     match parse(alloc, text) {
         Ok(protocol) => print(alloc, &protocol),

@@ -19,7 +19,7 @@ use std::sync::Wait;
 use std::thread;
 use std::thread::Threads;
 
-/// How many rooms run at the same time at least, where there are as many. While it runs a room takes
+/// How many rooms run at the same time at least, if there are as many. While it runs a room takes
 /// some 4 KB, however short its block is.
 const ROOMS_AT_ONCE: usize = 128;
 
@@ -27,7 +27,7 @@ const ROOMS_AT_ONCE: usize = 128;
 /// doesn't grow with the file.
 const PARTS: usize = 64;
 
-/// Runs the rooms of an input's blocks, and puts their reports behind the lines of the refused blocks.
+/// Runs the rooms of an input's blocks, and appends their reports to the lines of the refused blocks.
 pub fn run_blocks<H: Threads + Wait + Sync, G: Gate + Sync>(
     rt: &H,
     alloc: Global,
@@ -48,7 +48,7 @@ pub fn run_blocks<H: Threads + Wait + Sync, G: Gate + Sync>(
     Ok(Answer { output, outcome })
 }
 
-/// Runs the rooms of these specs part by part, and puts their reports behind the text. Those of one part are written while the
+/// Runs the rooms of these specs part by part, and appends their reports to the text. Those of one part are written while the
 /// next runs.
 fn run_in_parts<H: Threads + Wait + Sync, G: Gate + Sync>(
     rt: &H,
@@ -75,14 +75,14 @@ fn run_in_parts<H: Threads + Wait + Sync, G: Gate + Sync>(
     Ok(with_reports(output, done)?)
 }
 
-/// Takes the specs of the `rooms` rooms that run next off the front: all that are left where they are fewer.
+/// Takes the specs of the `rooms` rooms that run next off the front: all that are left if they are fewer.
 fn next_part(
     alloc: Global,
     left: &mut IntoValues<Name, Spec>,
     rooms: usize,
 ) -> Result<Vec<Spec>, AllocError>
     ensures part { IfOk result (λ part. left.old ≡ part.items ++ left.new) }
-    // Where some are left, some were taken.
+    // If some are left, some were taken.
     ensures fewer { OnOk result (0 < length left.new → length left.new < length left.old) }
 {
     let mut part = Vec::new(alloc);
@@ -95,8 +95,8 @@ fn next_part(
     Ok(part)
 }
 
-/// Runs the rooms of these specs all at the same time, and puts the reports of those that ran before behind the text: meanwhile,
-/// on a thread of its own, but before where there is one worker alone.
+/// Runs the rooms of these specs all at the same time, and appends the reports of those that ran before to the text: meanwhile,
+/// on a thread of its own, but before if there is one worker alone.
 fn run_part<H: Threads + Wait + Sync, G: Gate + Sync>(
     rt: &H,
     alloc: Global,
@@ -124,7 +124,7 @@ fn run_part<H: Threads + Wait + Sync, G: Gate + Sync>(
     Ok((results?, longer?))
 }
 
-/// Puts the reports of these rooms behind the text.
+/// Appends the reports of these rooms to the text.
 fn with_reports(text: Text, done: Vec<RoomResult>) -> Result<Text, AllocError>
     ensures { IfOk result (λ longer. longer ≡ text ++ flat_map (λ one. report_text one.core.spec.name one.report) done.items) }
 {

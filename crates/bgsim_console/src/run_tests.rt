@@ -12,7 +12,7 @@ use std::sync::atomic::{AtomicU64, Ordering};
 use std::test::*;
 use std::thread::Threads;
 
-/// A block of one simulator, behind its name.
+/// A block of one simulator, after its name.
 const REST: &str =
     "inputs 5\nsimulators 1\nrounds 1\nturns 10\nprotocol\nfirst input;\nelse decide mine;\nend\n";
 
@@ -52,7 +52,7 @@ fn failing_reader(rt: HostRuntime) {
     assert_eq!(rt; writer.calls(), 0);
 }
 
-/// It notes the numbers of the workers that come to it, each as a bit.
+/// It notes the numbers of the workers that reach it, each as a bit.
 #[derive(Drop)]
 struct Noting {
     came: AtomicU64,
@@ -65,7 +65,7 @@ impl Gate for Noting {
     }
 }
 
-/// So many blocks, each of a room of its own with one simulator.
+/// This many blocks, each of a room of its own with one simulator.
 fn rooms(alloc: Global, count: u64) -> Result<String, Fail> {
     let mut text = String::new(alloc);
     for number in 0..count {
@@ -74,7 +74,7 @@ fn rooms(alloc: Global, count: u64) -> Result<String, Fail> {
     Ok(text)
 }
 
-/// What a run by `workers` workers answers, and who came to its gate.
+/// What a run by `workers` workers answers, and which workers came to its gate.
 fn gated<H: Threads + Wait + Sync>(
     threads: &H,
     alloc: Global,

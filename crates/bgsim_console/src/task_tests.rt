@@ -6,7 +6,7 @@ use std::alloc::Global;
 use std::test::*;
 use transcript::{Event, EventLine};
 
-/// A room of three processes, which decide behind this test, and whose task allows one value.
+/// A room of three processes, which decide after this test, and whose task allows one value.
 fn room_of(alloc: Global, test: &str) -> Result<Spec, Fail> {
     let text = format!(in alloc;
         "bgsim 2\nroom vote\ninputs 5 3 9\nsimulators 2\nrounds 3\nturns 100\ntask agree 1\nprotocol\nfirst input;\nwhen {test} decide min;\nelse write mine;\nend\n"

@@ -202,7 +202,7 @@ fn output_that_is_not_flushed(rt: HostRuntime) {
     assert_eq!(rt; found, Err(IoFault::Write));
 }
 
-/// It gives so many bytes at once, then no bytes once, and then more: who asks past the end is found
+/// It gives this many bytes at once, then no bytes once, and then more: who asks past the end is found
 /// out.
 #[derive(Drop)]
 struct Resuming {
@@ -222,7 +222,7 @@ impl Read for Resuming {
     }
 }
 
-/// What `check` answers where the reader gives so many bytes before its end, how many reads it makes
+/// What `check` answers where the reader gives this many bytes before its end, how many reads it makes
 /// by both accounts, and whether one of them is past the end.
 fn resumed(alloc: Global, first: usize) -> (Result<Outcome, IoFault>, (u64, u8), bool) {
     let mut inner = Resuming { first, calls: 0 };
@@ -242,7 +242,7 @@ fn end_of_input(rt: HostRuntime) {
     }
 }
 
-/// It counts its calls, and is interrupted at its first write where that is asked for.
+/// It counts its calls, and is interrupted at its first write if that is asked for.
 #[derive(Drop)]
 struct Counting {
     interrupted: bool,
@@ -298,7 +298,7 @@ fn counted(
     )
 }
 
-/// So many blocks of one line, and no events: each has a line of its own in the output.
+/// This many blocks of one line, and no events: each has a line of its own in the output.
 fn refused_blocks(alloc: Global, count: u32) -> Result<String, AllocError> {
     let mut input = String::new(alloc);
     for _ in 0..count {

@@ -5,7 +5,7 @@ use Rattle.std.specs.declared.alloc.AllocError.{AllocError}
 use Rattle.std.proofs.lemmas.Grind.{flat_map-append}
 use Rattle.std.proofs.lemmas.List.{append-nil, append_assoc, map-append}
 use Rattle.room_core.specs.Calls.{RoomState}
-use Rattle.room_core.specs.Watching.{AreSeen, TakenStep}
+use Rattle.room_core.specs.Observing.{AreSeen, TakenStep}
 use Rattle.room_core.specs.declared.reply.StepReply.{StepReply}
 use Rattle.room_files.specs.declared.outcome.Outcome.{Outcome}
 use Rattle.service_core.specs.declared.command.Command.{Command}

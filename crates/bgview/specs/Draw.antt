@@ -13,8 +13,8 @@ use Rattle.bgview.specs.declared.fault.ViewFault.TheVariants.{BadGoal, BadInput,
 abbrev pub IsDrawnPart : List ℕ → List ℕ → Type 0
 IsDrawnPart input part = (ending : Result Outcome AllocError) × (rest : List ℕ) × IsDrawn input ending (part ++ rest)
 
--- The answer to a whole script is an outcome, with its picture, or a fault. Where memory was refused to a part of the script the picture
--- of the others is there; where writing failed a beginning of it; at each other fault none.
+-- The answer to a whole script is an outcome, with its picture, or a fault. If an allocation failed for a part of the script the picture
+-- of the others is there; if writing failed a beginning of it; at each other fault none.
 abbrev pub IsDrawAnswer : List ℕ → Result Outcome ViewFault → List ℕ → Type 0
 IsDrawAnswer input (Ok outcome) output = (length input ≤ most_bytes) × IsDrawn input (Ok outcome) output
 IsDrawAnswer input (Err (Device TooLong)) output = (most_bytes < length input) × (output ≡ [])

@@ -26,7 +26,7 @@ abbrev pub ending_status : Result Outcome ViewFault → ℕ
 ending_status (Ok outcome) = outcome_status outcome
 ending_status (Err fault) = fault_status fault
 
--- where the words couldn't be taken over: one is no text, unless memory was refused
+-- where the words couldn't be taken over: one is no text, unless an allocation failed
 abbrev pub unread_status : WordsFault → ℕ
 unread_status words.OutOfMemory = 3
 unread_status _ = 2

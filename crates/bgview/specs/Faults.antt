@@ -22,11 +22,11 @@ words_or_none (Some words) = words
 abbrev pub fault_line : List ℕ → List ℕ
 fault_line text = text ++ (codes ": " ++ (words_or_none (said_by text) ++ codes "\n"))
 
--- all is well where each text is the number of a fault
+-- all is well if each text is the number of a fault
 abbrev pub faults_outcome : List (List ℕ) → Outcome
 faults_outcome texts = outcome_if (list_all (λ text. is_some (said_by text)) texts)
 
--- the answer to these texts, with what is written: a line each, in order; want of memory with none, a failed write with a beginning
+-- the answer to these texts, with what is written: a line each, in order; an allocation that failed with none, a failed write with a beginning
 abbrev pub AreFaultsSaid : List (List ℕ) → Result Outcome ViewFault → List ℕ → Type 0
 AreFaultsSaid texts (Ok outcome) output = (output ≡ flat_map fault_line texts) × (outcome ≡ faults_outcome texts)
 AreFaultsSaid texts (Err Incomplete) output = ⊥

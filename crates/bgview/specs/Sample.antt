@@ -38,7 +38,7 @@ IsSampleFor plan input outcome output = IsSampleOutput plan (all_blocks input) o
 abbrev pub IsSamplePart : Plan → List ℕ → List ℕ → Type 0
 IsSamplePart plan input part = (outcome : Outcome) × (rest : List ℕ) × IsSampleFor plan input outcome (part ++ rest)
 
--- the answer to a whole file of rooms is an outcome, with its output, or a fault, with none; where writing failed a beginning of the
+-- the answer to a whole file of rooms is an outcome, with its output, or a fault, with none; if writing failed a beginning of the
 -- output is there; no input is bad
 abbrev pub IsSampleAnswer : Plan → List ℕ → Result Outcome ViewFault → List ℕ → Type 0
 IsSampleAnswer plan input (Ok outcome) output = (length input ≤ most_bytes) × IsSampleFor plan input outcome output

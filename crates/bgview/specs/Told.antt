@@ -1,4 +1,4 @@
--- What a transcript tells of rooms, the line that breaks a room's run, and the line that breaks its task.
+-- What a transcript says of rooms, the line that breaks a room's run, and the line that breaks its task.
 use Rattle.std.specs.Prelude.{◌≡◌, ℕ, List, map, take, Option, Some, None, slice_get}
 use Rattle.std.specs.List.{All, Contains}
 use Rattle.room_spec.specs.Rooms.{RoomSpec}
@@ -12,7 +12,7 @@ use Rattle.bgview.specs.declared.told.Decision.{Decision}
 use Rattle.bgview.specs.declared.told.Excess.{Excess}
 use Rattle.bgview.specs.declared.told.LineBreak.{LineBreak}
 
--- a room, the events that are told of it, and the line of each
+-- a room, its events, and the line of each
 pub record ToldRoom : Type 0 where
   pub spec : RoomSpec
   pub events : List Event
@@ -56,7 +56,7 @@ pub record AreDecidedBefore (told : ToldRoom) (at : ℕ) (before : List Decision
   pub values : map (λ one. one.value) before ≡ different (decided_in (take at told.events))
   pub each : All (IsFirstDecision told) before
 
--- ---- what is told of each of many rooms
+-- ---- what is said of each of many rooms
 
 abbrev pub lines_of : List FedEvent → List ℕ
 lines_of fed = map (λ one. one.line) fed
@@ -65,7 +65,7 @@ lines_of fed = map (λ one. one.line) fed
 abbrev pub IsTold : List FedEvent → ToldRoom → Type 0
 IsTold fed told = (told.events ≡ events_of fed) × (told.lines ≡ lines_of fed)
 
--- the same after all that a transcript tells, of which the other rooms' part is passed over
+-- the same after all that a transcript says, of which the other rooms' part is passed over
 abbrev pub IsToldOwn : List FedEvent → ToldRoom → Type 0
 IsToldOwn fed told = IsTold (fed_to told.spec.name fed) told
 
@@ -81,6 +81,6 @@ specs_of rooms = map (λ told. told.spec) rooms
 abbrev pub rooms_in : List (List ℕ × ToldRoom) → List ToldRoom
 rooms_in entries = map (λ entry. entry.1) entries
 
--- each room stands under its own name
+-- each room is under its own name
 abbrev pub IsKeyed : List (List ℕ × ToldRoom) → Type 0
 IsKeyed entries = map (λ entry. entry.0) entries ≡ names_of (specs_of (rooms_in entries))

@@ -6,7 +6,7 @@ use Rattle.io_text.specs.Reading.{most_bytes}
 use Rattle.io_text.specs.declared.fault.DeviceFault.TheVariants.{Read, Write, TooLong, Memory}
 use Rattle.room_spec.specs.Faults.{sentence_of}
 use Rattle.room_core.specs.Calls.{RoomState}
-use Rattle.room_core.specs.Watching.{AreSeen, TakenStep}
+use Rattle.room_core.specs.Observing.{AreSeen, TakenStep}
 use Rattle.service_core.specs.declared.command.Command.{Command}
 use Rattle.service_core.specs.declared.reply.Reply.{Reply}
 use Rattle.service_core.specs.declared.reply.Reply.TheVariants.{Begun, Steps, Crash, Settled, Report, Closed, Refused}
@@ -28,12 +28,12 @@ use Rattle.bgview.specs.declared.fault.ViewFault.TheVariants.{BadGoal, BadInput,
 
 -- ---- notes
 
--- the lines of these steps, told one after the other
+-- the lines of these steps, one after the other
 pub record AreLinesOf (steps : List TakenStep) (lines : List ℕ) : Type 0 where
   pub telling : Telling
   pub told : AreSeen IsTold nothing_told steps telling
   pub whole : telling.lacks ≡ false
-  -- as many were told as were taken, so as many as a reply to `step` says
+  -- as many as were taken, so as many as a reply to `step` says
   pub count : telling.number ≡ length steps
   pub lines_are : lines ≡ telling.lines
 
@@ -135,8 +135,8 @@ IsTraceFor input ending output = (entries : List Entry) × (script_says input �
 abbrev pub IsTracePart : List ℕ → List ℕ → Type 0
 IsTracePart input part = (ending : Result Outcome AllocError) × (rest : List ℕ) × IsTraceFor input ending (part ++ rest)
 
--- The answer to a whole script is an outcome, with its text, or a fault. Where memory was refused to a part of the script the whole
--- text is there, with the refusals in it; where writing failed a beginning of it; at each other fault none.
+-- The answer to a whole script is an outcome, with its text, or a fault. If an allocation failed for a part of the script the whole
+-- text is there, with the refusals in it; if writing failed a beginning of it; at each other fault none.
 abbrev pub IsTraced : List ℕ → Result Outcome ViewFault → List ℕ → Type 0
 IsTraced input (Ok outcome) output = (length input ≤ most_bytes) × IsTraceFor input (Ok outcome) output
 IsTraced input (Err (Device TooLong)) output = (most_bytes < length input) × (output ≡ [])
@@ -149,7 +149,7 @@ IsTraced input (Err (Device Write)) output = (length input ≤ most_bytes) × Is
 
 -- ---- inside the crate
 
--- what is noted under a reply by somebody who was told of the steps
+-- what is noted under a reply by an observer of the steps
 abbrev pub notes_after : MissedRooms → List ℕ → Reply → Telling → List ℕ
 notes_after missed name (Refused refusal) telling = refusal_notes missed name refusal
 notes_after missed name reply telling = telling.lines

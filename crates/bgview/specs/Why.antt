@@ -81,7 +81,7 @@ pub record Explained : Type 0 where
   -- why the room is no run, or breaks its task
   pub notes : List (List ℕ)
 
--- what a transcript tells of a room
+-- what a transcript says of a room
 abbrev pub told_of : RoomSpec → List FedEvent → ToldRoom
 told_of room fed = record { spec = room; events = events_of (fed_to room.name fed); lines = lines_of (fed_to room.name fed) }
 
@@ -92,7 +92,7 @@ IsExplained fed one = IsJustified fed one.judged × IsReasonFor (told_of one.jud
 abbrev pub explained_lines : Explained → List ℕ
 explained_lines one = judged_line one.judged ++ indented_all one.notes
 
--- what is written of a room behind a text, and whether all is well with it
+-- what is written of a room after a text, and whether all is well with it
 pub record IsRoomSaid (spec : RoomSpec) (fed : List FedEvent) (old new : List ℕ) (well : Bool) : Type 0 where
   pub one : Explained
   pub room : one.judged.room ≡ spec
@@ -103,7 +103,7 @@ pub record IsRoomSaid (spec : RoomSpec) (fed : List FedEvent) (old new : List �
   pub well_is : well ≡ is_well one.judged.verdict one.judged.task
 
 -- the line of each refused block of the input, with what is said of it; and what `check` answers on each room, in order, each with the
--- reason behind it
+-- reason after it
 pub record IsExplanation (input : List ℕ) (rooms : List RoomSpec) (refused : List ℕ) (fed : List FedEvent) (outcome : Outcome) (output : List ℕ) : Type 0 where
   pub refusals : List Refusal
   pub refused_are : refused ≡ flat_map refusal_line refusals
@@ -122,7 +122,7 @@ IsExplanationFor input outcome output =
 abbrev pub IsPartFor : List ℕ → List ℕ → Type 0
 IsPartFor input part = (outcome : Outcome) × (rest : List ℕ) × IsExplanationFor input outcome (part ++ rest)
 
--- the answer to a whole input is an outcome, with its output, or a fault, with none; where writing failed a beginning of the output is there
+-- the answer to a whole input is an outcome, with its output, or a fault, with none; if writing failed a beginning of the output is there
 abbrev pub IsWhyAnswer : List ℕ → Result Outcome ViewFault → List ℕ → Type 0
 IsWhyAnswer input (Ok outcome) output = (length input ≤ most_bytes) × IsExplanationFor input outcome output
 IsWhyAnswer input (Err (BadInput line fault)) output = (length input ≤ most_bytes) × (input_says input ≡ Err (line, fault)) × (output ≡ [])

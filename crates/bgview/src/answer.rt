@@ -29,7 +29,7 @@ use transcript::{Event, write_event};
 pub fn explain(alloc: Global, input: &[u8]) -> Result<Answer, InputFault>
     requires { length input.now ≤ most_bytes }
     ensures output { IfOk result (λ answer. IsExplanationFor input.now answer.outcome answer.output) }
-    // Memory is wanted for a block, and for the answer to an input that has no fault.
+    // Memory is allocated for a block, and for the answer to an input that has no fault.
     ensures err { IfErr result (IsFaultOr (MayLackMemory input.now) (input_says input.now)) }
 {
     let setup = Setup::new(ToldRooms::new(alloc), Refusals::new(alloc));
@@ -43,7 +43,7 @@ pub fn explain(alloc: Global, input: &[u8]) -> Result<Answer, InputFault>
     Ok(answer_of(alloc, input, &rooms, &refused)?)
 }
 
-/// Puts what is said of the rooms behind what is said of the refused blocks.
+/// Appends what is said of the rooms to what is said of the refused blocks.
 fn answer_of(
     alloc: Global,
     input: &[u8],

@@ -18,7 +18,7 @@ use std::convert::AsStr;
 pub enum Mode {
     /// Says of a transcript's rooms whether they are runs, and why not.
     Why,
-    /// Tells what each step of a script did.
+    /// Says what each step of a script did.
     Trace,
     /// Draws the rooms of a script.
     Draw,
@@ -381,7 +381,7 @@ fn plain_command<'a>(alloc: Global) -> Command<'a>
         .subcommand_required(true)
 }
 
-/// The command with one more subcommand, where there is one.
+/// The command with one more subcommand, if there is one.
 fn with_subcommand<'a>(
     command: Command<'a>,
     subcommand: Result<Command<'a>, AllocError>,
@@ -411,7 +411,7 @@ fn command<'a>(alloc: Global) -> Result<Command<'a>, AllocError>
 ///
 /// # Errors
 ///
-/// Bad words, a request for help or the version, and want of memory, each of `clap`'s own kind.
+/// A usage error, a request for help or the version, and an allocation that failed, each of `clap`'s own kind.
 pub fn read_words<'a, S: AsStr>(alloc: Global, words: &'a [S]) -> Result<ArgMatches<'a>, Error>
     ensures sound { IfOk result (λ matches. subcommand_rows_of matches ≡ subcommand_of bgview_app (map S.text words.entry.now)) }
     ensures kinds { FailsBy (fault_of bgview_app (map S.text words.entry.now)) result }
@@ -419,7 +419,7 @@ pub fn read_words<'a, S: AsStr>(alloc: Global, words: &'a [S]) -> Result<ArgMatc
     command(alloc)?.try_get_matches_from(words)
 }
 
-/// What the subcommand and the words behind it ask for.
+/// What the subcommand and the words after it ask for.
 #[derive(Clone, Copy, Debug, PartialEq, Eq)]
 pub struct Line<'a> {
     pub command: Mode,
@@ -558,7 +558,7 @@ fn is_given(matches: &ArgMatches<'_>, name: &str) -> bool
     }
 }
 
-/// The number behind an option, or this one where the option isn't there.
+/// The number after an option, or this one where the option isn't there.
 fn number_among(matches: &ArgMatches<'_>, name: &str, default: u32) -> u32
     ensures { IsNumber (first_value (found_of matches.now) name.now) default result }
 {

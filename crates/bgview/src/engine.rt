@@ -27,12 +27,12 @@ use script_transcript::transcribe;
 use std::alloc::Global;
 use std::io::{Read, Write};
 
-/// Judges the transcript that the reader gives, and writes the verdicts, and behind each room that is no run the line that breaks it
+/// Judges the transcript that the reader gives, and writes the verdicts, and after each room that is no run the line that breaks it
 /// and why. What is said of all faults of an input with a malformed line becomes `notes`.
 ///
 /// # Errors
 ///
-/// The input's first fault, found before anything is written; a device that failed; or want of memory.
+/// The input's first fault, found before anything is written; a device that failed; or an allocation that failed.
 pub fn why_io<R: Read, W: Write>(
     alloc: Global,
     reader: &mut Device<R>,
@@ -76,7 +76,7 @@ fn explain_or_note(alloc: Global, input: &[u8], notes: &mut Text) -> Result<Answ
 ///
 /// # Errors
 ///
-/// A writer that failed, or want of memory.
+/// A writer that failed, or an allocation that failed.
 pub fn fault_io<W: Write>(
     alloc: Global,
     writer: &mut Device<W>,
@@ -98,7 +98,7 @@ pub fn fault_io<W: Write>(
 ///
 /// # Errors
 ///
-/// A device that failed; an input that is too long; or want of memory.
+/// A device that failed; an input that is too long; or an allocation that failed.
 pub fn sample_io<R: Read, W: Write, P: Progress>(
     alloc: Global,
     reader: &mut Device<R>,
@@ -160,8 +160,8 @@ pub fn outcomes_io<R: Read, W: Write, P: Progress>(
 ///
 /// # Errors
 ///
-/// The script's first fault, found before anything is written; a device that failed; or want of memory. Where a block or a
-/// command was refused for want of memory, the script goes on to its end.
+/// The script's first fault, found before anything is written; a device that failed; or an allocation that failed. If an allocation failed for a block or a
+/// command, the script goes on to its end.
 pub fn draw_io<R: Read, W: Write>(
     alloc: Global,
     reader: &mut Device<R>,

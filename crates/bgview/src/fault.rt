@@ -13,10 +13,10 @@ use thiserror::Error;
 /// Why an answer was not written whole.
 #[derive(Clone, Copy, Debug, PartialEq, Eq, Error)]
 pub enum ViewFault {
-    /// Reading or writing failed, or memory was refused.
+    /// Reading or writing failed, or an allocation failed.
     #[error("{0}")]
     Device(DeviceFault),
-    /// The answer was written, and says where memory was refused.
+    /// The answer was written, and says for which command an allocation failed.
     #[error("out of memory")]
     Incomplete,
     /// The input has this fault on this line, counted from 1. A message has the fault's number.

@@ -171,7 +171,7 @@ fn with_other<I: Inputs, R: Read + Drop, W: Write, P: Progress>(
     }
 }
 
-/// Says in words the faults whose numbers stand behind the word `fault`.
+/// Says in words the faults whose numbers come after the word `fault`.
 fn say_faults<W: Write>(
     alloc: Global,
     matches: &ArgMatches<'_>,
@@ -249,7 +249,7 @@ fn ending_status(rt: &HostRuntime, ending: Result<Outcome, ViewFault>, notes: &T
     }
 }
 
-/// The status where this fault ended the answer, once it is told on standard error with what else is said of it.
+/// The status where this fault ended the answer, once it is printed on standard error with what else is said of it.
 fn fault_status(rt: &HostRuntime, fault: ViewFault, notes: &[u8]) -> u8
     ensures { result ≡ fault_status fault }
 {
@@ -258,7 +258,7 @@ fn fault_status(rt: &HostRuntime, fault: ViewFault, notes: &[u8]) -> u8
     fault.status()
 }
 
-/// The status where the words could not be taken over, once that is told on standard error.
+/// The status where the words could not be taken over, once that is printed on standard error.
 fn unread_status(rt: &HostRuntime, error: &io::Error) -> u8
     ensures { result ≡ unread_status (error_kind error.now) }
 {

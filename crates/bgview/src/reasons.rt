@@ -10,7 +10,7 @@ use protocol_lang::Action;
 use std::alloc::AllocError;
 use transcript::Event;
 
-/// Writes why an event may not come. A write that the reason rests on stands on line `earlier`.
+/// Writes why an event may not come. A write that the reason rests on is on line `earlier`.
 pub fn write_reason(
     output: &mut Text,
     event: &Event,

@@ -1,4 +1,4 @@
-//! The rooms of a transcript, each with what it tells of them.
+//! The rooms of a transcript, each with what it says of them.
 ghost use Rattle.std.specs.Prelude.{◌≡◌, ◌≢◌, ◌+◌, ◌<◌, ◌^◌, ◌∷◌, ◌++◌, [], List, IfErr, IsFalse, Ok, OnErr, OnOk, Some, is_some, length, option_map, slice_get};
 ghost use Rattle.std.specs.List.{position};
 ghost use Rattle.std.specs.Str.{bytes_eq};
@@ -18,7 +18,7 @@ use std::alloc::{AllocError, Global};
 use std::marker::Model;
 use transcript::{Event, read_line};
 
-/// Rooms in order of adding, each with the events that a transcript tells of it.
+/// Rooms in order of adding, each with its events in a transcript.
 #[derive(Drop)]
 pub struct ToldRooms {
     rooms: IndexMap<Name, Told>,
@@ -68,7 +68,7 @@ impl ToldRooms {
         Ok(())
     }
 
-    /// Tells the room of this index, which has this name, an event.
+    /// Adds an event to the room of this index, which has this name.
     //
     // For the proof: `name`.
     fn tell_at(
@@ -90,7 +90,7 @@ impl ToldRooms {
         Ok(())
     }
 
-    /// Tells its room the event of a transcript's line, which has this number.
+    /// Adds the event of a transcript's line, which has this number, to its room.
     fn tell_line(&mut self, line: u64, text: &[u8]) -> Result<(), InputFault>
         ensures told { OnOk result ((one : FedEvent) × (of_known_room (specs_of self.old) line (line_in text.now) ≡ Ok one) ×
             ((fed : List FedEvent) → AreTold self.old fed → AreTold self.new (fed ++ one ∷ []))) }
@@ -129,7 +129,7 @@ impl ToldRooms {
         self.rooms.len()
     }
 
-    /// The room of this index, from 0 in order of adding, or `None` where there is none.
+    /// The room of this index, from 0 in order of adding, or `None` if there is none.
     pub fn get(&self, index: usize) -> Option<&Told>
         ensures { option_map (λ told. told.now) result ≡ slice_get self.now index }
     {
@@ -138,7 +138,7 @@ impl ToldRooms {
     }
 }
 
-/// Tells the rooms the events of a transcript, whose first line has this number.
+/// Adds the events of a transcript, whose first line has this number, to the rooms.
 pub fn tell_events(
     rooms: &mut ToldRooms,
     first_line: u64,

@@ -1,4 +1,4 @@
-//! What the rooms of a file may come to.
+//! Outcomes of the rooms of a file.
 ghost use Rattle.std.specs.Prelude.{◌≡◌, ◌≤◌, ◌++◌, IfOk, OnOk, length};
 ghost use Rattle.io_text.specs.Reading.{most_bytes};
 ghost use Rattle.bgview.specs.Sample.{IsSampleFor, head_of, last_of};

@@ -1,4 +1,4 @@
-//! A room, and what a transcript tells of it.
+//! A room, and what a transcript says of it.
 ghost use Rattle.std.specs.Prelude.{◌≡◌, ◌↔◌, ◌+◌, ◌<◌, ◌≤◌, ◌==◌, ◌∷◌, ◌++◌, [], ℕ, Some, IsOk, IfErr, IfOk, Err, OnOk, OnErr, length, option_map, slice_get};
 ghost use Rattle.std.specs.List.{list_any};
 ghost use Rattle.transcript.specs.Runs.{IsRun};
@@ -12,7 +12,7 @@ use std::alloc::{AllocError, Global};
 use std::marker::Model;
 use transcript::Event;
 
-/// A room, and the events of it that a transcript tells, each with its line.
+/// A room, and its events in a transcript, each with its line.
 #[derive(Drop)]
 pub struct Told {
     pub spec: Spec,
@@ -40,7 +40,7 @@ impl Model for Told {
 pub struct LineBreak {
     /// The index, from 0, of the event among those of its room.
     pub at: usize,
-    /// The line that tells it.
+    /// Its line.
     pub line: u64,
     pub reason: Reason,
     /// The line of the write that the reason rests on, if it rests on one.
@@ -67,7 +67,7 @@ pub struct Decision {
 }
 
 impl Told {
-    /// A room of which nothing is told yet.
+    /// A room without events.
     pub fn of(alloc: Global, spec: Spec) -> Told
         ensures { result ≡ record { spec = spec; events = []; lines = [] } }
     {
@@ -78,7 +78,7 @@ impl Told {
         }
     }
 
-    /// Adds an event, which stands on this line.
+    /// Adds an event, which is on this line.
     pub fn tell(&mut self, event: Event, line: u64) -> Result<(), AllocError>
         ensures told { OnOk result (self.new ≡ record self.old { events = self.old.events ++ event ∷ []; lines = self.old.lines ++ line ∷ [] }) }
         ensures err { OnErr result (self.new ≡ self.old) }
@@ -107,7 +107,7 @@ impl Told {
         }
     }
 
-    /// The event of this index, from 0, or `None` where there is none.
+    /// The event of this index, from 0, or `None` if there is none.
     pub fn event(&self, at: usize) -> Option<&Event>
         ensures { option_map (λ event. event.now) result ≡ slice_get self.now.events at }
     {

@@ -26,14 +26,14 @@ use std::alloc::{AllocError, Global};
 use std::io::{Read, Write};
 use step_words::StepTexts;
 
-/// Plays the script that the reader gives, and writes the replies, and under each, behind four spaces, the atomic steps that its
+/// Plays the script that the reader gives, and writes the replies, and under each, after four spaces, the atomic steps that its
 /// command took, or why it was refused. The whole script is read and judged before anything is written. What is said of its faults becomes
 /// `notes`.
 ///
 /// # Errors
 ///
-/// The script's first fault, found before anything is written; a device that failed; or want of memory. Where a block or a
-/// command was refused for want of memory, the script goes on to its end.
+/// The script's first fault, found before anything is written; a device that failed; or an allocation that failed. If an allocation failed for a block or a
+/// command, the script goes on to its end.
 pub fn trace_io<R: Read, W: Write>(
     alloc: Global,
     reader: &mut Device<R>,
@@ -57,12 +57,12 @@ pub fn trace_io<R: Read, W: Write>(
     written(traced.ending)
 }
 
-/// Judges a script, and tells what it comes to where it has no fault.
+/// Judges a script, and says what each of its commands did if it has no fault.
 #[tactic(auto, using(crate::proofs::Tracing::traced_script))]
 pub(crate) fn trace(alloc: Global, script: &[u8]) -> Result<PlayText, InputFault>
     requires { length script.now ≤ most_bytes }
     ensures text { IfOk result (λ traced. IsTraceFor script.now traced.ending traced.output) }
-    // Want of memory hides no bad line.
+    // An allocation that fails hides no malformed line.
     ensures err { IfErr result (IsFaultOr (IsOk (script_says script.now)) (script_says script.now)) }
 {
     let Played { performer, ending } = play_script(alloc, Tracer::new(alloc), script)?;
@@ -104,7 +104,7 @@ impl Tracer {
         let name = command.name().clone()?;
         let sim = sim_in(&command);
         let mut steps = StepTexts::new(alloc);
-        let reply = self.service.apply_watched(alloc, command, &mut steps);
+        let reply = self.service.apply_observed(alloc, command, &mut steps);
         let bytes = name.as_str().as_bytes();
         write_reply(&mut self.output, bytes, sim, &reply)?;
         write_notes(
@@ -118,7 +118,7 @@ impl Tracer {
         Ok(refusal_in(&reply))
     }
 
-    /// Has steps refused where the bytes are no name.
+    /// Has steps refused if the bytes are no name.
     fn refuse_steps(
         &mut self,
         alloc: Global,

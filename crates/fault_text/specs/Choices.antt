@@ -8,7 +8,7 @@ use Rattle.protocol_lang.specs.declared.fault.ParseFault.{ParseFault}
 use Rattle.protocol_lang.specs.declared.protocol.Protocol.{Protocol}
 use Rattle.fault_text.specs.declared.choices.TheConstants.{TOKENS}
 
--- a fault is at a place, and that is behind this one
+-- a fault is at a place, and that is after this one
 abbrev pub is_fault_behind : ℕ → Option ℕ → Bool
 is_fault_behind place None = false
 is_fault_behind place (Some at) = nat_lt place at
@@ -17,18 +17,18 @@ abbrev pub is_taken : ℕ → Result Protocol ParseFault → Bool
 is_taken place (Ok protocol) = true
 is_taken place (Err fault) = is_fault_behind place (place_of fault)
 
--- a token can stand behind these bytes of a protocol's text: put there, behind a space, it has no fault, nor has what stands before
+-- a token can follow these bytes of a protocol's text: put there, after a space, it has no fault, nor has what comes before
 abbrev pub can_stand : List ℕ → List ℕ → Bool
 can_stand before token = is_taken (suc (length before)) (reading (before ++ 32 ∷ token))
 
--- 0 stands for all numbers
+-- 0 represents all numbers
 abbrev pub choice_words : List ℕ → List ℕ
 choice_words token = if bytes_eq token (codes "0") then codes " NUMBER" else codes " " ++ token
 
 abbrev pub choice_if : List ℕ → List ℕ → List ℕ
 choice_if before token = if can_stand before token then choice_words token else []
 
--- the tokens that can stand there
+-- the tokens that are allowed there
 unfoldable pub choices : List ℕ → List ℕ
 choices before = flat_map (choice_if before) (map (λ token. token.now) TOKENS)
 

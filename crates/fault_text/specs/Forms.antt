@@ -92,7 +92,7 @@ step_of byte line =
 abbrev pub go_on : (ℕ → List ℕ → ℕ × List ℕ) → ℕ → List ℕ → List ℕ → Step → ℕ × List ℕ
 go_on later at form line step = if step.fits then later (at + step.len) (drop step.len line) else (at + step.len, form)
 
--- the place, which is this one or after it, and what is left of the form there: nothing where the line should end
+-- the place, which is this one or after it, and what is left of the form there: nothing if the line should end
 unfoldable pub misfit_from : ℕ → List ℕ → List ℕ → ℕ × List ℕ
 misfit_from at [] line = (at, [])
 misfit_from at (byte ∷ form) line = go_on (λ next rest. misfit_from next form rest) at (byte ∷ form) line (step_of byte line)

@@ -1,4 +1,4 @@
-//! What could stand at a place of a protocol's text.
+//! What is allowed at a place of a protocol's text.
 ghost use Rattle.std.specs.Prelude.{◌≡◌, ◌++◌, IfOk, OnOk, map};
 ghost use Rattle.std.specs.List.{flat_map};
 ghost use Rattle.protocol_lang.specs.FirstFaults.{place_of};
@@ -15,7 +15,7 @@ const TOKENS: [&[u8]; 32] = [
     b"-", b"*", b"/", b"%", b"==", b"!=", b"<", b"<=", b">", b">=",
 ];
 
-/// Writes which tokens can stand behind these bytes of a protocol's text.
+/// Writes which tokens can follow these bytes of a protocol's text.
 pub fn write_choices(alloc: Global, output: &mut Text, before: &[u8]) -> Result<(), AllocError>
     ensures { OnOk result (output.new ≡ output.old ++ choices_note before.now) }
 {
@@ -23,7 +23,7 @@ pub fn write_choices(alloc: Global, output: &mut Text, before: &[u8]) -> Result<
     write_words(output, choices.as_bytes())
 }
 
-/// Writes that these tokens could stand at a place, or that none could.
+/// Writes that these tokens are allowed at a place, or that none is.
 fn write_words(output: &mut Text, choices: &[u8]) -> Result<(), AllocError>
     ensures { OnOk result (output.new ≡ output.old ++ choices_words choices.now) }
 {
@@ -34,7 +34,7 @@ fn write_words(output: &mut Text, choices: &[u8]) -> Result<(), AllocError>
     }
 }
 
-/// The tokens that can stand behind these bytes of a protocol's text.
+/// The tokens that can follow these bytes of a protocol's text.
 #[tactic(auto, unfolding(crate::specs::Choices::choices))]
 fn choices_behind(alloc: Global, before: &[u8]) -> Result<Text, AllocError>
     ensures { IfOk result (λ text. text ≡ choices before.now) }
@@ -44,7 +44,7 @@ fn choices_behind(alloc: Global, before: &[u8]) -> Result<Text, AllocError>
     Ok(choices)
 }
 
-/// Writes which of these tokens can stand behind these bytes of a protocol's text.
+/// Writes which of these tokens can follow these bytes of a protocol's text.
 fn write_choices_among(
     alloc: Global,
     output: &mut Text,
@@ -59,7 +59,7 @@ fn write_choices_among(
     Ok(())
 }
 
-/// Writes the token if it can stand behind these bytes of a protocol's text.
+/// Writes the token if it can follow these bytes of a protocol's text.
 fn write_choice(
     alloc: Global,
     output: &mut Text,
@@ -86,7 +86,7 @@ fn write_token(output: &mut Text, token: &[u8]) -> Result<(), AllocError>
     }
 }
 
-/// Whether a token can stand behind these bytes of a protocol's text.
+/// Whether a token can follow these bytes of a protocol's text.
 fn can_stand(alloc: Global, before: &[u8], token: &[u8]) -> Result<bool, AllocError>
     ensures { IfOk result (λ can. can ≡ can_stand before.now token.now) }
 {
@@ -102,7 +102,7 @@ fn can_stand(alloc: Global, before: &[u8], token: &[u8]) -> Result<bool, AllocEr
     }
 }
 
-/// Whether a fault is at a place, and that is behind this one.
+/// Whether a fault is at a place, and that is after this one.
 fn is_fault_behind(place: usize, fault: ParseFault) -> bool
     ensures { result ≡ is_fault_behind place (place_of fault) }
 {

@@ -1,6 +1,6 @@
 //! Forms of lines, and the first byte at which a line leaves its form.
 //!
-//! A form is a pattern: small letters, digits and blanks stand for themselves, capitals for a name or a number.
+//! A form is a pattern: small letters, digits and blanks mean themselves, capitals for a name or a number.
 ghost use Rattle.std.specs.Prelude.{◌≡◌, ◌+◌, ◌<◌, ◌^◌, ◌≤◌, length, min, option_map};
 ghost use Rattle.std.specs.List.{prefix_len};
 ghost use Rattle.room_spec.specs.Names.{is_name_byte};

@@ -50,7 +50,7 @@ impl Rooms {
     pub fn add(&mut self, alloc: Global, spec: Spec) -> Result<(), AddFault>
         ensures taken { IsErrOf result AddFault.NameTaken ↔ IsTrue (has_room spec.name (specs_of self.old)) }
         ensures added { OnOk result (specs_of self.new ≡ specs_of self.old ++ spec ∷ []) }
-        // What the other rooms have processed stands, and the new one has processed nothing.
+        // What the other rooms have processed stays, and the new one has processed nothing.
         ensures processed { OnOk result ((fed : List FedEvent) → fed_to spec.name fed ≡ [] → HasProcessed self.old fed → HasProcessed self.new fed) }
         ensures err { OnErr result (self.new ≡ self.old) }
     {

@@ -23,7 +23,7 @@ pub record IsFoundText (search : Search) (spec : RoomSpec) (block : List ℕ) (w
   pub well_is : well ≡ is_none all.breaking
   pub text_is : text ≡ found_text spec block all
 
--- The text says that the runs have more states than the limit, or the processes more local states than a search tells apart, as they have.
+-- The text says that the runs have more states than the limit, or the processes more local states than a search distinguishes, as they have.
 pub record IsUnfinishedText (search : Search) (spec : RoomSpec) (well : Bool) (text : List ℕ) : Type 0 where
   pub more : (HasMoreStates spec search.states × (text ≡ unfinished_line search.states (codes " states: not searched to the end\n"))) ⊎ (HasMoreLocals spec × (text ≡ unfinished_line 65536 (codes " local states: not searched to the end\n")))
   pub well_is : well ≡ false

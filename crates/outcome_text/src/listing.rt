@@ -23,7 +23,7 @@ pub struct Listed {
 /// What a search of all runs of a room found.
 #[derive(Drop)]
 pub struct AllOutcomes {
-    /// All outcomes, in the order in which a search breadth first comes to them.
+    /// All outcomes, in the order in which a breadth-first search finds them.
     pub listed: Vec<Listed>,
     /// How many states the runs have.
     pub states: usize,

@@ -13,7 +13,7 @@ use room_spec::Spec;
 use run_search::{Progress, SearchFault};
 use std::alloc::{AllocError, Global};
 
-/// How many local states a search tells apart.
+/// How many local states a search distinguishes.
 const MAX_LOCAL_STATES: u32 = 65536;
 
 /// How the outcomes of rooms are searched and written.

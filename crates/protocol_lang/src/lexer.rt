@@ -59,7 +59,7 @@ pub(crate) fn next_token(text: &[u8], from: usize) -> Result<Placed, ParseFault>
     })
 }
 
-/// The token at the front of `text`, which stands at `at` and begins with no blank, and how many
+/// The token at the front of `text`, which is at `at` and begins with no blank, and how many
 /// bytes it takes.
 fn front_token(text: &[u8], at: usize) -> Result<(Token, usize), ParseFault>
     ensures token { result ≡ token_and_extent at text.now }

@@ -9,5 +9,5 @@ pub mod InOrder
 pub mod Ending
 pub mod Certified
 pub mod Unbounded
-pub mod Watched
+pub mod Observed
 pub mod Following

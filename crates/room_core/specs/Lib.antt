@@ -13,5 +13,5 @@ pub mod RealTime
 pub mod Settled
 pub mod Contents
 pub mod Settles
-pub mod Watching
+pub mod Observing
 pub mod Lengths

@@ -10,7 +10,7 @@ ghost use Rattle.simulator.specs.Minds.{goal_at};
 ghost use Rattle.simulator.specs.declared.goal.Goal.TheVariants.{Spent};
 ghost use Rattle.room_core.specs.Moments.{IsMoment, IsScan, fields_at};
 ghost use Rattle.room_core.specs.Counting.{events_so_far};
-ghost use Rattle.room_core.specs.Watching.{Follow, steps_of_settling, steps_of_steps};
+ghost use Rattle.room_core.specs.Observing.{Follow, steps_of_settling, steps_of_steps};
 ghost use Rattle.room_core.specs.declared.reply.StepReply.TheVariants.{Stepped};
 ghost use Rattle.room_core.specs.Points.{AreEffects, HasPassed, Point, TakesEffect, points_at, read_time, reads_at};
 ghost use Rattle.room_core.specs.RealTime.{HasBegun, HasEnded, Precedes};
@@ -188,7 +188,7 @@ pub fn left_is_clean()
         IsClean (levels_at room.spec fields j k) }
 {}
 
-/// The proposals that stand, of whatever agreements, are snapshots of one simulated memory.
+/// The proposals that are kept, of whatever agreements, are snapshots of one simulated memory.
 pub fn snapshots()
     // Each is the step numbers at some moment of the run.
     ensures moments { (room : RoomState) (fields : Fields) →

@@ -7,12 +7,12 @@
 #![tactic(auto)]
 
 pub mod laws;
+mod observer;
 mod reply;
 mod room;
 mod room_words;
 mod settle;
-mod watch;
 
+pub use observer::{Observer, Unobserved};
 pub use reply::{CrashReply, StepReply};
 pub use room::{RoomCore, nobody};
-pub use watch::{Unwatched, Watch};

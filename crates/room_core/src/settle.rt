@@ -6,14 +6,14 @@ ghost use Rattle.room_core.specs.Fields.{Fields, fields_after_settle};
 ghost use Rattle.room_core.specs.Agreements.{AgreementsStay};
 ghost use Rattle.room_core.specs.Reading.{AreFieldsOf};
 ghost use Rattle.room_core.specs.Calls.{configuration_of, room_after_settle, room_kind};
-ghost use Rattle.room_core.specs.Watching.{AreSeen, IsWatched, steps_of_settling, traced_kind};
+ghost use Rattle.room_core.specs.Observing.{AreSeen, IsObserved, steps_of_settling, traced_kind};
 ghost use Rattle.room_core.specs.Settled.{HasTurnLeft, IsDecidedOrHeld, IsSettledFor};
 ghost use Rattle.room_core.specs.Settles.{Settles};
 ghost use Rattle.room_core.specs.Settling.{each_in_order, ran_alone, turn_ended};
 
+use crate::observer::{Observer, Unobserved};
 use crate::reply::StepReply;
 use crate::room::RoomCore;
-use crate::watch::{Unwatched, Watch};
 
 impl RoomCore {
     /// Ends the open turn of each simulator that hasn't crashed, in order of number; then lets each of
@@ -39,60 +39,60 @@ impl RoomCore {
             IsDecidedOrHeld self.old.spec (fields_after_settle self.old.spec fields) j }
     {
         let _ = &self.spec; // for the proof: what the type of a room says
-        self.settle_watched(&mut Unwatched);
+        self.settle_observed(&mut Unobserved);
     }
 
     /// Does what [`settle`](RoomCore::settle) does, and has each atomic step seen by an observer.
-    pub fn settle_watched<W: Watch>(&mut self, watch: &mut W)
+    pub fn settle_observed<W: Observer>(&mut self, observer: &mut W)
         ensures room { self.new ≡ room_after_settle self.old }
         // The steps that were taken were seen, and no others, in their order.
-        ensures seen { AreSeen W.sees watch.old (steps_of_settling self.old) watch.new }
+        ensures seen { AreSeen W.sees observer.old (steps_of_settling self.old) observer.new }
         // In its fields it is one call of the replay.
         ensures fields { (fields : Fields) → AreFieldsOf self.old fields → AreFieldsOf self.new (fields_after_settle self.old.spec fields) }
     {
         let _ = &self.spec; // for the proof: what the type of a room says
-        self.finish_turns(watch);
-        self.run_each(watch);
+        self.finish_turns(observer);
+        self.run_each(observer);
     }
 
-    fn finish_turns<W: Watch>(&mut self, watch: &mut W)
-        ensures { IsWatched W.sees (each_in_order traced_kind (turn_ended traced_kind)) self.old watch.old self.new watch.new }
+    fn finish_turns<W: Observer>(&mut self, observer: &mut W)
+        ensures { IsObserved W.sees (each_in_order traced_kind (turn_ended traced_kind)) self.old observer.old self.new observer.new }
     {
         for i in 0..self.spec.m() {
-            self.finish_turn(i, watch);
+            self.finish_turn(i, observer);
         }
     }
 
-    fn run_each<W: Watch>(&mut self, watch: &mut W)
-        ensures { IsWatched W.sees (each_in_order traced_kind (ran_alone traced_kind)) self.old watch.old self.new watch.new }
+    fn run_each<W: Observer>(&mut self, observer: &mut W)
+        ensures { IsObserved W.sees (each_in_order traced_kind (ran_alone traced_kind)) self.old observer.old self.new observer.new }
     {
         for i in 0..self.spec.m() {
-            self.run_alone(i, watch);
+            self.run_alone(i, observer);
         }
     }
 
     /// Lets simulator `i` end its open turn, if it has one and hasn't crashed.
-    fn finish_turn<W: Watch>(&mut self, i: usize, watch: &mut W)
+    fn finish_turn<W: Observer>(&mut self, i: usize, observer: &mut W)
         requires { i < self.old.spec.simulators }
-        ensures { IsWatched W.sees (λ traced. turn_ended traced_kind traced i) self.old watch.old self.new watch.new }
+        ensures { IsObserved W.sees (λ traced. turn_ended traced_kind traced i) self.old observer.old self.new observer.new }
     {
         if self.crashed[i] {
             return;
         }
         while !self.mind(i).resting() {
-            watch.step(self, i);
+            observer.step(self, i);
         }
     }
 
     /// Lets simulator `i` run until it is idle or out of turns, if it hasn't crashed.
-    fn run_alone<W: Watch>(&mut self, i: usize, watch: &mut W)
+    fn run_alone<W: Observer>(&mut self, i: usize, observer: &mut W)
         requires { i < self.old.spec.simulators }
-        ensures { IsWatched W.sees (λ traced. ran_alone traced_kind traced i) self.old watch.old self.new watch.new }
+        ensures { IsObserved W.sees (λ traced. ran_alone traced_kind traced i) self.old observer.old self.new observer.new }
     {
         if self.crashed[i] {
             return;
         }
         self.wake(i); // Others may have come further since it asked.
-        while watch.step(self, i) == StepReply::Stepped {}
+        while observer.step(self, i) == StepReply::Stepped {}
     }
 }

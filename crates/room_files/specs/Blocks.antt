@@ -17,12 +17,12 @@ use Rattle.room_files.specs.declared.fault.BlockFault.TheVariants as blocks
 
 -- ---- a refused block's line
 
--- the fault's code, and its place where it has one
+-- the fault's code, and its place if it has one
 abbrev pub protocol_text : ℕ → Option ℕ → List ℕ
 protocol_text code None = decimal code
 protocol_text code (Some at) = decimal code ++ (codes " " ++ decimal at)
 
--- the numbers behind a fault's code: its line, or what is wrong with the protocol
+-- the numbers after a fault's code: its line, or what is wrong with the protocol
 abbrev pub numbers_behind : SpecFault → List ℕ
 numbers_behind (BadLine line) = codes " " ++ decimal line
 numbers_behind (BadProtocol fault) = codes " " ++ protocol_text (protocol_code fault) (place_of fault)
@@ -31,14 +31,14 @@ numbers_behind (Repeated line) = codes " " ++ decimal line
 numbers_behind (TaskLine line) = codes " " ++ decimal line
 numbers_behind fault = []
 
--- the fault's code and the numbers behind it
+-- the fault's code and the numbers after it
 abbrev pub fault_text : SpecFault → List ℕ
 fault_text fault = decimal (block_code fault) ++ numbers_behind fault
 
 abbrev pub refused_line : ℕ → List ℕ → List ℕ
 refused_line line fault = codes "line " ++ (decimal line ++ (codes " refused " ++ (fault ++ codes "\n")))
 
--- why a block opens no room, behind the word `refused`
+-- why a block opens no room, after the word `refused`
 abbrev pub why_text : BlockFault → List ℕ
 why_text (blocks.Spec fault) = fault_text fault
 why_text blocks.NameTaken = codes "41"

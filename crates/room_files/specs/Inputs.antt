@@ -1,4 +1,4 @@
--- What an input says: blocks, and where it is a transcript the events behind them.
+-- What an input says: blocks, and where it is a transcript the events after them.
 use Rattle.std.specs.Prelude.{◌≡◌, ◌⊎◌, ℕ, ◌+◌, false, List, [], ◌∷◌, ◌++◌, length, suc, zero, take, drop, Option, Some, None, IsSome, Result, Ok, Err, IsOk, if◌then◌else◌, codes}
 use Rattle.std.specs.Str.{bytes_eq}
 use Rattle.room_spec.specs.Rooms.{RoomSpec}
@@ -23,7 +23,7 @@ abbrev pub next_block : (Setup → List ℕ → Result (Setup × List ℕ) Fault
 next_block later setup rest None = ended_early setup rest
 next_block later setup rest (Some len) = later (after_block setup (take len rest)) (drop len rest)
 
--- the blocks up to the line `events`, at most so many, and the text behind it
+-- the blocks up to the line `events`, at most this many, and the text after it
 unfoldable pub blocks_from : ℕ → Setup → List ℕ → Result (Setup × List ℕ) FaultAt
 blocks_from zero setup rest = ended_early setup rest
 blocks_from (suc most) setup rest =
@@ -48,7 +48,7 @@ abbrev pub then_fed : (List FedEvent → Result (List FedEvent) FaultAt) → Lis
 then_fed later fed (Ok one) = later (fed ++ one ∷ [])
 then_fed later fed (Err fault) = Err fault
 
--- what was fed so far, and what these lines tell, the first of which has this number
+-- what was fed so far, and what these lines say, the first of which has this number
 unfoldable pub fed_from : List RoomSpec → List FedEvent → ℕ → List (List ℕ) → Result (List FedEvent) FaultAt
 fed_from rooms fed line [] = Ok fed
 fed_from rooms fed line (text ∷ texts) = then_fed (λ so_far. fed_from rooms so_far (line + 1) texts) fed (of_known_room rooms line (line_in text))
@@ -76,7 +76,7 @@ MayLackMemory input = BeginsWithBlock input ⊎ IsOk (input_says input)
 
 -- ---- an input that has blocks alone
 
--- what the blocks of a text say behind those before it, at most so many; where it has no line `end`, all of it is a block
+-- what the blocks of a text say after those before it, at most this many; if it has no line `end`, all of it is a block
 unfoldable pub all_blocks_from : ℕ → Setup → List ℕ → Setup
 all_blocks_from zero setup text = setup
 all_blocks_from (suc most) setup [] = setup

@@ -14,7 +14,7 @@ use Rattle.room_files.specs.Faults.{FaultAt}
 use Rattle.room_files.specs.declared.fault.TextFault.{TextFault}
 use Rattle.room_files.specs.declared.fault.TextFault.TheVariants.{BadEvent, NoRoom, NoCommand, NoEvents}
 
--- the number of the line that stands behind these, which begin the input
+-- the number of the line after these, which begin the input
 abbrev pub number_behind : List (List ℕ) → ℕ
 number_behind lines = suc (length lines)
 
@@ -45,7 +45,7 @@ pub data AreBlocks : List (List ℕ) → List RoomSpec → List Refusal → Type
 
 -- ---- the event lines
 
--- Behind the lines `before`, which begin the input, stand these lines, and each tells an event of one of the rooms, with its own number.
+-- After the lines `before`, which begin the input, come these lines, and each says an event of one of the rooms, with its own number.
 pub data AreTold (rooms : List RoomSpec) (before : List (List ℕ)) : List (List ℕ) → List FedEvent → Type 0 where
   NoLine : AreTold rooms before [] []
   OneMore : (lines : List (List ℕ)) (fed : List FedEvent) (line name : List ℕ) (event : Event) → AreTold rooms before lines fed → line_in line ≡ Ok (name, event) → has_room name rooms ≡ true
@@ -102,7 +102,7 @@ pub record HasBadLine (input : List ℕ) (line : ℕ) (fault : TextFault) : Type
   pub number : line ≡ number_behind (with_events blocks ++ events)
   pub why : IsBadLine rooms bad fault
 
--- what an input says, or the number and the fault of its first bad line, by its lines
+-- what an input says, or the number and the fault of its first malformed line, by its lines
 abbrev pub IsNumbered : List ℕ → Result (Setup × List FedEvent) FaultAt → Type 0
 IsNumbered input (Ok (setup, fed)) = IsSaid input setup fed
 IsNumbered input (Err (line, fault)) = EndsEarly input line fault ⊎ HasBadLine input line fault

@@ -2,12 +2,12 @@
 use Rattle.std.specs.Prelude.{ℕ, List, [], ◌∷◌}
 use Rattle.room_spec.specs.Texts.{lines_of}
 
--- what stands behind the last line end is a line where it isn't empty
+-- what comes after the last line end is a line if it isn't empty
 abbrev pub last_line : List ℕ → List (List ℕ)
 last_line [] = []
 last_line (byte ∷ bytes) = (byte ∷ bytes) ∷ []
 
--- a piece, the pieces behind it, and the lines that these are
+-- a piece, the pieces after it, and the lines that these are
 abbrev pub line_before : List ℕ → List (List ℕ) → List (List ℕ) → List (List ℕ)
 line_before piece [] lines = last_line piece
 line_before piece (next ∷ pieces) lines = piece ∷ lines

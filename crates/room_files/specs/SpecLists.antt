@@ -7,6 +7,6 @@ use Rattle.history_checker.specs.Verdicts.{names_of}
 abbrev pub specs_in : List (List ℕ × RoomSpec) → List RoomSpec
 specs_in entries = map (λ entry. entry.1) entries
 
--- each stands under its own name
+-- each is under its own name
 abbrev pub AreNamed : List (List ℕ × RoomSpec) → Type 0
 AreNamed entries = map (λ entry. entry.0) entries ≡ names_of (specs_in entries)

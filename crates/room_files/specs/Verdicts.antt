@@ -1,4 +1,4 @@
--- What a transcript's rooms come to: a verdict each, the line that says it, and the outcome of all.
+-- The verdicts on a transcript's rooms, the line that says it, and the outcome of all.
 use Rattle.std.specs.Prelude.{◌≡◌, ℕ, Bool, true, false, ◌&&◌, ◌==◌, List, ◌++◌, length, map, Option, Some, if◌then◌else◌}
 use Rattle.std.specs.List.{All, flat_map, list_all}
 use Rattle.room_spec.specs.Rooms.{RoomSpec}
@@ -37,7 +37,7 @@ is_well (Broken line) task = false
 is_well Run (Some (tasks.Broken line)) = false
 is_well Run task = true
 
--- all is well where no block was refused, each room's events are a run, and no task is broken
+-- all is well if no block was refused, each room's events are a run, and no task is broken
 abbrev pub outcome_of : List ℕ → List Judged → Outcome
 outcome_of refused all = outcome_if ((length refused == 0) && list_all (λ one. is_well one.verdict one.task) all)
 

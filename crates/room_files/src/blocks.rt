@@ -55,7 +55,7 @@ pub trait Refuses: Drop {
     ghost use Rattle.std.specs.Prelude.{◌≡◌, ◌++◌, ℕ, List, OnOk};
     ghost use Rattle.room_files.specs.Blocks.{refused_line, why_text, IsWhy};
 
-    // The lines that tell of those so far.
+    // The lines that say those so far.
     ghost lines: { Self → List ℕ };
 
     /// Refuses a block of these bytes, whose first line has this number.
@@ -116,7 +116,7 @@ impl<R: Opens, T: Refuses> Setup<R, T> {
         }
     }
 
-    /// Takes the next block. `Err` is want of memory.
+    /// Takes the next block. `Err` is an allocation that failed.
     pub(crate) fn take<'a>(
         &mut self,
         alloc: Global,
@@ -135,7 +135,7 @@ impl<R: Opens, T: Refuses> Setup<R, T> {
         Ok(())
     }
 
-    /// Refuses what is left of an input, which has no line `end`. `Err` is want of memory.
+    /// Refuses what is left of an input, which has no line `end`. `Err` is an allocation that failed.
     pub(crate) fn refuse_rest(&mut self, rest: &[u8]) -> Result<(), AllocError>
         requires fits { self.old.line + length rest.now < 2 ^ 64 }
         requires ends { block_len rest.now ≡ None }
@@ -186,13 +186,13 @@ fn lines_of(block: &Block<'_>) -> u64
     block.lines() as u64
 }
 
-/// What a block says, and how long it is, or its first fault. `Err` is want of memory for its protocol.
+/// What a block says, and how long it is, or its first fault. `Err` is an allocation for its protocol that failed.
 pub fn read_room(
     alloc: Global,
     block: &[u8],
 ) -> Result<Result<(Spec, usize), SpecFault>, AllocError>
     ensures read { IfOk result (λ read. read ≡ block_in block.now) }
-    // Want of memory hides no fault that is found before memory is asked for.
+    // An allocation that fails hides no fault that is found before it.
     ensures lacks { IfErr result (λ _. LacksMemory block.now) }
 {
     match read_block(alloc, block) {
@@ -209,7 +209,7 @@ fn read_lines<'a>(
     protocols: &mut Protocols<'a>,
 ) -> Result<Result<Spec, SpecFault>, AllocError>
     ensures read { IfOk result (λ read. ReadsBlock block.now read) }
-    // Want of memory hides no fault that is found before memory is asked for.
+    // An allocation that fails hides no fault that is found before it.
     ensures lacks { IfErr result (λ _. LacksMemory block.now) }
 {
     match block.read(alloc, protocols) {

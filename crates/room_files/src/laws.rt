@@ -5,6 +5,6 @@ ghost use Rattle.room_files.specs.LineNumbers.{IsNumbered};
 
 /// The lines of an input are numbered from 1 on, over the whole input.
 pub fn lines_are_numbered()
-    // Each event told and each refused block has the number of its line, and so has the first fault.
+    // Each event and each refused block has the number of its line, and so has the first fault.
     ensures { (input : List ℕ) → IsNumbered input (input_says input) }
 {}

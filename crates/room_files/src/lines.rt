@@ -4,7 +4,7 @@ ghost use Rattle.room_files.specs.Lines.{text_lines};
 
 use room_spec::cut;
 
-/// The first line, without its line end, and what stands behind it. `None` where the text is empty.
+/// The first line, without its line end, and what comes after it. `None` if the text is empty.
 #[inline]
 pub fn next_line(text: &[u8]) -> Option<(&[u8], &[u8])>
     ensures lines { MatchOption result (text_lines text.now ≡ []) (λ r. text_lines text.now ≡ r.0.now ∷ text_lines r.1.now) }

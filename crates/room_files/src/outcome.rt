@@ -1,11 +1,11 @@
-//! What the answer to a whole input comes to.
+//! The outcome of the answer to a whole input.
 ghost use Rattle.std.specs.Prelude.{◌≡◌};
 ghost use Rattle.room_files.specs.Verdicts.{is_well, outcome_if, outcome_status};
 
 use history_checker::{TaskVerdict, Verdict};
 use io_text::Text;
 
-/// What an answer comes to, where the input was good and the output was written.
+/// The outcome of an answer, if the input was valid and the output was written.
 #[derive(Clone, Copy, Debug, PartialEq, Eq)]
 pub enum Outcome {
     /// Nothing was refused, each room's events are a run, and no task is broken.
@@ -26,7 +26,7 @@ impl Outcome {
     }
 }
 
-/// The outcome where nothing was refused, each room's events are a run and no task is broken, or not.
+/// The outcome if nothing was refused, each room's events are a run and no task is broken, or not.
 pub fn outcome_if(all_well: bool) -> Outcome
     ensures { result ≡ outcome_if all_well }
 {

@@ -20,7 +20,7 @@ pub fn write_refused(output: &mut Text, line: u64, fault: SpecFault) -> Result<(
     output.put(b"\n")
 }
 
-/// Writes the line of a block that was refused for a fault that its code alone tells, whose first line
+/// Writes the line of a block that was refused for a fault that its code alone says, whose first line
 /// has this number.
 pub fn write_refused_code(output: &mut Text, line: u64, code: u16) -> Result<(), AllocError>
     ensures { OnOk result (output.new ≡ output.old ++ refused_line line (decimal code)) }
@@ -38,7 +38,7 @@ fn write_code(output: &mut Text, line: u64, code: u16) -> Result<(), AllocError>
     output.put_number(u64::from(code))
 }
 
-/// Writes the numbers behind the code of a block's fault: its line, or what is wrong with the protocol.
+/// Writes the numbers after the code of a block's fault: its line, or what is wrong with the protocol.
 fn write_numbers(output: &mut Text, fault: SpecFault) -> Result<(), AllocError>
     ensures { OnOk result (output.new ≡ output.old ++ numbers_behind fault) }
 {

@@ -10,11 +10,11 @@ use crate::lines::count_lines;
 use room_spec::{Block, Protocols, cut_near};
 use std::alloc::{AllocError, Global};
 
-/// Takes the blocks of a transcript, up to the line `events`: what they say, and the text behind that line.
+/// Takes the blocks of a transcript, up to the line `events`: what they say, and the text after that line.
 ///
 /// # Errors
 ///
-/// An input that ends before that line, or want of memory.
+/// An input that ends before that line, or an allocation that failed.
 #[tactic(auto, unfolding(crate::specs::Inputs::blocks_from))]
 pub fn read_blocks<R: Opens, T: Refuses>(
     alloc: Global,
@@ -44,7 +44,7 @@ pub fn read_blocks<R: Opens, T: Refuses>(
 }
 
 /// Takes all blocks of an input that has nothing else: what they say. Where the last has no line `end`
-/// it is cut off, and refused. `Err` is want of memory, which an input of no bytes takes none of.
+/// it is cut off, and refused. `Err` is an allocation that failed; an empty input needs none.
 #[tactic(auto, unfolding(crate::specs::Inputs::all_blocks_from))]
 pub fn read_all_blocks<R: Opens, T: Refuses>(
     alloc: Global,

@@ -11,7 +11,7 @@ use Rattle.room_core.specs.Calls.{Crash as CrashCall, Settle as SettleCall}
 use Rattle.room_core.specs.Fields.{Fields, crash_reply_in, fields_after_crash, fields_after_settle, fields_after_step, fields_after_steps, opening_fields, step_reply_in}
 use Rattle.room_core.specs.Calls.{Reply as CallReply, Crashing}
 use Rattle.room_core.specs.Reading.{AreFieldsOf}
-use Rattle.room_core.specs.Watching.{is_stepped}
+use Rattle.room_core.specs.Observing.{is_stepped}
 use Rattle.room_core.proofs.CallerLemmas.{calls_in_fields, opening_in_fields, same_spec, same_spec_steps, step_in_fields}
 use Rattle.ws_history.specs.Reports.{report_of}
 use Rattle.ws_history.specs.declared.states.ProcessState.{ProcessState}

@@ -140,8 +140,8 @@ acts_last spec way after simulator most fuse left stays leads (aimed others take
 
 -- ---- all who have not stopped may act
 
-abbrev pub AreWatched : RoomSpec → Way → List Active → Type 0
-AreWatched spec way active = (i : ℕ) → i < spec.simulators → (1 ≤ times i active) ⊎ HasStopped spec way.schedule i
+abbrev pub AreObserved : RoomSpec → Way → List Active → Type 0
+AreObserved spec way active = (i : ℕ) → i < spec.simulators → (1 ≤ times i active) ⊎ HasStopped spec way.schedule i
 
 all_there : (spec : RoomSpec) (style : Style) (random : Stream) (m i : ℕ) → i < m → 1 ≤ times i (active_from spec style m random).0
 unfolding active_from
@@ -157,7 +157,7 @@ all_there spec style random (suc m) i less =
     by_last d earlier sums one (inl below) = let there = earlier below in omega (arith, sums, there)
     by_last d earlier sums one (inr last) = let here : ◌≡◌ {A = ℕ} (cond (eqb m i) 1 0) 1 = ap (λ (b : Bool). cond b 1 0) (eq-eqb m i (omega (arith, less, last))) in omega (arith, sums, one, here)
 
-module _ (spec : RoomSpec) (style : Style) (way after : Way) (active active' : List Active) (random later : Stream) (drawn : Draws style way active random after active' later) (leads : Leads spec after) (so : AreWatched spec way active) where
+module _ (spec : RoomSpec) (style : Style) (way after : Way) (active active' : List Active) (random later : Stream) (drawn : Draws style way active random after active' later) (leads : Leads spec after) (so : AreObserved spec way active) where
   abbrev other : Active
   other = record { simulator = drawn.one.simulator; rank = drawn.rank; fuse = drawn.fuse }
 
@@ -166,7 +166,7 @@ module _ (spec : RoomSpec) (style : Style) (way after : Way) (active active' : L
       let more = acts_go way after drawn.one.simulator drawn.most drawn.one.fuse drawn.fuse drawn.stays drawn.acts in
       subst (λ (schedule : List Stretch). HasStopped spec schedule i) (sym more.1) (stops_on spec way.schedule more.0 i is)
 
-  by_stays : (stays : Bool) → drawn.stays ≡ stays → AreWatched spec after active'
+  by_stays : (stays : Bool) → drawn.stays ≡ stays → AreObserved spec after active'
   by_stays true is i less =
       let left : active' ≡ set active drawn.at other = drawn.left ∙ ap (λ (b : Bool). cond b (set active drawn.at other) (swap_remove (set active drawn.at other) drawn.at other)) is in
       elim (so i less) [
@@ -182,17 +182,17 @@ module _ (spec : RoomSpec) (style : Style) (way after : Way) (active active' : L
         | inr stop ↦ inr (was i stop)
       ])
 
-  watched_on : AreWatched spec after active'
-  watched_on = by_stays drawn.stays refl
+  observed_on : AreObserved spec after active'
+  observed_on = by_stays drawn.stays refl
 
-watched : (spec : RoomSpec) (crashes : ℕ) (random : Stream) (draws : ℕ) (way : Way) (active : List Active) (later : Stream) → IsLed spec crashes random draws way active later → AreWatched spec way active
-watched spec crashes random draws way active later (sets_out active' later' is) = λ i less. inl (subst (λ (all : List Active). 1 ≤ times i all) (sym (ap (λ (p : List Active × Stream). p.0) is)) (all_there spec (style_from random).0 (style_from random).1 spec.simulators i less))
-watched spec crashes random draws way active later (goes_on before from to active' active'' middle later' led drawn) =
-    watched_on spec (style_from random).0 from way active' active middle later drawn (led_so spec crashes random draws way active later (goes_on before from to active' active'' middle later' led drawn)).leads (watched spec crashes random before from active' middle led)
+observed : (spec : RoomSpec) (crashes : ℕ) (random : Stream) (draws : ℕ) (way : Way) (active : List Active) (later : Stream) → IsLed spec crashes random draws way active later → AreObserved spec way active
+observed spec crashes random draws way active later (sets_out active' later' is) = λ i less. inl (subst (λ (all : List Active). 1 ≤ times i all) (sym (ap (λ (p : List Active × Stream). p.0) is)) (all_there spec (style_from random).0 (style_from random).1 spec.simulators i less))
+observed spec crashes random draws way active later (goes_on before from to active' active'' middle later' led drawn) =
+    observed_on spec (style_from random).0 from way active' active middle later drawn (led_so spec crashes random draws way active later (goes_on before from to active' active'' middle later' led drawn)).leads (observed spec crashes random before from active' middle led)
 
 -- where nobody may act each has stopped
 pub all_stopped : (spec : RoomSpec) (crashes : ℕ) (random : Stream) (draws : ℕ) (way : Way) (active : List Active) (later : Stream) → IsLed spec crashes random draws way active later → active ≡ [] → (i : ℕ) → i < spec.simulators → HasStopped spec way.schedule i
-all_stopped spec crashes random draws way active later led none i less = elim (watched spec crashes random draws way active later led i less) [
+all_stopped spec crashes random draws way active later led none i less = elim (observed spec crashes random draws way active later led i less) [
   | inl some ↦ absurd (let zero_times : times i active ≡ 0 = ap (times i) none in omega (arith, some, zero_times))
   | inr stop ↦ stop
 ]

@@ -55,7 +55,7 @@ fuse_by spec style coin = if coin.0 == 0 then (Never, coin.1) else burning_by sp
 abbrev pub fuse_from : RoomSpec → Style → Stream → Fuse × Stream
 fuse_from spec style random = fuse_by spec style (below 2 random)
 
--- a stretch that is drawn has at most so many steps
+-- a stretch that is drawn has at most this many steps
 abbrev pub most_drawn : ℕ
 most_drawn = 64
 
@@ -201,16 +201,16 @@ pub record Draws (style : Style) (way : Way) (active : List Active) (random : St
   pub ranked : (rank, random') ≡ rank_from one.rank measured
   pub left : active' ≡ (if stays then slice_set active at (record { simulator = one.simulator; rank = rank; fuse = fuse }) else swap_remove (slice_set active at (record { simulator = one.simulator; rank = rank; fuse = fuse })) at (record { simulator = one.simulator; rank = rank; fuse = fuse }))
 
--- so many draws from a stream, of which the first say the style, lead to a room, those who may act there, and what is left of the stream
+-- this many draws from a stream, of which the first say the style, lead to a room, those who may act there, and what is left of the stream
 pub data IsLed (spec : RoomSpec) (crashes : ℕ) (random : Stream) : ℕ → Way → List Active → Stream → Type 0 where
   sets_out : (active : List Active) (later : Stream) → (active, later) ≡ active_from spec (style_from random).0 spec.simulators (style_from random).1 → IsLed spec crashes random 0 (opening_way spec crashes) active later
   goes_on : (draws : ℕ) (way after : Way) (active active' : List Active) (later random' : Stream) → IsLed spec crashes random draws way active later → Draws (style_from random).0 way active later after active' random' → IsLed spec crashes random (draws + 1) after active' random'
 
--- so many draws are made for a schedule at most
+-- this many draws are made for a schedule at most
 abbrev pub most_draws : ℕ
 most_draws = 65536
 
--- so many draws lead there; and nobody may act, or these are as many as are made
+-- this many draws lead there; and none may act, or these are as many as are made
 pub record IsThrough (spec : RoomSpec) (crashes : ℕ) (random : Stream) (way : Way) : Type 0 where
   pub draws : ℕ
   pub active : List Active

@@ -16,7 +16,7 @@ use Rattle.room_sample.specs.declared.sampling.Plan.{Plan}
 use Rattle.room_sample.specs.declared.stretch.Stretch.{Stretch}
 use Rattle.room_sample.specs.declared.tally.Outcome.{Outcome}
 
--- a schedule, and where the processes stand behind it
+-- a schedule, and the states of the processes after it
 pub record Sampled : Type 0 where
   pub schedule : List Stretch
   pub states : List ProcessState
@@ -45,7 +45,7 @@ counted run (one ∷ others) = if same_states run.states one.states then once_mo
 abbrev pub counted_all : List Sampled → List Counted
 counted_all runs = fold (λ so_far run. counted run so_far) [] runs
 
--- A run of a room by a schedule that is drawn from a stream, in which at most so many simulators crash. It goes on until each simulator has
+-- A run of a room by a schedule that is drawn from a stream, in which at most this many simulators crash. It goes on until each simulator has
 -- stopped, unless as many draws are made as may be.
 pub record IsRunFrom (spec : RoomSpec) (crashes : ℕ) (random : Stream) (run : Sampled) : Type 0 where
   pub way : Way
@@ -54,7 +54,7 @@ pub record IsRunFrom (spec : RoomSpec) (crashes : ℕ) (random : Stream) (run : 
   pub outcome : IsOutcome spec crashes run.schedule run.states
   pub ends : (drawn.draws ≡ most_draws) ⊎ ((i : ℕ) → i < spec.simulators → HasStopped spec run.schedule i)
 
--- The outcomes of so many runs, each by a schedule that is drawn from a stream of its own: that of the seed and of its number, from 0.
+-- The outcomes of this many runs, each by a schedule that is drawn from a stream of its own: that of the seed and of its number, from 0.
 pub record IsSampleOf (spec : RoomSpec) (plan : Plan) (schedules : ℕ) (outcomes : List Counted) : Type 0 where
   pub runs : List Sampled
   pub count : length runs ≡ schedules
@@ -70,7 +70,7 @@ IsSample spec plan outcomes = IsSampleOf spec plan plan.schedules outcomes
 abbrev pub AreAmongAll : RoomSpec → List Counted → Type 0
 AreAmongAll spec outcomes = All (λ one. IsRunOutcome spec (processes spec) (ends_of one.states)) outcomes
 
--- those stand first that came most often
+-- the most frequent are first
 abbrev pub AreMostFirst : List Counted → Type 0
 AreMostFirst outcomes = (k : ℕ) (d : Counted) → k + 1 < length outcomes → (slice_index_or outcomes (k + 1) d).times ≤ (slice_index_or outcomes k d).times
 

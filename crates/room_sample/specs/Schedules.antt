@@ -1,4 +1,4 @@
--- Schedules of a room, and what it comes to by one.
+-- Schedules of a room, and its outcome under one.
 use Rattle.std.specs.Prelude.{◌≡◌, ◌≢◌, ℕ, ◌<◌, ◌≤◌, Bool, true, false, Contains, List, [], ◌∷◌, ◌++◌, ⊤}
 use Rattle.std.specs.List.{count_by}
 use Rattle.room_spec.specs.Rooms.{RoomSpec}
@@ -48,11 +48,11 @@ pub data HasStopped (spec : RoomSpec) (schedule : List Stretch) (simulator : ℕ
 abbrev pub crashes_in : List Stretch → ℕ
 crashes_in schedule = count_by is_crash schedule
 
--- the room once it has settled behind a schedule
+-- the room once it has settled after a schedule
 abbrev pub settled_by : RoomSpec → List Stretch → RoomState
 settled_by spec schedule = room_after_settle (room_after_schedule (opening_state spec) schedule)
 
--- Where each process stands in the report of a room that has settled behind a schedule, in which at most so many simulators crash.
+-- The state of each process in the report of a room that has settled after a schedule, in which at most this many simulators crash.
 pub record IsOutcome (spec : RoomSpec) (crashes : ℕ) (schedule : List Stretch) (states : List ProcessState) : Type 0 where
   pub may_come : IsSchedule (opening_state spec) schedule
   pub few : crashes_in schedule ≤ crashes

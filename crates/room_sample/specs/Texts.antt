@@ -15,7 +15,7 @@ abbrev pub stretch_line : List ℕ → Stretch → List ℕ
 stretch_line name (Steps simulator count) = codes "step " ++ (name ++ ((32 ∷ decimal simulator) ++ ((32 ∷ decimal count) ++ codes "\n")))
 stretch_line name (Crash simulator) = codes "crash " ++ (name ++ ((32 ∷ decimal simulator) ++ codes "\n"))
 
--- what `play` is given so that it comes to the outcome, and reports it
+-- what `play` is given so that the outcome results and is reported
 abbrev pub script_text : List ℕ → List ℕ → List Stretch → List ℕ
 script_text name block schedule =
     codes "open\n" ++ (whole_block block ++ (flat_map (stretch_line name) schedule ++ ((codes "settle " ++ (name ++ codes "\n")) ++ (codes "report " ++ (name ++ codes "\n")))))
@@ -29,7 +29,7 @@ plan_line name plan =
 abbrev pub script_unless : Bool → List ℕ → List ℕ → List Stretch → List ℕ
 script_unless brief name block schedule = if brief then [] else script_text name block schedule
 
--- how often an outcome came, where the processes stand in it, and a script that leads there
+-- how often an outcome came, the states of the processes in it, and a script that leads there
 abbrev pub outcome_text : Bool → List ℕ → List ℕ → Counted → List ℕ
 outcome_text brief name block one =
     (codes "\n" ++ (name ++ (codes " came" ++ ((32 ∷ decimal one.times) ++ codes " times\n")))) ++ (process_lines name one.states ++ script_unless brief name block one.schedule)

@@ -222,7 +222,7 @@ fn steps_at(schedule: &[Stretch], at: usize) -> u16 {
     }
 }
 
-/// Takes a cut if the room still comes to these states, and the schedule gets smaller. Gives whether it has.
+/// Takes a cut if the room still ends in these states, and the schedule gets smaller. Gives whether it has.
 fn try_cut(
     alloc: Global,
     spec: &Spec,
@@ -250,7 +250,7 @@ fn try_cut(
     Ok(true)
 }
 
-/// Whether the processes stand as they do in another outcome.
+/// Whether the processes have the states of another outcome.
 fn are_same(one: &[ProcessState], other: &[ProcessState]) -> bool
     ensures { result ≡ same_states one.now other.now }
 {

@@ -1,4 +1,4 @@
-//! What a room may come to: it is run by many random schedules, and its outcomes are counted.
+//! Outcomes of a room: it is run under many random schedules, and its outcomes are counted.
 #![tactic(auto)]
 
 mod active;

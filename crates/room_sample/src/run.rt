@@ -28,7 +28,7 @@ use ws_history::{ProcessState, process_states};
 /// The most stretches before the room settles.
 const MOST_STRETCHES: u32 = 65536;
 
-/// What a room has come to by a schedule.
+/// The outcome of a room under a schedule.
 #[derive(Drop)]
 pub(crate) struct Run {
     pub(crate) states: ArrayVec<ProcessState, MAX_PROCESSES>,
@@ -45,7 +45,7 @@ struct Scheduled {
 }
 
 impl Scheduled {
-    /// A room in which nobody has taken a step.
+    /// A room in which no simulator has taken a step.
     fn fresh(alloc: Global, spec: Spec, crashes: u32) -> Result<Scheduled, AllocError>
         ensures { IfOk result (λ fresh. way_of fresh ≡ opening_way spec crashes) }
     {
@@ -82,7 +82,7 @@ impl Scheduled {
         Ok((count, entered))
     }
 
-    /// Crashes a simulator, where one may crash still and this one hasn't yet. Gives whether it has crashed now.
+    /// Crashes a simulator, if one may crash still and this one hasn't yet. Gives whether it has crashed now.
     fn crash(&mut self, simulator: u8) -> Result<bool, AllocError>
         ensures { IfOk result (λ crashed. Crashes simulator (way_of self.old) crashed (way_of self.new)) }
     {
@@ -113,7 +113,7 @@ impl Scheduled {
         }
     }
 
-    /// Settles the room, and says where its processes stand.
+    /// Settles the room, and says the states of its processes.
     fn settled(mut self) -> Run
         ensures schedule { result.schedule.items ≡ self.schedule.items }
         ensures states { (fields : Fields) → AreFieldsOf (room_after_settle self.room) fields →
@@ -156,7 +156,7 @@ fn is_look(line: Line) -> bool
     matches!(line, Line::Look)
 }
 
-/// Lets a simulator take up to so many steps, or crash if its fuse has burnt down. Gives whether it may take more.
+/// Lets a simulator take up to this many steps, or crash if its fuse has burnt down. Gives whether it may take more.
 fn go_on(scheduled: &mut Scheduled, active: &mut Active, most: u16) -> Result<bool, AllocError>
     ensures acts { IfOk result (λ stays.
         Acts active.old.simulator most (way_of scheduled.old) active.old.fuse active.new.fuse (way_of scheduled.new) stays) }
@@ -223,7 +223,7 @@ fn act_next(
     Ok(())
 }
 
-/// Lets those who may act do so, each as it is picked, until nobody may or as many draws were made as may be.
+/// Lets those who may act do so, each as it is picked, until none may or as many draws were made as may be.
 fn act_by_chance(
     scheduled: &mut Scheduled,
     style: Style,
@@ -243,7 +243,7 @@ fn act_by_chance(
     Ok(())
 }
 
-/// Runs a room of this spec by a schedule, as far as each of its stretches may come, and settles it. At most so many simulators crash.
+/// Runs a room of this spec by a schedule, as far as each of its stretches may come, and settles it. At most this many simulators crash.
 pub(crate) fn run_by(
     alloc: Global,
     spec: Spec,
@@ -259,7 +259,7 @@ pub(crate) fn run_by(
     Ok(scheduled.settled())
 }
 
-/// Runs a room of this spec by a random schedule, in which at most so many simulators crash, and settles it.
+/// Runs a room of this spec by a random schedule, in which at most this many simulators crash, and settles it.
 pub(crate) fn run_by_chance(
     alloc: Global,
     spec: Spec,

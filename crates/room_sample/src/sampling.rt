@@ -16,7 +16,7 @@ use std::alloc::{AllocError, Global};
 pub struct Plan {
     /// By how many schedules it is run.
     pub schedules: u32,
-    /// In each of them at most so many simulators crash.
+    /// In each of them at most this many simulators crash.
     pub crashes: u32,
     /// What the schedules are drawn from: the same seed gives the same ones.
     pub seed: u32,
@@ -28,12 +28,12 @@ pub struct Plan {
     pub outcome: Option<u32>,
 }
 
-/// Runs the room of a spec by random schedules, from its beginning each time, and counts where its processes stand once it has
+/// Runs the room of a spec by random schedules, from its beginning each time, and counts the states of its processes once it has
 /// settled. It is no search: an outcome that isn't among them may be possible. Reports how many schedules it has tried.
 ///
 /// # Errors
 ///
-/// Where memory is refused.
+/// An allocation that fails.
 #[tactic(auto, using(crate::proofs::OneMore::no_sample, crate::proofs::OneMore::one_more))]
 pub fn sample<P: Progress>(
     alloc: Global,

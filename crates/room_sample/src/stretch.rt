@@ -3,7 +3,7 @@
 /// A part of a schedule.
 #[derive(Clone, Copy, Debug, PartialEq, Eq)]
 pub enum Stretch {
-    /// This simulator takes so many atomic steps.
+    /// This simulator takes this many atomic steps.
     Steps { simulator: u8, count: u16 },
     /// This simulator crashes.
     Crash { simulator: u8 },

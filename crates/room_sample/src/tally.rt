@@ -15,7 +15,7 @@ use std::cmp::Reverse;
 use std::marker::Model;
 use ws_history::ProcessState;
 
-/// Where each process of a room stands, in order of their numbers.
+/// The state of each process of a room, in order of their numbers.
 pub type States = ArrayVec<ProcessState, MAX_PROCESSES>;
 
 /// What there is to say of an outcome.
@@ -71,7 +71,7 @@ impl Tally {
         Ok(())
     }
 
-    /// Makes the schedules short that lead to the outcomes of the room of this spec, by at most so many runs of it.
+    /// Makes the schedules short that lead to the outcomes of the room of this spec, by at most this many runs of it.
     pub(crate) fn shorten(
         &mut self,
         alloc: Global,

@@ -1,4 +1,4 @@
--- One atomic step of a room, as one sees it who looks at the room before and behind it.
+-- One atomic step of a room, as seen from the room before it and the room after it.
 use Rattle.std.specs.Prelude.{◌≡◌, ℕ, ◌+◌, Option, Some, None, slice_index, if◌then◌else◌}
 use Rattle.room_spec.specs.Sizes.{sizes_in}
 use Rattle.view_table.specs.Places.{IsPlaceAt}
@@ -31,7 +31,7 @@ index_of_move OutOfTurns = 0
 abbrev pub turn_number : MindState → ℕ
 turn_number mind = if is_resting mind.line then mind.turns + 1 else mind.turns
 
--- what is left to do for the process where no turn is open any more
+-- what is left to do for the process if no turn is open any more
 abbrev pub end_in : MindState → ℕ → Option Goal
 end_in mind process = if is_resting mind.line then Some (goal_at mind.goals process) else None
 

@@ -7,7 +7,7 @@ ghost use Rattle.simulator.specs.Ranges.{IsMind};
 ghost use Rattle.simulator.specs.Sweeps.{works_on};
 ghost use Rattle.room_steps.specs.Steps.{end_in, turn_of};
 
-/// What a step leaves to do for its process tells how it ended its turn: quiet, useful or not at all, as the simulator itself counts it.
+/// What a step leaves to do for its process says how it ended its turn: quiet, useful or not at all, as the simulator itself counts it.
 pub fn ends_are_turns()
     ensures { (spec : RoomSpec) (mind : MindState) (answer process : ℕ) →
         IsMind spec mind → works_on mind ≡ Some process →

@@ -10,7 +10,7 @@ use room_core::{RoomCore, StepReply};
 use simulator::{Goal, Line, Mind, Move};
 use view_table::{Place, place_at};
 
-/// An atomic step of one simulator, and what there was to see before and behind it.
+/// An atomic step of one simulator, and what there was to see before and after it.
 #[derive(Clone, Copy, Debug, PartialEq, Eq)]
 pub struct AtomicStep {
     /// Which simulator took it.
@@ -29,7 +29,7 @@ pub struct AtomicStep {
     pub place: Place,
     /// What the word was before: the answer of a load.
     pub word: u64,
-    /// Where the step ended the turn, what is left to do for the process.
+    /// If the step ended the turn, what is left to do for the process.
     pub end: Option<Goal>,
 }
 
@@ -52,7 +52,7 @@ pub fn take_step(room: &mut RoomCore, i: usize) -> (StepReply, Option<AtomicStep
     (reply, Some(AtomicStep { end, ..step }))
 }
 
-/// The step that a simulator takes where it takes one. `None` where it has none to take.
+/// The step that a simulator takes if it takes one. `None` if it has none to take.
 #[tactic(auto, using(crate::proofs::Ready::stepped_moves, crate::proofs::Ready::moves_works))]
 fn next_step(room: &RoomCore, i: usize) -> Option<AtomicStep>
     ensures step { IfSome result (IsNextStep room.now i) }
@@ -112,7 +112,7 @@ fn turn_number(mind: &Mind) -> u64
     }
 }
 
-/// What is left to do for a process, where no turn is open.
+/// What is left to do for a process, if no turn is open.
 fn end_of(mind: &Mind, process: usize) -> Option<Goal>
     ensures { result ≡ end_in mind.now process }
 {

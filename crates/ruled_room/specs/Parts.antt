@@ -20,7 +20,7 @@ use Rattle.ruled_room.specs.declared.stop.Stop.{Stop}
 use Rattle.ruled_room.specs.declared.stop.Stop.TheVariants as stops
 use Rattle.ruled_room.specs.Views.{and_then}
 
--- Which room it is: its table, and what it was told. Keepers and simulators name their room so. No code can test it, since a
+-- Which room it is: its table, and what it was given. Keepers and simulators name their room so. No code can test it, since a
 -- seat has no bytes.
 pub record RoomName : Type 0 where
   pub table : TableId
@@ -72,7 +72,7 @@ abbrev pub StaysInTurn : SimulatorData → List ℕ → ℕ → Type 0
 StaysInTurn start answers count = (k : ℕ) → k < count → is_resting (after_steps start (take (suc k) answers)).sweep.mind.line ≡ false
 
 -- Steps of one turn, at most `most`, and one at least where any may be taken. It was ready for each. The last alone may have ended
--- the turn, and has where they are fewer.
+-- the turn, and has if they are fewer.
 pub record StepsInTurn (most : ℕ) (old new : SimulatorData) : Type 0 where
   pub answers : List ℕ
   pub is : new ≡ after_steps old answers
@@ -110,7 +110,7 @@ operations_home keeper i = slice_index_or keeper.operations i []
 abbrev pub holds_in : KeeperData → ℕ → Bool
 holds_in keeper i = is_some (sweep_home keeper i) && not (slice_index_or keeper.crashed i false)
 
--- the keeper of a room in which nobody has taken a step: all are at home, and none has crashed
+-- the keeper of a room in which no simulator has taken a step: all are at home, and none has crashed
 abbrev pub first_sweeps : RoomSpec → List (Option SweepState)
 first_sweeps spec = map (λ i. Some (opening_sweep spec i)) (range_with_len 0 spec.simulators)
 
@@ -126,7 +126,7 @@ opening_keeper room = record {
 abbrev pub minds_of : List (Option SweepState) → List (Option MindState)
 minds_of sweeps = map (option_map (λ sweep. sweep.mind)) sweeps
 
--- whoever is at home stands at its number
+-- one that is at home is at its number
 abbrev pub AreSweeps : RoomSpec → List (Option SweepState) → Type 0
 AreSweeps spec sweeps = (i : ℕ) (sweep : SweepState) → slice_index_or sweeps i None ≡ Some sweep → IsSweepOf spec i sweep
 

@@ -16,7 +16,7 @@ use Rattle.ruled_room.specs.Views.{minds_of_all, operations_of_all, progress_in}
 abbrev pub word_count : RoomSpec → ℕ
 word_count spec = words_of (sizes_in spec)
 
--- the room of the table's first words and these simulators' minds, where nobody has crashed
+-- the room of the table's first words and these simulators' minds, in which no simulator has crashed
 abbrev pub room_of : RoomSpec → List ℕ → List Progress → Configuration
 room_of spec words simulators = record { spec = spec; words = take (word_count spec) words; minds = minds_of_all simulators; crashed = replicate spec.simulators false }
 

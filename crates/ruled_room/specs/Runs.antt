@@ -14,7 +14,7 @@ operations_along room [] i = []
 operations_along room (steps j ∷ schedule) i = if j == i then operation_in room j ∷ operations_along (stepped room j) schedule i else operations_along (stepped room j) schedule i
 operations_along room (crashes j ∷ schedule) i = operations_along (crashed_by room j) schedule i
 
--- One interleaving of just these operations of the simulators, each with its answer, and of crashes after which nobody steps,
+-- One interleaving of just these operations of the simulators, each with its answer, and of crashes after which the simulator takes no step,
 -- leads from the opening room to this one.
 pub record IsInterleavingOf (room : Configuration) (operations : List (List Operation)) : Type 0 where
   pub one : IsOneInterleaving room

@@ -38,17 +38,17 @@ abbrev pub last_or : ℕ → List ℕ → ℕ
 last_or number [] = number
 last_or number (next ∷ numbers) = last_or next numbers
 
--- word k is simulator i's alone: nobody else stores in it, and nobody adds to it or subtracts from it
+-- word k is simulator i's alone: no other simulator stores in it, and none adds to it or subtracts from it
 pub record IsOwnWord (operations : List (List Operation)) (k i : ℕ) : Type 0 where
   pub others : (j : ℕ) → j ≢ i → HasNone (stores k) (slice_index_or operations j [])
   pub unsummed : (j : ℕ) → HasNone (sums k) (slice_index_or operations j [])
 
--- such a word holds the last number that the simulator's operations stored there, and 0 where they stored none
+-- such a word holds the last number that the simulator's operations stored there, and 0 if they stored none
 abbrev pub HoldsLastStored : Type 0
 HoldsLastStored = (room : Configuration) (operations : List (List Operation)) (k i : ℕ) → IsInterleavingOf room operations → k < word_count room.spec → IsOwnWord operations k i
     → slice_index room.words k ≡ last_or 0 (stored k (slice_index_or operations i []))
 
--- ---- a word in which nobody stores
+-- ---- a word in which no simulator stores
 
 -- what it adds to word k; a difference adds what the number lacks to 2 ^ 64
 abbrev pub added_by : ℕ → Move → ℕ

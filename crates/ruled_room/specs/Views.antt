@@ -24,7 +24,7 @@ mind_of progress = progress.mind
 abbrev pub minds_in : View → List (Option MindState)
 minds_in view = map (option_map mind_of) view.held
 
--- what a simulator has done, and nothing where it isn't held
+-- what a simulator has done, and nothing if it isn't held
 abbrev pub done_by : Option Progress → List Operation
 done_by None = []
 done_by (Some progress) = progress.operations

@@ -46,7 +46,7 @@ impl Model for RuledRoom {
 
     ghost view = { λ r. record { table = r.table.shared.table_id; spec = r.spec } };
 
-    // Its table was told the spec, and has one word more than the room.
+    // Its table has the spec, and has one word more than the room.
     ghost invariant = { λ r. (r.table.shared.key ≡ r.spec) × (r.table.shared.table_id.words ≡ suc (word_count r.spec)) × (r.table.shared.table_id.slots ≡ 0) };
 }
 
@@ -60,11 +60,11 @@ pub enum Gone {
 }
 
 impl RuledRoom {
-    /// A room in which nobody has taken a step, with its keeper, who has all its simulators. Where
-    /// memory is refused, the spec is dropped.
+    /// A room in which no simulator has taken a step, with its keeper, who has all its simulators. If
+    /// an allocation fails, the spec is dropped.
     ///
     /// It begins by a swap in the table's last word. Another answer than 0 of it would be answered as
-    /// refused memory; no run comes there, since nobody else has the new table.
+    /// an allocation fails; no run comes there, since no other has the new table.
     pub fn fresh(alloc: Global, spec: Spec) -> Result<(RuledRoom, Keeper), AllocError>
         ensures room { IfOk result (λ r. r.0.spec ≡ spec) }
         ensures keeper { IfOk result (λ r. r.1 ≡ opening_keeper r.0) }
@@ -87,7 +87,7 @@ impl RuledRoom {
 
     /// Ends a room whose simulators are all at home: a room in which just the steps happened that
     /// they took, in some order, and then the crashes with which they were taken back. Where one is
-    /// still out, and else where memory is refused, room and keeper come back unchanged.
+    /// still out, and else if an allocation fails, room and keeper come back unchanged.
     pub fn close(self, alloc: Global, keeper: Keeper) -> Result<RoomCore, (RuledRoom, Keeper, Gone)>
         requires { keeper.room ≡ self }
         // The room has the keeper's minds and quiet counts, and its marks of crashes.

@@ -5,7 +5,7 @@
 //! seat. A seat's view is data that exists in proofs alone, and changes at its own operations only.
 //!
 //! **Between any two operations** each simulator's mind is in the view of at most one seat, with the
-//! operations that it has done since the room began. Some list of atomic steps, with nobody crashed,
+//! operations that it has done since the room began. Some list of atomic steps, in which no simulator has crashed,
 //! leads from the opening room to the room's words and these minds, and along it each simulator does
 //! just these operations, with the answers that it had. Before the last word is 1, all words are 0 and
 //! no view has a mind.

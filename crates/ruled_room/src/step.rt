@@ -58,7 +58,7 @@ impl Simulator {
         self.sweep.mind()
     }
 
-    /// Whether it stands between two turns.
+    /// Whether it is between two turns.
     pub fn resting(&self) -> bool
         ensures { result ≡ is_resting self.now.sweep.mind.line }
     {
@@ -76,21 +76,21 @@ impl Simulator {
     }
 
     /// Takes one atomic step, if it has one to take: one operation on one word of the room, the one
-    /// that its mind wants next, whose answer the mind takes in. It waits for nobody and takes no
+    /// that its mind wants next, whose answer the mind takes in. It waits for no other simulator and takes no
     /// memory. At `Idle` its quiet turns are counted anew; at `OutOfTurns` nothing changes. No other
     /// reply comes.
     pub fn step(&mut self, room: &RuledRoom) -> StepReply
         requires { self.old.room ≡ room.now }
         ensures reply { result ≡ reply_when (ready_of self.old.room.spec self.old.sweep.mind self.old.sweep.quiet) }
         ensures step { TakesStep self.old result self.new }
-        // An idle simulator has no write left to make: each process stands at an ask, or is done or spent.
+        // An idle simulator has no write left to make: each process is at an ask, or is done or spent.
         ensures waits { result ≡ Idle → (process : ℕ) → HasNoWrite (goal_at self.new.sweep.mind.goals process) }
     {
         self.run(room, 1)
     }
 
     /// Takes atomic steps as `step` does, up to `most`, if it has one to take: those of one turn, the
-    /// open one or else the next, and none behind its end.
+    /// open one or else the next, and none after its end.
     pub fn run(&mut self, room: &RuledRoom, most: u64) -> StepReply
         requires { self.old.room ≡ room.now }
         ensures reply { result ≡ reply_when (ready_of self.old.room.spec self.old.sweep.mind self.old.sweep.quiet) }

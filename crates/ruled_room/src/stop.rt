@@ -3,10 +3,10 @@
 /// Why a simulator takes no further step.
 #[derive(Clone, Copy, Debug, PartialEq, Eq)]
 pub enum Stop {
-    /// It stands between two turns, and has asked in vain for each unfinished process since it last
+    /// It is between two turns, and has asked in vain for each unfinished process since it last
     /// came further.
     Idle,
-    /// It stands between two turns, and has used up all that the room gives it.
+    /// It is between two turns, and has used up all that the room gives it.
     OutOfTurns,
     /// It has crashed: it never takes a step again.
     Crashed,

@@ -78,7 +78,7 @@ fn close(alloc: Global, room: RuledRoom, keeper: Keeper) -> Result<RoomCore, Fai
 }
 
 /// Gives a simulator, steps it until it is idle, and takes it back. Gives how many steps it took, and
-/// whether it then stood between two turns with nothing left to do.
+/// whether it then was between two turns with nothing left to do.
 fn turn_of(room: &RuledRoom, keeper: &mut Keeper, i: usize) -> Result<(u32, bool), Fail>
     requires { keeper.old.room ≡ room.now }
     ensures { keeper.new.room ≡ keeper.old.room }
@@ -90,7 +90,7 @@ fn turn_of(room: &RuledRoom, keeper: &mut Keeper, i: usize) -> Result<(u32, bool
     Ok((taken, ended))
 }
 
-/// Lets simulator 0 end, and then simulator 1, by so many steps each.
+/// Lets simulator 0 end, and then simulator 1, by this many steps each.
 fn take_turns(room: &RuledRoom, keeper: &mut Keeper, steps: u32) -> Result<(), Fail>
     requires { keeper.old.room ≡ room.now }
     ensures { keeper.new.room ≡ keeper.old.room }
@@ -107,7 +107,7 @@ fn close_after_turns(alloc: Global, steps: u32) -> Result<RoomCore, Fail> {
     close(alloc, room, keeper)
 }
 
-/// Whether simulator 1 of two has taken so many steps.
+/// Whether simulator 1 of two has taken this many steps.
 fn has_taken(core: &RoomCore, steps: u64) -> bool {
     core.spec().m() == 2 && core.mind(1).steps_taken() == steps
 }
@@ -148,7 +148,7 @@ fn step_both<R: Threads + Sync>(
     Ok(other)
 }
 
-/// Room and keeper, unchanged, where it isn't closed since simulator 1 is still out.
+/// Room and keeper, unchanged, if it isn't closed since simulator 1 is still out.
 fn keep_open(alloc: Global, room: RuledRoom, keeper: Keeper) -> Result<(RuledRoom, Keeper), Fail>
     requires { keeper.room ≡ room }
     ensures { IfOk result (λ r. (r.0 ≡ room) × (r.1 ≡ keeper)) }

@@ -49,7 +49,7 @@ abbrev pub change_by : Mark → Change
 change_by (Step step) = change_by_deed step.deed
 change_by (Crash simulator) = Crashes
 
--- a change, and one behind it
+-- a change, and one after it
 abbrev pub changed : Change → Change → Change
 changed earlier Nothing = earlier
 changed earlier Enters = Enters
@@ -68,7 +68,7 @@ end_by (Crash simulator) = Still
 abbrev pub more : ℕ → ℕ → ℕ
 more count by = min (count + by) (2 ^ 64 - 1)
 
--- a column of one mark, at this place, behind so many steps
+-- a column of one mark, at this place, after this many steps
 abbrev pub column_of : ℕ → ℕ → Mark → Column
 column_of place before mark = record { place = place; before = before; count = steps_in mark; first = mark; change = change_by mark; end = end_by mark }
 
@@ -76,7 +76,7 @@ column_of place before mark = record { place = place; before = before; count = s
 abbrev pub widened : Column → Mark → Column
 widened column mark = record column { count = more column.count (steps_in mark); change = changed column.change (change_by mark); end = end_by mark }
 
--- the column behind another
+-- the column after another
 abbrev pub next_column : Column → Mark → Column
 next_column column mark = column_of (min (column.place + 1) (2 ^ 16 - 1)) (more column.before column.count) mark
 
@@ -96,13 +96,13 @@ columns_by scale (mark ∷ marks) = columns_from scale (column_of 0 0 mark) mark
 abbrev pub most_columns : ℕ
 most_columns = 400
 
--- A column shows a step if there are at most 400 marks; else a stretch of one turn; and where there are more of these, of one simulator.
+-- A column shows a step if there are at most 400 marks; else a stretch of one turn; and if there are more of these, of one simulator.
 abbrev pub scale_of : List Mark → Scale
 scale_of marks =
     if nat_le (length marks) most_columns then Steps
     else (if nat_le (length (columns_by Turns marks)) most_columns then Turns else Simulators)
 
--- what is drawn of a run: the first 400 columns, and how many there would be behind them
+-- what is drawn of a run: the first 400 columns, and how many there would be after them
 pub record Columns : Type 0 where
   pub scale : Scale
   pub columns : List Column

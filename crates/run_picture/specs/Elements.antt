@@ -27,7 +27,7 @@ hue_of process = slice_index_or hues (process % 8) []
 
 -- ---- elements
 
--- where it stands
+-- its position
 unfoldable pub standing : ℕ → ℕ → List ℕ
 standing x y = attribute (codes " x") x ++ attribute (codes " y") y
 
@@ -82,7 +82,7 @@ escaped text = flat_map escaped_byte text
 unfoldable pub counted : ℕ → List ℕ → List ℕ → List ℕ
 counted count one several = decimal count ++ (if count == 1 then one else several)
 
--- What stands between `hint_start` and `hint_middle` is shown where somebody points at what stands between `hint_middle` and `hint_end`.
+-- What is between `hint_start` and `hint_middle` is shown if one points at what is between `hint_middle` and `hint_end`.
 unfoldable pub hint_start : List ℕ
 hint_start = codes "<g><title>"
 

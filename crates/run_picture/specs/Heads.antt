@@ -1,4 +1,4 @@
--- What stands over the picture of a room.
+-- What is above the picture of a room.
 use Rattle.std.specs.Prelude.{◌≡◌, ℕ, ◌==◌, nat_le, List, [], ◌∷◌, ◌++◌, codes, decimal, length, take, string_bytes, if◌then◌else◌}
 use Rattle.std.specs.List.{flat_map}
 use Rattle.protocol_lang.specs.Printing.{printed}
@@ -7,7 +7,7 @@ use Rattle.run_picture.specs.declared.head.Head.{Head}
 use Rattle.run_picture.specs.Elements.{counted, escaped_byte, label, label_start, label_end}
 use Rattle.run_picture.specs.declared.elements.TheConstants.{FAINT, INK}
 
--- what is told of a room's spec: its name, its numbers and its protocol's shortest text
+-- what is known of a room's spec: its name, its numbers and its protocol's shortest text
 pub record IsHeadOf (spec : RoomSpec) (head : Head) : Type 0 where
   pub name : head.name ≡ spec.name
   pub inputs : head.inputs.items ≡ spec.inputs
@@ -29,7 +29,7 @@ unfoldable pub numbers_words : ℕ → ℕ → List ℕ
 numbers_words simulators rounds =
     codes ", " ++ (counted simulators (codes " simulator") (codes " simulators") ++ (codes ", " ++ counted rounds (codes " round") (codes " rounds")))
 
--- each rule of the protocol has a space behind it
+-- each rule of the protocol has a space after it
 abbrev pub protocol_byte : ℕ → List ℕ
 protocol_byte byte = if byte == 59 then codes "; " else escaped_byte byte
 

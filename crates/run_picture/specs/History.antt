@@ -60,11 +60,11 @@ unfoldable pub event_cell : ℕ → ℕ → Event → List ℕ → List ℕ
 event_cell x y event words =
     event_title (process_of event) words ++ (event_box x y event words ++ (event_label x y event words ++ hint_end))
 
--- an event, in its process's lane below those of so many simulators
+-- an event, in its process's lane below those of this many simulators
 unfoldable pub event_mark : ℕ → ℕ → Event → List ℕ
 event_mark simulators x event = event_cell x (process_y simulators (process_of event)) event (event_words event)
 
--- one behind the other
+-- one after the other
 abbrev pub events_from : ℕ → ℕ → List Event → List ℕ
 events_from simulators x [] = []
 events_from simulators x (event ∷ events) = event_mark simulators x event ++ events_from simulators (x + event_width event) events
@@ -85,7 +85,7 @@ event_marks simulators events = events_start ++ (events_from simulators left (dr
 
 -- ---- processes
 
--- what stands behind the events of a process: where it stands
+-- what follows the events of a process: its state
 unfoldable pub held_words : ℕ → List ℕ
 held_words simulator = codes "held by " ++ (simulator_name simulator ++ label_end)
 

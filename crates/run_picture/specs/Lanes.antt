@@ -53,7 +53,7 @@ changes Enters = true
 changes Leaves = true
 changes Crashes = true
 
--- whether a column is behind another and changes where its simulator is
+-- whether a column is after another and changes where its simulator is
 abbrev pub changes_behind : Column → Column → Bool
 changes_behind column later = (nat_lt column.place later.place && (simulator_of later.first == simulator_of column.first)) && changes later.change
 
@@ -65,7 +65,7 @@ unfoldable pub band : ℕ → ℕ → ℕ → List ℕ → List ℕ
 band simulator from to style =
     rectangle (record { x = from; y = lane_y simulator + 2; width = to - from; height = 26 }) style (codes "url(#inside)") (codes "none")
 
--- Whoever crashes inside an agreement stays there: the stretch goes on, paler, to the end.
+-- A simulator that crashes inside an agreement stays there: the stretch goes on, paler, to the end.
 unfoldable pub crashed_band : ℕ → ℕ → ℕ → ℕ → List ℕ
 crashed_band simulator from to right = band simulator from to [] ++ band simulator to right (codes " opacity=\"0.5\"")
 

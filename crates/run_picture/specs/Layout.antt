@@ -1,4 +1,4 @@
--- Where things stand in the picture of a room.
+-- Positions in the picture of a room.
 use Rattle.std.specs.Prelude.{ℕ, ◌+◌, ◌*◌}
 use Rattle.run_picture.specs.declared.column.Scale.{Scale}
 use Rattle.run_picture.specs.declared.column.Scale.TheVariants.{Steps, Turns, Simulators}
@@ -23,10 +23,10 @@ column_x Simulators place = left + 40 * place
 unfoldable pub lane_y : ℕ → ℕ
 lane_y simulator = 112 + 46 * simulator
 
--- the upper end of what the processes did, below the lanes of so many simulators
+-- the upper end of what the processes did, below the lanes of this many simulators
 unfoldable pub history_y : ℕ → ℕ
 history_y simulators = lane_y simulators + 42
 
--- the upper end of a process's lane, below the lanes of so many simulators
+-- the upper end of a process's lane, below the lanes of this many simulators
 unfoldable pub process_y : ℕ → ℕ → ℕ
 process_y simulators process = history_y simulators + 16 + 40 * process

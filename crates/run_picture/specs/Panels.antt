@@ -6,7 +6,7 @@ use Rattle.ws_history.specs.declared.states.Report.{Report}
 use Rattle.run_picture.specs.declared.head.Head.{Head}
 use Rattle.run_picture.specs.declared.mark.Mark.{Mark}
 
--- what is told of its spec; what happened in it, in order; and what it has come to, once that is known
+-- what is known of its spec; what happened in it, in order; and its final state, once that is known
 pub record Panel : Type 0 where
   pub head : Head
   pub marks : List Mark

@@ -18,7 +18,7 @@ use Rattle.run_picture.specs.declared.elements.TheConstants.{FAINT, INK}
 
 -- ---- the simulators
 
--- what a box is, where it isn't one step
+-- what a box is, if it isn't one step
 unfoldable pub scale_words : Scale → List ℕ
 scale_words Steps = []
 scale_words Turns = codes "each box is a stretch of one turn, with the number of its steps"

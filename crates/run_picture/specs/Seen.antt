@@ -43,11 +43,11 @@ is_on_snapshot lines.Show = true
 is_on_snapshot (lines.GetView chosen) = true
 is_on_snapshot line = false
 
--- which of them is told where there are several
+-- which of them is given if there are several
 abbrev pub word_of : ℕ → Line → Place → Option ℕ
 word_of words line place = if nat_lt 1 words && is_on_snapshot line then word_in place else None
 
--- what is drawn of a step in a room with so many memory words
+-- what is drawn of a step in a room with this many memory words
 abbrev pub step_mark : ℕ → AtomicStep → StepMark
 step_mark words step = record {
   turn = step.turn;

@@ -66,7 +66,7 @@ stretch x simulator column hue = stretch_title simulator column ++ (stretch_box 
 unfoldable pub cross_at : ℕ → ℕ → List ℕ
 cross_at x y = path_start (record { x = x + 2; y = y + 9 }) ++ (codes " l 12 12 m 0 -12 l -12 12\"" ++ stroked (codes " stroke-width=\"3\" fill=\"none\"") ALARM.now)
 
--- the word stands on white, so that it can be read where its simulator is inside an agreement
+-- the word is on white, so that it can be read where its simulator is inside an agreement
 unfoldable pub cross_word : ℕ → ℕ → List ℕ
 cross_word x y =
     rectangle (record { x = x + 17; y = y + 7; width = 52; height = 16 }) [] WHITE.now (codes "none")

@@ -22,7 +22,7 @@ is_in_turn step (Crash simulator) = false
 abbrev pub shows_turn : StepMark → Column → Bool
 shows_turn step column = is_in_turn step column.first
 
--- the first and the last column that show a step of the same turn; the given one where there is none
+-- the first and the last column that show a step of the same turn; the given one if there is none
 abbrev pub first_place : StepMark → List Column → Option Column
 first_place step columns = find (shows_turn step) columns
 

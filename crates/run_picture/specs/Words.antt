@@ -70,7 +70,7 @@ process_name process = codes "process " ++ decimal process
 unfoldable pub process_round : ℕ → ℕ → List ℕ
 process_round process round = process_name process ++ (codes ", round " ++ decimal round)
 
--- which word of a snapshot a step is on, where it takes several
+-- which word of a snapshot a step is on, if it takes several
 unfoldable pub word_words : Option ℕ → List ℕ
 word_words None = []
 word_words (Some word) = codes ", word " ++ decimal word

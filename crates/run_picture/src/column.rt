@@ -25,9 +25,9 @@ pub enum Scale {
 #[derive(Clone, Copy, Debug, PartialEq, Eq)]
 pub enum Change {
     Nothing,
-    /// It is inside behind the column.
+    /// It is inside after the column.
     Enters,
-    /// It is outside behind the column.
+    /// It is outside after the column.
     Leaves,
     /// It stays where it is for good.
     Crashes,
@@ -36,7 +36,7 @@ pub enum Change {
 /// A column of a run's picture: a crash, or one step or several of one simulator.
 #[derive(Clone, Copy, Debug)]
 pub struct Column {
-    /// How many columns stand before it.
+    /// How many columns are before it.
     pub place: u16,
     /// How many steps were taken before it.
     pub before: u64,
@@ -75,7 +75,7 @@ impl Column {
         }
     }
 
-    /// The column behind this one, which begins with this mark.
+    /// The column after this one, which begins with this mark.
     fn next(self, mark: Mark) -> Column
         ensures { result ≡ next_column self mark }
     {
@@ -85,7 +85,7 @@ impl Column {
 }
 
 impl Change {
-    /// What this change and an earlier one come to.
+    /// This change after an earlier one.
     fn after(self, earlier: Change) -> Change
         ensures { result ≡ changed earlier self }
     {
@@ -183,7 +183,7 @@ impl Model for Run {
 }
 
 impl Run {
-    /// The columns of these marks, in order: one a mark where there are few enough, and else one a stretch.
+    /// The columns of these marks, in order: one a mark if there are few enough, and else one a stretch.
     pub(crate) fn of(alloc: Global, marks: &[Mark]) -> Result<Run, AllocError>
         ensures { IfOk result (λ run. run ≡ run_of marks.now) }
     {

@@ -12,7 +12,7 @@ pub(crate) const INK: &[u8] = b"#1f2933";
 /// The colour of words that explain others.
 pub(crate) const FAINT: &[u8] = b"#5b6770";
 
-/// The colour of lines that other marks stand on.
+/// The colour of lines under other marks.
 pub(crate) const RULE: &[u8] = b"#d0d7de";
 
 /// The colour of crashes, and of what they hold.
@@ -27,7 +27,7 @@ pub(crate) struct Point {
     pub y: u64,
 }
 
-/// Where a rectangle stands, and its sizes.
+/// The position of a rectangle, and its sizes.
 #[derive(Clone, Copy)]
 pub(crate) struct Frame {
     pub x: u64,
@@ -81,7 +81,7 @@ pub(crate) fn hue(process: u8) -> &'static [u8]
     }
 }
 
-/// Writes where an element stands.
+/// Writes the position of an element.
 #[tactic(auto, unfolding(crate::specs::Elements::standing))]
 fn write_standing(output: &mut Text, x: u64, y: u64) -> Result<(), AllocError>
     ensures { OnOk result (output.new ≡ output.old ++ standing x y) }
@@ -249,7 +249,7 @@ pub(crate) fn write_escaped_byte(output: &mut Text, byte: u8) -> Result<(), Allo
     }
 }
 
-/// Writes a number of things: behind it the word for one, or for several.
+/// Writes a number of things: after it the word for one, or for several.
 #[tactic(auto, unfolding(crate::specs::Elements::counted))]
 pub(crate) fn write_counted(
     output: &mut Text,
@@ -267,7 +267,7 @@ pub(crate) fn write_counted(
     }
 }
 
-/// Begins words that are shown where somebody points at what stands behind them.
+/// Begins words that are shown if one points at what follows them.
 #[tactic(auto, unfolding(crate::specs::Elements::hint_start))]
 pub(crate) fn start_hint(output: &mut Text) -> Result<(), AllocError>
     ensures { OnOk result (output.new ≡ output.old ++ hint_start) }

@@ -1,4 +1,4 @@
-//! The events of a history, one behind the other.
+//! The events of a history, one after the other.
 ghost use Rattle.std.specs.Prelude.{◌≡◌, ◌+◌, ◌*◌, ◌++◌, ◌∷◌, ◌≤◌, IfOk, OnOk, length, min};
 ghost use Rattle.std.specs.List.{flat_map, sum_by};
 ghost use Rattle.transcript.specs.Grammar.{entry_text};
@@ -21,7 +21,7 @@ const MAX_EVENTS: usize = 500;
 /// Greater than each x in a picture.
 const WIDE: u64 = 10000000;
 
-/// Draws the events, in their processes' lanes below those of so many simulators. Gives their right end.
+/// Draws the events, in their processes' lanes below those of this many simulators. Gives their right end.
 #[tactic(auto, unfolding(crate::specs::History::event_marks))]
 pub(crate) fn write_event_marks(
     alloc: Global,
@@ -116,7 +116,7 @@ fn event_words(alloc: Global, event: &Event) -> Result<Text, AllocError>
     Ok(words)
 }
 
-/// Writes each entry of a snapshot behind a space.
+/// Writes each entry of a snapshot after a space.
 fn write_entries(output: &mut Text, entries: &[Option<u32>]) -> Result<(), AllocError>
     ensures { OnOk result (output.new ≡ output.old ++ entries_text entries.now) }
 {
@@ -224,7 +224,7 @@ fn write_event_label(
     write_label(output, middle, b"", event_ink(event), words)
 }
 
-/// The ends of an event's box: round where it is a snapshot.
+/// The ends of an event's box: round if it is a snapshot.
 #[tactic(auto, unfolding(crate::specs::History::event_style))]
 fn event_style(event: &Event) -> &'static [u8]
     ensures { result.now ≡ event_style event.now }

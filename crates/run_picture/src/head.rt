@@ -1,4 +1,4 @@
-//! What stands over the picture of a room.
+//! What is above the picture of a room.
 ghost use Rattle.std.specs.Prelude.{◌≡◌, ◌++◌, ◌≤◌, IfOk, OnOk, length, take, string_bytes};
 ghost use Rattle.run_picture.specs.Heads.{IsHeadOf, head_lines, inputs_count, inputs_words, name_line, numbers_line, numbers_words, processes_words, protocol_byte, protocol_line, protocol_start, protocol_words, rest_words, shown_part};
 
@@ -14,7 +14,7 @@ use std::alloc::{AllocError, Global};
 /// The most bytes of a protocol's text that are shown.
 const MAX_SHOWN: usize = 200;
 
-/// What is told of a room's spec.
+/// What is known of a room's spec.
 #[derive(Drop)]
 pub struct Head {
     pub name: Name,
@@ -27,11 +27,11 @@ pub struct Head {
 }
 
 impl Head {
-    /// What is told of this spec.
+    /// What is known of this spec.
     ///
     /// # Errors
     ///
-    /// Where memory is refused.
+    /// An allocation that fails.
     pub fn of(alloc: Global, spec: &Spec) -> Result<Head, AllocError>
         ensures { IfOk result (IsHeadOf spec.now) }
     {
@@ -169,7 +169,7 @@ pub(crate) fn shown_part(text: &[u8]) -> &[u8]
     }
 }
 
-/// What stands behind that beginning.
+/// What comes after that beginning.
 #[tactic(auto, unfolding(crate::specs::Heads::rest_words))]
 fn rest_words(text: &[u8]) -> &'static [u8]
     ensures { result.now ≡ rest_words text.now }
@@ -177,7 +177,7 @@ fn rest_words(text: &[u8]) -> &'static [u8]
     if text.len() > MAX_SHOWN { b" .." } else { b"" }
 }
 
-/// Writes a protocol's text with a space behind each rule.
+/// Writes a protocol's text with a space after each rule.
 #[tactic(auto, unfolding(crate::specs::Heads::protocol_words))]
 fn write_protocol(output: &mut Text, text: &[u8]) -> Result<(), AllocError>
     ensures { OnOk result (output.new ≡ output.old ++ protocol_words text.now) }

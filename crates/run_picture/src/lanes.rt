@@ -82,7 +82,7 @@ fn write_tick_at(output: &mut Text, x: u64, bottom: u64, steps: u64) -> Result<(
     )
 }
 
-/// Writes the lanes of so many simulators, up to this x.
+/// Writes the lanes of this many simulators, up to this x.
 #[tactic(auto, unfolding(crate::specs::Lanes::lanes))]
 pub(crate) fn write_lanes(output: &mut Text, right: u64, simulators: u8) -> Result<(), AllocError>
     ensures { OnOk result (output.new ≡ output.old ++ lanes right simulators) }

@@ -1,4 +1,4 @@
-//! Where things stand in the picture of a room.
+//! Positions in the picture of a room.
 ghost use Rattle.std.specs.Prelude.{◌≡◌, ◌+◌, ◌*◌, ◌≤◌, ◌^◌};
 ghost use Rattle.run_picture.specs.Layout.{column_x, history_y, lane_y, left, pitch, process_y};
 
@@ -45,7 +45,7 @@ pub(crate) fn lane_y(simulator: u8) -> u64
     112 + 46 * u64::from(simulator)
 }
 
-/// The upper end of what the processes did, below the lanes of so many simulators.
+/// The upper end of what the processes did, below the lanes of this many simulators.
 #[tactic(auto, unfolding(crate::specs::Layout::history_y))]
 pub(crate) fn history_y(simulators: u8) -> u64
     ensures value { result ≡ history_y simulators }
@@ -54,7 +54,7 @@ pub(crate) fn history_y(simulators: u8) -> u64
     lane_y(simulators) + 42
 }
 
-/// The upper end of a process's lane, below the lanes of so many simulators.
+/// The upper end of a process's lane, below the lanes of this many simulators.
 #[tactic(auto, unfolding(crate::specs::Layout::process_y))]
 pub(crate) fn process_y(simulators: u8, process: u8) -> u64
     ensures value { result ≡ process_y simulators process }

@@ -19,7 +19,7 @@ pub enum Deed {
     Enter,
     /// It looks at the levels of those who are in the agreement.
     Look,
-    /// It leaves the agreement, and its proposal stands.
+    /// It leaves the agreement, and its proposal is kept.
     Stand,
     /// It leaves the agreement, and its proposal is withdrawn.
     Withdraw,

@@ -10,7 +10,7 @@ use std::marker::Model;
 use transcript::Event;
 use ws_history::{ProcessState, Report};
 
-/// What is drawn of a room: what is told of its spec, what happened in it, and what it has come to.
+/// What is drawn of a room: what is known of its spec, what happened in it, and its final state.
 #[derive(Drop)]
 pub struct Panel {
     head: Head,
@@ -38,7 +38,7 @@ impl Panel {
         }
     }
 
-    /// What is told of the room's spec.
+    /// What is known of the room's spec.
     pub fn head(&self) -> &Head
         ensures { result.now ≡ self.now.head }
     {
@@ -52,7 +52,7 @@ impl Panel {
         &self.marks
     }
 
-    /// Whether it isn't known yet what the room has come to.
+    /// Whether it isn't known yet the room's final state.
     pub fn is_open(&self) -> bool
         ensures { result ≡ is_none self.now.report }
     {
@@ -71,14 +71,14 @@ impl Panel {
         self.marks.extend_from_slice(marks)
     }
 
-    /// Notes what the room has come to.
+    /// Notes the room's final state.
     pub fn finish(&mut self, report: Report)
         ensures { self.new ≡ record self.old { report = Some report } }
     {
         self.report = Some(report);
     }
 
-    /// Where each process stands; none where that isn't known yet.
+    /// The state of each process; none where that isn't known yet.
     pub(crate) fn states(&self) -> &[ProcessState]
         ensures value { result.now ≡ states_in self.now.report }
         ensures few { length result.now ≤ MAX_PROCESSES }

@@ -27,7 +27,7 @@ const MIN_WIDTH: u64 = 640;
 ///
 /// # Errors
 ///
-/// Where memory is refused.
+/// An allocation that fails.
 #[tactic(auto, unfolding(crate::specs::Picture::picture_text))]
 pub fn write_picture(alloc: Global, output: &mut Text, panels: &[Panel]) -> Result<(), AllocError>
     ensures { OnOk result (output.new ≡ output.old ++ picture_text panels.now) }
@@ -101,7 +101,7 @@ fn panel_width(panel: &Panel, run: &Run, right: u64) -> u64
     head_width(panel).max((run.right() + 80).max(right + 200))
 }
 
-/// How wide the lines above it are: 7 for each byte of the numbers, where each input has up to 10 digits, and 8 of the protocol.
+/// How wide the lines above it are: 7 for each byte of the numbers, if each input has up to 10 digits, and 8 of the protocol.
 #[tactic(auto, unfolding(crate::specs::Picture::head_width))]
 fn head_width(panel: &Panel) -> u64
     ensures { result ≡ head_width panel.now }

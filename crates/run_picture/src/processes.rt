@@ -1,4 +1,4 @@
-//! The lanes of the processes, and where each stands at the end.
+//! The lanes of the processes, and the state of each at the end.
 ghost use Rattle.std.specs.Prelude.{◌≡◌, ◌++◌, ◌≤◌, ◌<◌, OnOk, length};
 ghost use Rattle.run_picture.specs.History.{dashes, decided_words, held_words, lane_of_process, process_label, process_lane, process_lanes, state_part};
 
@@ -16,7 +16,7 @@ use ws_history::ProcessState;
 /// Greater than each x in a picture.
 const WIDE: u64 = 10000000;
 
-/// Draws a lane for each process, up to this x, and behind it where the process stands.
+/// Draws a lane for each process, up to this x, and after it the state of the process.
 #[tactic(auto, unfolding(crate::specs::History::process_lanes))]
 pub(crate) fn write_process_lanes(
     output: &mut Text,
@@ -82,7 +82,7 @@ fn write_process_label(output: &mut Text, y: u64, process: u8) -> Result<(), All
     end_label(output)
 }
 
-/// Says where a process stands.
+/// Says the state of a process.
 #[tactic(auto, unfolding(crate::specs::History::state_part))]
 fn write_state(output: &mut Text, right: u64, y: u64, state: ProcessState) -> Result<(), AllocError>
     requires right { right ≤ WIDE }
@@ -133,7 +133,7 @@ fn write_held(output: &mut Text, simulator: u8) -> Result<(), AllocError>
     end_label(output)
 }
 
-/// Draws the dashed line behind the events of a process that isn't through.
+/// Draws the dashed line after the events of a process that isn't through.
 #[tactic(auto, unfolding(crate::specs::History::dashes))]
 fn write_dashes(output: &mut Text, right: u64, y: u64, colour: &[u8]) -> Result<(), AllocError>
     requires right { right ≤ WIDE }

@@ -9,7 +9,7 @@ use simulator::{Goal, Line, Move, Turn};
 use view_table::Place;
 
 impl Step {
-    /// What is drawn of an atomic step of a room with so many memory words.
+    /// What is drawn of an atomic step of a room with this many memory words.
     pub fn of(step: &AtomicStep, words: usize) -> Step
         ensures { result ≡ step_mark words step.now }
     {
@@ -55,7 +55,7 @@ fn deed_of(line: Line, operation: Move) -> Deed
     }
 }
 
-/// Which word of a snapshot a step at this line is on, where a snapshot takes several.
+/// Which word of a snapshot a step at this line is on, if a snapshot takes several.
 fn word_of(words: usize, line: Line, place: Place) -> Option<u8>
     ensures { result ≡ word_of words line place }
 {
@@ -81,7 +81,7 @@ fn word_in(place: Place) -> Option<u8>
     }
 }
 
-/// Whether a step ended its turn, behind which this is left to do: an ask for the same snapshot where the turn was quiet.
+/// Whether a step ended its turn, after which this is left to do: an ask for the same snapshot where the turn was quiet.
 fn end_of(left: Option<Goal>) -> Turn
     ensures { result ≡ turn_of left }
 {

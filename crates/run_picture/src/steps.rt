@@ -11,7 +11,7 @@ use crate::turns::write_turns;
 use io_text::Text;
 use std::alloc::AllocError;
 
-/// Draws the lanes of so many simulators, and what happens in them.
+/// Draws the lanes of this many simulators, and what happens in them.
 #[tactic(auto, unfolding(crate::specs::Picture::steps_part))]
 pub(crate) fn write_steps_part(
     output: &mut Text,

@@ -214,7 +214,7 @@ fn write_bar_line(
     )
 }
 
-/// How a turn's bar is drawn: dashed where the turn was quiet.
+/// How a turn's bar is drawn: dashed if the turn was quiet.
 #[tactic(auto, unfolding(crate::specs::Turns::bar_style))]
 fn bar_style(end: Turn) -> &'static [u8]
     ensures { result.now ≡ bar_style end }

@@ -105,7 +105,7 @@ pub(crate) fn write_process_round(
     write_decimal(output, u64::from(round))
 }
 
-/// Names the word of a snapshot that a step is on, where it takes several.
+/// Names the word of a snapshot that a step is on, if it takes several.
 #[tactic(auto, unfolding(crate::specs::Words::word_words))]
 fn write_word(output: &mut Text, word: Option<u8>) -> Result<(), AllocError>
     ensures { OnOk result (output.new ≡ output.old ++ word_words word) }

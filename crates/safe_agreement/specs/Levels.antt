@@ -1,5 +1,5 @@
 -- The levels of one agreement, one for each simulator: 0 before it enters and after it withdraws, 1 inside, 2 where
--- its proposal stands.
+-- its proposal is kept.
 use Rattle.std.specs.Prelude.{◌≡◌, ◌≢◌, ℕ, ◌<◌, Bool, List, length, Option, None, slice_index, position, ◌==◌, ◌&&◌, not, if◌then◌else◌}
 use Rattle.std.specs.List.{list_any}
 
@@ -7,7 +7,7 @@ use Rattle.std.specs.List.{list_any}
 abbrev pub has_level : ℕ → List ℕ → Bool
 has_level level levels = list_any (λ one. one == level) levels
 
--- a simulator that saw a level 2 withdraws; the proposal of one that saw none stands
+-- a simulator that saw a level 2 withdraws; the proposal of one that saw none is kept
 abbrev pub left_level : Bool → ℕ
 left_level saw = if saw then 0 else 2
 

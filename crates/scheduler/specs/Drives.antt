@@ -13,7 +13,7 @@ use Rattle.ruled_room.specs.declared.stop.Stop.TheVariants.{Idle, OutOfTurns, Cr
 
 -- ---- why it stops
 
--- the fuse has burnt down: so many steps are taken
+-- the fuse has burnt down: this many steps are taken
 abbrev pub is_burnt : Option ℕ → ℕ → Bool
 is_burnt None steps = false
 is_burnt (Some after) steps = after == steps
@@ -23,7 +23,7 @@ abbrev pub IsWithinFuse : Option ℕ → ℕ → Type 0
 IsWithinFuse None steps = ⊤
 IsWithinFuse (Some after) steps = steps ≤ after
 
--- So many steps more are left before it burns down: the greatest number of 64 bits where it doesn't.
+-- This many steps more are left before it burns down: the greatest number of 64 bits where it doesn't.
 pub record HasLeft (fuse : Option ℕ) (steps left : ℕ) : Type 0 where
   pub whole : (more : ℕ) → more < left → is_burnt fuse (steps + more) ≡ false
   pub burnt : (is_burnt fuse (steps + left) ≡ true) ⊎ (left ≡ 18446744073709551615)
@@ -33,7 +33,7 @@ stop_when ready.Step = None
 stop_when ready.Idle = Some Idle
 stop_when ready.OutOfTurns = Some OutOfTurns
 
--- The fuse comes first, also where it would be idle or out of turns. Nothing where it takes a step.
+-- The fuse comes first, also if it would be idle or out of turns. Nothing if it takes a step.
 abbrev pub stop_of : Option ℕ → RoomSpec → SweepState → Option Stop
 stop_of fuse spec sweep = if is_burnt fuse sweep.mind.steps then Some Crashed else stop_when (ready_of spec sweep.mind sweep.quiet)
 
@@ -46,7 +46,7 @@ stopped Idle at = with_woken at
 stopped OutOfTurns at = at
 stopped Crashed at = at
 
--- What is known of a simulator that has stopped. It has crashed exactly where its fuse has burnt down, and else it stands
+-- What is known of a simulator that has stopped. It has crashed exactly if its fuse has burnt down, and else it is
 -- between two turns, with no write left to make or all turns used up.
 abbrev pub HasStopped : Option ℕ → RoomSpec → Stop → SweepState → Type 0
 HasStopped fuse spec Crashed sweep = is_burnt fuse sweep.mind.steps ≡ true

@@ -19,13 +19,13 @@ IsBelowFuse None steps = ⊤
 IsBelowFuse (Some after) steps = steps < after
 
 -- How a simulator has ended that has crashed, or hasn't: with as many steps as its fuse says; or with fewer, between two turns,
--- where it has used up all its turns or has no write left to make.
+-- if it has used up all its turns or has no write left to make.
 abbrev pub HasEnded : Option ℕ → RoomSpec → SweepState → Bool → Type 0
 HasEnded fuse spec sweep true = fuse ≡ Some sweep.mind.steps
 HasEnded fuse spec sweep false =
     IsBelowFuse fuse sweep.mind.steps × (is_resting sweep.mind.line ≡ true) × ((sweep.mind.turns ≡ spec.turns) ⊎ ((process : ℕ) → HasNoWrite (goal_at sweep.mind.goals process)))
 
--- What a room of this spec may come to, whatever the schedule of its simulators: some interleaving of their steps leads to a
+-- The possible outcomes of a room of this spec, whatever the schedule of its simulators: some interleaving of their steps leads to a
 -- room in which each of them has ended; this room is then settled and reported.
 pub record IsRoomRun (spec : RoomSpec) (result : RoomResult) : Type 0 where
   pub ended : RoomState

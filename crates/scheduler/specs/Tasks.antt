@@ -27,9 +27,9 @@ pub record IsStoppedOf (rooms : List RoomName) (one : Stopped) : Type 0 where
   pub stops : HasStopped (own_fuse one.simulator) one.simulator.room.spec one.stop one.simulator.sweep
   pub within : IsWithinFuse (own_fuse one.simulator) one.simulator.sweep.mind.steps
 
--- ---- how often a simulator stands in a list
+-- ---- how often a simulator occurs in a list
 
--- 1 where the place and the number are these
+-- 1 if the place and the number are these
 abbrev pub is_here : ℕ → ℕ → ℕ → ℕ → ℕ
 is_here k i place number = if (place == k) && (number == i) then 1 else 0
 
@@ -83,7 +83,7 @@ AreTasksOf rooms queues = All (λ tasks. All (λ task. IsTaskOf rooms task) task
 abbrev pub waiting : ℕ → ℕ → List (List Task) → ℕ
 waiting k i queues = sum_by (λ tasks. queued k i tasks) queues
 
--- 1 where the keeper has given the simulator away
+-- 1 if the keeper has given the simulator away
 abbrev pub away_from : List (Option SweepState) → ℕ → ℕ
 away_from [] i = 0
 away_from (None ∷ sweeps) zero = 1

@@ -53,7 +53,7 @@ fn steps_left(simulator: &Simulator, fuse: &Fuse) -> u64
 /// of its number, at its visits of this call, counted from 0.
 pub fn drive(simulator: &mut Simulator, room: &RuledRoom, fuse: &Fuse, gate: &impl Gate) -> Stop
     requires { simulator.old.room ≡ room.now }
-    // It takes all its steps up to where it stops: crashed exactly where the fuse's number equals the
+    // It takes all its steps up to where it stops: crashed exactly if the fuse's number equals the
     // steps taken, and else idle or out of turns as a call of `step` says.
     ensures steps { Drives fuse.now simulator.old result simulator.new }
     ensures stop { HasStopped fuse.now room.now.spec result simulator.new.sweep }

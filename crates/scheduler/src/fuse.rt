@@ -21,7 +21,7 @@ impl Model for Fuse {
 }
 
 impl Fuse {
-    /// It crashes where it has taken exactly `steps` steps.
+    /// It crashes if it has taken exactly `steps` steps.
     pub fn after(steps: u64) -> Fuse
         ensures { result ≡ Some steps }
     {

@@ -3,11 +3,11 @@
 /// Is called before each turn, by all workers that share it, and may hold a worker for as long as it
 /// needs to let others come further. No promise speaks of its calls, nor of whether they return.
 pub trait Gate {
-    /// Worker `worker`, counted from 0, comes to its visit `visit`, counted from 0.
+    /// Worker `worker`, counted from 0, reaches its visit `visit`, counted from 0.
     fn pass(&self, worker: u8, visit: u64);
 }
 
-/// A gate that holds nobody.
+/// A gate that stops no worker.
 #[derive(Clone, Copy, Debug)]
 pub struct FreeGate;
 

@@ -27,7 +27,7 @@ pub enum RunFault {
     /// A worker's thread could not be started.
     #[error("cannot start a worker")]
     Spawn,
-    /// Memory was refused.
+    /// An allocation failed.
     #[error("out of memory")]
     OutOfMemory,
 }
@@ -79,8 +79,8 @@ impl From<AllocError> for RunFault {
 ///
 /// # Errors
 ///
-/// Where there are not 1 to 16 workers, which is decided first; where a thread could not be started;
-/// where memory was refused. All rooms are then given up.
+/// If there are not 1 to 16 workers, which is decided first; where a thread could not be started;
+/// an allocation that failed. All rooms are then given up.
 pub fn run_rooms<R: Threads + Wait + Sync, G: Gate + Sync>(
     rt: &R,
     alloc: Global,
@@ -105,7 +105,7 @@ pub fn run_rooms<R: Threads + Wait + Sync, G: Gate + Sync>(
     Ok(finish_by(rt, alloc, rooms, keepers, threads)?)
 }
 
-/// How many rooms a thread ends at least, where more than one does: a thread for a few rooms takes more
+/// How many rooms a thread ends at least, if more than one does: a thread for a few rooms takes more
 /// time than it saves, and memory of its own.
 const ROOMS_A_THREAD: usize = 32;
 

@@ -87,7 +87,7 @@ after_claim more number None = Err (NoClaim number)
 after_claim more number (Some (claim, [])) = Ok (claim ∷ [])
 after_claim more number (Some (claim, word ∷ words)) = before_more claim (after_joint more number (joint_of word) words)
 
--- the claims that these words say, of which the first has this number, or the first fault; in at most so many claims
+-- the claims that these words say, of which the first has this number, or the first fault; in at most this many claims
 unfoldable pub goal_from : ℕ → ℕ → Joint → List (List ℕ) → Result (List Claim) GoalFault
 goal_from zero number joint words = Err (NoClaim number)
 goal_from (suc most) number joint words = after_claim (goal_from most (number + 1)) number (claim_in joint words)

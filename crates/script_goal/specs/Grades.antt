@@ -109,7 +109,7 @@ abbrev pub claim_lines : Option ReportData → List Claim → List ℕ
 claim_lines None claims = codes "there is no report: a script is graded by its last `report NAME`\n"
 claim_lines (Some report) claims = flat_map (claim_line report) claims
 
--- whether there are at most so many moves, if a number is given
+-- whether there are at most this many moves, if a number is given
 abbrev pub are_few : Option ℕ → ℕ → Bool
 are_few None moves = true
 are_few (Some most) moves = nat_le moves most

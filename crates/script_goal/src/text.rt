@@ -163,7 +163,11 @@ fn write_few_end(output: &mut Text, most: u64, moves: u64) -> Result<(), AllocEr
 fn write_many(output: &mut Text, moves: u64) -> Result<(), AllocError>
     ensures { OnOk result (output.new ≡ output.old ++ many_text moves) }
 {
-    put_and(output, b": no, the number of commands `step` and `crash` is", moves)?;
+    put_and(
+        output,
+        b": no, the number of commands `step` and `crash` is",
+        moves,
+    )?;
     output.put(b"\n")
 }
 

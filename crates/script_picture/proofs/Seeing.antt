@@ -1,7 +1,7 @@
 -- What somebody who looks on has kept of steps.
 use Rattle.std.proofs.Common.{◌≡◌, ◌∙◌, false, List, [], ◌∷◌, ◌++◌, sym, ap}
 use Rattle.std.proofs.lemmas.List.{append-nil, append_assoc}
-use Rattle.room_core.specs.Watching.{AreSeen, TakenStep}
+use Rattle.room_core.specs.Observing.{AreSeen, TakenStep}
 use Rattle.run_picture.specs.declared.mark.Mark.{Mark}
 use Rattle.script_picture.specs.Seen.{AreMarks, IsOneMore, Keeps, Kept}
 

@@ -51,7 +51,7 @@ changed change (Some place) xs = changed_at change place xs
 abbrev pub with_report : ReportData → Panel → Panel
 with_report report panel = record panel { report = Some report }
 
--- the panels, where the room of this name has come to this
+-- the panels, where this is the final state of the room of this name
 abbrev pub finished : List ℕ → ReportData → List Panel → List Panel
 finished name report panels = changed (with_report report) (position (is_of name) panels) panels
 
@@ -89,7 +89,7 @@ DrawsStepsUnless (Some refusal) rooms name command before after = after ≡ befo
 abbrev pub crash_marks : ℕ → Reply → List Mark
 crash_marks simulator reply = if has_crashed reply then Crash simulator ∷ [] else []
 
--- a room that is closed has come to its report
+-- a room that is closed has its final report
 abbrev pub DrawsClosing : Entries → List ℕ → Reply → List Panel → List Panel → Type 0
 DrawsClosing rooms name replies.Closed before after = (report : ReportData) × IsReportAt rooms name report × (after ≡ finished name report before)
 DrawsClosing rooms name reply before after = after ≡ before
@@ -116,7 +116,7 @@ pub data HasDrawn : List Done → Entries → List Panel → Type 0 where
   more : (all : List Done) (rooms : Entries) (panels : List Panel) (done : Done) (rooms_after : Entries) (panels_after : List Panel)
       → HasDrawn all rooms panels → DrawsDone rooms done panels rooms_after panels_after → HasDrawn (all ++ done ∷ []) rooms_after panels_after
 
--- a room that is still open at the end has come to its report
+-- a room that is still open at the end has its final report
 abbrev pub HasComeTo : Entries → List ℕ → Option ReportData → Option ReportData → Type 0
 HasComeTo rooms name (Some known) report = report ≡ Some known
 HasComeTo rooms name None (Some report) = IsReportAt rooms name report
@@ -182,7 +182,7 @@ pub record IsSteppedOn (rooms : Entries) (panels : List Panel) (command : Comman
   pub refusal_is : refusal ≡ refusal_in reply
   pub draws : DrawsStepsUnless refusal rooms (name_in command) command panels panels_after
 
--- the room of this name was closed, and has come to this report
+-- the room of this name was closed, and this is its final report
 pub record IsClosed (rooms : Entries) (panels : List Panel) (name : List ℕ) (report : ReportData) (rooms_after : Entries) (panels_after : List Panel) (refusal : Option Refusal) : Type 0 where
   pub applies : Applies rooms (commands.Close name) replies.Closed rooms_after
   pub not_refused : refusal ≡ None

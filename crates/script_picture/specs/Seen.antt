@@ -2,7 +2,7 @@
 use Rattle.std.specs.Prelude.{◌≡◌, ⊤, ℕ, Bool, false, List, [], ◌∷◌, ◌++◌}
 use Rattle.room_spec.specs.Sizes.{memory_words, sizes_in}
 use Rattle.room_core.specs.Calls.{RoomState}
-use Rattle.room_core.specs.Watching.{TakenStep}
+use Rattle.room_core.specs.Observing.{TakenStep}
 use Rattle.room_steps.specs.Steps.{IsStepOf}
 use Rattle.room_steps.specs.declared.step.AtomicStep.{AtomicStep}
 use Rattle.run_picture.specs.Seen.{step_mark}
@@ -22,7 +22,7 @@ AreMarks (step ∷ steps) (mark ∷ marks) = IsMarkOf step.room step.simulator m
 AreMarks [] (mark ∷ marks) = ⊥
 AreMarks (step ∷ steps) [] = ⊥
 
--- the marks that somebody who looks on has kept, and whether memory was refused for one
+-- the marks that an observer has kept, and whether an allocation failed for one
 pub record Kept : Type 0 where
   pub marks : List Mark
   pub failed : Bool
@@ -33,6 +33,6 @@ pub record IsOneMore (old : Kept) (room : RoomState) (i : ℕ) (new : Kept) : Ty
   pub is_mark : IsMarkOf room i mark
   pub kept : new.marks ≡ old.marks ++ mark ∷ []
 
--- a step was seen: its mark is kept, unless memory was refused
+-- a step was seen: its mark is kept, unless an allocation failed
 abbrev pub Keeps : Kept → RoomState → ℕ → Kept → Type 0
 Keeps old room i new = new.failed ≡ false → IsOneMore old room i new

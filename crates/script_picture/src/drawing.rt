@@ -61,7 +61,7 @@ impl Drawing {
         ensures { IfOk result (λ refusal. IsSteppedOn self.old.service self.old.panels command refusal self.new.service self.new.panels) }
     {
         let mut recorder = Recorder::new(alloc);
-        let reply = self.service.apply_watched(alloc, command, &mut recorder);
+        let reply = self.service.apply_observed(alloc, command, &mut recorder);
         let None = refusal_in(&reply) else {
             return Ok(refusal_in(&reply));
         };
@@ -109,7 +109,7 @@ impl Drawing {
         }
     }
 
-    /// Closes the room of this name, which has come to its report.
+    /// Closes the room of this name, with its final report.
     fn close(&mut self, alloc: Global, name: Name) -> Result<Option<Refusal>, AllocError>
         ensures { IfOk result (λ refusal. IsDrawnOn self.old.service self.old.panels (Close name) refusal self.new.service self.new.panels) }
     {
@@ -129,7 +129,7 @@ impl Drawing {
         refusal_in(&reply)
     }
 
-    /// Closes the room of this name, which has come to this report.
+    /// Closes the room of this name, whose final report is this.
     fn close_with(
         &mut self,
         alloc: Global,

@@ -20,20 +20,20 @@ use ws_history::report;
 #[derive(Drop)]
 pub struct Drawn {
     pub output: Text,
-    /// Whether something was refused. An `Err` says that something was for want of memory.
+    /// Whether something was refused. An `Err` says that an allocation failed for something.
     pub ending: Result<Outcome, AllocError>,
 }
 
-/// Judges a script, does what it asks for where it has no fault, and draws each room that it opens: its steps and crashes in
-/// their order, and what it has come to when it is closed, or when the script ends.
+/// Judges a script, does what it asks for if it has no fault, and draws each room that it opens: its steps and crashes in
+/// their order, and its final state when it is closed, or when the script ends.
 ///
 /// # Errors
 ///
-/// The script's first bad line; or want of memory for the picture.
+/// The script's first malformed line; or an allocation that failed for the picture.
 pub fn draw(alloc: Global, script: &[u8]) -> Result<Drawn, InputFault>
     requires { length script.now ≤ most_bytes }
     ensures drawn { IfOk result (λ drawn. IsDrawn script.now drawn.ending drawn.output) }
-    // Want of memory hides no bad line.
+    // An allocation that fails hides no malformed line.
     ensures err { IfErr result (IsFaultOr (IsOk (script_says script.now)) (script_says script.now)) }
 {
     let Played { performer, ending } = play_script(alloc, Drawing::new(alloc), script)?;
@@ -41,7 +41,7 @@ pub fn draw(alloc: Global, script: &[u8]) -> Result<Drawn, InputFault>
     Ok(Drawn { output, ending })
 }
 
-/// The picture of what was drawn, where the rooms that are open come to nothing more.
+/// The picture of what was drawn, if nothing more happens in the rooms that are open.
 fn picture_from(alloc: Global, drawing: Drawing) -> Result<Text, AllocError>
     ensures { IfOk result (IsPictureFrom drawing.service drawing.panels) }
 {
@@ -65,7 +65,7 @@ fn picture_of(
     Ok(output)
 }
 
-/// Notes in each panel whose room is still open what the room has come to.
+/// Notes in each panel whose room is still open the room's final state.
 fn finish_all(
     alloc: Global,
     rooms: &IndexMap<Name, RoomCore>,

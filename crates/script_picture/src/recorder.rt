@@ -1,8 +1,8 @@
-//! Who looks on while rooms take their steps, and keeps what is drawn of them.
+//! An observer of the steps of rooms, which keeps what is drawn of them.
 ghost use Rattle.std.specs.Prelude.{◌≡◌, ◌++◌, ◌∷◌, [], false, true, MatchOption};
 ghost use Rattle.run_picture.specs.declared.mark.Mark.TheVariants.{Step as StepOf};
 
-use room_core::{RoomCore, StepReply, Watch};
+use room_core::{Observer, RoomCore, StepReply};
 use room_steps::take_step;
 use run_picture::{Mark, Step};
 use std::alloc::Global;
@@ -12,7 +12,7 @@ use std::marker::Model;
 #[derive(Drop)]
 pub(crate) struct Recorder {
     marks: Vec<Mark>,
-    /// Whether memory was refused for one.
+    /// Whether an allocation failed for one.
     failed: bool,
 }
 
@@ -35,7 +35,7 @@ impl Recorder {
         }
     }
 
-    /// The marks of all steps that were seen, or `None` where memory was refused for one.
+    /// The marks of all steps that were seen, or `None` if an allocation failed for one.
     pub(crate) fn marks(&self) -> Option<&[Mark]>
         ensures { MatchOption result (self.now.failed ≡ true) (λ marks. (marks.now ≡ self.now.marks) × (self.now.failed ≡ false)) }
     {
@@ -51,7 +51,7 @@ impl Recorder {
     }
 }
 
-impl Watch for Recorder {
+impl Observer for Recorder {
     ghost use Rattle.script_picture.specs.Seen.{Keeps};
 
     ghost sees = { λ old room i new. Keeps old room i new };

@@ -1,4 +1,4 @@
--- What a script comes to.
+-- The results of a script.
 use Rattle.std.specs.Prelude.{◌≡◌, ⊤, ℕ, Bool, true, false, not, List, [], ◌∷◌, ◌++◌, length, Option, Some, None, Result, Ok, Err, alloc_error, if◌then◌else◌, codes}
 use Rattle.std.specs.declared.alloc.AllocError.{AllocError}
 use Rattle.std.specs.List.{flat_map, list_any}
@@ -23,7 +23,7 @@ use Rattle.script_play.specs.ReplyTexts.{reply_to_command}
 
 -- ---- replies to commands
 
--- Each name's replies rest on its own commands alone. Those that were refused memory are as if they had not been; they begin
+-- Each name's replies rest on its own commands alone. Those for which an allocation failed are as if they had not been; they begin
 -- a room under a free name, or ask for an open one's report. Each report is a true one.
 pub record AreReplies (commands : List Command) (replies : List Reply) : Type 0 where
   pub count : length replies ≡ length commands
@@ -34,7 +34,7 @@ pub record AreReplies (commands : List Command) (replies : List Reply) : Type 0 
 -- ---- what comes of a script
 
 -- what came of an entry: the reply to a command; or a block was refused, whose first line has this number, for a fault or
--- for want of memory
+-- because an allocation failed
 pub data Done : Type 0 where
   Replied : Command → Reply → Done
   Faulty : ℕ → SpecFault → Done
@@ -87,13 +87,13 @@ is_refused (Replied command reply) = is_refusal reply
 is_refused (Faulty line fault) = true
 is_refused (Unread line) = true
 
--- for want of memory
+-- because an allocation failed
 abbrev pub is_lacking : Done → Bool
 is_lacking (Replied command reply) = is_want reply
 is_lacking (Faulty line fault) = false
 is_lacking (Unread line) = true
 
--- the end where nothing more went wrong: a refusal for want of memory comes before all others
+-- the end if nothing more went wrong: an allocation that failed comes before all other refusals
 abbrev pub ending_if : Bool → Bool → Result Outcome AllocError
 ending_if lacking refused = if lacking then Err alloc_error else Ok (outcome_if (not refused))
 
@@ -112,7 +112,7 @@ pub record IsPlayText (entries : List Entry) (ending : Result Outcome AllocError
 abbrev pub IsPlayFor : List ℕ → Result Outcome AllocError → List ℕ → Type 0
 IsPlayFor input ending output = (entries : List Entry) × (script_says input ≡ Ok entries) × IsPlayText entries ending output
 
--- ---- whoever does the commands
+-- ---- the one that executes the commands
 
 -- a block says this room
 abbrev pub IsBlockOf : RoomSpec → List ℕ → Type 0
@@ -127,7 +127,7 @@ abbrev pub refusal_in : Reply → Option Refusal
 refusal_in (Refused refusal) = Some refusal
 refusal_in reply = None
 
--- Whoever had done all of some list has now done one more. Each is a predicate on lists of what was done.
+-- All of some list was done, and now one more. Each is a predicate on lists of what was done.
 abbrev pub DoesMore : (List Done → Type 0) → Done → (List Done → Type 0) → Type 0
 DoesMore before done after = (all : List Done) → before all → after (all ++ done ∷ [])
 
@@ -167,16 +167,16 @@ pub record IsPlay (input : List ℕ) (rooms : Entries) (has_done : List Done →
   pub each_entry : AreDone entries all
   pub played : HasPlayed rooms has_done ending all
 
--- the end with one refusal more, which isn't for want of memory
+-- the end with one refusal more, which is not an allocation that failed
 abbrev pub ending_at_refusal : Result Outcome AllocError → Result Outcome AllocError
 ending_at_refusal (Ok outcome) = Ok SomeRefused
 ending_at_refusal (Err fault) = Err fault
 
--- the end with one entry more, which was refused or not, for want of memory or not
+-- the end with one entry more, which was refused or not, because an allocation failed or not
 abbrev pub ending_with : Bool → Bool → Result Outcome AllocError → Result Outcome AllocError
 ending_with lacking refused ending = if lacking then Err alloc_error else if refused then ending_at_refusal ending else ending
 
--- a refusal for want of memory
+-- a refusal because an allocation failed
 abbrev pub is_lack : Option Refusal → Bool
 is_lack None = false
 is_lack (Some NoRoom) = false

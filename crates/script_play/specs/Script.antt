@@ -41,7 +41,7 @@ step_command name None count = None
 step_command name (Some sim) None = None
 step_command name (Some sim) (Some count) = Some (Step name sim count)
 
--- the command of this word to the room of this name, with the numbers behind the name
+-- the command of this word to the room of this name, with the numbers after the name
 abbrev pub command_to : List ℕ → List ℕ → List (List ℕ) → Option Command
 command_to word name [] = bare_command word name
 command_to word name (sim ∷ []) = if bytes_eq word (codes "crash") then crash_command name (number_within 0 255 sim) else None
@@ -57,7 +57,7 @@ command_of (word ∷ name ∷ numbers) = if is_name name then command_to word na
 abbrev pub command_in : List ℕ → Option Command
 command_in line = command_of (fields_of line)
 
--- the command for steps of the room that these bytes name, where they are a name
+-- the command for steps of the room that these bytes name, if they are a name
 abbrev pub steps_for : List ℕ → ℕ → ℕ → Option Command
 steps_for name sim count = if is_name name then Some (Step name sim count) else None
 
@@ -97,11 +97,11 @@ pub data Entry : Type 0 where
 abbrev pub is_open : List ℕ → Bool
 is_open line = bytes_eq line (codes "open")
 
--- the block that belongs to a line, behind which the text goes on so
+-- the block that belongs to a line, after which the text goes on so
 abbrev pub block_behind : List ℕ → List ℕ → List ℕ
 block_behind line text = if is_open line then take (block_extent text) text else []
 
--- what stands behind the line and its block
+-- what comes after the line and its block
 abbrev pub text_behind : List ℕ → List ℕ → List ℕ
 text_behind line text = if is_open line then drop (block_extent text) text else text
 
@@ -123,7 +123,7 @@ asked number (Some command) = Ok (Ask command)
 abbrev pub entry_at : ℕ → List ℕ → List ℕ → Result Entry FaultAt
 entry_at number line block = if is_open line then Ok (Open (number + 1) block) else asked number (command_in line)
 
--- what stands first asks for this, where its first line has this number, or for nothing
+-- what comes first asks for this, where its first line has this number, or for nothing
 abbrev pub asks_at : ℕ → First → Result Entry FaultAt
 asks_at number (first.Block block) = Ok (Open (number + 1) block.now)
 asks_at number (first.Line line) = asked number (command_in line.now)
@@ -138,7 +138,7 @@ and_then (Err fault) later = Err fault
 and_then (Ok entry) (Err fault) = Err fault
 and_then (Ok entry) (Ok entries) = Ok (entry ∷ entries)
 
--- what a text asks for whose first line has this number, in at most so many entries, or its first fault
+-- what a text asks for whose first line has this number, in at most this many entries, or its first fault
 unfoldable pub script_from : ℕ → ℕ → List ℕ → Result (List Entry) FaultAt
 script_from zero number text = Ok []
 script_from (suc most) number [] = Ok []

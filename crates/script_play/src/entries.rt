@@ -48,7 +48,7 @@ fn bare_command(word: &[u8], name: Name) -> Option<Command>
     }
 }
 
-/// The command with these numbers behind the name.
+/// The command with these numbers after the name.
 fn command_with(word: &[u8], name: Name, numbers: &[u8]) -> Option<Command>
     ensures { result ≡ command_to word.now name (fields_of numbers.now) }
 {
@@ -95,10 +95,10 @@ pub(crate) fn read_within(least: u16, most: u16, field: &[u8]) -> Option<u16>
     }
 }
 
-/// What stands first in a script.
+/// What comes first in a script.
 #[derive(Clone, Copy, Debug, PartialEq, Eq)]
 pub(crate) enum Entry<'a> {
-    /// The line `open`, and this block behind it: the bytes up to its line `end`, or else all.
+    /// The line `open`, and this block after it: the bytes up to its line `end`, or else all.
     Block(&'a [u8]),
     /// Another line, without its line end.
     Line(&'a [u8]),
@@ -117,7 +117,7 @@ impl Entry<'_> {
     }
 }
 
-/// What stands first in a script, and what stands behind it. `None` where the script is empty.
+/// What comes first in a script, and what comes after it. `None` if the script is empty.
 #[inline(always)]
 pub(crate) fn next_entry(script: &[u8]) -> Option<(Entry<'_>, &[u8])>
     ensures none { MatchOption result (script.now ≡ []) (λ r. 0 < length script.now) }

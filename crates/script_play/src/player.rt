@@ -14,7 +14,7 @@ use room_spec::{Name, Spec};
 use service_core::{Command, Refusal};
 use std::alloc::{AllocError, Global};
 
-/// Whoever does the commands of a script, and how it ends.
+/// The one that executes the commands of a script, and how it ends.
 #[derive(Drop)]
 pub(crate) struct Player<P: Performs> {
     pub(crate) performer: P,
@@ -34,7 +34,7 @@ impl<P: Performs> Player<P> {
         }
     }
 
-    /// Does what stands first asks for, where its first line has this number. Gives whether it asks for
+    /// Does what comes first asks for, where its first line has this number. Gives whether it asks for
     /// something.
     pub(crate) fn take(
         &mut self,

@@ -20,19 +20,19 @@ use std::alloc::{AllocError, Global};
 #[derive(Drop)]
 pub struct PlayText {
     pub output: Text,
-    /// Whether something was refused. An `Err` says that something was for want of memory.
+    /// Whether something was refused. An `Err` says that an allocation failed for something.
     pub ending: Result<Outcome, AllocError>,
 }
 
-/// Judges a script, and does what it asks for where it has no fault.
+/// Judges a script, and does what it asks for if it has no fault.
 ///
 /// # Errors
 ///
-/// The script's first bad line; or want of memory for the text.
+/// The script's first malformed line; or an allocation that failed for the text.
 pub fn play(alloc: Global, script: &[u8]) -> Result<PlayText, InputFault>
     requires { length script.now ≤ most_bytes }
     ensures text { IfOk result (λ played. IsPlayFor script.now played.ending played.output) }
-    // Want of memory hides no bad line.
+    // An allocation that fails hides no malformed line.
     ensures err { IfErr result (IsFaultOr (IsOk (script_says script.now)) (script_says script.now)) }
 {
     let Played { performer, ending } = play_script(alloc, Replies::new(alloc), script)?;

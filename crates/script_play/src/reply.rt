@@ -103,7 +103,7 @@ pub fn write_report(output: &mut Text, name: &[u8], report: &Report) -> Result<(
     output.put_two(name, b" end\n")
 }
 
-/// Writes a line for each process, in order of their numbers: where it stands.
+/// Writes a line for each process, in order of their numbers: its state.
 pub fn write_processes(
     output: &mut Text,
     name: &[u8],
@@ -142,7 +142,7 @@ fn write_state(output: &mut Text, state: ProcessState) -> Result<(), AllocError>
     }
 }
 
-/// Writes the end of a line: words, and a number behind them.
+/// Writes the end of a line: words, and a number after them.
 fn write_end(output: &mut Text, words: &[u8], number: u64) -> Result<(), AllocError>
     ensures { OnOk result (output.new ≡ output.old ++ (words.now ++ (codes " " ++ (decimal number ++ codes "\n")))) }
 {
@@ -159,7 +159,7 @@ fn write_crashed(output: &mut Text, name: &[u8], crashed: &[u8]) -> Result<(), A
     output.put(b"\n")
 }
 
-/// Writes each number behind a space.
+/// Writes each number after a space.
 fn write_numbers(output: &mut Text, numbers: &[u8]) -> Result<(), AllocError>
     ensures { OnOk result (output.new ≡ output.old ++ numbers_text numbers.now) }
 {
@@ -229,7 +229,7 @@ fn write_snapshot(
     output.put(b"\n")
 }
 
-/// Writes each entry of a snapshot behind a space.
+/// Writes each entry of a snapshot after a space.
 fn write_entries(
     output: &mut Text,
     shown: &mut [Numeral; MAX_PROCESSES],
@@ -255,7 +255,7 @@ fn write_entry(output: &mut Text, shown: &mut Numeral, entry: Option<u32>) -> Re
     output.put_numeral(shown)
 }
 
-/// The simulator that a command is for, or 0 where it is for none, as [`write_reply`] takes it.
+/// The simulator that a command is for, or 0 if it is for none, as [`write_reply`] takes it.
 pub fn sim_in(command: &Command) -> u8
     ensures { result ≡ sim_in command.now }
 {

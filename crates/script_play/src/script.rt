@@ -14,7 +14,7 @@ use room_spec::{Spec, SpecFault};
 use service_core::{Command, Refusal};
 use std::alloc::{AllocError, Global};
 
-/// Who does what a script asks for, and keeps what came of it. After an `Err`, which is want of memory for what is kept, nothing
+/// Executes what a script asks for, and keeps what came of it. After an `Err`, which is an allocation that failed for what is kept, nothing
 /// is promised of it: the script is not gone on with.
 pub trait Performs: Drop {
     ghost use Rattle.std.specs.Prelude.{◌≡◌, ◌≢◌, ℕ, List, Some, true, IfOk, OnOk};
@@ -63,25 +63,25 @@ pub trait Performs: Drop {
         ensures rooms { OnOk result (rooms self.new ≡ rooms self.old) }
         ensures done { OnOk result (DoesMore (has_done self.old) (Faulty line fault) (has_done self.new)) };
 
-    /// Keeps that a block was refused for want of memory. Its first line has this number.
+    /// Keeps that a block was refused because an allocation failed. Its first line has this number.
     fn lack(&mut self, line: u64) -> Result<(), AllocError>
         ensures rooms { OnOk result (rooms self.new ≡ rooms self.old) }
         ensures done { OnOk result (DoesMore (has_done self.old) (Unread line) (has_done self.new)) };
 }
 
-/// Whoever did a script's commands, and the end that goes with them.
+/// The one that executed a script's commands, and the end that goes with them.
 #[derive(Drop)]
 pub struct Played<P: Performs> {
     pub performer: P,
-    /// Whether something was refused. An `Err` says that something was for want of memory.
+    /// Whether something was refused. An `Err` says that an allocation failed for something.
     pub ending: Result<Outcome, AllocError>,
 }
 
-/// Judges a script, and has done what it asks for where it has no fault.
+/// Judges a script, and has done what it asks for if it has no fault.
 ///
 /// # Errors
 ///
-/// The script's first bad line; or want of memory for what is kept of it.
+/// The script's first malformed line; or an allocation that failed for what is kept of it.
 pub fn play_script<P: Performs>(
     alloc: Global,
     performer: P,
@@ -91,7 +91,7 @@ pub fn play_script<P: Performs>(
     requires rooms { P.rooms performer ≡ [] }
     requires done { P.has_done performer [] }
     ensures played { IfOk result (λ played. IsPlay script.now (P.rooms played.performer) (P.has_done played.performer) played.ending) }
-    // Want of memory hides no bad line.
+    // An allocation that fails hides no malformed line.
     ensures err { IfErr result (IsFaultOr (IsOk (script_says script.now)) (script_says script.now)) }
 {
     let mut player = Player::new(performer);
@@ -114,7 +114,7 @@ pub fn play_script<P: Performs>(
 }
 
 /// How a script ends for whose last lines, of which the first has this number, there was no memory: with
-/// the first bad one among these, or else with the want of memory.
+/// the first malformed one among these, or else with the allocation that failed.
 fn judge_unplayed(text: &[u8], first: u64) -> InputFault
     requires { first + length text.now ≤ most_bytes + 1 }
     ensures { (most : ℕ) → length text.now ≤ most → IsFaultOr (IsOk (script_from most first text.now)) (script_from most first text.now) result }

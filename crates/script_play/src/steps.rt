@@ -7,7 +7,7 @@ use crate::entries::read_within;
 use room_spec::cut_near;
 
 /// The steps that a line asks for, with no command made: the bytes in the place of the room's name, which may be none;
-/// the simulator; and how many. `None` where the line asks for no steps.
+/// the simulator; and how many. `None` if the line asks for no steps.
 #[inline]
 pub(crate) fn read_steps(line: &[u8]) -> Option<(&[u8], u8, u16)>
     ensures { IfSome result (λ asked. command_in line.now ≡ steps_for asked.0.now asked.1 asked.2) }

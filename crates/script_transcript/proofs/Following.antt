@@ -6,7 +6,7 @@ use Rattle.room_core.specs.Calls.{RoomState, Crash as CrashCall, Settle as Settl
 use Rattle.room_core.specs.Fields.{Fields, opening_fields, replay_fields}
 use Rattle.room_core.specs.Reading.{AreFieldsOf}
 use Rattle.room_core.specs.Rooms.{Configuration, ScheduleEvent}
-use Rattle.room_core.specs.Watching.{TakenStep, is_stepped}
+use Rattle.room_core.specs.Observing.{TakenStep, is_stepped}
 use Rattle.room_core.proofs.CallerLemmas.{opening_data, same_spec}
 use Rattle.ws_history.specs.Notes.{AreNotesOf, Notes}
 use Rattle.service_core.specs.declared.command.Command.{Command}

@@ -1,7 +1,7 @@
 -- What a look at a room that is kept, or a step in no room's name, leaves.
 use Rattle.std.proofs.Common.{◌≡◌, ◌≢◌, ℕ, Bool, true, false, List, [], Option, Some, None, Result, Ok, Err, refl, sym, ap, ◌∙◌, subst}
 use Rattle.std.specs.Result.{OnOk}
-use Rattle.room_core.specs.Watching.{TakenStep}
+use Rattle.room_core.specs.Observing.{TakenStep}
 use Rattle.room_core.specs.Calls.{RoomState}
 use Rattle.room_core.specs.declared.reply.StepReply.{StepReply}
 use Rattle.service_core.specs.declared.command.Command.{Command}

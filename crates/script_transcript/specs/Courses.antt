@@ -41,7 +41,7 @@ course_after None (Begin spec) = Some (begun spec)
 course_after None command = None
 course_after (Some course) command = Some (if course.is_open then under course command else after_closed course command)
 
--- one thing more was done, to whatever room; a command that was refused memory leaves all rooms as they are
+-- one thing more was done, to whatever room; a command for which an allocation failed leaves all rooms as they are
 abbrev pub followed : List ℕ → Option Course → Done → Option Course
 followed name course (Replied command reply) = if bytes_eq name (name_in command) && not (is_want reply) then course_after course command else course
 followed name course (Faulty line fault) = course

@@ -11,7 +11,7 @@ use Rattle.room_core.specs.Calls.{RoomState, configuration_of}
 use Rattle.room_core.specs.Fields.{Fields}
 use Rattle.room_core.specs.Reading.{AreFieldsOf}
 use Rattle.room_core.specs.Rooms.{IsLegal, ScheduleEvent, opening, replay}
-use Rattle.room_core.specs.Watching.{AreSeen, TakenStep}
+use Rattle.room_core.specs.Observing.{AreSeen, TakenStep}
 use Rattle.ws_history.specs.Linearizations.{AreEventsAtSteps, events_of}
 use Rattle.ws_history.specs.Notes.{AreNotesOf, IsNoted, Notes}
 use Rattle.ws_history.specs.Sources.{history_of}

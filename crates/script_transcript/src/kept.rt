@@ -2,7 +2,7 @@
 ghost use Rattle.std.specs.Prelude.{◌≡◌, ◌∷◌, IfOk, MatchOption, None, OnOk, Some, List, map};
 ghost use Rattle.transcript.specs.declared.event.Event.{Event as EventData};
 ghost use Rattle.ws_history.specs.Notes.{IsNoted};
-ghost use Rattle.room_core.specs.Watching.{AreSeen};
+ghost use Rattle.room_core.specs.Observing.{AreSeen};
 ghost use Rattle.script_play.specs.Play.{IsBlockOf};
 ghost use Rattle.service_core.specs.Replies.{name_in};
 ghost use Rattle.service_core.specs.Rooms.{Applies, room_at, steps_of};
@@ -84,7 +84,7 @@ impl Kept {
         ensures applies { Applies service.old command result service.new }
         ensures seen { HasSeen (steps_of (room_at service.old (name_in command)) command) self.old self.new }
     {
-        service.apply_watched(alloc, command, &mut self.points)
+        service.apply_observed(alloc, command, &mut self.points)
     }
 
     /// Keeps the events of the room, which is closed.

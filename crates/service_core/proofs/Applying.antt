@@ -4,7 +4,7 @@ use Rattle.std.specs.Str.{bytes_eq}
 use Rattle.room_spec.specs.Rooms.{RoomSpec}
 use Rattle.room_core.specs.declared.reply.StepReply.{StepReply}
 use Rattle.room_core.specs.Calls.{RoomState, opening_state}
-use Rattle.room_core.specs.Watching.{steps_of_steps}
+use Rattle.room_core.specs.Observing.{steps_of_steps}
 use Rattle.room_core.specs.Fields.{Fields}
 use Rattle.room_core.specs.Reading.{AreFieldsOf}
 use Rattle.room_core.proofs.CallerLemmas.{opening_in_fields}

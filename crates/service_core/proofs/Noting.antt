@@ -7,7 +7,7 @@ use Rattle.simulator.specs.declared.sweep.Ready.{Ready}
 use Rattle.simulator.specs.declared.sweep.Ready.TheVariants as ready
 use Rattle.room_core.specs.Calls.{RoomState, configuration_of, has_crashed, marked, ready_at, reply_when, room_after_settle, room_after_step, room_when, step_reply}
 use Rattle.room_core.specs.Rooms.{Configuration, ScheduleEvent, crashes}
-use Rattle.room_core.specs.Watching.{AreSeen, Follow, TakenStep, is_stepped, steps_of_settling, steps_of_steps}
+use Rattle.room_core.specs.Observing.{AreSeen, Follow, TakenStep, is_stepped, steps_of_settling, steps_of_steps}
 use Rattle.room_core.specs.declared.reply.StepReply.{StepReply}
 use Rattle.room_core.specs.declared.reply.StepReply.TheVariants.{Stepped, Idle, OutOfTurns, Crashed, NoSimulator}
 use Rattle.room_core.proofs.CallerLemmas.{settling_follows, woken_data}

@@ -6,7 +6,7 @@ use Rattle.room_core.specs.declared.reply.StepReply.TheVariants as steps
 use Rattle.room_core.specs.Calls.{RoomState, Step, room_after_step, step_reply}
 use Rattle.room_core.specs.Fields.{Fields, step_reply_in, fields_after_step, fields_after_steps}
 use Rattle.room_core.specs.Reading.{AreFieldsOf}
-use Rattle.room_core.specs.Watching.{AreSeen, TakenStep, is_stepped, steps_of_steps}
+use Rattle.room_core.specs.Observing.{AreSeen, TakenStep, is_stepped, steps_of_steps}
 use Rattle.room_core.proofs.CallerLemmas.{same_spec, step_in_fields}
 use Rattle.service_core.specs.Replies.{Stepping, one_more, stepping}
 use Rattle.service_core.specs.Rooms.{IsSteppedTo, room_stepped}

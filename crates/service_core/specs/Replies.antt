@@ -7,7 +7,7 @@ use Rattle.room_spec.specs.Rooms.{RoomSpec}
 use Rattle.room_core.specs.declared.reply.StepReply.{StepReply}
 use Rattle.room_core.specs.declared.reply.StepReply.TheVariants as steps
 use Rattle.room_core.specs.Fields.{Fields, opening_fields, step_reply_in, fields_after_step, crash_reply_in, fields_after_crash, fields_after_settle}
-use Rattle.room_core.specs.Watching.{is_stepped}
+use Rattle.room_core.specs.Observing.{is_stepped}
 use Rattle.ws_history.specs.Reports.{report_of}
 use Rattle.service_core.specs.declared.command.Command.{Command}
 use Rattle.service_core.specs.declared.command.Command.TheVariants as commands
@@ -49,7 +49,7 @@ stepping spec fields i (suc count) =
 
 -- ---- one command
 
--- a room that is open: what it was told when it was made, and its fields now
+-- a room that is open: what it was given when it was made, and its fields now
 pub record OpenRoom : Type 0 where
   pub spec : RoomSpec
   pub fields : Fields
@@ -97,7 +97,7 @@ room_in room (commands.Crash name sim) =
 room_in room (commands.Settle name) = with_fields room (fields_after_settle room.spec room.fields)
 room_in room command = room
 
--- where there is no room of the name
+-- if there is no room of the name
 abbrev pub reply_to_none : Command → Reply
 reply_to_none (commands.Begin spec) = Begun
 reply_to_none command = Refused NoRoom

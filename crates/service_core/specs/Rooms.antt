@@ -6,7 +6,7 @@ use Rattle.room_core.specs.declared.reply.StepReply.{StepReply}
 use Rattle.room_core.specs.Calls.{RoomState, has_crashed, opening_state, room_after_crash, room_after_settle, room_after_step, step_reply}
 use Rattle.room_core.specs.Reading.{AreFieldsOf}
 use Rattle.room_core.specs.Rooms.{ScheduleEvent, crashes}
-use Rattle.room_core.specs.Watching.{TakenStep, is_stepped, steps_of_settling, steps_of_steps}
+use Rattle.room_core.specs.Observing.{TakenStep, is_stepped, steps_of_settling, steps_of_steps}
 use Rattle.ws_history.specs.Notes.{events_taken}
 use Rattle.ws_history.specs.Reports.{IsTrueReport}
 use Rattle.ws_history.specs.declared.states.Report.{Report}
@@ -27,7 +27,7 @@ Entries = List (List ℕ × RoomState)
 abbrev pub room_at : Entries → List ℕ → Option RoomState
 room_at entries name = lookup (bytes_eq name) entries
 
--- each room stands under its own name
+-- each room is under its own name
 abbrev pub HasOwnNames : Entries → Type 0
 HasOwnNames entries = (name : List ℕ) (room : RoomState) → room_at entries name ≡ Some room → room.spec.name ≡ name
 
@@ -105,7 +105,7 @@ events_by room command = events_taken (steps_of (Some room) command)
 
 -- ---- one command
 
--- What a command makes of the rooms and answers. All but want of memory rests on the room of its name alone.
+-- What a command makes of the rooms and answers. All but an allocation that fails depends on the room of its name alone.
 pub record Applies (before : Entries) (command : Command) (reply : Reply) (after : Entries) : Type 0 where
   pub answer : reply ≢ Refused OutOfMemory → (room : Option OpenRoom) → IsStateOf (room_at before (name_in command)) room
       → (reply ≡ reply_to room command) × IsStateOf (room_at after (name_in command)) (room_after room command)

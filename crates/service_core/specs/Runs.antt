@@ -18,7 +18,7 @@ replies_of name (command ∷ commands) [] = []
 replies_of name (command ∷ commands) (reply ∷ replies) =
     if bytes_eq name (name_in command) then reply ∷ replies_of name commands replies else replies_of name commands replies
 
--- memory was refused
+-- an allocation failed
 abbrev pub is_want : Reply → Bool
 is_want (Refused OutOfMemory) = true
 is_want reply = false
@@ -29,7 +29,7 @@ HasNoWant replies = list_any is_want replies ≡ false
 abbrev pub without_wants : List Reply → List Reply
 without_wants replies = filter (λ reply. not (is_want reply)) replies
 
--- the commands that were not refused memory
+-- the commands for which no allocation failed
 abbrev pub granted : List Command → List Reply → List Command
 granted [] replies = []
 granted (command ∷ commands) [] = []

@@ -7,7 +7,7 @@ use room_spec::{Name, Spec};
 /// A command to the room of one name. A [`Begin`](Command::Begin) names the room of its spec.
 #[derive(Drop)]
 pub enum Command {
-    /// Opens a room, in which nobody has taken a step.
+    /// Opens a room, in which no simulator has taken a step.
     Begin(Spec),
     /// Lets simulator `sim` take atomic steps, until it has taken `count` or one is not taken.
     Step { name: Name, sim: u8, count: u16 },

@@ -2,7 +2,7 @@
 ghost use Rattle.std.specs.Prelude.{List, ◌≡◌, ◌++◌, Some};
 ghost use Rattle.room_core.specs.Calls.{RoomState, configuration_of};
 ghost use Rattle.room_core.specs.Rooms.{ScheduleEvent};
-ghost use Rattle.room_core.specs.Watching.{AreSeen};
+ghost use Rattle.room_core.specs.Observing.{AreSeen};
 ghost use Rattle.ws_history.specs.Notes.{AreNotesOf, IsNoted, Notes};
 ghost use Rattle.service_core.specs.declared.command.Command.{Command as CommandData};
 ghost use Rattle.service_core.specs.Rooms.{events_by, room_left, steps_of};

@@ -1,7 +1,7 @@
 //! Many rooms, each under its name, and the commands that make, step, crash, settle, report
 //! and close them.
 //!
-//! What a room answers rests on the commands of its own name alone, whatever stands between them;
+//! What a room answers rests on the commands of its own name alone, whatever is between them;
 //! each history that it reports is a run of its own protocol on write-snapshot memory.
 #![tactic(auto)]
 

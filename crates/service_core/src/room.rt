@@ -5,7 +5,7 @@ ghost use Rattle.room_core.specs.Calls.{room_after_crash};
 ghost use Rattle.room_core.specs.Fields.{Fields};
 ghost use Rattle.room_core.specs.Reading.{AreFieldsOf};
 ghost use Rattle.room_core.specs.declared.reply.StepReply.{StepReply as StepReplyData};
-ghost use Rattle.room_core.specs.Watching.{AreSeen, steps_of_steps};
+ghost use Rattle.room_core.specs.Observing.{AreSeen, steps_of_steps};
 ghost use Rattle.service_core.specs.Replies.{OpenRoom, reply_to_steps, stepping};
 ghost use Rattle.ws_history.specs.declared.states.Report.{Report as ReportData};
 ghost use Rattle.service_core.specs.Rooms.{Answers, IsOpenAs, IsRefusal, IsSteppedTo, command_for, room_left, room_stepped, steps_of};
@@ -14,7 +14,7 @@ ghost use Rattle.service_core.specs.declared.reply.Reply.TheVariants.{Refused, R
 ghost use Rattle.service_core.specs.declared.reply.Refusal.TheVariants.{NoRoom, OutOfMemory};
 
 use crate::reply::{Refusal, Reply};
-use room_core::{RoomCore, StepReply, Watch};
+use room_core::{Observer, RoomCore, StepReply};
 use std::alloc::Global;
 use ws_history::report;
 
@@ -26,7 +26,7 @@ pub(crate) enum Act {
     Settle,
 }
 
-/// The report of a room, unless memory is refused to it.
+/// The report of a room, unless an allocation fails.
 pub(crate) fn answer_report(alloc: Global, room: &RoomCore) -> Reply
     // What it answers rests on the room alone.
     ensures reply { result ≢ Refused OutOfMemory → (name : List ℕ) (state : OpenRoom) → IsOpenAs room.now state → Answers state (Report name) result room.now }
@@ -40,8 +40,8 @@ pub(crate) fn answer_report(alloc: Global, room: &RoomCore) -> Reply
     }
 }
 
-/// Does what the command asks, and answers it; each atomic step is taken by who looks on. It takes no memory.
-pub(crate) fn answer<W: Watch>(room: &mut RoomCore, what: Act, watch: &mut W) -> Reply
+/// Does what the command asks, and answers it; an observer sees each atomic step. It takes no memory.
+pub(crate) fn answer<W: Observer>(room: &mut RoomCore, what: Act, observer: &mut W) -> Reply
     // What it does rests on the room alone.
     ensures reply { (name : List ℕ) (state : OpenRoom) → IsOpenAs room.old state → Answers state (command_for name what) result room.new }
     ensures granted { result ≢ Refused OutOfMemory }
@@ -51,13 +51,13 @@ pub(crate) fn answer<W: Watch>(room: &mut RoomCore, what: Act, watch: &mut W) ->
     ensures left { (name : List ℕ) → room_left room.old (command_for name what) ≡ Some room.new }
     ensures taken { (name : List ℕ) (number : ℕ) (last : StepReplyData) →
         result ≡ Steps number last → length (steps_of (Some room.old) (command_for name what)) ≡ number }
-    ensures seen { (name : List ℕ) → AreSeen W.sees watch.old (steps_of (Some room.old) (command_for name what)) watch.new }
+    ensures seen { (name : List ℕ) → AreSeen W.sees observer.old (steps_of (Some room.old) (command_for name what)) observer.new }
 {
     match what {
-        Act::Step { sim, count } => reply_to_steps(step_watched(room, sim, count, watch)),
+        Act::Step { sim, count } => reply_to_steps(step_observed(room, sim, count, observer)),
         Act::Crash(sim) => crash(room, sim),
         Act::Settle => {
-            room.settle_watched(watch);
+            room.settle_observed(observer);
             Reply::Settled
         }
     }
@@ -97,12 +97,12 @@ pub(crate) fn step(room: &mut RoomCore, sim: u8, count: u16) -> Result<(u16, Ste
     Ok(steps(room, usize::from(sim), count))
 }
 
-/// Lets a simulator take steps, each by who looks on. It takes no memory.
-fn step_watched<W: Watch>(
+/// Lets a simulator take steps, each of which an observer sees. It takes no memory.
+fn step_observed<W: Observer>(
     room: &mut RoomCore,
     sim: u8,
     count: u16,
-    watch: &mut W,
+    observer: &mut W,
 ) -> Result<(u16, StepReply), Refusal>
     ensures reply { (name : List ℕ) (state : OpenRoom) → IsOpenAs room.old state → Answers state (Step name sim count) (reply_to_steps result) room.new }
     ensures granted { reply_to_steps result ≢ Refused OutOfMemory }
@@ -111,12 +111,12 @@ fn step_watched<W: Watch>(
     ensures spec { room.new.spec ≡ room.old.spec }
     ensures left { room.new ≡ room_stepped room.old sim count }
     ensures taken { (number : ℕ) (last : StepReplyData) → reply_to_steps result ≡ Steps number last → length (steps_of_steps room.old sim count) ≡ number }
-    ensures seen { AreSeen W.sees watch.old (steps_of_steps room.old sim count) watch.new }
+    ensures seen { AreSeen W.sees observer.old (steps_of_steps room.old sim count) observer.new }
 {
     if !has_simulator(room, sim) {
         return Err(Refusal::NoSimulator);
     }
-    Ok(steps_watched(room, usize::from(sim), count, watch))
+    Ok(steps_observed(room, usize::from(sim), count, observer))
 }
 
 fn crash(room: &mut RoomCore, sim: u8) -> Reply
@@ -149,22 +149,22 @@ fn steps(room: &mut RoomCore, i: usize, count: u16) -> (u16, StepReply)
     (taken, room.step(i))
 }
 
-/// Does what [`steps`] does, one step after the other, each by who looks on.
-fn steps_watched<W: Watch>(
+/// Does what [`steps`] does, one step after the other, each of which an observer sees.
+fn steps_observed<W: Observer>(
     room: &mut RoomCore,
     i: usize,
     count: u16,
-    watch: &mut W,
+    observer: &mut W,
 ) -> (u16, StepReply)
     ensures fields { (fields : Fields) → AreFieldsOf room.old fields → IsSteppedTo (stepping room.old.spec fields i count) result room.new }
     ensures spec { room.new.spec ≡ room.old.spec }
     ensures left { room.new ≡ room_stepped room.old i count }
     ensures taken { length (steps_of_steps room.old i count) ≡ result.0 }
-    ensures seen { AreSeen W.sees watch.old (steps_of_steps room.old i count) watch.new }
+    ensures seen { AreSeen W.sees observer.old (steps_of_steps room.old i count) observer.new }
 {
     let _shape = room.spec().shape(); // for the proof: a spec is within its limits
     for taken in 0..count {
-        match watch.step(room, i) {
+        match observer.step(room, i) {
             StepReply::Stepped => {}
             last => return (taken, last),
         }

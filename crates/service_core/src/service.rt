@@ -4,7 +4,7 @@ ghost use Rattle.std.specs.Vec.{vec_capacity, vec_len};
 ghost use Rattle.std.specs.Str.{bytes_eq};
 ghost use Rattle.indexmap.specs.IndexMap.{get};
 ghost use Rattle.room_core.specs.Calls.{opening_state};
-ghost use Rattle.room_core.specs.Watching.{AreSeen};
+ghost use Rattle.room_core.specs.Observing.{AreSeen};
 ghost use Rattle.room_core.specs.declared.reply.StepReply.{StepReply as StepReplyData};
 ghost use Rattle.ws_history.specs.declared.states.Report.{Report as ReportData};
 ghost use Rattle.service_core.specs.declared.command.Command.TheVariants.{Begin, Close, Report, Step};
@@ -20,7 +20,7 @@ use crate::command::Command;
 use crate::reply::{Refusal, Reply};
 use crate::room::{Act, answer, answer_report, reply_to_steps, step};
 use indexmap::IndexMap;
-use room_core::{RoomCore, StepReply, Unwatched, Watch};
+use room_core::{Observer, RoomCore, StepReply, Unobserved};
 use room_spec::{Name, Spec, Spelled};
 use std::alloc::{AllocError, Global};
 use std::marker::Model;
@@ -80,26 +80,30 @@ impl Service {
             Command::Step { name, sim, count } => {
                 reply_to_steps(self.step(name.as_str().as_bytes(), sim, count))
             }
-            other => self.apply_watched(alloc, other, &mut Unwatched),
+            other => self.apply_observed(alloc, other, &mut Unobserved),
         }
     }
 
-    /// Does what [`apply`](Service::apply) does, and has each atomic step taken by somebody who looks on.
-    pub fn apply_watched<W: Watch>(
+    /// Does what [`apply`](Service::apply) does, and has each atomic step seen by an observer.
+    pub fn apply_observed<W: Observer>(
         &mut self,
         alloc: Global,
         command: Command,
-        watch: &mut W,
+        observer: &mut W,
     ) -> Reply
         ensures applies { Applies self.old command result self.new }
         // The steps that the command took in its room were seen, and no others, in their order.
-        ensures seen { AreSeen W.sees watch.old (steps_of (room_at self.old (name_in command)) command) watch.new }
+        ensures seen { AreSeen W.sees observer.old (steps_of (room_at self.old (name_in command)) command) observer.new }
     {
         match command {
             Command::Begin(spec) => self.begin(alloc, spec),
-            Command::Step { name, sim, count } => self.ask(&name, Act::Step { sim, count }, watch),
-            Command::Crash { name, sim } => self.ask(&name, Act::Crash(sim), watch),
-            Command::Settle(name) => self.ask(&name, Act::Settle, watch),
+            Command::Step { name, sim, count } => self.ask(
+                &name,
+                Act::Step { sim, count },
+                observer,
+            ),
+            Command::Crash { name, sim } => self.ask(&name, Act::Crash(sim), observer),
+            Command::Settle(name) => self.ask(&name, Act::Settle, observer),
             Command::Report(name) => self.report(alloc, &name),
             Command::Close(name) => self.close(&name),
         }
@@ -110,7 +114,7 @@ impl Service {
     ///
     /// # Errors
     ///
-    /// [`Refusal::NoRoom`] where no room has this name, so also where the bytes are no name; [`Refusal::NoSimulator`].
+    /// [`Refusal::NoRoom`] if no room has this name, so also if the bytes are no name; [`Refusal::NoSimulator`].
     pub fn step(&mut self, name: &[u8], sim: u8, count: u16) -> Result<(u16, StepReply), Refusal>
         ensures reply { Applies self.old (Step name.now sim count) (reply_to_steps result) self.new }
         // Where there is a room the bytes are a name.
@@ -128,17 +132,17 @@ impl Service {
     }
 
     /// The replies of a fresh service to these commands, in order. Room for all replies is taken
-    /// first: where it is refused, no command runs and the commands are dropped.
+    /// first: if it is refused, no command runs and the commands are dropped.
     pub fn run(alloc: Global, commands: Vec<Command>) -> Result<Vec<Reply>, AllocError>
         ensures count { IfOk result (λ replies. length replies.items ≡ length commands.items) }
-        // Where no memory was refused, each name's replies are those of a service that is given the
+        // If no allocation failed, each name's replies are those of a service that is given the
         // commands of that name alone.
         ensures alone { IfOk result (λ replies. HasNoWant replies.items →
             (name : List ℕ) → replies_of name commands.items replies.items ≡ replies_from None (part name commands.items)) }
         // Each history that is reported is a run of its room's protocol, with each decision and no
         // other; and no more processes are held than simulators have crashed.
         ensures reports { IfOk result (λ replies. AreTrueReports commands.items replies.items) }
-        // Where memory was refused, the other replies are those to the list without the commands
+        // If an allocation failed, the other replies are those to the list without the commands
         // that were refused it. These begin a room under a free name or ask for an open one's report.
         ensures refused { IfOk result (λ replies. (name : List ℕ) →
             without_wants (replies_of name commands.items replies.items) ≡
@@ -202,9 +206,9 @@ impl Service {
     }
 
     /// Asks the room of this name for something, if there is one. It takes no memory.
-    fn ask<W: Watch>(&mut self, name: &Name, what: Act, watch: &mut W) -> Reply
+    fn ask<W: Observer>(&mut self, name: &Name, what: Act, observer: &mut W) -> Reply
         ensures applies { Applies self.old (command_for name.now what) result self.new }
-        ensures seen { AreSeen W.sees watch.old (steps_of (room_at self.old name.now) (command_for name.now what)) watch.new }
+        ensures seen { AreSeen W.sees observer.old (steps_of (room_at self.old name.now) (command_for name.now what)) observer.new }
     {
         let Some(index) = self.rooms.get_index_of(name) else {
             return Reply::Refused(Refusal::NoRoom);
@@ -212,7 +216,7 @@ impl Service {
         let Some(room) = self.rooms.get_index_mut(index) else {
             unreachable!() // the index was found just now
         };
-        answer(room, what, watch)
+        answer(room, what, observer)
     }
 
     /// Closes the room of this name, if there is one.

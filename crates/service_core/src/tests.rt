@@ -464,7 +464,7 @@ fn replies_differ(rt: HostRuntime) {
     );
 }
 
-/// How many replies of a service to so many commands are to a step of a room that isn't there.
+/// How many replies of a service to this many commands are to a step of a room that isn't there.
 fn refused_steps(alloc: Global, count: u64) -> Result<(usize, usize), Fail> {
     let mut commands = Vec::new(alloc);
     for _ in 0..count {

@@ -1,4 +1,4 @@
--- The lines that tell of an atomic step.
+-- The lines that describe an atomic step.
 use Rattle.std.specs.Prelude.{ℕ, ◌<◌, List, [], ◌++◌, Bool, true, false, Option, Some, None, codes, decimal}
 use Rattle.room_spec.specs.Rooms.{RoomSpec, processes}
 use Rattle.room_spec.specs.Sizes.{sizes_in}
@@ -32,7 +32,7 @@ abbrev pub turn_text : AtomicStep → Bool → List ℕ
 turn_text step true = []
 turn_text step false = turn_name step
 
--- what a turn came to, by what is left to do for its process
+-- how a turn ended, by what is left to do for its process
 abbrev pub outcome_text : ℕ → Goal → List ℕ
 outcome_text process (Write round value) = behind (codes "useful: process") process ++ between (codes " writes") value (codes " next")
 outcome_text process (Ask round) = behind (codes "quiet: the agreement of process") process ++ between (codes ", round") round (codes " is not resolved")

@@ -1,11 +1,11 @@
 -- Pieces of text.
 use Rattle.std.specs.Prelude.{ℕ, ◌-◌, List, ◌∷◌, ◌++◌, length, max, replicate, codes, decimal}
 
--- with spaces behind it, up to a width; with one where it is wider
+-- with spaces after it, up to a width; with one if it is wider
 abbrev pub padded : ℕ → List ℕ → List ℕ
 padded width text = text ++ replicate (max (width - length text) 1) 32
 
--- a number behind words
+-- a number after words
 abbrev pub behind : List ℕ → ℕ → List ℕ
 behind before number = before ++ (32 ∷ decimal number)
 

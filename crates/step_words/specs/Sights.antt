@@ -46,7 +46,7 @@ abbrev pub chosen_text : Option ℕ → List ℕ
 chosen_text None = codes ": not resolved"
 chosen_text (Some simulator) = between (codes ": the proposal of simulator") simulator (codes " is chosen")
 
--- what the levels say: to who looks inside the agreement whether a proposal stands, and to who asks which was chosen
+-- what the levels say: to a simulator in the agreement whether it is kept, and to one that asks which proposal was chosen
 abbrev pub levels_say : Line → List ℕ → List ℕ
 levels_say Look levels = if has_level 2 levels then codes ": a proposal stands" else codes ": no proposal stands"
 levels_say line levels = chosen_text (resolved_of levels)

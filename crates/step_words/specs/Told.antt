@@ -1,4 +1,4 @@
--- What is told of steps, one after the other.
+-- What is said of steps, one after the other.
 use Rattle.std.specs.Prelude.{◌≡◌, ℕ, ◌+◌, Bool, false, List, [], ◌++◌, Option, Some, None, ◌==◌, ◌&&◌}
 use Rattle.room_spec.specs.Rooms.{RoomSpec}
 use Rattle.room_core.specs.Calls.{RoomState, configuration_of}
@@ -9,8 +9,8 @@ use Rattle.ws_history.specs.Effects.{IsEffectOf}
 use Rattle.ws_history.specs.declared.effects.Effect.{Effect}
 use Rattle.step_words.specs.Lines.{step_lines}
 
--- The lines so far, how many steps they tell, and whose turn the last of them was, by its number. lacks: memory was refused, and
--- nothing more is told.
+-- The lines so far, how many steps they describe, and whose turn the last of them was, by its number. lacks: an allocation failed, and
+-- nothing more is written.
 pub record Telling : Type 0 where
   pub lines : List ℕ
   pub number : ℕ
@@ -34,7 +34,7 @@ with_step telling spec step effect = record {
   lacks = telling.lacks;
 }
 
--- A step that simulator i took in a room was told, with what takes effect at it, unless memory was refused by then.
+-- A step that simulator i took in a room was described, with what takes effect at it, unless an allocation failed by then.
 pub record IsTold (old : Telling) (room : RoomState) (i : ℕ) (new : Telling) : Type 0 where
   pub step : AtomicStep
   pub is : IsStepOf room i step

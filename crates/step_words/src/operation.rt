@@ -99,7 +99,7 @@ fn write_memory(output: &mut Text, spec: &Spec, word: usize) -> Result<(), Alloc
     write_word(output, spec, word)
 }
 
-/// Writes which of the memory words it is, where the room has several.
+/// Writes which of the memory words it is, if the room has several.
 fn write_word(output: &mut Text, spec: &Spec, word: usize) -> Result<(), AllocError>
     ensures { OnOk result (output.new ≡ output.old ++ word_text spec.now word) }
 {

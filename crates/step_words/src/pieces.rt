@@ -6,7 +6,7 @@ use io_text::Text;
 use itoa::Buffer;
 use std::alloc::AllocError;
 
-/// Puts a number's digits behind the text.
+/// Appends a number's digits to the text.
 pub(crate) fn write_digits(output: &mut Text, number: u64) -> Result<(), AllocError>
     ensures { OnOk result (output.new ≡ output.old ++ decimal number) }
 {
@@ -14,7 +14,7 @@ pub(crate) fn write_digits(output: &mut Text, number: u64) -> Result<(), AllocEr
     output.put(buffer.format(number).as_bytes())
 }
 
-/// Puts spaces behind what stands behind the first `from` bytes, up to a width of at most 48, and one at least.
+/// Puts spaces after what follows the first `from` bytes, up to a width of at most 48, and one at least.
 pub(crate) fn pad(output: &mut Text, from: usize, width: usize) -> Result<(), AllocError>
     requires from { from ≤ length output.old }
     requires width { width ≤ 48 }
@@ -25,7 +25,7 @@ pub(crate) fn pad(output: &mut Text, from: usize, width: usize) -> Result<(), Al
     output.put(&spaces[..missing])
 }
 
-/// Puts words and a number behind the text.
+/// Appends words and a number to the text.
 pub(crate) fn write_number(output: &mut Text, before: &[u8], number: u64) -> Result<(), AllocError>
     ensures { OnOk result (output.new ≡ output.old ++ behind before.now number) }
 {
@@ -33,7 +33,7 @@ pub(crate) fn write_number(output: &mut Text, before: &[u8], number: u64) -> Res
     output.put_number(number)
 }
 
-/// Puts words, a number and more words behind the text.
+/// Appends words, a number and more words to the text.
 pub(crate) fn write_between(
     output: &mut Text,
     before: &[u8],
@@ -46,7 +46,7 @@ pub(crate) fn write_between(
     output.put(after)
 }
 
-/// Puts the name of a field and its first number behind the text.
+/// Appends the name of a field and its first number to the text.
 fn write_first(output: &mut Text, name: &[u8], number: usize) -> Result<(), AllocError>
     ensures { OnOk result (output.new ≡ output.old ++ (name.now ++ (codes "(" ++ decimal number))) }
 {
@@ -54,7 +54,7 @@ fn write_first(output: &mut Text, name: &[u8], number: usize) -> Result<(), Allo
     write_digits(output, number as u64)
 }
 
-/// Puts a further number of a field behind the text.
+/// Appends a further number of a field to the text.
 fn write_further(output: &mut Text, number: usize) -> Result<(), AllocError>
     ensures { OnOk result (output.new ≡ output.old ++ further number) }
 {
@@ -62,7 +62,7 @@ fn write_further(output: &mut Text, number: usize) -> Result<(), AllocError>
     write_digits(output, number as u64)
 }
 
-/// Puts the name of a field with two numbers behind the text.
+/// Appends the name of a field with two numbers to the text.
 pub(crate) fn write_with_two(
     output: &mut Text,
     name: &[u8],
@@ -76,7 +76,7 @@ pub(crate) fn write_with_two(
     output.put(b")")
 }
 
-/// Puts the name of a field with three numbers behind the text.
+/// Appends the name of a field with three numbers to the text.
 pub(crate) fn write_with_three(
     output: &mut Text,
     name: &[u8],

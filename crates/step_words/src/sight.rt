@@ -90,7 +90,7 @@ fn write_added(output: &mut Text, spec: &Spec, step: &AtomicStep) -> Result<(), 
     }
 }
 
-/// The step number of the step's simulator for its process, which stands in this memory word.
+/// The step number of the step's simulator for its process, which is in this memory word.
 fn step_number(spec: &Spec, at: usize, step: &AtomicStep) -> usize
     requires step { IsStepIn spec.now step.now }
     requires word { at < memory_words (sizes_in spec.now) }
@@ -178,7 +178,7 @@ fn write_chosen(output: &mut Text, chosen: Option<usize>) -> Result<(), AllocErr
     }
 }
 
-/// Writes each number behind a space.
+/// Writes each number after a space.
 fn write_numbers(output: &mut Text, numbers: &[u8]) -> Result<(), AllocError>
     ensures { OnOk result (output.new ≡ output.old ++ numbers_text numbers.now) }
 {
@@ -213,7 +213,7 @@ fn write_row(output: &mut Text, spec: &Spec, at: usize, word: u64) -> Result<(),
     Ok(())
 }
 
-/// Writes a number behind a space, or `.` for none.
+/// Writes a number after a space, or `.` for none.
 fn write_entry(output: &mut Text, number: usize) -> Result<(), AllocError>
     ensures { OnOk result (output.new ≡ output.old ++ entry_text number) }
 {

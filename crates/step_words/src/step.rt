@@ -23,13 +23,13 @@ const TURN_WIDTH: usize = 43;
 /// The width of the column with its operation.
 const OPERATION_WIDTH: usize = 36;
 
-/// Writes the line of an atomic step of a room, behind four spaces: its number, which the caller counts; its turn, where this
-/// is the first step of the turn that is told (`same_turn` is false); its operation; and what its word shows. A second line says
-/// what takes effect at the step, if something does, and where the step ends its turn a last one says what the turn came to.
+/// Writes the line of an atomic step of a room, after four spaces: its number, which the caller counts; its turn, where this
+/// is the first step of the turn that is described (`same_turn` is false); its operation; and what its word shows. A second line says
+/// what takes effect at the step, if something does, and where the step ends its turn a last one says how the turn ended.
 ///
 /// # Errors
 ///
-/// Where memory is refused. Parts of the lines may have been written then.
+/// An allocation that fails. Parts of the lines may have been written then.
 pub fn write_step(
     output: &mut Text,
     spec: &Spec,
@@ -50,7 +50,7 @@ pub fn write_step(
     write_notes(output, step, effect)
 }
 
-/// Writes what takes effect at the step, if something does, and what the turn came to, where it has ended.
+/// Writes what takes effect at the step, if something does, and how the turn ended, if it has ended.
 fn write_notes(
     output: &mut Text,
     step: &AtomicStep,
@@ -141,7 +141,7 @@ fn write_padded_operation(
     pad(output, from, OPERATION_WIDTH)
 }
 
-/// Writes what the turn came to, where it has ended.
+/// Writes how the turn ended, if it has ended.
 fn write_end(output: &mut Text, process: usize, end: Option<Goal>) -> Result<(), AllocError>
     ensures { OnOk result (output.new ≡ output.old ++ end_text process end) }
 {

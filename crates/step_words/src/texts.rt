@@ -1,18 +1,18 @@
-//! Who looks on, and writes what is to be seen.
+//! An observer that writes what is to be seen.
 ghost use Rattle.std.specs.Prelude.{◌≡◌, ◌≢◌, false, true, IfOk, IfErr, OnOk, if◌then◌else◌, Ok, Err, alloc_error};
 ghost use Rattle.step_words.specs.Lines.{IsStepIn};
 ghost use Rattle.step_words.specs.Told.{is_turn, nothing_told, with_step};
 
 use crate::step::write_step;
 use io_text::Text;
-use room_core::{RoomCore, StepReply, Watch};
+use room_core::{Observer, RoomCore, StepReply};
 use room_spec::Spec;
 use room_steps::{AtomicStep, take_step};
 use std::alloc::{AllocError, Global};
 use std::marker::Model;
 use ws_history::{Effect, StepStart};
 
-/// Who looks on while a room takes its steps, and writes the lines of each, numbered from 1, with what takes effect at it. Where memory is refused it writes no
+/// An observer of the steps of a room, which writes the lines of each, numbered from 1, with what takes effect at it. After an allocation that fails it writes no
 /// more, and the room goes on.
 #[derive(Drop)]
 pub struct StepTexts {
@@ -48,7 +48,7 @@ impl StepTexts {
     ///
     /// # Errors
     ///
-    /// Where memory was refused to some of them.
+    /// An allocation that failed for some of them.
     pub fn into_lines(self) -> Result<Text, AllocError>
         ensures lines { IfOk result (λ lines. (self.lacks ≡ false) × (lines ≡ self.lines)) }
         ensures refused { IfErr result (λ error. self.lacks ≡ true) }
@@ -80,7 +80,7 @@ impl StepTexts {
     {
         let same_turn = self.is_turn(step.simulator, step.turn);
         let Some(number) = self.number.checked_add(1) else {
-            return Err(AllocError); // so many lines take more memory than there is
+            return Err(AllocError); // this many lines take more memory than there is
         };
         write_step(&mut self.lines, spec, number, step, same_turn, effect)?;
         self.number = number;
@@ -99,7 +99,7 @@ impl StepTexts {
     }
 }
 
-impl Watch for StepTexts {
+impl Observer for StepTexts {
     ghost use Rattle.step_words.specs.Told.{IsTold};
 
     ghost sees = { IsTold };

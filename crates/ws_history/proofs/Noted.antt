@@ -14,7 +14,7 @@ use Rattle.simulator.specs.Sweeps.{is_resting}
 use Rattle.simulator.specs.Turns.{words_in}
 use Rattle.room_core.specs.Agreements.{greatest_step, has_out}
 use Rattle.room_core.specs.Calls.{RoomState, configuration_of, moved, room_after_step, step_reply, sweep_at}
-use Rattle.room_core.specs.Watching.{AreSeen, Follow, TakenStep}
+use Rattle.room_core.specs.Observing.{AreSeen, Follow, TakenStep}
 use Rattle.room_core.specs.declared.reply.StepReply.TheVariants.{Stepped}
 use Rattle.room_core.specs.Counting.{events_so_far}
 use Rattle.room_core.specs.Fields.{Fields, opening_fields, replay_fields}

@@ -11,7 +11,7 @@ use Rattle.transcript.specs.declared.event.Event.TheVariants.{Write, Snap, Decid
 
 -- ---- where a history comes from
 
--- the snapshot of a process behind its write of this round
+-- the snapshot of a process after its write of this round
 pub record Snapshot : Type 0 where
   pub process : ℕ
   pub round : ℕ

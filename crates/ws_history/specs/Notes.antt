@@ -6,7 +6,7 @@ use Rattle.room_core.specs.Calls.{RoomState, configuration_of, room_after_step}
 use Rattle.room_core.specs.Fields.{Fields}
 use Rattle.room_core.specs.Moments.{fields_at}
 use Rattle.room_core.specs.Points.{last_read, last_when}
-use Rattle.room_core.specs.Watching.{TakenStep}
+use Rattle.room_core.specs.Observing.{TakenStep}
 use Rattle.room_core.specs.Rooms.{Configuration, IsLegal, ScheduleEvent, opening, replay, steps}
 
 -- One number for each process and round, for each simulator, process and round, and for each process: the time of a step.

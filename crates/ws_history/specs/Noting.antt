@@ -12,7 +12,7 @@ use Rattle.ws_history.specs.declared.points.Before.{Before}
 use Rattle.ws_history.specs.Notes.{Notes, place}
 use Rattle.ws_history.specs.Readings.{read_of}
 
--- what there is before a step of simulator i, unless it stands between two turns
+-- what there is before a step of simulator i, unless it is between two turns
 abbrev pub before_step : RoomState → ℕ → Before
 before_step room i = record {
   time = events_so_far (configuration_of room);

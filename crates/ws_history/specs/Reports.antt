@@ -1,4 +1,4 @@
--- The report of a room: where each process stands, which simulators have crashed, and the history.
+-- The report of a room: the state of each process, which simulators have crashed, and the history.
 use Rattle.std.specs.Prelude.{◌≡◌, ◌<◌, ◌≤◌, ◌↔◌, ℕ, Bool, true, false, not, List, Option, Some, None, is_some, length, map, slice_index_or, ◌==◌, ◌&&◌, if◌then◌else◌}
 use Rattle.std.specs.List.{Contains, count_by, filter, find, list_any, range_with_len}
 use Rattle.protocol_lang.specs.declared.meaning.Action.{Action}

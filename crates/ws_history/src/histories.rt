@@ -34,7 +34,7 @@ use transcript::Event;
 ///
 /// # Errors
 ///
-/// Where memory is refused.
+/// An allocation that fails.
 pub fn history(alloc: Global, room: &RoomCore) -> Result<Vec<Event>, AllocError>
     // It is that of any fields that the room stands for.
     ensures fields { (fields : Fields) → AreFieldsOf room.now fields → IfOk result (λ events. events.items ≡ history_of room.now.spec fields) }

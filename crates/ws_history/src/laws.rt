@@ -14,7 +14,7 @@ ghost use Rattle.ws_history.specs.declared.states.ProcessState.TheVariants.{Deci
 ghost use Rattle.ws_history.specs.Sources.{history_of, source_of};
 ghost use Rattle.room_core.specs.Calls.{configuration_of, marked, room_after_settle, room_after_steps};
 ghost use Rattle.room_core.specs.Rooms.{IsAlive, ScheduleEvent, crashes};
-ghost use Rattle.room_core.specs.Watching.{AreSeen, steps_of_settling, steps_of_steps};
+ghost use Rattle.room_core.specs.Observing.{AreSeen, steps_of_settling, steps_of_steps};
 ghost use Rattle.ws_history.specs.Notes.{AreNotesOf, IsNoted, Notes, events_taken};
 ghost use Rattle.ws_history.specs.Linearizations.{IsLinearization, Timed, events_in, events_of, linearized};
 ghost use Rattle.ws_history.specs.Histories.{Snapshot, Source, IsSource, history_from};
@@ -120,14 +120,14 @@ pub fn decided_in_history()
         (state_of room.spec fields j ≡ Decided v) ↔ Contains (history_of room.spec fields) (Decide j v) }
 {}
 
-/// A process is spent exactly where its history leaves it no round, and asks it for a write.
+/// A process is spent exactly if its history leaves it no round, and asks it for a write.
 pub fn spent_in_history()
     ensures { (room : RoomState) (fields : Fields) →
         IsWithinLimits room.spec → AreFieldsOf room fields → (j : ℕ) → j < processes room.spec →
         (state_of room.spec fields j ≡ Spent) ↔ IsOutOfRounds room.spec (history_of room.spec fields) j }
 {}
 
-/// Where each process of a room has settled, all have decided or are spent but for at most as many
+/// If each process of a room has settled, all have decided or are spent but for at most as many
 /// as simulators have crashed.
 pub fn settled_rooms()
     ensures { (room : RoomState) (fields : Fields) →

@@ -1,5 +1,5 @@
-//! What a simulated room has come to: the history of its processes on write-snapshot memory, and a
-//! report of where each of them stands.
+//! The result of a simulated room: the history of its processes on write-snapshot memory, and a
+//! report of the state of each of them.
 #![tactic(auto)]
 
 mod agreements;

@@ -17,13 +17,13 @@ ghost use Rattle.ws_history.specs.Effects.{has_read};
 use crate::reading::{
     greatest_step, has_out, process_count, round_count, shape_of, simulator_count,
 };
-use room_core::{RoomCore, StepReply, Watch};
+use room_core::{Observer, RoomCore, StepReply};
 use room_spec::{MAX_MEMORY_WORDS, Spec};
 use simulator::{Line, Mind, Move};
 use std::alloc::{AllocError, Global};
 use std::marker::Model;
 
-/// The steps at which a room's writes, snapshots and decisions take effect, noted while it steps: a [`Watch`] that does a bounded amount of
+/// The steps at which a room's writes, snapshots and decisions take effect, noted while it steps: a [`Observer`] that does a bounded amount of
 /// work at each step and takes no memory. Of a snapshot it is known only in the end which proposal was chosen, so for each simulator,
 /// process and round the last step by which that simulator read is noted: 8 bytes each, at most 18 KB a room.
 #[derive(Drop)]
@@ -150,7 +150,7 @@ impl Points {
         }
     }
 
-    /// A decision was stored where none was.
+    /// A decision was stored in a place that had none.
     fn note_store(&mut self, room: &RoomCore, before: &Before)
         requires { before.now.process < processes room.now.spec }
         ensures { self.new ≡ store_noted room.now before.now self.old }
@@ -161,7 +161,7 @@ impl Points {
     }
 }
 
-impl Watch for Points {
+impl Observer for Points {
     ghost use Rattle.ws_history.specs.Notes.{IsNoted};
 
     ghost sees = { IsNoted };
@@ -248,7 +248,7 @@ fn ends_collect(room: &RoomCore, i: usize) -> bool
     scans(room, i) && loaded_word(room, i) + 1 == words
 }
 
-/// The memory word that simulator `i`, which stands in a scan, loads next.
+/// The memory word that simulator `i`, which is in a scan, loads next.
 #[tactic(auto, using(crate::proofs::Looking::scan_loads))]
 fn loaded_word(room: &RoomCore, i: usize) -> usize
     requires simulator { i < room.now.spec.simulators }
@@ -262,7 +262,7 @@ fn loaded_word(room: &RoomCore, i: usize) -> usize
     }
 }
 
-/// Whether simulator `i` stands in a scan of the memory words.
+/// Whether simulator `i` is in a scan of the memory words.
 fn scans(room: &RoomCore, i: usize) -> bool
     requires { i < room.now.spec.simulators }
     ensures { result ≡ is_snap (sweep_at room.now i).mind.line }

@@ -64,7 +64,7 @@ fn word_at(room: &RoomCore, place: Place) -> u64
     room.word(index(&room.spec().shape(), place))
 }
 
-/// The number, or the greatest value where it is above that.
+/// The number, or the greatest value if it is above that.
 fn small(word: u64) -> u32
     ensures { result ≡ min word greatest }
 {

@@ -21,13 +21,13 @@ use room_core::RoomCore;
 use room_spec::{MAX_PROCESSES, MAX_SIMULATORS};
 use std::alloc::{AllocError, Global};
 
-/// The report of a room: where each process stands, which simulators have crashed, and the history.
+/// The report of a room: the state of each process, which simulators have crashed, and the history.
 /// At most as many processes are held as simulators have crashed, since a simulator is inside one
 /// agreement at a time (Borowsky et al. 2001, section 4). The room is only read.
 ///
 /// # Errors
 ///
-/// Where memory is refused.
+/// An allocation that fails.
 pub fn report(alloc: Global, room: &RoomCore) -> Result<Report, AllocError>
     // It is that of any fields that the room stands for.
     ensures fields { (fields : Fields) → AreFieldsOf room.now fields → IfOk result (λ report. report ≡ report_of room.now.spec fields) }
@@ -40,7 +40,7 @@ pub fn report(alloc: Global, room: &RoomCore) -> Result<Report, AllocError>
         IfOk result
         (λ report. (j i : ℕ) → j < processes room.now.spec → slice_index_or report.states.items j Going ≡ Held i →
         Contains (held_in room.now.spec fields) j) }
-    // Where each process has settled, all have decided or are spent but for at most as many as simulators have crashed.
+    // If each process has settled, all have decided or are spent but for at most as many as simulators have crashed.
     ensures settled { (fields : Fields) →
         AreFieldsOf room.now fields → ((j : ℕ) → j < processes room.now.spec → IsSettledFor room.now.spec fields j) →
         IfOk result (λ report. processes room.now.spec ≤ count_by is_over report.states.items + length report.crashed.items) }

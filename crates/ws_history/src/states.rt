@@ -6,7 +6,7 @@ use room_spec::{MAX_PROCESSES, MAX_SIMULATORS};
 use std::marker::Model;
 use transcript::Event;
 
-/// Where a process stands.
+/// The state of a process.
 #[derive(Clone, Copy, Debug, PartialEq, Eq, Hash)]
 pub enum ProcessState {
     /// It has decided this value.
@@ -60,7 +60,7 @@ impl History {
     }
 }
 
-/// Where each process of a room stands, in order of their numbers; which simulators have crashed,
+/// The state of each process of a room, in order of their numbers; which simulators have crashed,
 /// rising; and what the processes have done.
 #[derive(Drop)]
 pub struct Report {

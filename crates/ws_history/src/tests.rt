@@ -1,6 +1,6 @@
 use super::*;
 use protocol_lang::View;
-use room_core::{CrashReply, RoomCore, StepReply, Watch};
+use room_core::{CrashReply, Observer, RoomCore, StepReply};
 use room_spec::read_block;
 use std::alloc::{AllocError, Global};
 use std::fmt::Write;
@@ -101,7 +101,7 @@ fn told(rt: &HostRuntime, room: &RoomCore) -> Result<String, Fail> {
 /// What is done to a room, and what comes of it.
 #[derive(Clone, Copy)]
 enum Act {
-    /// A simulator may take so many steps, and takes so many.
+    /// A simulator may take this many steps, and takes this many.
     Step(usize, u64, u64),
     Crash(usize),
     /// The room is reported in these lines.
@@ -310,7 +310,7 @@ fn in_the_order_of_time(rt: HostRuntime) -> Result<(), Fail> {
     for i in [0, 0, 0, 1, 1] {
         points.step(&mut room, i);
     }
-    room.settle_watched(&mut points);
+    room.settle_observed(&mut points);
     let lines = timed_lines(&rt, &room, &points)?;
     if lines.as_str() != IN_TIME {
         return Err(Fail::from("another order"));

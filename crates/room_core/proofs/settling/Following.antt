@@ -2,13 +2,13 @@
 use Rattle.std.proofs.Common.{◌≡◌, ◌≢◌, ℕ, zero, suc, Bool, false, cond, List, [], ◌∷◌, ◌++◌, length, refl, sym, ◌∙◌, subst}
 use Rattle.room_core.specs.Calls.{RoomState, configuration_of, room_after_settle, room_after_step, room_after_steps, step_reply}
 use Rattle.room_core.specs.Rooms.{Configuration}
-use Rattle.room_core.specs.Watching.{Follow, TakenStep, Traced, is_stepped, steps_of_settling, steps_of_steps, traced_kind}
+use Rattle.room_core.specs.Observing.{Follow, TakenStep, Traced, is_stepped, steps_of_settling, steps_of_steps, traced_kind}
 use Rattle.room_core.specs.declared.reply.StepReply.{StepReply}
 use Rattle.room_core.specs.declared.reply.StepReply.TheVariants.{Stepped, Idle, OutOfTurns, Crashed, NoSimulator}
 use Rattle.room_core.proofs.fields.States.{woken_data}
 use Rattle.room_core.proofs.fields.Taken.{idle_same}
 use Rattle.room_core.proofs.settling.Settling.{settled_keeps}
-use Rattle.room_core.proofs.settling.Watched.{room_of_settled}
+use Rattle.room_core.proofs.settling.Observed.{room_of_settled}
 
 abbrev one_step : RoomState → ℕ → TakenStep
 one_step room i = record { room = room; simulator = i }

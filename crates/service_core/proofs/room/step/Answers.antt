@@ -1,5 +1,5 @@
 use Rattle.std.proofs.Common.{◌∙◌, ℕ, length, ap, sym, subst}
-use Rattle.room_core.specs.Watching.{steps_of_steps}
+use Rattle.room_core.specs.Observing.{steps_of_steps}
 use Rattle.service_core.specs.Replies.{stepping}
 use Rattle.service_core.specs.Rooms.{IsSteppedTo, room_stepped}
 use Rattle.service_core.proofs.Answering.{no_step, step_answers}

@@ -3,7 +3,7 @@ use Rattle.room_spec.specs.Rooms.{RoomSpec}
 use Rattle.room_core.specs.declared.reply.StepReply.{StepReply}
 use Rattle.room_core.specs.declared.reply.StepReply.TheVariants as steps
 use Rattle.room_core.specs.Calls.{RoomState, Step, room_after_step, room_after_steps, step_reply}
-use Rattle.room_core.specs.Watching.{is_stepped, steps_of_steps}
+use Rattle.room_core.specs.Observing.{is_stepped, steps_of_steps}
 use Rattle.room_core.specs.Fields.{Fields, step_reply_in, fields_after_step, fields_after_steps}
 use Rattle.room_core.specs.Reading.{AreFieldsOf}
 use Rattle.room_core.proofs.CallerLemmas.{same_spec, same_spec_steps}

@@ -1,5 +1,5 @@
 use Rattle.room_core.specs.Calls.{configuration_of, room_after_settle, room_after_steps}
-use Rattle.room_core.specs.Watching.{steps_of_settling, steps_of_steps}
+use Rattle.room_core.specs.Observing.{steps_of_settling, steps_of_steps}
 use Rattle.room_core.proofs.CallerLemmas.{settling_follows, steps_follow}
 use Rattle.std.proofs.Common.{length}
 use Rattle.ws_history.proofs.Noted.{crash_noted, seen_noted}

@@ -12,7 +12,7 @@ pub returns-clause-unbounded : goal.returns-clause-unbounded
 returns-clause-unbounded c =
     let room : RoomState = c.args.self.now in
     let was : IsRoom (configuration_of room) = subst (λ (r : RoomState). IsRoom (configuration_of r)) c.self.view_is c.self.invariant.is_room in
-    subst (Settles room_kind room) (sym c.settle_watched.ensures.room) (settles room was)
+    subst (Settles room_kind room) (sym c.settle_observed.ensures.room) (settles room was)
 
 pub returns-clause-agreement : goal.returns-clause-agreement
 returns-clause-agreement c = λ fields are.

@@ -5,7 +5,7 @@ use Rattle.room_core.specs.Calls.{RoomState, has_crashed, room_after_settle, roo
 use Rattle.room_core.specs.declared.reply.StepReply.{StepReply}
 use Rattle.room_core.specs.declared.reply.StepReply.TheVariants as replies
 use Rattle.room_core.specs.Settling.{each_in_order, in_order, ran_alone, settled, steps_while, turn_ended}
-use Rattle.room_core.specs.Watching.{AreSeen, IsWatched, TakenStep, Traced, is_stepped, steps_of_settling, traced_kind, traced_step}
+use Rattle.room_core.specs.Observing.{AreSeen, IsObserved, TakenStep, Traced, is_stepped, steps_of_settling, traced_kind, traced_step}
 use Rattle.room_core.proofs.fields.FieldCalls.{same_spec_step}
 use Rattle.room_core.proofs.settling.Alone.{IsUp, Means, has_step, has_step_means, in_turn, left, same_spec_alone, same_spec_ended, step_up, steps_of}
 use Rattle.room_core.proofs.settling.Settling.{AreAlike, alone_alike, ended_alike, settled_alike}
@@ -51,17 +51,17 @@ seen_more sees [] room i first last next is saw = (next, subst (λ w. sees w roo
 seen_more sees (step ∷ steps) room i first last next is saw = (is.0, is.1, seen_more sees steps room i is.0 last next is.2 saw)
 
 module _ {W : Type 0} (sees : W → RoomState → ℕ → W → Type 0) where
-  pub two_watched : (one two : Traced → Traced) (room between after : RoomState) (old middle new : W) → IsWatched sees one room old between middle → IsWatched sees two between middle after new
-      → IsWatched sees (λ traced. two (one traced)) room old after new
-  two_watched one two room between after old middle new first second = λ start taken are.
+  pub two_observed : (one two : Traced → Traced) (room between after : RoomState) (old middle new : W) → IsObserved sees one room old between middle → IsObserved sees two between middle after new
+      → IsObserved sees (λ traced. two (one traced)) room old after new
+  two_observed one two room between after old middle new first second = λ start taken are.
       let at = first start taken are in
       let then = second start at.0 at.2 in
       (then.0, ap two at.1 ∙ then.1, then.2)
 
-  room_of : (change : Traced → Traced) (room after : RoomState) (old new : W) → IsWatched sees change room old after new → (change (record { room = room; taken = [] })).room ≡ after
+  room_of : (change : Traced → Traced) (room after : RoomState) (old new : W) → IsObserved sees change room old after new → (change (record { room = room; taken = [] })).room ≡ after
   room_of change room after old new is = let at = is old [] refl in ap (λ (t : Traced). t.room) at.1
 
-  steps_seen : (change : Traced → Traced) (room after : RoomState) (old new : W) → IsWatched sees change room old after new → AreSeen sees old (change (record { room = room; taken = [] })).taken new
+  steps_seen : (change : Traced → Traced) (room after : RoomState) (old new : W) → IsObserved sees change room old after new → AreSeen sees old (change (record { room = room; taken = [] })).taken new
   steps_seen change room after old new is = let at = is old [] refl in subst (λ (t : Traced). AreSeen sees old t.taken new) (sym at.1) at.2
 
   -- ---- on the way
@@ -98,20 +98,20 @@ module _ {W : Type 0} (sees : W → RoomState → ℕ → W → Type 0) where
           less,
         )
 
-    pub ended : (start : RoomState) (old : W) (room : RoomState) (now : W) → IsRunning start old room now → test room i ≡ false → IsWatched sees (λ traced. Noted test i means (step_bound traced.room.spec) traced) start old room now
+    pub ended : (start : RoomState) (old : W) (room : RoomState) (now : W) → IsRunning start old room now → test room i ≡ false → IsObserved sees (λ traced. Noted test i means (step_bound traced.room.spec) traced) start old room now
     ended start old room now on is = λ first taken are.
         let at = on.goes first taken are in
         (at.0, at.1 ∙ stops test i means (step_bound room.spec) (record { room = room; taken = at.0 }) is, at.2)
 
   -- ---- one simulator
 
-  pub crashed_ends : (room : RoomState) (old : W) (i : ℕ) → has_crashed room i ≡ true → IsWatched sees (λ traced. turn_ended traced_kind traced i) room old room old
+  pub crashed_ends : (room : RoomState) (old : W) (i : ℕ) → has_crashed room i ≡ true → IsObserved sees (λ traced. turn_ended traced_kind traced i) room old room old
   crashed_ends room old i gone = λ first taken are.
       let at : Traced = record { room = room; taken = taken } in
       (taken, ap (λ (b : Bool). cond b at (steps_while traced_step traced_kind.in_turn (step_bound room.spec) at i)) gone, are)
 
-  pub turn_ends : (room after : RoomState) (old new : W) (i : ℕ) (means : Means in_turn i) → has_crashed room i ≡ false → IsWatched sees (λ traced. Noted in_turn i means (step_bound traced.room.spec) traced) room old after new
-      → IsWatched sees (λ traced. turn_ended traced_kind traced i) room old after new
+  pub turn_ends : (room after : RoomState) (old new : W) (i : ℕ) (means : Means in_turn i) → has_crashed room i ≡ false → IsObserved sees (λ traced. Noted in_turn i means (step_bound traced.room.spec) traced) room old after new
+      → IsObserved sees (λ traced. turn_ended traced_kind traced i) room old after new
   turn_ends room after old new i means alive is = λ first taken are.
       let found = is first taken are in
       let at : Traced = record { room = room; taken = taken } in
@@ -123,14 +123,14 @@ module _ {W : Type 0} (sees : W → RoomState → ℕ → W → Type 0) where
   abbrev alone_at : ℕ → Traced → Traced
   alone_at i traced = traced_step (steps_while traced_step traced_kind.has_step (step_bound (woken_at i traced).room.spec) (woken_at i traced) i) i
 
-  pub crashed_runs : (room : RoomState) (old : W) (i : ℕ) → has_crashed room i ≡ true → IsWatched sees (λ traced. ran_alone traced_kind traced i) room old room old
+  pub crashed_runs : (room : RoomState) (old : W) (i : ℕ) → has_crashed room i ≡ true → IsObserved sees (λ traced. ran_alone traced_kind traced i) room old room old
   crashed_runs room old i gone = λ first taken are.
       let at : Traced = record { room = room; taken = taken } in
       (taken, ap (λ (b : Bool). cond b at (alone_at i at)) gone, are)
 
   -- its quiet turns are counted anew, it runs, and a last call finds no step to take
   pub runs_alone : (room start end after : RoomState) (old new last : W) (i : ℕ) → has_crashed room i ≡ false → start ≡ with_sweep room i (woken (sweep_at room i)) → IsRunning has_step i (has_step_means i) start old end new → has_step end i ≡ false
-      → step_reply end i ≢ replies.Stepped → after ≡ room_after_step end i → last ≡ new → IsWatched sees (λ traced. ran_alone traced_kind traced i) room old after last
+      → step_reply end i ≢ replies.Stepped → after ≡ room_after_step end i → last ≡ new → IsObserved sees (λ traced. ran_alone traced_kind traced i) room old after last
   runs_alone room start end after old new last i alive is on stopped other to blind = λ first taken are.
       let at : Traced = record { room = room; taken = taken } in
       let found = ended has_step i (has_step_means i) start old end new on stopped first taken are in
@@ -192,35 +192,35 @@ room_of_settled traced =
 
 module _ {W : Type 0} (sees : W → RoomState → ℕ → W → Type 0) where
   pub record IsInOrder (change : Traced → ℕ → Traced) (count : ℕ) (start : RoomState) (old : W) (room : RoomState) (now : W) : Type 0 where
-    pub so_far : IsWatched sees (in_order change count) start old room now
+    pub so_far : IsObserved sees (in_order change count) start old room now
     pub same : room.spec ≡ start.spec
 
   pub nobody_yet : (change : Traced → ℕ → Traced) (room : RoomState) (old : W) → IsInOrder change 0 room old room old
   nobody_yet change room old = record { so_far = λ first taken are. (taken, refl, are); same = refl }
 
-  one_more : (change : Traced → ℕ → Traced) (count : ℕ) (start room after : RoomState) (old now new : W) → IsInOrder change count start old room now → IsWatched sees (λ traced. change traced count) room now after new → after.spec ≡ room.spec
+  one_more : (change : Traced → ℕ → Traced) (count : ℕ) (start room after : RoomState) (old now new : W) → IsInOrder change count start old room now → IsObserved sees (λ traced. change traced count) room now after new → after.spec ≡ room.spec
       → IsInOrder change (count + 1) start old after new
   one_more change count start room after old now new is more same =
       let next : suc count ≡ count + 1 = omega arith in
       record {
-        so_far = subst (λ (c : ℕ). IsWatched sees (in_order change c) start old after new) next (two_watched sees (in_order change count) (λ traced. change traced count) start room after old now new is.so_far more);
+        so_far = subst (λ (c : ℕ). IsObserved sees (in_order change c) start old after new) next (two_observed sees (in_order change count) (λ traced. change traced count) start room after old now new is.so_far more);
         same = same ∙ is.same;
       }
 
-  pub one_more_ends : (count : ℕ) (start room after : RoomState) (old now new : W) → count < room.spec.simulators → IsInOrder (turn_ended traced_kind) count start old room now → IsWatched sees (λ traced. turn_ended traced_kind traced count) room now after new
+  pub one_more_ends : (count : ℕ) (start room after : RoomState) (old now new : W) → count < room.spec.simulators → IsInOrder (turn_ended traced_kind) count start old room now → IsObserved sees (λ traced. turn_ended traced_kind traced count) room now after new
       → IsInOrder (turn_ended traced_kind) (count + 1) start old after new
   one_more_ends count start room after old now new below is more =
       one_more (turn_ended traced_kind) count start room after old now new is more
       (ap (λ (r : RoomState). r.spec) (sym (room_of sees (λ traced. turn_ended traced_kind traced count) room after now new more) ∙ room_of_ended (record { room = room; taken = [] }) count below) ∙ same_spec_ended room count)
 
-  pub one_more_runs : (count : ℕ) (start room after : RoomState) (old now new : W) → count < room.spec.simulators → IsInOrder (ran_alone traced_kind) count start old room now → IsWatched sees (λ traced. ran_alone traced_kind traced count) room now after new
+  pub one_more_runs : (count : ℕ) (start room after : RoomState) (old now new : W) → count < room.spec.simulators → IsInOrder (ran_alone traced_kind) count start old room now → IsObserved sees (λ traced. ran_alone traced_kind traced count) room now after new
       → IsInOrder (ran_alone traced_kind) (count + 1) start old after new
   one_more_runs count start room after old now new below is more =
       one_more (ran_alone traced_kind) count start room after old now new is more
       (ap (λ (r : RoomState). r.spec) (sym (room_of sees (λ traced. ran_alone traced_kind traced count) room after now new more) ∙ room_of_alone (record { room = room; taken = [] }) count below) ∙ same_spec_alone room count)
 
   pub all_of_them : (change : Traced → ℕ → Traced) (count : ℕ) (start room : RoomState) (old now : W) → count ≡ start.spec.simulators → IsInOrder change count start old room now
-      → IsWatched sees (each_in_order traced_kind change) start old room now
+      → IsObserved sees (each_in_order traced_kind change) start old room now
   all_of_them change count start room old now all is = λ first taken are.
       let at = is.so_far first taken are in
       (at.0, ap (λ (c : ℕ). in_order change c (record { room = start; taken = taken })) (sym all) ∙ at.1, at.2)
@@ -228,14 +228,14 @@ module _ {W : Type 0} (sees : W → RoomState → ℕ → W → Type 0) where
   -- ---- all of settling
 
   abbrev Ended : RoomState → W → RoomState → W → Type 0
-  Ended = IsWatched sees (each_in_order traced_kind (turn_ended traced_kind))
+  Ended = IsObserved sees (each_in_order traced_kind (turn_ended traced_kind))
 
   abbrev Ran : RoomState → W → RoomState → W → Type 0
-  Ran = IsWatched sees (each_in_order traced_kind (ran_alone traced_kind))
+  Ran = IsObserved sees (each_in_order traced_kind (ran_alone traced_kind))
 
-  both : (room between after : RoomState) (old middle new : W) → Ended room old between middle → Ran between middle after new → IsWatched sees (settled traced_kind) room old after new
+  both : (room between after : RoomState) (old middle new : W) → Ended room old between middle → Ran between middle after new → IsObserved sees (settled traced_kind) room old after new
   both room between after old middle new first second =
-      two_watched sees (each_in_order traced_kind (turn_ended traced_kind)) (each_in_order traced_kind (ran_alone traced_kind)) room between after old middle new first second
+      two_observed sees (each_in_order traced_kind (turn_ended traced_kind)) (each_in_order traced_kind (ran_alone traced_kind)) room between after old middle new first second
 
   pub settled_is : (room between after : RoomState) (old middle new : W) → Ended room old between middle → Ran between middle after new → after ≡ room_after_settle room
   settled_is room between after old middle new first second =

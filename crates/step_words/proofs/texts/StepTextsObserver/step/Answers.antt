@@ -7,7 +7,7 @@ use Rattle.room_steps.specs.Steps.{IsStepOf}
 use Rattle.room_steps.specs.declared.step.AtomicStep.{AtomicStep}
 use Rattle.step_words.specs.Told.{with_step}
 use Rattle.step_words.proofs.Within.{told_within}
-use Rattle.step_words.proofs.texts.StepTextsWatch.step.Goals as goal
+use Rattle.step_words.proofs.texts.StepTextsObserver.step.Goals as goal
 
 pub note-requires : goal.note-requires
 note-requires c =

@@ -4,8 +4,8 @@ ghost use Rattle.std.specs.Prelude.{◌≡◌, ◌≢◌};
 use crate::reply::StepReply;
 use crate::room::RoomCore;
 
-/// Has the simulators of a room take their steps, without an observer ([`Unwatched`]) or with one.
-pub trait Watch {
+/// Has the simulators of a room take their steps, without an observer ([`Unobserved`]) or with one.
+pub trait Observer {
     ghost use Rattle.std.specs.Prelude.{◌≡◌, ◌≢◌, ℕ};
     ghost use Rattle.room_core.specs.Calls.{RoomState, room_after_step, step_reply};
     ghost use Rattle.room_core.specs.declared.reply.StepReply.TheVariants.{Stepped};
@@ -24,9 +24,9 @@ pub trait Watch {
 
 /// No observer.
 #[derive(Clone, Copy, Debug)]
-pub struct Unwatched;
+pub struct Unobserved;
 
-impl Watch for Unwatched {
+impl Observer for Unobserved {
     ghost use Rattle.std.specs.Prelude.{⊤};
 
     ghost sees = { λ old room i new. ⊤ };

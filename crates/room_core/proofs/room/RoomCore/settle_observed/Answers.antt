@@ -4,8 +4,8 @@ use Rattle.room_core.specs.Fields.{fields_after_settle}
 use Rattle.room_core.specs.Reading.{AreFieldsOf}
 use Rattle.room_core.specs.Rooms.{IsRoom}
 use Rattle.room_core.proofs.fields.FieldCalls.{settle_in_fields}
-use Rattle.room_core.proofs.settling.Watched.{settled_is, settled_seen}
-use Rattle.room_core.proofs.room.RoomCore.settle_watched.Goals as goal
+use Rattle.room_core.proofs.settling.Observed.{settled_is, settled_seen}
+use Rattle.room_core.proofs.room.RoomCore.settle_observed.Goals as goal
 
 pub returns-clause-room : goal.returns-clause-room
 returns-clause-room g c = search (rules, settled_is)

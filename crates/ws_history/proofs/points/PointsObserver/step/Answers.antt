@@ -2,7 +2,7 @@ use Rattle.std.proofs.Common.{◌∙◌, sym, ap}
 use Rattle.room_core.specs.Calls.{RoomState}
 use Rattle.ws_history.specs.Noting.{noted}
 use Rattle.ws_history.proofs.Noted.{seen_step, unseen_step}
-use Rattle.ws_history.proofs.points.PointsWatch.step.Goals as goal
+use Rattle.ws_history.proofs.points.PointsObserver.step.Goals as goal
 
 pub returns-in-Some-clause-seen : goal.returns-in-Some-clause-seen
 returns-in-Some-clause-seen c = λ stepped.

@@ -66,6 +66,6 @@ AreSeen sees old (step ∷ steps) new = (middle : _) × sees old step.room step.
 -- ---- inside the crate
 
 -- If all steps so far were seen, so are those of such a change, which leads from this room to that one.
-abbrev pub IsWatched : {W : Type 0} → (W → RoomState → ℕ → W → Type 0) → (Traced → Traced) → RoomState → W → RoomState → W → Type 0
-IsWatched sees change room old after new = (first : _) (taken : List TakenStep) → AreSeen sees first taken old
+abbrev pub IsObserved : {W : Type 0} → (W → RoomState → ℕ → W → Type 0) → (Traced → Traced) → RoomState → W → RoomState → W → Type 0
+IsObserved sees change room old after new = (first : _) (taken : List TakenStep) → AreSeen sees first taken old
     → (since : List TakenStep) × (change (record { room = room; taken = taken }) ≡ record { room = after; taken = since }) × AreSeen sees first since new

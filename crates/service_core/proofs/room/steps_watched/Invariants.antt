@@ -1,5 +1,0 @@
-use Rattle.service_core.proofs.Stepping.{IsOnTheWay}
-use Rattle.service_core.proofs.room.steps_watched.Given as goal
-
-abbrev pub invariant-loop-taken : goal.invariant-loop-taken
-invariant-loop-taken g l = IsOnTheWay g.W.Watch.sees l.i l.count l.initial.room l.initial.watch l.taken l.room l.watch
