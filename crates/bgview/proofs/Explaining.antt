@@ -21,7 +21,7 @@ use Rattle.room_files.specs.declared.outcome.Outcome.{Outcome}
 use Rattle.fault_text.specs.Refusals.{refusal_line, said_refusals}
 use Rattle.bgview.specs.Told.{IsLineBreak, IsTold, ToldRoom, lines_of}
 use Rattle.bgview.specs.Why.{Explained, IsExplained, IsExplanation, IsReasonFor, IsRoomSaid, explained_lines, told_of, verdict_of}
-use Rattle.fault_text.specs.declared.refusals.Refusal.{Refusal}
+use Rattle.fault_text.specs.declared.refusals.RefusedBlock.{RefusedBlock}
 use Rattle.bgview.specs.declared.told.LineBreak.{LineBreak}
 use Rattle.bgview.proofs.Telling.{fed_at}
 
@@ -97,7 +97,7 @@ justified_each fed (one ∷ all) each = (each.0.0, justified_each fed all each.1
 all_justified : (fed : List FedEvent) (all : List Explained) → All (IsExplained fed) all → All (IsJustified fed) (map (λ (one : Explained). one.judged) all)
 all_justified fed all each = All-from_recursion (IsJustified fed) (map (λ (one : Explained). one.judged) all) (justified_each fed all (recursion_from_All (IsExplained fed) all each))
 
-pub all_said : (input : List ℕ) (refusals : List Refusal) (rooms : List RoomSpec) (fed : List FedEvent) (count : ℕ) (output : List ℕ) (well : Bool) (outcome : Outcome) → length rooms ≤ count → outcome ≡ outcome_if well → SoFar rooms (said_refusals input refusals) (flat_map refusal_line refusals) fed count output well
+pub all_said : (input : List ℕ) (refusals : List RefusedBlock) (rooms : List RoomSpec) (fed : List FedEvent) (count : ℕ) (output : List ℕ) (well : Bool) (outcome : Outcome) → length rooms ≤ count → outcome ≡ outcome_if well → SoFar rooms (said_refusals input refusals) (flat_map refusal_line refusals) fed count output well
     → IsExplanation input rooms (flat_map refusal_line refusals) fed outcome output
 all_said input refusals rooms fed count output well outcome all_of outcome_is so_far = record {
   refusals = refusals;

@@ -21,7 +21,7 @@ use Rattle.script_play.specs.Play.{AreDone, AreReplies, Done, Faulty, IsPlayText
 use Rattle.step_words.specs.Told.{IsTold, Telling, nothing_told}
 use Rattle.fault_text.specs.Lines.{indented}
 use Rattle.fault_text.specs.Strangers.{MetNames, is_met, met, more_note, refused_strangers}
-use Rattle.fault_text.specs.declared.refusals.Refusal.{Refusal}
+use Rattle.fault_text.specs.declared.refusals.RefusedBlock.{RefusedBlock}
 use Rattle.bgview.specs.declared.missed.TheConstants.{MORE_COMMANDS}
 use Rattle.bgview.specs.declared.fault.ViewFault.{ViewFault}
 use Rattle.bgview.specs.declared.fault.ViewFault.TheVariants.{BadGoal, BadInput, Device, Incomplete}
@@ -39,7 +39,7 @@ pub record AreLinesOf (steps : List TakenStep) (lines : List ℕ) : Type 0 where
 
 -- What is known of rooms that there are not: the blocks that were refused so far, and the names of commands that no room has.
 pub record MissedRooms : Type 0 where
-  pub refused : List Refusal
+  pub refused : List RefusedBlock
   pub strangers : MetNames
 
 -- after a command with this name was refused

@@ -19,7 +19,7 @@ use Rattle.fault_text.specs.Lines.{indented_all}
 use Rattle.fault_text.specs.Refusals.{refusal_line, said_refusals}
 use Rattle.bgview.specs.Told.{ToldRoom, AreDecidedBefore, IsExcess, IsLineBreak, lines_of}
 use Rattle.bgview.specs.Words.{excess_words, reason_words}
-use Rattle.fault_text.specs.declared.refusals.Refusal.{Refusal}
+use Rattle.fault_text.specs.declared.refusals.RefusedBlock.{RefusedBlock}
 use Rattle.bgview.specs.declared.fault.ViewFault.{ViewFault}
 use Rattle.bgview.specs.declared.fault.ViewFault.TheVariants.{BadGoal, BadInput, Device, Incomplete}
 use Rattle.bgview.specs.declared.told.Decision.{Decision}
@@ -105,7 +105,7 @@ pub record IsRoomSaid (spec : RoomSpec) (fed : List FedEvent) (old new : List �
 -- the line of each refused block of the input, with what is said of it; and what `check` answers on each room, in order, each with the
 -- reason after it
 pub record IsExplanation (input : List ℕ) (rooms : List RoomSpec) (refused : List ℕ) (fed : List FedEvent) (outcome : Outcome) (output : List ℕ) : Type 0 where
-  pub refusals : List Refusal
+  pub refusals : List RefusedBlock
   pub refused_are : refused ≡ flat_map refusal_line refusals
   pub all : List Explained
   pub each_room : map (λ one. one.judged.room) all ≡ rooms

@@ -4,11 +4,11 @@ ghost use Rattle.fault_text.specs.Strangers.{is_met, met};
 ghost use Rattle.script_play.specs.Play.{Faulty};
 ghost use Rattle.bgview.specs.Trace.{end_notes, missed_after, stranger_notes};
 
-use fault_text::{Refusal, Refusals, Strangers, write_indented};
+use fault_text::{Refusals, RefusedBlock, Strangers, write_indented};
 use io_text::Text;
 use room_files::BlockFault;
 use room_spec::SpecFault;
-use service_core::Refusal as CommandRefusal;
+use service_core::Refusal;
 use std::alloc::{AllocError, Global};
 use std::marker::Model;
 
@@ -44,7 +44,7 @@ impl Missed {
     pub(crate) fn refuse(&mut self, line: u64, fault: SpecFault) -> Result<(), AllocError>
         ensures { OnOk result (self.new ≡ missed_after self.old (Faulty line fault)) }
     {
-        self.refused.add(Refusal {
+        self.refused.add(RefusedBlock {
             line,
             fault: BlockFault::Spec(fault),
         })
@@ -63,7 +63,7 @@ impl Missed {
         if self.meet(alloc, name)? {
             return Ok(());
         }
-        write_indented(output, CommandRefusal::NoRoom.sentence().as_bytes())
+        write_indented(output, Refusal::NoRoom.sentence().as_bytes())
     }
 
     fn meet(&mut self, alloc: Global, name: &[u8]) -> Result<bool, AllocError>

@@ -12,7 +12,7 @@ use Rattle.room_files.specs.declared.fault.BlockFault.{BlockFault}
 use Rattle.room_files.specs.declared.fault.BlockFault.TheVariants.{NameTaken}
 use Rattle.fault_text.specs.Lines.{behind_lines, last_of}
 use Rattle.fault_text.specs.Refusals.{refusal_line}
-use Rattle.fault_text.specs.declared.refusals.Refusal.{Refusal}
+use Rattle.fault_text.specs.declared.refusals.RefusedBlock.{RefusedBlock}
 
 one_left : (count at : ℕ) → at < count → count - at ≡ suc (count - (at + 1))
 one_left count at within = omega (arith, within)
@@ -47,7 +47,7 @@ passed_more passed lines rest input within is = ap (behind_lines (lines - passed
 not_empty : (byte : ℕ) (bytes : List ℕ) → (length (byte ∷ bytes) == 0) ≡ false
 not_empty byte bytes = eqb-suc-zero (length bytes)
 
-pub none_refused : (all : List Refusal) → (length all == 0) ≡ (length (flat_map refusal_line all) == 0)
+pub none_refused : (all : List RefusedBlock) → (length all == 0) ≡ (length (flat_map refusal_line all) == 0)
 none_refused [] = refl
 none_refused (refusal ∷ all) = eqb-suc-zero (length all) ∙ sym (not_empty 108 (codes "ine " ++ ((decimal refusal.line ++ (codes " refused " ++ (why_text refusal.fault ++ codes "\n"))) ++ flat_map refusal_line all)))
 
@@ -55,7 +55,7 @@ taken_code : decimal 41 ≡ codes "41"
 taken_code = decimal_step 41 (omega arith) (omega arith) ∙ ap (λ digits. digits ++ 49 ∷ []) (decimal_digit 4 (omega arith))
 
 -- a block whose room's name is taken
-pub taken_line : {T E : Type 0} (result : Result T E) (output last : List ℕ) (refusal : Refusal) (code : ℕ) → refusal.fault ≡ NameTaken → code ≡ 41
+pub taken_line : {T E : Type 0} (result : Result T E) (output last : List ℕ) (refusal : RefusedBlock) (code : ℕ) → refusal.fault ≡ NameTaken → code ≡ 41
     → OnOk result (last ≡ output ++ refused_line refusal.line (decimal code)) → OnOk result (last ≡ output ++ refusal_line refusal)
 taken_line (Err fault) output last refusal code is same last_is = tt
 taken_line (Ok done) output last refusal code is same last_is =

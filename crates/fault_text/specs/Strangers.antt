@@ -3,7 +3,7 @@ use Rattle.std.specs.Prelude.{ℕ, ◌+◌, ◌==◌, Bool, List, [], ◌∷◌,
 use Rattle.std.specs.List.{flat_map, list_any}
 use Rattle.std.specs.Str.{bytes_eq}
 use Rattle.fault_text.specs.Refusals.{named_refusals}
-use Rattle.fault_text.specs.declared.refusals.Refusal.{Refusal}
+use Rattle.fault_text.specs.declared.refusals.RefusedBlock.{RefusedBlock}
 use Rattle.fault_text.specs.declared.refusals.TheConstants.{MOST_EXPLAINED}
 
 -- the names that were met first, and how many more came with one of them
@@ -22,7 +22,7 @@ met name strangers =
     else strangers
 
 -- which blocks of rooms of these names are refused, of the first hundred
-abbrev pub refused_strangers : List ℕ → List Refusal → List (List ℕ) → List ℕ
+abbrev pub refused_strangers : List ℕ → List RefusedBlock → List (List ℕ) → List ℕ
 refused_strangers input refused names = flat_map (λ name. named_refusals input name refused) names
 
 abbrev pub more_note : List ℕ → MetNames → List ℕ

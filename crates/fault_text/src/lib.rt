@@ -16,5 +16,5 @@ pub use hints::{NO_COMMAND, NO_EVENT, write_advice};
 pub use lines::{line_at, split_line, write_indented};
 pub use phrases::{COMMANDS, EVENTS, write_form_fault};
 pub use places::{write_heading, write_place};
-pub use refusals::{ENOUGH, MOST_EXPLAINED, Refusal, Refusals};
+pub use refusals::{ENOUGH, MOST_EXPLAINED, Refusals, RefusedBlock};
 pub use strangers::Strangers;

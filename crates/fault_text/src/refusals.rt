@@ -26,7 +26,7 @@ const IS_REFUSED: &[u8] = b" is refused: line";
 
 /// A block that opens no room.
 #[derive(Clone, Copy, Debug, PartialEq, Eq)]
-pub struct Refusal {
+pub struct RefusedBlock {
     /// The line of the input that is the block's first, counted from 1.
     pub line: u64,
     pub fault: BlockFault,
@@ -35,14 +35,14 @@ pub struct Refusal {
 /// The blocks that open no room, in order.
 #[derive(Drop)]
 pub struct Refusals {
-    all: Vec<Refusal>,
+    all: Vec<RefusedBlock>,
 }
 
 impl Model for Refusals {
     ghost use Rattle.std.specs.Prelude.{List};
-    ghost use Rattle.fault_text.specs.declared.refusals.Refusal.{Refusal};
+    ghost use Rattle.fault_text.specs.declared.refusals.RefusedBlock.{RefusedBlock};
 
-    ghost Value = { List Refusal };
+    ghost Value = { List RefusedBlock };
 
     ghost view = { λ refusals. refusals.all.items };
 }
@@ -58,7 +58,7 @@ impl Refusals {
     }
 
     /// Adds a block.
-    pub fn add(&mut self, refusal: Refusal) -> Result<(), AllocError>
+    pub fn add(&mut self, refusal: RefusedBlock) -> Result<(), AllocError>
         ensures { OnOk result (self.new ≡ self.old ++ refusal ∷ []) }
     {
         self.all.push(refusal)?;
@@ -117,7 +117,7 @@ fn write_named_all(
     output: &mut Text,
     input: &[u8],
     name: &[u8],
-    refusals: &[Refusal],
+    refusals: &[RefusedBlock],
 ) -> Result<(), AllocError>
     ensures { OnOk result (output.new ≡ output.old ++ all_named input.now name.now refusals.now) }
 {
@@ -165,7 +165,7 @@ fn name_in(text: &[u8]) -> &[u8]
 }
 
 /// The first blocks, of which there are at most this many, and those after them.
-fn first_of(refusals: &[Refusal], most: usize) -> (&[Refusal], &[Refusal])
+fn first_of(refusals: &[RefusedBlock], most: usize) -> (&[RefusedBlock], &[RefusedBlock])
     ensures first { result.0.now ≡ take most refusals.now }
     ensures others { result.1.now ≡ drop most refusals.now }
 {
@@ -181,7 +181,7 @@ fn write_explained(
     alloc: Global,
     output: &mut Text,
     input: &[u8],
-    refusals: &[Refusal],
+    refusals: &[RefusedBlock],
 ) -> Result<(), AllocError>
     ensures { OnOk result (output.new ≡ output.old ++ all_said input.now refusals.now) }
 {
@@ -201,7 +201,7 @@ fn write_noted_all(
     alloc: Global,
     output: &mut Text,
     input: &[u8],
-    refusals: &[Refusal],
+    refusals: &[RefusedBlock],
 ) -> Result<(), AllocError>
     ensures { OnOk result (output.new ≡ output.old ++ all_noted input.now refusals.now) }
 {
@@ -217,7 +217,7 @@ fn write_noted_all(
 }
 
 /// Writes that these blocks are not explained, if there are some, and for each the line that says that it is refused.
-fn write_unexplained(output: &mut Text, refusals: &[Refusal]) -> Result<(), AllocError>
+fn write_unexplained(output: &mut Text, refusals: &[RefusedBlock]) -> Result<(), AllocError>
     ensures { OnOk result (output.new ≡ output.old ++ (enough_if refusals.now ++ flat_map refusal_line refusals.now)) }
 {
     write_enough_if(output, refusals)?;
@@ -225,7 +225,7 @@ fn write_unexplained(output: &mut Text, refusals: &[Refusal]) -> Result<(), Allo
 }
 
 /// Writes for each block the line that says that it is refused.
-fn write_refusal_lines(output: &mut Text, refusals: &[Refusal]) -> Result<(), AllocError>
+fn write_refusal_lines(output: &mut Text, refusals: &[RefusedBlock]) -> Result<(), AllocError>
     ensures { OnOk result (output.new ≡ output.old ++ flat_map refusal_line refusals.now) }
 {
     for refusal in refusals {
@@ -235,7 +235,7 @@ fn write_refusal_lines(output: &mut Text, refusals: &[Refusal]) -> Result<(), Al
 }
 
 /// Writes that no more is explained, if there are more.
-fn write_enough_if(output: &mut Text, refusals: &[Refusal]) -> Result<(), AllocError>
+fn write_enough_if(output: &mut Text, refusals: &[RefusedBlock]) -> Result<(), AllocError>
     ensures { OnOk result (output.new ≡ output.old ++ enough_if refusals.now) }
 {
     if refusals.is_empty() {
@@ -249,7 +249,7 @@ fn write_noted(
     alloc: Global,
     output: &mut Text,
     text: &[u8],
-    refusal: Refusal,
+    refusal: RefusedBlock,
 ) -> Result<(), AllocError>
     ensures { OnOk result (output.new ≡ output.old ++ noted_refusal text.now refusal) }
 {
@@ -264,7 +264,7 @@ impl Refuses for Refusals {
     ghost lines = { λ refusals. flat_map refusal_line refusals };
 
     fn refuse(&mut self, line: u64, fault: BlockFault, _block: &[u8]) -> Result<(), AllocError> {
-        self.add(Refusal { line, fault })
+        self.add(RefusedBlock { line, fault })
     }
 }
 
@@ -286,7 +286,7 @@ fn write_refusal(
     alloc: Global,
     output: &mut Text,
     text: &[u8],
-    refusal: Refusal,
+    refusal: RefusedBlock,
 ) -> Result<(), AllocError>
     ensures { OnOk result (output.new ≡ output.old ++ said_refusal text.now refusal) }
 {
@@ -295,7 +295,7 @@ fn write_refusal(
 }
 
 /// Writes the line that says that a block is refused.
-fn write_refusal_line(output: &mut Text, refusal: Refusal) -> Result<(), AllocError>
+fn write_refusal_line(output: &mut Text, refusal: RefusedBlock) -> Result<(), AllocError>
     ensures { OnOk result (output.new ≡ output.old ++ refusal_line refusal) }
 {
     match refusal.fault {

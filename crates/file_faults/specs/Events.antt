@@ -14,7 +14,7 @@ use Rattle.fault_text.specs.Phrases.{form_fault}
 use Rattle.fault_text.specs.Places.{place_notes}
 use Rattle.fault_text.specs.Refusals.{named_refusals}
 use Rattle.fault_text.specs.Strangers.{MetNames, is_met, met, more_note}
-use Rattle.fault_text.specs.declared.refusals.Refusal.{Refusal}
+use Rattle.fault_text.specs.declared.refusals.RefusedBlock.{RefusedBlock}
 use Rattle.fault_text.specs.declared.hints.TheConstants.{NO_EVENT}
 use Rattle.fault_text.specs.declared.phrases.TheConstants.{EVENTS}
 use Rattle.file_faults.specs.Walks.{Parts, said_from}
@@ -25,7 +25,7 @@ use Rattle.fault_text.specs.declared.refusals.TheConstants.{MOST_EXPLAINED}
 pub record OpenedParts : Type 0 where
   pub rooms : List RoomSpec
   pub input : List ℕ
-  pub refused : List Refusal
+  pub refused : List RefusedBlock
 
 -- no room has the name, which is said of the first line that has it, and that a block of this name is refused, if one is
 abbrev pub stranger_said : OpenedParts → MetNames → ℕ → List ℕ → List ℕ → List ℕ
