@@ -15,4 +15,4 @@ mod settle;
 
 pub use observer::{Observer, Unobserved};
 pub use reply::{CrashReply, StepReply};
-pub use room::{RoomCore, nobody};
+pub use room::{RoomCore, none_crashed};

@@ -82,7 +82,7 @@ impl RoomCore {
         ensures fields { AreFieldsOf result (opening_fields spec) }
     {
         let _shape = spec.shape(); // for the proof: a spec is within its limits
-        let crashed = nobody(spec.m());
+        let crashed = none_crashed(spec.m());
         RoomCore {
             spec,
             words: RoomWords::new(words),
@@ -331,7 +331,7 @@ fn opening_sweeps(alloc: Global, spec: &Spec) -> Result<Vec<Sweep>, AllocError>
 }
 
 /// The marks of `m` simulators of which none has crashed.
-pub fn nobody(m: usize) -> ArrayVec<bool, MAX_SIMULATORS>
+pub fn none_crashed(m: usize) -> ArrayVec<bool, MAX_SIMULATORS>
     requires { m ≤ MAX_SIMULATORS }
     ensures { result.items ≡ replicate m false }
 {

@@ -14,7 +14,7 @@ use crate::keeper::Keeper;
 use crate::rule::{Begins, Interleaves, View};
 use arrayvec::ArrayVec;
 use atomic_table::{Closed, Table};
-use room_core::{RoomCore, nobody};
+use room_core::{RoomCore, none_crashed};
 use room_spec::{MAX_SIMULATORS, Spec};
 use simulator::Sweep;
 use std::alloc::{AllocError, Global};
@@ -80,7 +80,7 @@ impl RuledRoom {
         let keeper = Keeper {
             seat,
             sweeps,
-            crashed: nobody(spec.m()),
+            crashed: none_crashed(spec.m()),
         };
         Ok((RuledRoom { table, spec }, keeper))
     }

@@ -45,7 +45,7 @@ invariant_of-keeper c =
       minds,
       ap (λ (m : Me (Unit {0}) View). m.1) me,
       ap length first ∙ first_count spec ∙ count,
-      ap length c.nobody.ensures ∙ length-replicate c.m.result _ ∙ c.m.ensures.value ∙ count,
+      ap length c.none_crashed.ensures ∙ length-replicate c.m.result _ ∙ c.m.ensures.value ∙ count,
       subst (λ (q : RoomSpec × List (Option SweepState)). AreSweeps q.0 q.1) (λ k. (sym spec-is k, sym first k)) (first_are_sweeps spec limits),
     )
 
@@ -61,5 +61,5 @@ returns-clause-keeper c =
     let first : c.in_ok-sweeps.sweeps.items ≡ first_sweeps spec = c.in_ok-sweeps.ensures in
     let done : map done_by c.swap-found.new.seat.me.0.held ≡ replicate m [] =
     ap (λ (m : Me (Unit {0}) View). map done_by m.0.held) me ∙ first_done spec (range_with_len 0 m) ∙ ap (λ (n : ℕ). replicate {A = List Operation} n []) (length-range_with_len 0 m) in
-    let marks : c.nobody.result.items ≡ replicate m false = c.nobody.ensures ∙ ap (λ (n : ℕ). replicate n false) c.m.ensures.value in
+    let marks : c.none_crashed.result.items ≡ replicate m false = c.none_crashed.ensures ∙ ap (λ (n : ℕ). replicate n false) c.m.ensures.value in
     λ p. record { room = record { table = table-is p; spec = spec-is p }; sweeps = first p; operations = done p; crashed = marks p }
