@@ -92,7 +92,9 @@ fn plain_command<'a>(alloc: Global) -> Command<'a>
         .about(
             "Simulates rooms of protocols on write-snapshot memory, and judges their transcripts",
         )
-        .after_help("Without any words, bgsim does what `bgsim check` does.")
+        .after_help(
+            "Without arguments, bgsim does what `bgsim check` does.\n\nExit status: 0 if nothing was refused, broken or malformed; 1 if something was refused or broken; 2 for a usage error, a malformed input or an I/O error; 3 if memory ran out.",
+        )
         .override_usage("bgsim [COMMAND]")
         .no_binary_name(true)
         .disable_help_subcommand(true)

@@ -23,8 +23,8 @@ use std::thread::Threads;
 ///
 /// # Errors
 ///
-/// The input's first fault, found before anything is written; a device that failed; or want of
-/// memory.
+/// The input's first fault, found before anything is written; a device that failed; or an
+/// allocation that failed.
 pub fn check_io<R: Read, W: Write>(
     alloc: Global,
     reader: &mut Device<R>,
@@ -50,8 +50,8 @@ pub fn check_io<R: Read, W: Write>(
 ///
 /// # Errors
 ///
-/// The script's first fault, found before anything is written; a device that failed; or want of
-/// memory. If an allocation failed for a block or a command, the script goes on to its end.
+/// The script's first fault, found before anything is written; a device that failed; or an
+/// allocation that failed. If an allocation failed for a block or a command, the script goes on to its end.
 pub fn play_io<R: Read, W: Write>(
     alloc: Global,
     reader: &mut Device<R>,

@@ -107,7 +107,7 @@ fn trace_command<'a>(alloc: Global) -> Result<Command<'a>, AllocError>
     file_command(
         alloc,
         "trace",
-        "Plays a script, and tells under each reply what each atomic step did",
+        "Plays a script, and says under each reply what each atomic step did",
         "bgview trace [FILE]",
         "The script; without it, standard input is read",
     )
@@ -375,6 +375,9 @@ fn plain_command<'a>(alloc: Global) -> Command<'a>
     Command::new(alloc, "bgview")
         .version("0.2.0 (proved with rattle-kit-13f logic dac8208d650f15bf)")
         .about("Explains what bgsim answers")
+        .after_help(
+            "Exit status: 0 if all is well; 1 if something was refused, broken, not found or not reached; 2 for a usage error, a malformed input or an I/O error; 3 if memory ran out.",
+        )
         .override_usage("bgview COMMAND")
         .no_binary_name(true)
         .disable_help_subcommand(true)

@@ -1,4 +1,4 @@
--- What the words and minds of a room stand for: its fields.
+-- What the words and minds of a room stand for: its fields (the abstraction relation of the refinement).
 use Rattle.std.specs.Prelude.{◌≡◌, ℕ, ◌<◌, ◌≤◌, List, map}
 use Rattle.std.specs.List.{range_with_len}
 use Rattle.room_spec.specs.Sizes.{Sizes, memory_words, sizes_in}

@@ -16,7 +16,7 @@ use crate::reply::StepReply;
 use crate::room::RoomCore;
 
 impl RoomCore {
-    /// Ends the open turn of each simulator that hasn't crashed, in order of number; then lets each of
+    /// Runs the room to quiescence, without further crashes. Ends the open turn of each simulator that hasn't crashed, in order of number; then lets each of
     /// them, in order of number, run alone until it is idle or out of turns, with its quiet turns
     /// counted anew. It takes no memory.
     pub fn settle(&mut self)

@@ -1,7 +1,7 @@
 //! Safe agreement: how a simulator leaves one, what it gives, and its law.
 //!
 //! Simulators that propose to one agreement each have a level in it: 0 before they enter and after
-//! they withdraw, 1 inside, and 2 if their proposal is kept. One that enters raises its level to
+//! they withdraw, 1 in the unsafe section, and 2 if their proposal is kept. One that enters raises its level to
 //! 1, looks at all levels, and leaves. This is the safe agreement of E. Borowsky, E. Gafni, N. Lynch
 //! and S. Rajsbaum, "The BG distributed simulation algorithm", Distributed Computing 14(3), 2001.
 #![tactic(auto)]

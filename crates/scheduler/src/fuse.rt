@@ -4,7 +4,7 @@ ghost use Rattle.scheduler.specs.Drives.{HasLeft};
 
 use std::marker::Model;
 
-/// After how many atomic steps of a simulator, counted from its first, it crashes; or that it doesn't.
+/// A crash point: after how many atomic steps of a simulator, counted from its first, it crashes; or that it doesn't.
 #[derive(Clone, Copy, Debug, PartialEq, Eq)]
 pub struct Fuse {
     after: Option<u64>,

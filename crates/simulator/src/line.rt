@@ -1,4 +1,4 @@
-//! Where a simulator is in its turn.
+//! Where a simulator is in its turn: its program counter.
 
 /// The atomic step that a simulator takes next, on the process at which its sweep is.
 #[derive(Clone, Copy, Debug, PartialEq, Eq, Default)]

@@ -16,7 +16,7 @@ use protocol_lang::View;
 use room_spec::{MAX_MEMORY_WORDS, MAX_PROCESSES, Spec};
 use std::marker::Model;
 
-/// What a simulator knows of its processes, where its sweep is, how many turns and atomic steps
+/// The local state of a simulator: what it knows of its processes, where its sweep is, how many turns and atomic steps
 /// it has taken, and its place in an open turn. A mind is that of one room: each call is given that
 /// room's spec. No call takes memory.
 #[derive(Drop)]

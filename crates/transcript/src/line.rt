@@ -36,8 +36,8 @@ fn read_named_event(line: &[u8]) -> Result<(Name, Event), LineFault>
     EventLine::split(line)?.read()
 }
 
-/// Writes the line of an event in the room of this name, without a line end. The one error is want
-/// of memory.
+/// Writes the line of an event in the room of this name, without a line end. The one error is an
+/// allocation that failed.
 pub fn write_event(alloc: Global, name: &Name, event: &Event) -> Result<Vec<u8>, AllocError>
     ensures line { IfOk result (λ line. line.items ≡ event_line name.now event.now) }
     // An event of a process 0 to 15, with a row of 1 to 16 entries in a snapshot, is read again from it.

@@ -11,9 +11,9 @@ use transcript::Event;
 pub enum ProcessState {
     /// It has decided this value.
     Decided(u32),
-    /// Its last snapshot asks for a write more than the room gives it.
+    /// It is out of rounds: its last snapshot asks for a write more than the room gives it.
     Spent,
-    /// This simulator, the least such, has crashed inside an agreement on one of its snapshots.
+    /// It is blocked: this simulator, the least such, has crashed in the unsafe section of an agreement on one of its snapshots.
     Held(u8),
     /// It is none of these.
     Going,
