@@ -19,7 +19,7 @@ def replies_rest_on_their_own_room(source, program):
     together = program.piped(["play"], "".join(line for _, line in commands)).lines()
     for name in "abc":
         alone = program.piped(["play"], "".join(line for about, line in commands if about == name)).lines()
-        expect(of_room(alone, name) == of_room(together, name), f"room {name} is told otherwise alone")
+        expect(of_room(alone, name) == of_room(together, name), f"room {name} is answered otherwise alone")
 
 
 def of_room(lines, name):

@@ -244,7 +244,7 @@ fn write_enough_if(output: &mut Text, refusals: &[RefusedBlock]) -> Result<(), A
     output.put(ENOUGH)
 }
 
-/// Writes what is said of a refused block, with which this text begins, as lines for people alone.
+/// Writes the notes on the refused block at the front of this text, as lines for people alone.
 fn write_noted(
     alloc: Global,
     output: &mut Text,
@@ -281,7 +281,7 @@ fn go_behind<'a>(input: &'a [u8], rest: &'a [u8], passed: u64, lines: u64) -> &'
     }
 }
 
-/// Writes what is said of a refused block, with which this text begins.
+/// Writes the line of the refused block at the front of this text, and the notes on it.
 fn write_refusal(
     alloc: Global,
     output: &mut Text,
@@ -306,7 +306,7 @@ fn write_refusal_line(output: &mut Text, refusal: RefusedBlock) -> Result<(), Al
     }
 }
 
-/// Writes what is said of the fault of a block, with which this text begins and whose first line has this number.
+/// Writes the notes on the fault of the block at the front of this text, whose first line has this number.
 fn write_why(
     alloc: Global,
     output: &mut Text,

@@ -14,9 +14,9 @@ use std::alloc::{AllocError, Global};
 /// How a room is sampled, and what is written of it.
 #[derive(Clone, Copy, Debug, PartialEq, Eq)]
 pub struct Plan {
-    /// By how many schedules it is run.
+    /// By how many schedules each room is run.
     pub schedules: u32,
-    /// In each of them at most this many simulators crash.
+    /// In each of them at most this many simulators crash; more than a room has (8 at most) are no more than all of them.
     pub crashes: u32,
     /// What the schedules are drawn from: the same seed gives the same ones.
     pub seed: u32,

@@ -227,7 +227,7 @@ pub(crate) fn write_line_down(
     end_stroked(output, style, stroke)
 }
 
-/// Writes a text so that none of its bytes is taken for a mark of the picture.
+/// Writes a text, escaped as XML asks.
 #[tactic(auto, unfolding(crate::specs::Elements::escaped))]
 pub(crate) fn write_escaped(output: &mut Text, text: &[u8]) -> Result<(), AllocError>
     ensures { OnOk result (output.new ≡ output.old ++ escaped text.now) }
@@ -267,7 +267,7 @@ pub(crate) fn write_counted(
     }
 }
 
-/// Begins words that are shown if one points at what follows them.
+/// Begins a tooltip (the element `title`) of what follows it.
 #[tactic(auto, unfolding(crate::specs::Elements::hint_start))]
 pub(crate) fn start_hint(output: &mut Text) -> Result<(), AllocError>
     ensures { OnOk result (output.new ≡ output.old ++ hint_start) }

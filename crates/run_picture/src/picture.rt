@@ -24,6 +24,7 @@ const WIDE: u64 = 10000000;
 const MIN_WIDTH: u64 = 640;
 
 /// Draws these rooms, one below the other, as a whole SVG file: the picture opens in any browser, and needs no script, font or other file.
+/// Of a room it shows at most 400 columns of steps and 500 events; how many are left out is said in the picture.
 ///
 /// # Errors
 ///

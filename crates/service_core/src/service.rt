@@ -110,7 +110,7 @@ impl Service {
     }
 
     /// Does what the command [`Step`](Command::Step) does, with neither a command nor a reply made: gives how many
-    /// steps were taken, and the last answer.
+    /// steps were taken, 0 to `count`, and the last answer. A `count` of 0 takes no step.
     ///
     /// # Errors
     ///
