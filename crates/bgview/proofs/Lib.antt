@@ -1,12 +1,3 @@
-mod Behind
-mod Breaking
-mod Deciding
-mod Explaining
 mod Finding
-mod Hearing
 mod Paging
-mod Reasoning
-mod RoomLists
 mod Subcommands
-mod Telling
-mod Tracing

@@ -9,9 +9,7 @@ pub mod Page
 pub mod Outcomes
 pub mod Modes
 pub mod Sample
-pub mod Told
 pub mod Why
-pub mod Words
 pub mod Trace
 pub mod Transcript
 pub mod Unread

@@ -16,8 +16,8 @@ use Rattle.file_faults.specs.declared.kinds.Kind.TheVariants as kinds
 use Rattle.step_page.specs.Pages.{file_text, page_text}
 use Rattle.step_page.specs.declared.page.FileKind.{FileKind}
 use Rattle.step_page.specs.declared.page.FileKind.TheVariants.{Script, Transcript}
-use Rattle.bgview.specs.Trace.{IsTraceFor}
-use Rattle.bgview.specs.Why.{IsExplanationFor}
+use Rattle.view_trace.specs.Trace.{IsTraceFor}
+use Rattle.view_why.specs.Why.{IsExplanationFor}
 use Rattle.bgview.specs.declared.fault.ViewFault.{ViewFault}
 use Rattle.bgview.specs.declared.fault.ViewFault.TheVariants.{BadGoal, BadInput, Device, Incomplete}
 

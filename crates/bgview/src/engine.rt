@@ -9,10 +9,11 @@ ghost use Rattle.io_text.specs.Reading.{most_bytes};
 ghost use Rattle.bgview.specs.Notes.{AreNotes, AreRoomNotes, AreScriptNotes};
 ghost use Rattle.bgview.specs.Outcomes.{IsOutcomesAnswer};
 ghost use Rattle.bgview.specs.Sample.{IsSampleAnswer};
+ghost use Rattle.bgview.specs.Trace.{IsTraced};
 ghost use Rattle.bgview.specs.Transcript.{IsTranscriptAnswer};
-ghost use Rattle.bgview.specs.Why.{IsExplanationFor, IsWhyAnswer, MayEndWhy};
+ghost use Rattle.view_why.specs.Why.{IsExplanationFor};
+ghost use Rattle.bgview.specs.Why.{IsWhyAnswer, MayEndWhy};
 
-use crate::answer::explain;
 use crate::fault::{ViewFault, written};
 use crate::faults::say_faults;
 use crate::sample::sample_blocks;
@@ -26,6 +27,8 @@ use script_picture::draw;
 use script_transcript::transcribe;
 use std::alloc::Global;
 use std::io::{Read, Write};
+use view_trace::trace;
+use view_why::explain;
 
 /// Judges the transcript that the reader gives, and writes the verdicts, and after each room that is no run the line that breaks it
 /// and why. What is said of all faults of an input with a malformed line becomes `notes`.
@@ -153,6 +156,37 @@ pub fn outcomes_io<R: Read, W: Write, P: Progress>(
     let answer = search_blocks(alloc, &input, search, progress)?;
     write_output(writer, answer.output.as_bytes())?;
     Ok(answer.outcome)
+}
+
+/// Plays the script that the reader gives, and writes the replies, and under each, after four spaces, the atomic steps that its
+/// command took, or why it was refused. The whole script is read and judged before anything is written. What is said of its faults becomes
+/// `notes`.
+///
+/// # Errors
+///
+/// The script's first fault, found before anything is written; a device that failed; or an allocation that failed. If an allocation failed for a block or a
+/// command, the script goes on to its end.
+pub fn trace_io<R: Read, W: Write>(
+    alloc: Global,
+    reader: &mut Device<R>,
+    writer: &mut Device<W>,
+    notes: &mut Text,
+) -> Result<Outcome, ViewFault>
+    requires reader { reader.old.failed ≡ false }
+    requires writer { writer.old.failed ≡ false }
+    // What is written is the text for what was read, and the answer goes with it. No write is of nothing.
+    ensures text { IfSome (R.remaining reader.old.inner) (λ input. (output : List ℕ) × IsTraced input result output
+        × Appends (W.contents writer.old.inner) (W.contents writer.new.inner) output
+        × (writer.new.calls ≤ writer.old.calls + length output + failed_writes (is_write_failed result))) }
+    ensures reader { HasRead reader.old reader.new (R.remaining reader.old.inner) (is_read_failed result) }
+    ensures writer { HasWritten writer.old writer.new result (is_write_failed result) }
+    ensures notes { IfSome (R.remaining reader.old.inner) (λ input. AreScriptNotes input result notes.new) }
+{
+    let script = read_input(alloc, reader)?;
+    *notes = script_faults(alloc, &script)?;
+    let traced = trace(alloc, &script)?;
+    write_output(writer, traced.output.as_bytes())?;
+    written(traced.ending)
 }
 
 /// Plays the script that the reader gives, and writes a picture of its rooms. The whole script is read and judged before anything is

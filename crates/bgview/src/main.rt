@@ -13,29 +13,22 @@ ghost use Rattle.bgview.specs.Ends.{ending_status, fault_status, unread_status, 
 ghost use Rattle.bgview.specs.Faults.{AreFaultsSaid};
 ghost use Rattle.bgview.specs.Modes.{AreNotesIn, IsViewed};
 
-mod answer;
 mod command_line;
 mod engine;
-mod excess;
 mod fault;
 mod faults;
 mod grade;
 mod inputs;
 mod lint;
-mod missed;
 mod page;
 mod progress;
-mod reasons;
-mod rooms;
 mod sample;
-mod told;
-mod trace;
 mod unread;
 
 use clap::ArgMatches;
 use clap::error::ErrorKind;
 use command_line::{Mode, Request, line_in, read_words, request_in};
-use engine::{draw_io, fault_io, outcomes_io, sample_io, transcript_io, why_io};
+use engine::{draw_io, fault_io, outcomes_io, sample_io, trace_io, transcript_io, why_io};
 use fault::ViewFault;
 use grade::grade_io;
 use inputs::Inputs;
@@ -50,7 +43,6 @@ use std::convert::AsStr;
 use std::io;
 use std::io::{Read, Write};
 use std::process::ExitCode;
-use trace::trace_io;
 use unread::note_unread;
 
 fn main(rt: HostRuntime) -> ExitCode {

@@ -7,9 +7,7 @@ ghost use Rattle.bgview.specs.Ends.{is_read_failed, is_write_failed};
 ghost use Rattle.bgview.specs.Notes.{AreBothFaults, AreBothNotes, AreFileFaults, AreFileNotes, said_in};
 ghost use Rattle.bgview.specs.Page.{EndsPage, IsFaultOf, IsFileAnswer, IsPageAnswer, IsPageFor, both, first_fault, kind_of};
 
-use crate::answer::explain;
 use crate::fault::{ViewFault, written};
-use crate::trace::trace;
 use file_faults::{Kind, script_faults, transcript_faults};
 use io_text::{Device, Text, read_input, write_output};
 use room_files::Outcome;
@@ -17,6 +15,8 @@ use script_play::PlayText;
 use std::alloc::{AllocError, Global};
 use std::io::{Read, Write};
 use step_page::{FileKind, begin_page, end_page, put_file};
+use view_trace::trace;
+use view_why::explain;
 
 /// Answers the script or transcript that the reader gives, and writes a page that steps through it in a browser. The whole file is read and
 /// judged before anything is written. What is said of all its faults becomes `notes`.

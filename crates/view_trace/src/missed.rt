@@ -1,0 +1,83 @@
+//! Rooms that there are not: blocks of a script that were refused, and names of commands that no room has.
+ghost use Rattle.std.specs.Prelude.{◌≡◌, ◌++◌, [], IfOk, OnOk};
+ghost use Rattle.fault_text.specs.Strangers.{is_met, met};
+ghost use Rattle.script_play.specs.Play.{Faulty};
+ghost use Rattle.view_trace.specs.Trace.{end_notes, missed_after, stranger_notes};
+
+use fault_text::{Refusals, RefusedBlock, Strangers, write_indented};
+use io_text::Text;
+use room_files::BlockFault;
+use room_spec::SpecFault;
+use service_core::Refusal;
+use std::alloc::{AllocError, Global};
+use std::marker::Model;
+
+/// What is said at the end of further commands with a name that no room has.
+const MORE_COMMANDS: &[u8] = b" more commands have such a name";
+
+/// The blocks that were refused so far, and the names of commands that no room has.
+#[derive(Drop)]
+pub(crate) struct Missed {
+    refused: Refusals,
+    strangers: Strangers,
+}
+
+impl Model for Missed {
+    ghost use Rattle.view_trace.specs.Trace.{MissedRooms};
+
+    ghost Value = { MissedRooms };
+
+    ghost view = { λ missed. record { refused = missed.refused; strangers = missed.strangers } };
+}
+
+impl Missed {
+    pub(crate) fn new(alloc: Global) -> Missed
+        ensures { result ≡ record { refused = []; strangers = record { names = []; more = 0 } } }
+    {
+        Missed {
+            refused: Refusals::new(alloc),
+            strangers: Strangers::new(alloc),
+        }
+    }
+
+    /// Keeps that the block with this first line was refused.
+    pub(crate) fn refuse(&mut self, line: u64, fault: SpecFault) -> Result<(), AllocError>
+        ensures { OnOk result (self.new ≡ missed_after self.old (Faulty line fault)) }
+    {
+        self.refused.add(RefusedBlock {
+            line,
+            fault: BlockFault::Spec(fault),
+        })
+    }
+
+    /// Writes under a command with a name that no room has, unless an earlier command has the same name, that there is none.
+    pub(crate) fn write_stranger(
+        &mut self,
+        alloc: Global,
+        output: &mut Text,
+        name: &[u8],
+    ) -> Result<(), AllocError>
+        ensures text { OnOk result (output.new ≡ output.old ++ stranger_notes self.old name.now) }
+        ensures met { OnOk result (self.new ≡ record self.old { strangers = met name.now self.old.strangers }) }
+    {
+        if self.meet(alloc, name)? {
+            return Ok(());
+        }
+        write_indented(output, Refusal::NoRoom.sentence().as_bytes())
+    }
+
+    fn meet(&mut self, alloc: Global, name: &[u8]) -> Result<bool, AllocError>
+        ensures before { IfOk result (λ before. before ≡ is_met name.now self.old.strangers) }
+        ensures met { OnOk result (self.new ≡ record self.old { strangers = met name.now self.old.strangers }) }
+    {
+        self.strangers.meet(alloc, name)
+    }
+
+    /// Writes at the end of a script which of its blocks of such names were refused, and how many further commands have one of them.
+    pub(crate) fn write_end(&self, output: &mut Text, script: &[u8]) -> Result<(), AllocError>
+        ensures { OnOk result (output.new ≡ output.old ++ end_notes script.now self.now) }
+    {
+        self.strangers.write_refused(output, script, &self.refused)?;
+        self.strangers.write_more(output, MORE_COMMANDS)
+    }
+}

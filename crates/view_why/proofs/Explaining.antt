@@ -1,0 +1,121 @@
+-- What is said of rooms, one behind the other.
+use Rattle.std.proofs.Common.{◌≡◌, ◌∙◌, ℕ, suc, ◌+◌, ◌≤◌, Bool, true, false, ◌&&◌, ◌==◌, List, [], ◌∷◌, ◌++◌, length, map, take, Some, refl, sym, ap, subst, arith}
+use Rattle.std.specs.Prelude.{slice_get, Result, Ok, Err, IsOk}
+use Rattle.std.specs.List.{All, AllByRecursion, flat_map, list_all}
+use Rattle.std.proofs.lemmas.Grind.{flat_map-append}
+use Rattle.std.proofs.lemmas.List.{append-nil, append_assoc, map_push, take_all}
+use Rattle.std.proofs.lemmas.List.Elements.{All-from_recursion, All-push, recursion_from_All}
+use Rattle.std.proofs.lemmas.List.Folds.{list_all-append}
+use Rattle.std.proofs.lemmas.Option.{slice_get_within, get_or_from_slice_get}
+use Rattle.std.proofs.Math.Seq.{take-suc}
+use Rattle.room_spec.specs.Rooms.{RoomSpec}
+use Rattle.transcript.specs.declared.event.Event.{Event}
+use Rattle.transcript.specs.Runs.{IsFirstBreak, IsRun}
+use Rattle.history_checker.specs.Verdicts.{FedEvent, IsTaskAnswer, IsVerdict, events_of, fed_to}
+use Rattle.room_files.specs.Blocks.{Setup}
+use Rattle.room_files.specs.Faults.{FaultAt}
+use Rattle.room_files.specs.Inputs.{events_behind, fed_from}
+use Rattle.room_files.specs.Lines.{text_lines}
+use Rattle.room_files.specs.Verdicts.{IsJustified, Judged, is_well, outcome_if}
+use Rattle.room_files.specs.declared.outcome.Outcome.{Outcome}
+use Rattle.fault_text.specs.Refusals.{refusal_line, said_refusals}
+use Rattle.view_why.specs.Told.{IsLineBreak, IsTold, ToldRoom, lines_of}
+use Rattle.view_why.specs.Why.{Explained, IsExplained, IsExplanation, IsReasonFor, IsRoomSaid, explained_lines, told_of, verdict_of}
+use Rattle.fault_text.specs.declared.refusals.RefusedBlock.{RefusedBlock}
+use Rattle.view_why.specs.declared.told.LineBreak.{LineBreak}
+use Rattle.view_why.proofs.Telling.{fed_at}
+
+-- the verdict of a room's break
+pub is_verdict : (told : ToldRoom) (fed : List FedEvent) (reason : Result (Unit {0}) LineBreak) → IsTold fed told → (IsOk reason → IsRun told.spec told.events) → ((broken : LineBreak) → reason ≡ Err broken → IsLineBreak told broken)
+    → IsVerdict told.spec fed (verdict_of reason)
+is_verdict told fed (Ok run) is runs breaks = subst (IsRun told.spec) is.0 (runs refl)
+is_verdict told fed (Err broken) is runs breaks =
+    let breaks_there = breaks broken refl in
+    let on = fed_at fed broken.at broken.line (subst (λ (lines : List ℕ). slice_get lines broken.at ≡ Some broken.line) is.1 breaks_there.line) in
+    record { place = broken.at; first = subst (λ (events : List Event). IsFirstBreak told.spec events broken.at) is.0 breaks_there.first.first; one = on.one; there = on.there; line_is = on.line_is }
+
+-- what is told of a room, by what was fed
+pub told_is : (told : ToldRoom) (fed : List FedEvent) → IsTold fed told → told ≡ record { spec = told.spec; events = events_of fed; lines = lines_of fed }
+told_is told fed is =
+    ap (λ (events : List Event). record { spec = told.spec; events = events; lines = told.lines }) is.0
+    ∙ ap (λ (lines : List ℕ). record { spec = told.spec; events = events_of fed; lines = lines }) is.1
+
+-- ---- one room behind the other
+
+-- what is said of the first rooms stands behind what is said of the refused blocks
+abbrev pub SoFar : List RoomSpec → List ℕ → List ℕ → List FedEvent → ℕ → List ℕ → Bool → Type 0
+SoFar rooms start refused fed count output well =
+    (all : List Explained)
+    × (map (λ one. one.judged.room) all ≡ take count rooms)
+    × All (IsExplained fed) all
+    × (output ≡ start ++ flat_map explained_lines all)
+    × (well ≡ ((length refused == 0) && list_all (λ one. is_well one.verdict one.task) (map (λ one. one.judged) all)))
+
+and_true : (b : Bool) → b ≡ (b && true)
+and_true true = refl
+and_true false = refl
+
+and_assoc : (a b c : Bool) → ((a && b) && c) ≡ (a && (b && c))
+and_assoc true b c = refl
+and_assoc false b c = refl
+
+well_more : (all : List Explained) (one : Explained) → (list_all (λ (o : Judged). is_well o.verdict o.task) (map (λ (o : Explained). o.judged) all) && is_well one.judged.verdict one.judged.task)
+    ≡ list_all (λ (o : Judged). is_well o.verdict o.task) (map (λ (o : Explained). o.judged) (all ++ one ∷ []))
+well_more all one =
+    let test = λ (o : Judged). is_well o.verdict o.task in
+    let judged = map (λ (o : Explained). o.judged) all in
+    ap (λ w. list_all test judged && w) (and_true (test one.judged)) ∙ sym (list_all-append test judged (one.judged ∷ [])) ∙ ap (list_all test) (sym (map_push (λ (o : Explained). o.judged) all one))
+
+pub one_more : (rooms : List RoomSpec) (start refused : List ℕ) (fed : List FedEvent) (count : ℕ) (output : List ℕ) (well : Bool) (room : RoomSpec) (output_now : List ℕ) (well_now : Bool)
+    → SoFar rooms start refused fed count output well → slice_get rooms count ≡ Some room → IsRoomSaid room (fed_to room.name fed) output output_now well_now → SoFar rooms start refused fed (count + 1) output_now (well && well_now)
+one_more rooms start refused fed count output well room output_now well_now so_far there said =
+    let all = so_far.0 in
+    let one = said.one in
+    let within = slice_get_within rooms count room there in
+    let plus : count + 1 ≡ suc count = omega arith in
+    let next : take (count + 1) rooms ≡ take count rooms ++ room ∷ [] = ap (λ n. take n rooms) plus ∙ take-suc rooms count room within ∙ ap (λ r. take count rooms ++ r ∷ []) (get_or_from_slice_get rooms count room room there) in
+    let P : RoomSpec → Type 0 = λ (r : RoomSpec). (IsVerdict r (fed_to r.name fed) one.judged.verdict × IsTaskAnswer r (fed_to r.name fed) one.judged.task) × IsReasonFor (told_of r fed) one.judged.verdict one.judged.task one.notes in
+    let explained : IsExplained fed one = subst P (sym said.room) ((said.verdict, said.task), said.because) in (
+      all ++ one ∷ [],
+      map_push (λ (o : Explained). o.judged.room) all one ∙ ap (λ rs. rs ++ one.judged.room ∷ []) so_far.1 ∙ ap (λ r. take count rooms ++ r ∷ []) said.room ∙ sym next,
+      All-push (IsExplained fed) all one so_far.2 explained,
+      said.written ∙ ap (λ o. o ++ explained_lines one) so_far.3 ∙ append_assoc start (flat_map explained_lines all) (explained_lines one)
+          ∙ ap (λ o. start ++ (flat_map explained_lines all ++ o)) (sym (append-nil (explained_lines one))) ∙ ap (λ o. start ++ o) (sym (flat_map-append explained_lines all (one ∷ []))),
+      ap (λ w. well && w) said.well_is ∙ ap (λ w. w && is_well one.judged.verdict one.judged.task) so_far.4
+          ∙ and_assoc (length refused == 0) (list_all (λ (o : Judged). is_well o.verdict o.task) (map (λ (o : Explained). o.judged) all)) (is_well one.judged.verdict one.judged.task)
+          ∙ ap (λ w. (length refused == 0) && w) (well_more all one),
+    )
+
+rooms_judged : (all : List Explained) → map (λ (one : Judged). one.room) (map (λ (one : Explained). one.judged) all) ≡ map (λ (one : Explained). one.judged.room) all
+rooms_judged [] = refl
+rooms_judged (one ∷ all) = ap (λ rooms. one.judged.room ∷ rooms) (rooms_judged all)
+
+justified_each : (fed : List FedEvent) (all : List Explained) → AllByRecursion (IsExplained fed) all → AllByRecursion (IsJustified fed) (map (λ (one : Explained). one.judged) all)
+justified_each fed [] each = tt
+justified_each fed (one ∷ all) each = (each.0.0, justified_each fed all each.1)
+
+all_justified : (fed : List FedEvent) (all : List Explained) → All (IsExplained fed) all → All (IsJustified fed) (map (λ (one : Explained). one.judged) all)
+all_justified fed all each = All-from_recursion (IsJustified fed) (map (λ (one : Explained). one.judged) all) (justified_each fed all (recursion_from_All (IsExplained fed) all each))
+
+pub all_said : (input : List ℕ) (refusals : List RefusedBlock) (rooms : List RoomSpec) (fed : List FedEvent) (count : ℕ) (output : List ℕ) (well : Bool) (outcome : Outcome) → length rooms ≤ count → outcome ≡ outcome_if well → SoFar rooms (said_refusals input refusals) (flat_map refusal_line refusals) fed count output well
+    → IsExplanation input rooms (flat_map refusal_line refusals) fed outcome output
+all_said input refusals rooms fed count output well outcome all_of outcome_is so_far = record {
+  refusals = refusals;
+  refused_are = refl;
+  all = so_far.0;
+  each_room = so_far.1 ∙ take_all count rooms all_of;
+  explained = so_far.2;
+  output_is = so_far.3;
+  checked = record {
+    all = map (λ (one : Explained). one.judged) so_far.0;
+    each_room = rooms_judged so_far.0 ∙ so_far.1 ∙ take_all count rooms all_of;
+    justified = all_justified fed so_far.0 so_far.2;
+    output_is = refl;
+    outcome_is = outcome_is ∙ ap outcome_if so_far.4;
+  };
+}
+
+-- what an input says whose blocks and events were read
+pub says : (read : Result (Setup × List ℕ) FaultAt) (setup : Setup) (transcript : List ℕ) (fed : List FedEvent) → read ≡ Ok (setup, transcript) → fed_from setup.rooms [] setup.line (text_lines transcript) ≡ Ok fed
+    → events_behind read ≡ Ok (setup, fed)
+says read setup transcript fed is fed_is = rw (is, fed_is) refl

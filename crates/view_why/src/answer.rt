@@ -1,0 +1,190 @@
+//! The answer to a whole input.
+ghost use Rattle.std.specs.Prelude.{◌≡◌, ◌≤◌, ◌++◌, ℕ, List, IfOk, IfErr, OnOk, length};
+ghost use Rattle.std.specs.List.{flat_map};
+ghost use Rattle.history_checker.specs.Verdicts.{FedEvent};
+ghost use Rattle.io_text.specs.Reading.{most_bytes};
+ghost use Rattle.room_files.specs.Blocks.{IsFaultOr};
+ghost use Rattle.room_files.specs.Inputs.{MayLackMemory, input_says};
+ghost use Rattle.transcript.specs.Grammar.{event_line};
+ghost use Rattle.view_why.specs.Told.{AreTold, IsExcess, IsLineBreak, IsTold, specs_of};
+ghost use Rattle.fault_text.specs.Lines.{indented, indented_all};
+ghost use Rattle.fault_text.specs.Refusals.{refusal_line};
+ghost use Rattle.view_why.specs.Why.{IsBecause, IsExcessSaid, IsExplanation, IsExplanationFor, IsReasonFor, IsRoomSaid, IsTaskReason, task_verdict_of, verdict_of};
+
+use crate::excess::write_excess_words;
+use crate::reasons::write_reason;
+use crate::rooms::{ToldRooms, tell_events};
+use crate::told::{Excess, LineBreak, Told};
+use fault_text::{Refusals, write_indented};
+use history_checker::{TaskVerdict, Verdict};
+use io_text::Text;
+use room_files::{
+    Answer, InputFault, Setup, is_well, outcome_if, read_blocks, write_task, write_verdict,
+};
+use room_spec::Spec;
+use std::alloc::{AllocError, Global};
+use transcript::{Event, write_event};
+
+/// Judges an input, and says why.
+pub fn explain(alloc: Global, input: &[u8]) -> Result<Answer, InputFault>
+    requires { length input.now ≤ most_bytes }
+    ensures output { IfOk result (λ answer. IsExplanationFor input.now answer.outcome answer.output) }
+    // Memory is allocated for a block, and for the answer to an input that has no fault.
+    ensures err { IfErr result (IsFaultOr (MayLackMemory input.now) (input_says input.now)) }
+{
+    let setup = Setup::new(ToldRooms::new(alloc), Refusals::new(alloc));
+    let (setup, transcript) = read_blocks(alloc, setup, input)?;
+    let Setup {
+        mut rooms,
+        refused,
+        line,
+    } = setup;
+    tell_events(&mut rooms, line, transcript)?;
+    Ok(answer_of(alloc, input, &rooms, &refused)?)
+}
+
+/// Appends what is said of the rooms to what is said of the refused blocks.
+fn answer_of(
+    alloc: Global,
+    input: &[u8],
+    rooms: &ToldRooms,
+    refusals: &Refusals,
+) -> Result<Answer, AllocError>
+    ensures { IfOk result (λ answer. (fed : List FedEvent) → AreTold rooms.now fed →
+        IsExplanation input.now (specs_of rooms.now) (flat_map refusal_line refusals.now) fed answer.outcome answer.output) }
+{
+    let mut output = Text::new(alloc);
+    refusals.write(alloc, &mut output, input)?;
+    let mut all_well = refusals.is_empty();
+    for index in 0..rooms.len() {
+        let Some(told) = rooms.get(index) else {
+            unreachable!() // there is a room of each index below their number
+        };
+        all_well &= write_room(alloc, &mut output, told)?;
+    }
+    Ok(Answer {
+        output,
+        outcome: outcome_if(all_well),
+    })
+}
+
+/// Writes what is said of a room. Gives whether its events are a run that doesn't break its task.
+fn write_room(alloc: Global, output: &mut Text, told: &Told) -> Result<bool, AllocError>
+    ensures { IfOk result (λ well. (fed : List FedEvent) → IsTold fed told.now → IsRoomSaid told.now.spec fed output.old output.new well) }
+{
+    let reason = told.why();
+    let excess = told.excess();
+    let verdict = verdict_of(reason);
+    let task = task_verdict_of(&told.spec, excess);
+    let name = told.spec.name();
+    write_verdict(output, name, verdict)?;
+    write_task(output, name, verdict, task)?;
+    write_reasons(alloc, output, told, reason, excess)?;
+    Ok(is_well(verdict, task))
+}
+
+/// The verdict on a room whose run breaks there, or nowhere.
+fn verdict_of(reason: Result<(), LineBreak>) -> Verdict
+    ensures { result ≡ verdict_of reason }
+{
+    match reason {
+        Ok(()) => Verdict::Run,
+        Err(broken) => Verdict::Broken(broken.line),
+    }
+}
+
+/// The verdict on the task of a room that breaks it there, or nowhere, if it has one.
+fn task_verdict_of(spec: &Spec, excess: Result<(), Excess>) -> Option<TaskVerdict>
+    ensures { result ≡ task_verdict_of spec.now.task excess }
+{
+    spec.task()?;
+    match excess {
+        Ok(()) => Some(TaskVerdict::Holds),
+        Err(excess) => Some(TaskVerdict::Broken(excess.line)),
+    }
+}
+
+/// Writes why a room's events are no run, or else why they break its task, if they do.
+fn write_reasons(
+    alloc: Global,
+    output: &mut Text,
+    told: &Told,
+    reason: Result<(), LineBreak>,
+    excess: Result<(), Excess>,
+) -> Result<(), AllocError>
+    requires run { IfErr reason (IsLineBreak told.now) }
+    requires task { IfErr excess (IsExcess told.now) }
+    ensures { OnOk result ((notes : List (List ℕ)) × IsReasonFor told.now (verdict_of reason) (task_verdict_of told.now.spec.task excess) notes × (output.new ≡ output.old ++ indented_all notes)) }
+{
+    match reason {
+        Ok(()) => write_excess_if(alloc, output, told, excess),
+        Err(broken) => write_because(alloc, output, told, broken),
+    }
+}
+
+/// Writes the line that breaks a room's run, and why it does.
+fn write_because(
+    alloc: Global,
+    output: &mut Text,
+    told: &Told,
+    broken: LineBreak,
+) -> Result<(), AllocError>
+    requires { IsLineBreak told.now broken }
+    ensures { OnOk result ((notes : List (List ℕ)) × IsBecause told.now broken.line notes × (output.new ≡ output.old ++ indented_all notes)) }
+{
+    let Some(event) = told.event(broken.at) else {
+        unreachable!() // it breaks the run
+    };
+    write_event_line(alloc, output, told, event)?;
+    output.put(b"    ")?;
+    write_reason(output, event, broken.reason, broken.earlier)?;
+    output.put(b"\n")
+}
+
+/// Writes the line that breaks a room's task, and why it does, if one does.
+fn write_excess_if(
+    alloc: Global,
+    output: &mut Text,
+    told: &Told,
+    excess: Result<(), Excess>,
+) -> Result<(), AllocError>
+    requires { IfErr excess (IsExcess told.now) }
+    ensures { OnOk result ((notes : List (List ℕ)) × IsTaskReason told.now (task_verdict_of told.now.spec.task excess) notes × (output.new ≡ output.old ++ indented_all notes)) }
+{
+    match excess {
+        Ok(()) => Ok(()),
+        Err(excess) => write_excess(alloc, output, told, excess),
+    }
+}
+
+fn write_excess(
+    alloc: Global,
+    output: &mut Text,
+    told: &Told,
+    excess: Excess,
+) -> Result<(), AllocError>
+    requires { IsExcess told.now excess }
+    ensures { OnOk result ((notes : List (List ℕ)) × IsExcessSaid told.now excess.line notes × (output.new ≡ output.old ++ indented_all notes)) }
+{
+    let Some(event) = told.event(excess.at) else {
+        unreachable!() // it breaks the task
+    };
+    write_event_line(alloc, output, told, event)?;
+    let before = told.decided_before(alloc, excess.at)?;
+    output.put(b"    ")?;
+    write_excess_words(output, &told.spec, excess.most, event, before.as_slice())?;
+    output.put(b"\n")
+}
+
+/// Writes an event of a room as a line for people.
+fn write_event_line(
+    alloc: Global,
+    output: &mut Text,
+    told: &Told,
+    event: &Event,
+) -> Result<(), AllocError>
+    ensures { OnOk result (output.new ≡ output.old ++ indented (event_line told.now.spec.name event.now)) }
+{
+    let line = write_event(alloc, told.spec.name(), event)?;
+    write_indented(output, &line)
+}

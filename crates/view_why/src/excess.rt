@@ -1,0 +1,74 @@
+//! Why a task doesn't allow a decision, in words.
+ghost use Rattle.std.specs.Prelude.{◌≡◌, ◌++◌, OnOk};
+ghost use Rattle.std.specs.List.{flat_map};
+ghost use Rattle.view_why.specs.Words.{allowed_words, decision_words, excess_why, excess_words};
+
+use crate::reasons::write_of_process;
+use crate::told::Decision;
+use io_text::Text;
+use room_spec::Spec;
+use std::alloc::AllocError;
+use transcript::Event;
+
+/// Writes why the room's task, which allows `most` different values, doesn't allow an event after these decisions.
+pub fn write_excess_words(
+    output: &mut Text,
+    spec: &Spec,
+    most: u8,
+    event: &Event,
+    before: &[Decision],
+) -> Result<(), AllocError>
+    ensures { OnOk result (output.new ≡ output.old ++ excess_words spec.now most event.now before.now) }
+{
+    match event {
+        Event::Decide { v, .. } => {
+            write_of_process(output, b"decides", u64::from(*v), b"; ")?;
+            write_excess_why(output, spec, most, *v, before)
+        }
+        Event::Write { .. } => Ok(()),
+        Event::Snap { .. } => Ok(()),
+    }
+}
+
+fn write_excess_why(
+    output: &mut Text,
+    spec: &Spec,
+    most: u8,
+    v: u32,
+    before: &[Decision],
+) -> Result<(), AllocError>
+    ensures { OnOk result (output.new ≡ output.old ++ excess_why spec.now most v before.now) }
+{
+    if !spec.has_input(v) {
+        return output.put(b"no process has this input");
+    }
+    write_decisions(output, before)?;
+    write_allowed(output, most)
+}
+
+fn write_decisions(output: &mut Text, decisions: &[Decision]) -> Result<(), AllocError>
+    ensures { OnOk result (output.new ≡ output.old ++ flat_map decision_words decisions.now) }
+{
+    for one in decisions {
+        write_decision(output, *one)?;
+    }
+    Ok(())
+}
+
+fn write_decision(output: &mut Text, one: Decision) -> Result<(), AllocError>
+    ensures { OnOk result (output.new ≡ output.old ++ decision_words one) }
+{
+    write_of_process(output, b"line", one.line, b"")?;
+    write_of_process(output, b" decided", u64::from(one.value), b"; ")
+}
+
+/// Writes how many different values a task allows.
+fn write_allowed(output: &mut Text, most: u8) -> Result<(), AllocError>
+    ensures { OnOk result (output.new ≡ output.old ++ allowed_words most) }
+{
+    if most == 1 {
+        output.put(b"the task allows 1 value")
+    } else {
+        write_of_process(output, b"the task allows", u64::from(most), b" values")
+    }
+}

@@ -1,0 +1,10 @@
+//! Why a transcript's rooms are no runs, or break their tasks: the verdict on each room, and after it the line that breaks it and the reason.
+#![tactic(auto)]
+
+mod answer;
+mod excess;
+mod reasons;
+mod rooms;
+mod told;
+
+pub use answer::explain;
