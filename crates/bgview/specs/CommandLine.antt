@@ -8,11 +8,11 @@ use Rattle.clap.specs.Words.{App, Row, Rule, Shape, all_of, first_of, new_app, n
 use Rattle.clap.specs.declared.builder.action.ArgAction.TheVariants.{SetTrue}
 use Rattle.clap.specs.declared.builder.value_parser.ValueParser.TheVariants.{Signed}
 use Rattle.room_sample.specs.declared.sampling.Plan.{Plan}
-use Rattle.outcome_text.specs.declared.rooms.Search.{Search}
+use Rattle.view_outcomes.specs.declared.rooms.Search.{Search}
+use Rattle.bgview.specs.declared.command_line.Grading.{Grading}
 use Rattle.bgview.specs.declared.command_line.Mode.{Mode}
 use Rattle.bgview.specs.declared.command_line.Mode.TheVariants.{Why, Trace, Draw, Page, Transcript, Fault, Grade, Sample, Outcomes, Lint}
 use Rattle.bgview.specs.declared.command_line.Request.{Request}
-use Rattle.bgview.specs.declared.grade.Grading.{Grading}
 
 -- the subcommand of a word, which takes a file
 abbrev pub file_app : List ℕ → App

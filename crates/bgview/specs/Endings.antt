@@ -7,11 +7,11 @@ use Rattle.clap.specs.declared.error.kind.ErrorKind.{ErrorKind}
 use Rattle.clap.specs.declared.error.kind.ErrorKind.TheVariants.{OutOfMemory}
 use Rattle.io_text.specs.declared.fault.DeviceFault.TheVariants.{Read}
 use Rattle.room_files.specs.declared.outcome.Outcome.{Outcome}
+use Rattle.bgview.specs.Answers.{IsAnswer}
 use Rattle.bgview.specs.CommandLine.{IsRequestAmong, bgview_app, codes_among, file_among, mode_among, other_among}
 use Rattle.bgview.specs.Ends.{ending_status, words_status}
 use Rattle.bgview.specs.Faults.{AreFaultsSaid}
-use Rattle.bgview.specs.Modes.{IsViewed}
-use Rattle.bgview.specs.Page.{IsPageAnswer}
+use Rattle.bgview.specs.Pages.{IsPageAnswer}
 use Rattle.bgview.specs.declared.command_line.Mode.TheVariants.{Fault}
 use Rattle.bgview.specs.declared.command_line.Request.{Request}
 use Rattle.bgview.specs.declared.fault.ViewFault.{ViewFault}
@@ -34,7 +34,7 @@ pub record IsAnswered (found : Found) (input : List ℕ) (result : Result Outcom
   pub request : Request
   pub requested : IsRequestAmong found request
   pub output : List ℕ
-  pub viewed : IsViewed request input result output
+  pub answer : IsAnswer request input result output
   pub appended : HasAppended writes output
 
 -- what the input gives that the words name, if it is known: a file, or standard input if they name none

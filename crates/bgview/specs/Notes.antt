@@ -1,12 +1,14 @@
 -- What is said of an input's faults on standard error.
-use Rattle.std.specs.Prelude.{◌≡◌, ◌==◌, ⊤, ℕ, List, [], ◌++◌, length, Result, Ok, Err, codes, if◌then◌else◌}
+use Rattle.std.specs.Prelude.{◌≡◌, ⊤, ℕ, List, Result, Ok, Err}
 use Rattle.io_text.specs.declared.fault.DeviceFault.TheVariants.{Read, Write, TooLong, Memory}
 use Rattle.file_faults.specs.Files.{AreRoomFaults, AreTranscriptFaults}
 use Rattle.file_faults.specs.Scripts.{script_faults}
 use Rattle.file_faults.specs.Warnings.{file_warnings}
-use Rattle.step_page.specs.declared.page.FileKind.{FileKind}
-use Rattle.step_page.specs.declared.page.FileKind.TheVariants.{Script, Transcript}
-use Rattle.bgview.specs.Page.{kind_of}
+use Rattle.view_grade.specs.Goals.{goal_forms}
+use Rattle.view_page.specs.Faults.{AreBothFaults, AreFileFaults, NamedFile}
+use Rattle.view_page.specs.Pages.{kind_of}
+use Rattle.bgview.specs.declared.command_line.Mode.{Mode}
+use Rattle.bgview.specs.declared.command_line.Mode.TheVariants.{Why, Trace, Draw, Page, Transcript, Fault, Grade, Sample, Outcomes, Lint}
 use Rattle.bgview.specs.declared.fault.ViewFault.{ViewFault}
 use Rattle.bgview.specs.declared.fault.ViewFault.TheVariants.{BadGoal, BadInput, Device, Incomplete}
 
@@ -42,27 +44,38 @@ abbrev pub AreWarnings : {A : Type 0} → List ℕ → Result A ViewFault → Li
 AreWarnings input result notes = AreSaid (λ (said : List ℕ). said ≡ file_warnings input) result notes
 
 -- what is said of all faults of a file, by what it is
-abbrev pub AreFileFaults : FileKind → List ℕ → List ℕ → Type 0
-AreFileFaults Script file said = said ≡ script_faults file
-AreFileFaults Transcript file said = AreTranscriptFaults file said
-
 abbrev pub AreFileNotes : {A : Type 0} → List ℕ → Result A ViewFault → List ℕ → Type 0
 AreFileNotes file result notes = AreSaid (AreFileFaults (kind_of file) file) result notes
 
--- what is said of a file of this name, after its name, if something is said
-abbrev pub said_in : List ℕ → List ℕ → List ℕ
-said_in name said = if length said == 0 then [] else codes "    in " ++ (name ++ (codes ":\n" ++ said))
-
--- A file by its name.
-pub record NamedFile : Type 0 where
-  pub name : List ℕ
-  pub bytes : List ℕ
-
 -- of all faults of two files, in order, each after the name of its file
-abbrev pub AreBothFaults : NamedFile → NamedFile → List ℕ → Type 0
-AreBothFaults file next said =
-    (first later : List ℕ) × AreFileFaults (kind_of file.bytes) file.bytes first × AreFileFaults (kind_of next.bytes) next.bytes later
-    × (said ≡ said_in file.name first ++ said_in next.name later)
-
 abbrev pub AreBothNotes : {A : Type 0} → NamedFile → NamedFile → Result A ViewFault → List ℕ → Type 0
 AreBothNotes file next result notes = AreSaid (AreBothFaults file next) result notes
+
+-- of a goal that is not valid
+abbrev pub AreGoalNotes : {A : Type 0} → Result A ViewFault → List ℕ → Type 0
+AreGoalNotes (Err (BadGoal fault)) notes = notes ≡ goal_forms
+AreGoalNotes (Ok value) notes = ⊤
+AreGoalNotes (Err (Device fault)) notes = ⊤
+AreGoalNotes (Err Incomplete) notes = ⊤
+AreGoalNotes (Err (BadInput line fault)) notes = ⊤
+
+-- of a script's faults, or of a goal that is not valid
+abbrev pub AreGradeNotes : {A : Type 0} → List ℕ → Result A ViewFault → List ℕ → Type 0
+AreGradeNotes input (Err (BadGoal fault)) notes = notes ≡ goal_forms
+AreGradeNotes input (Ok value) notes = notes ≡ script_faults input
+AreGradeNotes input (Err (Device fault)) notes = AreSaid {A = ⊤} (λ (said : List ℕ). said ≡ script_faults input) (Err (Device fault)) notes
+AreGradeNotes input (Err Incomplete) notes = notes ≡ script_faults input
+AreGradeNotes input (Err (BadInput line fault)) notes = notes ≡ script_faults input
+
+-- what each mode says on standard error: of an input's faults, and `lint`, which says these as its answer, what it warns of
+abbrev pub AreNotesIn : {A : Type 0} → Mode → List ℕ → Result A ViewFault → List ℕ → List ℕ → Type 0
+AreNotesIn Why input result old new = AreNotes input result old new
+AreNotesIn Fault input result old new = AreNotes input result old new
+AreNotesIn Trace input result old new = AreScriptNotes input result new
+AreNotesIn Draw input result old new = AreScriptNotes input result new
+AreNotesIn Page input result old new = AreFileNotes input result new
+AreNotesIn Transcript input result old new = AreScriptNotes input result new
+AreNotesIn Grade input result old new = AreGradeNotes input result new
+AreNotesIn Sample input result old new = AreRoomNotes input result new
+AreNotesIn Outcomes input result old new = AreRoomNotes input result new
+AreNotesIn Lint input result old new = AreWarnings input result new

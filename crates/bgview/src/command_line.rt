@@ -6,9 +6,8 @@ ghost use Rattle.clap.specs.Words.{app_of, fault_of, first_value, found_of, subc
 ghost use Rattle.clap.specs.Walk.{rule_of};
 ghost use Rattle.bgview.specs.CommandLine.{bgview_app, brief_rule, commands_rule, crashes_rule, drawing_app, fault_app, file_among, file_app, goal_rule, grade_app, is_given, mode_among, mode_of, other_among, outcome_rule, outcomes_app, page_app, plain_app, sample_app, schedules_rule, seed_rule, states_rule, stopped_rule, top_rule, IsGradingAmong, IsNumber, IsNumberIfAny, IsPlanAmong, IsRequestAmong, IsSearchAmong};
 
-use crate::grade::Grading;
 use clap::{Arg, ArgAction, ArgMatches, Command, Error, value_parser};
-use outcome_text::Search;
+use view_outcomes::Search;
 use room_sample::Plan;
 use std::alloc::{AllocError, Global};
 use std::convert::AsStr;
@@ -450,6 +449,15 @@ pub fn line_in<'a>(matches: &ArgMatches<'a>) -> Line<'a>
             other: None,
         },
     }
+}
+
+/// What a script is graded by.
+#[derive(Clone, Copy, Debug, PartialEq, Eq)]
+pub struct Grading<'a> {
+    /// The goal, as text.
+    pub goal: &'a str,
+    /// How many commands `step` and `crash` the script may have.
+    pub most: Option<u32>,
 }
 
 /// What is requested of an input.

@@ -6,7 +6,7 @@ ghost use Rattle.io_text.specs.declared.fault.DeviceFault.TheVariants.{Memory};
 
 use io_text::DeviceFault;
 use room_files::{InputFault, Outcome, TextFault};
-use script_goal::GoalFault;
+use view_grade::GoalFault;
 use std::alloc::AllocError;
 use thiserror::Error;
 

@@ -11,30 +11,23 @@ ghost use Rattle.bgview.specs.CommandLine.{codes_among, mode_among, other_among}
 ghost use Rattle.bgview.specs.Endings.{IsAnswered, IsEnding, IsReadBy, IsStatusFor, named_by};
 ghost use Rattle.bgview.specs.Ends.{ending_status, fault_status, unread_status, words_status};
 ghost use Rattle.bgview.specs.Faults.{AreFaultsSaid};
-ghost use Rattle.bgview.specs.Modes.{AreNotesIn, IsViewed};
+ghost use Rattle.bgview.specs.Notes.{AreNotesIn};
 
 mod command_line;
 mod engine;
 mod fault;
-mod faults;
-mod grade;
 mod inputs;
-mod lint;
-mod page;
 mod progress;
-mod sample;
+mod showing;
 mod unread;
 
 use clap::ArgMatches;
 use clap::error::ErrorKind;
-use command_line::{Mode, Request, line_in, read_words, request_in};
-use engine::{draw_io, fault_io, outcomes_io, sample_io, trace_io, transcript_io, why_io};
+use command_line::{Mode, line_in, read_words, request_in};
+use engine::{answer_io, fault_io, pages_io};
 use fault::ViewFault;
-use grade::grade_io;
 use inputs::Inputs;
 use io_text::{Device, DeviceFault, Text};
-use lint::lint_io;
-use page::{page_io, pages_io};
 use progress::{Counter, has_terminal};
 use room_files::Outcome;
 use run_search::Progress;
@@ -198,35 +191,7 @@ fn answered<R: Read + Drop, W: Write, P: Progress>(
 {
     let mut reader = Device::new(input);
     let request = request_in(matches);
-    write_answer(alloc, &mut reader, writer, &request, notes, progress)
-}
-
-/// Writes the answer to what a reader gives that is requested. What is said of an input's faults becomes `notes`.
-fn write_answer<R: Read, W: Write, P: Progress>(
-    alloc: Global,
-    reader: &mut Device<R>,
-    writer: &mut Device<W>,
-    request: &Request<'_>,
-    notes: &mut Text,
-    progress: &mut P,
-) -> Result<Outcome, ViewFault>
-    requires reader { reader.old.failed ≡ false }
-    requires writer { writer.old.failed ≡ false }
-    ensures answer { IfSome (R.remaining reader.old.inner) (λ input. (output : List ℕ) × IsViewed request.now input result output
-        × Appends (W.contents writer.old.inner) (W.contents writer.new.inner) output) }
-    ensures notes { IfSome (R.remaining reader.old.inner) (λ input. AreNotesIn request.now.mode input result notes.old notes.new) }
-{
-    match request.mode {
-        Mode::Why | Mode::Fault => why_io(alloc, reader, writer, notes),
-        Mode::Trace => trace_io(alloc, reader, writer, notes),
-        Mode::Draw => draw_io(alloc, reader, writer, notes),
-        Mode::Page => page_io(alloc, reader, writer, notes),
-        Mode::Transcript => transcript_io(alloc, reader, writer, notes),
-        Mode::Sample => sample_io(alloc, reader, writer, &request.plan, notes, progress),
-        Mode::Outcomes => outcomes_io(alloc, reader, writer, &request.search, notes, progress),
-        Mode::Lint => lint_io(alloc, reader, writer, notes),
-        Mode::Grade => grade_io(alloc, reader, writer, &request.grading, notes),
-    }
+    answer_io(alloc, &mut reader, writer, &request, notes, progress)
 }
 
 fn ending_status(rt: &HostRuntime, ending: Result<Outcome, ViewFault>, notes: &Text) -> u8

@@ -4,7 +4,10 @@
 ghost use Rattle.std.specs.Prelude.{◌≡◌, option_map};
 ghost use Rattle.fault_words.specs.Words.{words_of};
 
+mod faults;
 pub mod laws;
+
+pub use faults::say_faults;
 
 use history_checker::{AddFault, NoRoom};
 use protocol_lang::ParseFault;

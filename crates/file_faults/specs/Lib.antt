@@ -4,3 +4,4 @@ pub mod Events
 pub mod Files
 pub mod Kinds
 pub mod Warnings
+pub mod Lint

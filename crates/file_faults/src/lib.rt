@@ -4,11 +4,13 @@
 mod events;
 mod files;
 mod kinds;
+mod linting;
 mod scripts;
 mod walk;
 mod warnings;
 
 pub use files::{room_faults, transcript_faults};
 pub use kinds::{Kind, faults_of};
+pub use linting::lint;
 pub use scripts::script_faults;
 pub use warnings::warnings_of;

@@ -1,19 +1,12 @@
+pub mod CallerLemmas
 mod AmongAll
-mod Breaking
-mod Coming
 mod Counting
 mod Drawing
 mod Entering
-mod Following
-mod Leading
 mod OneMore
 mod Ordering
 mod Ranking
-mod RoomTexts
 mod Schedules
 mod Shortening
-mod ScriptLines
 mod Stopping
-mod Taking
 mod Uniform
-mod WholeBlocks

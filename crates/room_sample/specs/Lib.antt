@@ -1,12 +1,6 @@
 pub mod Chances
-pub mod Counts
 pub mod Drawn
-pub mod Leads
-pub mod Rooms
 pub mod Samples
 pub mod Schedules
 pub mod Shown
-pub mod TaskTexts
-pub mod Tasks
-pub mod Texts
 pub mod Ways

@@ -71,8 +71,13 @@ impl Tally {
         Ok(())
     }
 
-    /// Makes the schedules short that lead to the outcomes of the room of this spec, by at most this many runs of it.
-    pub(crate) fn shorten(
+    /// Makes the schedules short that lead to the outcomes of the room of this spec, by at most `tries` runs of it, in each of which at most
+    /// `crashes` simulators crash.
+    ///
+    /// # Errors
+    ///
+    /// An allocation that fails.
+    pub fn shorten(
         &mut self,
         alloc: Global,
         spec: &Spec,
@@ -120,6 +125,10 @@ impl Tally {
     }
 
     /// Puts those first that came most often.
+    ///
+    /// # Errors
+    ///
+    /// An allocation that fails.
     pub fn sort_by_times(&mut self) -> Result<(), AllocError>
         ensures sorted { OnOk result (AreMostFirst self.new) }
         ensures all { IsPermutation self.old self.new }

@@ -1,0 +1,154 @@
+//! From a request and an input to what is shown: one call for each mode.
+ghost use Rattle.std.specs.Prelude.{◌≡◌, ◌≤◌, Ok, None, IfErr, IfOk, length};
+ghost use Rattle.io_text.specs.Reading.{most_bytes};
+ghost use Rattle.room_files.specs.Inputs.{input_says};
+ghost use Rattle.view_grade.specs.Goals.{goal_in};
+ghost use Rattle.script_play.specs.Script.{script_says};
+ghost use Rattle.view_page.specs.Pages.{fault_in};
+ghost use Rattle.view_why.specs.Why.{IsExplanationFor};
+ghost use Rattle.bgview.specs.Answers.{Ends, EndsRequest, IsGradeFor, IsShown, IsWhole, goal_fault_in, goal_text};
+ghost use Rattle.bgview.specs.Notes.{AreGoalNotes, AreGradeNotes, AreNotes, AreNotesIn};
+
+use crate::command_line::{Grading, Mode, Request};
+use crate::fault::ViewFault;
+use file_faults::{lint, room_faults, script_faults, transcript_faults, warnings_of};
+use io_text::{DeviceFault, Text};
+use view_outcomes::search_blocks;
+use room_files::{Answer, InputFault};
+use run_search::Progress;
+use view_grade::{Goal, goal_forms, grade, read_goal};
+use view_draw::draw;
+use script_play::PlayText;
+use view_transcript::transcribe;
+use std::alloc::Global;
+use view_page::{faults_of, page};
+use view_sample::sample_blocks;
+use view_trace::trace;
+use view_why::explain;
+
+/// What is shown of an input as is requested. What is said of its faults, or of a goal that is not valid, becomes `notes`.
+pub fn show<P: Progress>(
+    alloc: Global,
+    request: &Request<'_>,
+    input: &[u8],
+    notes: &mut Text,
+    progress: &mut P,
+) -> Result<PlayText, ViewFault>
+    requires { length input.now ≤ most_bytes }
+    ensures shown { IfOk result (λ shown. IsShown request.now input.now shown.ending shown.output) }
+    ensures err { IfErr result (EndsRequest request.now input.now) }
+    ensures notes { AreNotesIn request.now.mode input.now result notes.old notes.new }
+{
+    match request.mode {
+        Mode::Why | Mode::Fault => explain_or_note(alloc, input, notes),
+        Mode::Trace => {
+            *notes = script_faults(alloc, input)?;
+            Ok(trace(alloc, input)?)
+        }
+        Mode::Draw => {
+            *notes = script_faults(alloc, input)?;
+            Ok(draw(alloc, input)?)
+        }
+        Mode::Page => {
+            *notes = faults_of(alloc, input)?;
+            Ok(page(alloc, input)?)
+        }
+        Mode::Transcript => {
+            *notes = script_faults(alloc, input)?;
+            Ok(transcribe(alloc, input)?)
+        }
+        Mode::Grade => grade_or_note(alloc, &request.grading, input, notes),
+        Mode::Sample => {
+            *notes = room_faults(alloc, input)?;
+            Ok(whole(sample_blocks(alloc, input, &request.plan, progress)?))
+        }
+        Mode::Outcomes => {
+            *notes = room_faults(alloc, input)?;
+            Ok(whole(search_blocks(alloc, input, &request.search, progress)?))
+        }
+        Mode::Lint => {
+            *notes = warnings_of(alloc, input)?;
+            Ok(whole(lint(alloc, input)?))
+        }
+    }
+}
+
+/// An answer for which no allocation failed.
+fn whole(answer: Answer) -> PlayText
+    ensures output { result.output ≡ answer.output }
+    ensures ending { result.ending ≡ Ok answer.outcome }
+{
+    PlayText {
+        output: answer.output,
+        ending: Ok(answer.outcome),
+    }
+}
+
+/// Explains a transcript. What is said of all its faults, if it has a malformed line, becomes `notes`.
+fn explain_or_note(
+    alloc: Global,
+    input: &[u8],
+    notes: &mut Text,
+) -> Result<PlayText, ViewFault>
+    requires { length input.now ≤ most_bytes }
+    ensures shown { IfOk result (λ shown. IsWhole (IsExplanationFor input.now) shown.ending shown.output) }
+    ensures err { IfErr result (Ends (fault_in (input_says input.now)) None) }
+    ensures notes { AreNotes input.now result notes.old notes.new }
+{
+    match explain(alloc, input) {
+        Ok(answer) => Ok(whole(answer)),
+        Err(InputFault::Memory) => Err(ViewFault::Device(DeviceFault::Memory)),
+        Err(InputFault::BadInput { line, fault }) => {
+            *notes = transcript_faults(alloc, input)?;
+            Err(ViewFault::BadInput { line, fault })
+        }
+    }
+}
+
+/// Grades a script. What is said of all its faults, or of a goal that is not valid, becomes `notes`.
+fn grade_or_note(
+    alloc: Global,
+    grading: &Grading<'_>,
+    script: &[u8],
+    notes: &mut Text,
+) -> Result<PlayText, ViewFault>
+    requires { length script.now ≤ most_bytes }
+    ensures shown { IfOk result (λ shown. IsGradeFor grading.now script.now shown.ending shown.output) }
+    ensures err { IfErr result (Ends (fault_in (script_says script.now)) (goal_fault_in (goal_in (goal_text grading.now)))) }
+    ensures notes { AreGradeNotes script.now result notes.new }
+{
+    let goal = goal_or_note(alloc, grading.goal.as_bytes(), notes)?;
+    *notes = script_faults(alloc, script)?;
+    graded(alloc, grading, &goal, script)
+}
+
+/// What is said of a script that is judged by this goal.
+#[tactic(auto, unfolding(crate::specs::Answers::IsGradeFor))]
+fn graded(
+    alloc: Global,
+    grading: &Grading<'_>,
+    goal: &Goal,
+    script: &[u8],
+) -> Result<PlayText, ViewFault>
+    requires goal { goal_in (goal_text grading.now) ≡ Ok goal.now }
+    requires script { length script.now ≤ most_bytes }
+    ensures shown { IfOk result (λ shown. IsGradeFor grading.now script.now shown.ending shown.output) }
+    ensures err { IfErr result (Ends (fault_in (script_says script.now)) None) }
+{
+    Ok(grade(alloc, goal, grading.most, script)?)
+}
+
+/// The goal that a text says. What is said of one that is not valid becomes `notes`.
+fn goal_or_note(alloc: Global, text: &[u8], notes: &mut Text) -> Result<Goal, ViewFault>
+    ensures goal { IfOk result (λ goal. goal_in text.now ≡ Ok goal) }
+    ensures err { IfErr result (Ends None (goal_fault_in (goal_in text.now))) }
+    ensures notes { AreGoalNotes result notes.new }
+{
+    match read_goal(alloc, text)? {
+        Ok(goal) => Ok(goal),
+        Err(fault) => {
+            *notes = goal_forms(alloc)?;
+            Err(ViewFault::BadGoal(fault))
+        }
+    }
+}

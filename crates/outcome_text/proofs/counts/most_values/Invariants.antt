@@ -1,6 +1,0 @@
-use Rattle.std.proofs.Common.{◌≡◌, take}
-use Rattle.outcome_text.specs.Counts.{most_values}
-use Rattle.outcome_text.proofs.counts.most_values.Given as goal
-
-abbrev pub invariant-loop-one : goal.invariant-loop-one
-invariant-loop-one l = l.most ≡ most_values (take l.one-index l.all)

@@ -1,7 +1,0 @@
-use Rattle.std.proofs.Common.{◌≡◌, false, fold, take}
-use Rattle.script_goal.specs.Judging.{joined_with}
-use Rattle.script_goal.proofs.judging.satisfies.Given as goal
-
--- the claims so far
-abbrev pub invariant-loop-claim : goal.invariant-loop-claim
-invariant-loop-claim l = fold (joined_with l.report) (record { earlier = false; last = false }) (take l.claim-index l.claims) ≡ record { earlier = l.earlier; last = l.last }

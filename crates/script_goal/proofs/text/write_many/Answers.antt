@@ -1,7 +1,0 @@
-use Rattle.std.specs.Prelude.{codes}
-use Rattle.script_goal.specs.Grades.{and_number}
-use Rattle.script_goal.proofs.Texts.{in_two}
-use Rattle.script_goal.proofs.text.write_many.Goals as goal
-
-pub returns : goal.returns
-returns c = in_two c.put.result c.args.output.now (and_number (codes ": no, the number of commands `step` and `crash` is") c.args.moves) (codes "\n") c.put_and.new.output c.put.new.self c.in_ok-put_and.ensures c.put.ensures.text

@@ -1,4 +1,0 @@
-use Rattle.script_goal.proofs.text.write_state.Goals as goal
-
-pub returns-in-Held : goal.returns-in-Held
-returns-in-Held c = rw c.in-Held.is (rw c.from-in-Held.ensures at c.put_and-in-Held.ensures)

@@ -1,5 +1,0 @@
-use Rattle.script_picture.proofs.Finishing.{IsFinishedUpTo}
-use Rattle.script_picture.proofs.playing.finish_all.Given as goal
-
-abbrev pub invariant-loop-place : goal.invariant-loop-place
-invariant-loop-place l = IsFinishedUpTo l.rooms.entries l.initial.panels.items l.place l.panels.items

@@ -1,8 +1,0 @@
-use Rattle.std.proofs.Common.{sym}
-use Rattle.script_transcript.proofs.Writing.{events_more}
-use Rattle.script_transcript.proofs.text.write_all_events.Goals as goal
-
-pub loop-index-preserved : goal.loop-index-preserved
-loop-index-preserved c =
-    events_more c.args.service.now c.args.rooms.now.entries c.loop-index.index (c.in-Some.name.now, c.in-Some.kept.now) c.args.output.now c.loop-index.output c.write_events_of.new.output
-    c.loop-index.invariant (sym c.in-Some.ensures.entry) c.in_ok-write_events_of.ensures

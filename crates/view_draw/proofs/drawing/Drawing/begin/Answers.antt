@@ -1,0 +1,12 @@
+use Rattle.std.proofs.Common.{◌∙◌, [], ◌∷◌, ◌++◌, ap, refl}
+use Rattle.run_picture.specs.Panels.{Panel}
+use Rattle.service_core.specs.declared.reply.Reply.TheVariants.{Begun}
+use Rattle.view_draw.proofs.drawing.Drawing.begin.Goals as goal
+
+pub returns-in_ok-open-in-Begun : goal.returns-in_ok-open-in-Begun
+returns-in_ok-open-in-Begun c = record {
+  reply = Begun;
+  applies = rw c.in-Begun.is at c.apply-reply.ensures.applies;
+  refusal_is = refl;
+  draws = (c.in_ok-head.head, c.in_ok-head.ensures, c.in_ok-open-in-Begun.ensures.added);
+}

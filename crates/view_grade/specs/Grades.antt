@@ -1,0 +1,169 @@
+-- What is said of a script and a goal.
+use Rattle.std.specs.Prelude.{◌≡◌, ℕ, ◌+◌, ◌==◌, Bool, true, false, ◌&&◌, List, [], ◌∷◌, ◌++◌, length, Option, Some, None, Result, Ok, Err, if◌then◌else◌, codes, decimal, min, nat_le}
+use Rattle.std.specs.declared.alloc.AllocError.{AllocError}
+use Rattle.std.specs.List.{flat_map, fold, list_any}
+use Rattle.ws_history.specs.declared.states.Report.{Report as ReportData}
+use Rattle.ws_history.specs.declared.states.ProcessState.{ProcessState}
+use Rattle.ws_history.specs.declared.states.ProcessState.TheVariants as states
+use Rattle.service_core.specs.declared.command.Command.{Command}
+use Rattle.service_core.specs.declared.command.Command.TheVariants as commands
+use Rattle.service_core.specs.declared.reply.Reply.{Reply}
+use Rattle.service_core.specs.declared.reply.Reply.TheVariants.{Report}
+use Rattle.room_files.specs.Verdicts.{outcome_if}
+use Rattle.room_files.specs.declared.outcome.Outcome.{Outcome}
+use Rattle.script_play.specs.Play.{AreDone, AreReplies, Done, Faulty, Replied, Unread, commands_of, ending_of, replies_in}
+use Rattle.script_play.specs.Script.{Entry as Asked, script_says}
+use Rattle.view_grade.specs.Judging.{holds, satisfies, state_of}
+use Rattle.view_grade.specs.declared.goal.Fact.{Fact}
+use Rattle.view_grade.specs.declared.goal.Fact.TheVariants.{Decided, Spent, Held, Going, Crashed, History}
+use Rattle.view_grade.specs.declared.goal.Claim.{Claim}
+use Rattle.view_grade.specs.declared.goal.GoalFault.{GoalFault}
+use Rattle.view_grade.specs.declared.goal.GoalFault.TheVariants.{NoClaim, NoJoint}
+
+-- ---- the final report, and the moves
+
+-- a report takes the place of those before it
+abbrev pub report_in : Option ReportData → Reply → Option ReportData
+report_in last (Report report) = Some report
+report_in last reply = last
+
+abbrev pub report_with : Option ReportData → Done → Option ReportData
+report_with last (Replied command reply) = report_in last reply
+report_with last (Faulty line fault) = last
+report_with last (Unread line) = last
+
+-- the last report that was given
+abbrev pub last_report : List Done → Option ReportData
+last_report all = fold report_with None all
+
+-- a command `step` or `crash`
+abbrev pub is_move : Command → Bool
+is_move (commands.Step name sim count) = true
+is_move (commands.Crash name sim) = true
+is_move command = false
+
+-- one more; a count ends at the largest number of 64 bits
+abbrev pub one_more : ℕ → ℕ
+one_more moves = min (moves + 1) 18446744073709551615
+
+abbrev pub moves_by : ℕ → Command → ℕ
+moves_by moves command = if is_move command then one_more moves else moves
+
+abbrev pub moves_with : ℕ → Done → ℕ
+moves_with moves (Replied command reply) = moves_by moves command
+moves_with moves (Faulty line fault) = moves
+moves_with moves (Unread line) = moves
+
+-- how many commands `step` and `crash` there were
+abbrev pub moves_in : List Done → ℕ
+moves_in all = fold moves_with 0 all
+
+-- ---- the text
+
+-- a space and a number after words
+abbrev pub and_number : List ℕ → ℕ → List ℕ
+and_number words number = words ++ (32 ∷ decimal number)
+
+abbrev pub fact_text : Fact → List ℕ
+fact_text (Decided process value) = and_number (and_number (codes "decided") process) value
+fact_text (Spent process) = and_number (codes "spent") process
+fact_text (Held process) = and_number (codes "held") process
+fact_text (Going process) = and_number (codes "going") process
+fact_text (Crashed simulator) = and_number (codes "crashed") simulator
+fact_text (History events) = and_number (codes "history") events
+
+abbrev pub claim_text : Claim → List ℕ
+claim_text claim = if claim.negated then codes "not " ++ fact_text claim.fact else fact_text claim.fact
+
+abbrev pub state_text : ProcessState → List ℕ
+state_text (states.Decided value) = and_number (codes " has decided") value
+state_text states.Spent = codes " is out of rounds"
+state_text (states.Held simulator) = and_number (codes " is held by simulator") simulator
+state_text states.Going = codes " may still go on"
+
+-- what a report shows of a process
+abbrev pub process_text : ℕ → Option ProcessState → List ℕ
+process_text process None = and_number (codes "the room has no process") process
+process_text process (Some state) = and_number (codes "process") process ++ state_text state
+
+abbrev pub crash_end : Bool → List ℕ
+crash_end crashed = if crashed then codes " has crashed" else codes " has not crashed"
+
+abbrev pub crash_text : ℕ → Bool → List ℕ
+crash_text simulator crashed = and_number (codes "simulator") simulator ++ crash_end crashed
+
+-- what a report shows that decides a fact
+abbrev pub shown_text : ReportData → Fact → List ℕ
+shown_text report (Decided process value) = process_text process (state_of report process)
+shown_text report (Spent process) = process_text process (state_of report process)
+shown_text report (Held process) = process_text process (state_of report process)
+shown_text report (Going process) = process_text process (state_of report process)
+shown_text report (Crashed simulator) = crash_text simulator (list_any (λ crashed. crashed == simulator) report.crashed.items)
+shown_text report (History events) = and_number (codes "the number of events is") (length report.history)
+
+abbrev pub claim_line : ReportData → Claim → List ℕ
+claim_line report claim = claim_text claim ++ (if holds report claim then codes ": yes\n" else codes ": no, " ++ (shown_text report claim.fact ++ codes "\n"))
+
+-- whether each claim holds; there may be no report
+abbrev pub claim_lines : Option ReportData → List Claim → List ℕ
+claim_lines None claims = codes "there is no report: a script is graded by its last `report NAME`\n"
+claim_lines (Some report) claims = flat_map (claim_line report) claims
+
+-- whether there are at most this many moves, if a number is given
+abbrev pub are_few : Option ℕ → ℕ → Bool
+are_few None moves = true
+are_few (Some most) moves = nat_le moves most
+
+abbrev pub many_text : ℕ → List ℕ
+many_text moves = and_number (codes ": no, the number of commands `step` and `crash` is") moves ++ codes "\n"
+
+abbrev pub few_end : ℕ → ℕ → List ℕ
+few_end most moves = if nat_le moves most then codes ": yes\n" else many_text moves
+
+abbrev pub few_line : Option ℕ → ℕ → List ℕ
+few_line None moves = []
+few_line (Some most) moves = and_number (codes "commands") most ++ few_end most moves
+
+abbrev pub is_satisfied : Option ReportData → List Claim → Bool
+is_satisfied None claims = false
+is_satisfied (Some report) claims = satisfies report claims
+
+-- the final report satisfies the goal, and there are not too many moves
+abbrev pub is_reached : List Claim → Option ℕ → Option ReportData → ℕ → Bool
+is_reached claims most report moves = is_satisfied report claims && are_few most moves
+
+abbrev pub end_line : Bool → List ℕ
+end_line reached = if reached then codes "reached\n" else codes "not reached\n"
+
+abbrev pub grade_text : List Claim → Option ℕ → Option ReportData → ℕ → List ℕ
+grade_text claims most report moves = claim_lines report claims ++ (few_line most moves ++ end_line (is_reached claims most report moves))
+
+-- ---- a whole script
+
+-- an allocation that failed for a command ends the script so
+abbrev pub graded_ending : Result Outcome AllocError → Bool → Result Outcome AllocError
+graded_ending (Ok outcome) reached = Ok (outcome_if reached)
+graded_ending (Err failed) reached = Err failed
+
+-- What is said of a script: the replies to its commands are those of `bgsim play`, and the last report among them is judged.
+pub record IsGraded (claims : List Claim) (most : Option ℕ) (input : List ℕ) (ending : Result Outcome AllocError) (output : List ℕ) : Type 0 where
+  pub entries : List Asked
+  pub asked : script_says input ≡ Ok entries
+  pub all : List Done
+  pub each_entry : AreDone entries all
+  pub replies : AreReplies (commands_of all) (replies_in all)
+  pub output_is : output ≡ grade_text claims most (last_report all) (moves_in all)
+  pub ending_is : ending ≡ graded_ending (ending_of all) (is_reached claims most (last_report all) (moves_in all))
+
+-- ---- a goal that is not valid
+
+abbrev pub fault_text : GoalFault → List ℕ
+fault_text (NoClaim number) = codes "claim " ++ (decimal number ++ codes " of the goal is not valid")
+fault_text (NoJoint number) = codes "claim " ++ (decimal number ++ codes " of the goal is followed by neither `and` nor `or`")
+
+-- ---- inside the crate
+
+-- the last report of all that was done, and the moves among it
+pub record HasKept (report : Option ReportData) (moves : ℕ) (all : List Done) : Type 0 where
+  pub report_is : report ≡ last_report all
+  pub moves_are : moves ≡ moves_in all

@@ -1,0 +1,90 @@
+//! From a script and a goal to what is said of them.
+ghost use Rattle.std.specs.Prelude.{◌≡◌, ◌≤◌, IsOk, IfErr, IfOk, OnOk, length};
+ghost use Rattle.io_text.specs.Reading.{most_bytes};
+ghost use Rattle.room_files.specs.Blocks.{IsFaultOr};
+ghost use Rattle.script_play.specs.Script.{script_says};
+ghost use Rattle.view_grade.specs.Grades.{IsGraded, are_few, grade_text, graded_ending, is_reached, is_satisfied};
+
+use crate::goal::Goal;
+use crate::grader::Grader;
+use crate::judging::satisfies;
+use crate::text::{write_claims, write_end, write_few};
+use io_text::Text;
+use room_files::{InputFault, Outcome, outcome_if};
+use script_play::{PlayText, Played, play_script};
+use std::alloc::{AllocError, Global};
+use ws_history::Report;
+
+/// Plays a script, and says of each claim of a goal whether the script's last report satisfies it, and whether the script has at most
+/// `most` commands `step` and `crash`, if a number is given. All is well if the goal is reached.
+///
+/// # Errors
+///
+/// The script's first malformed line; or an allocation that failed for what is kept of it.
+pub fn grade(
+    alloc: Global,
+    goal: &Goal,
+    most: Option<u32>,
+    script: &[u8],
+) -> Result<PlayText, InputFault>
+    requires { length script.now ≤ most_bytes }
+    ensures text { IfOk result (λ graded. IsGraded goal.now most script.now graded.ending graded.output) }
+    // An allocation that fails hides no malformed line.
+    ensures err { IfErr result (IsFaultOr (IsOk (script_says script.now)) (script_says script.now)) }
+{
+    let Played { performer, ending } = play_script(alloc, Grader::new(alloc), script)?;
+    let Grader { report, moves, .. } = performer;
+    let output = text_of(alloc, goal, most, &report, moves)?;
+    let ending = graded_ending(ending, is_reached(goal, most, &report, moves));
+    Ok(PlayText { output, ending })
+}
+
+/// What is said of a report and a goal.
+fn text_of(
+    alloc: Global,
+    goal: &Goal,
+    most: Option<u32>,
+    report: &Option<Report>,
+    moves: u64,
+) -> Result<Text, AllocError>
+    ensures { IfOk result (λ text. text ≡ grade_text goal.now most report.now moves) }
+{
+    let mut output = Text::new(alloc);
+    write_claims(&mut output, report, goal.claims())?;
+    write_few(&mut output, most, moves)?;
+    write_end(&mut output, is_reached(goal, most, report, moves))?;
+    Ok(output)
+}
+
+/// Whether the report satisfies the goal, and there are not too many moves.
+fn is_reached(goal: &Goal, most: Option<u32>, report: &Option<Report>, moves: u64) -> bool
+    ensures { result ≡ is_reached goal.now most report.now moves }
+{
+    is_satisfied(goal, report) && are_few(most, moves)
+}
+
+fn is_satisfied(goal: &Goal, report: &Option<Report>) -> bool
+    ensures { result ≡ is_satisfied report.now goal.now }
+{
+    match report {
+        Some(report) => satisfies(report, goal.claims()),
+        None => false,
+    }
+}
+
+fn are_few(most: Option<u32>, moves: u64) -> bool
+    ensures { result ≡ are_few most moves }
+{
+    match most {
+        Some(most) => moves <= u64::from(most),
+        None => true,
+    }
+}
+
+/// The end of a script that is graded.
+fn graded_ending(ending: Result<Outcome, AllocError>, reached: bool) -> Result<Outcome, AllocError>
+    ensures { result ≡ graded_ending ending reached }
+{
+    ending?;
+    Ok(outcome_if(reached))
+}

@@ -1,0 +1,61 @@
+//! Whether a report satisfies a goal.
+ghost use Rattle.std.specs.Prelude.{◌≡◌, ◌==◌, slice_get};
+ghost use Rattle.std.specs.List.{list_any};
+ghost use Rattle.view_grade.specs.Judging.{holds, is_fact, satisfies};
+
+use crate::goal::{Claim, Fact, Joint};
+use ws_history::{ProcessState, Report};
+
+/// Whether all claims of some alternative hold.
+pub(crate) fn satisfies(report: &Report, claims: &[Claim]) -> bool
+    ensures { result ≡ satisfies report.now claims.now }
+{
+    let mut earlier = false;
+    let mut last = false;
+    for claim in claims {
+        let holds = holds(report, *claim);
+        match claim.joint {
+            Joint::And => last = last && holds,
+            Joint::Or => {
+                earlier = earlier || last;
+                last = holds;
+            }
+        }
+    }
+    earlier || last
+}
+
+pub(crate) fn holds(report: &Report, claim: Claim) -> bool
+    ensures { result ≡ holds report.now claim }
+{
+    is_fact(report, claim.fact) != claim.negated
+}
+
+fn is_fact(report: &Report, fact: Fact) -> bool
+    ensures { result ≡ is_fact report.now fact }
+{
+    match fact {
+        Fact::Decided { process, value } => {
+            state_of(report, process) == Some(ProcessState::Decided(value))
+        }
+        Fact::Spent(process) => state_of(report, process) == Some(ProcessState::Spent),
+        Fact::Held(process) => matches!(state_of(report, process), Some(ProcessState::Held(_))),
+        Fact::Going(process) => state_of(report, process) == Some(ProcessState::Going),
+        Fact::Crashed(simulator) => has_crashed(report, simulator),
+        Fact::History(events) => report.history.events().len() == events as usize,
+    }
+}
+
+/// The state of a process, if there is such a process.
+pub(crate) fn state_of(report: &Report, process: u8) -> Option<ProcessState>
+    ensures { result ≡ slice_get report.now.states.items process }
+{
+    report.states.as_slice().get(process as usize).copied()
+}
+
+/// Whether a simulator has crashed.
+pub(crate) fn has_crashed(report: &Report, simulator: u8) -> bool
+    ensures { result ≡ list_any (λ crashed. crashed == simulator) report.now.crashed.items }
+{
+    report.crashed.as_slice().contains(&simulator)
+}

@@ -1,0 +1,76 @@
+-- Texts of rooms, one by one.
+use Rattle.std.proofs.Common.{◌≡◌, ◌∙◌, ℕ, ◌+◌, ◌≤◌, ◌&&◌, Bool, true, false, List, [], ◌∷◌, ◌++◌, Some, Ok, length, take, is_none, is_some, not, Option, None, option_map, refl, sym, ap, subst, arith, inl}
+use Rattle.std.specs.List.{concat}
+use Rattle.std.proofs.lemmas.List.{append-nil, append_assoc, take_all, take_more}
+use Rattle.std.proofs.lemmas.List.Folds.{concat-append}
+use Rattle.std.proofs.lemmas.Option.{get_or_from_slice_get, slice_get_within}
+use Rattle.room_spec.specs.Blocks.{block_in}
+use Rattle.room_spec.specs.Rooms.{RoomSpec}
+use Rattle.room_files.specs.BlockLists.{IsBlockAt}
+use Rattle.view_outcomes.specs.declared.rooms.Search.{Search}
+use Rattle.view_outcomes.specs.declared.listing.AllOutcomes.{AllOutcomes}
+use Rattle.view_outcomes.specs.Listing.{AreAllListed, HasStates, IsTaskOfRuns}
+use Rattle.view_outcomes.specs.Rooms.{AddsOutcomes, AreRoomAnswers, IsRoomAnswer, crashes_for}
+use Rattle.view_outcomes.specs.Texts.{found_text, head_line}
+
+and_right : (b : Bool) → b ≡ (b && true)
+and_right true = refl
+and_right false = refl
+
+and_assoc : (a b c : Bool) → ((a && b) && c) ≡ (a && (b && c))
+and_assoc true b c = refl
+and_assoc false b c = refl
+
+answers_more : (search : Search) (specs : List RoomSpec) (well : Bool) (texts : List (List ℕ)) (spec : RoomSpec) (one : Bool) (text : List ℕ) → AreRoomAnswers search specs well texts → IsRoomAnswer search spec one text → AreRoomAnswers search (specs ++ spec ∷ []) (well && one) (texts ++ text ∷ [])
+answers_more search [] well [] spec one text are is = (one, true, is, refl, ap (λ (b : Bool). b && one) are ∙ and_right one)
+answers_more search (other ∷ specs) well (first ∷ texts) spec one text are is =
+    (are.0, are.1 && one, are.2, answers_more search specs are.1 texts spec one text are.3 is, ap (λ (b : Bool). b && one) are.4 ∙ and_assoc are.0 are.1 one)
+answers_more search [] well (first ∷ texts) spec one text are is = absurd are
+answers_more search (other ∷ specs) well [] spec one text are is = absurd are
+
+pub no_answers : (search : Search) (before : List ℕ) → AddsOutcomes search [] true before before
+no_answers search before = record { texts = []; each_room = refl; after_is = sym (append-nil before) }
+
+pub one_answer_more : (search : Search) (specs : List RoomSpec) (i : ℕ) (block : List ℕ) (well one : Bool) (before so_far after : List ℕ) → IsBlockAt specs i block → AddsOutcomes search (take i specs) well before so_far
+    → ((spec : RoomSpec) → block_in block ≡ Ok (spec, length block) → (text : List ℕ) × IsRoomAnswer search spec one text × (after ≡ so_far ++ text)) → AddsOutcomes search (take (i + 1) specs) (well && one) before after
+one_answer_more search specs i block well one before so_far after at adds more =
+    let said = more at.room at.says in
+    let text = said.0 in
+    let within = slice_get_within specs i at.room at.there in
+    let took : take (i + 1) specs ≡ take i specs ++ at.room ∷ [] = take_more specs i at.room within ∙ ap (λ (s : RoomSpec). take i specs ++ s ∷ []) (get_or_from_slice_get specs i at.room at.room at.there) in
+    record {
+      texts = adds.texts ++ text ∷ [];
+      each_room = subst (λ (rooms : List RoomSpec). AreRoomAnswers search rooms (well && one) (adds.texts ++ text ∷ [])) (sym took) (answers_more search (take i specs) well adds.texts at.room one text adds.each_room said.1);
+      after_is =
+          said.2 ∙ ap (λ (t : List ℕ). t ++ text) adds.after_is ∙ append_assoc before (concat adds.texts) text
+          ∙ ap (λ (t : List ℕ). before ++ (concat adds.texts ++ t)) (sym (append-nil text))
+          ∙ ap (λ (t : List ℕ). before ++ t) (sym (concat-append adds.texts (text ∷ [])));
+    }
+
+pub all_answers : (search : Search) (specs : List RoomSpec) (i : ℕ) (well : Bool) (before after : List ℕ) → length specs ≤ i → AddsOutcomes search (take i specs) well before after → AddsOutcomes search specs well before after
+all_answers search specs i well before after past adds = subst (λ (rooms : List RoomSpec). AddsOutcomes search rooms well before after) (take_all i specs (omega (arith, past))) adds
+
+pub none_is : {A : Type 0} (found : Option A) (none : Bool) → is_some found ≡ not none → none ≡ is_none found
+none_is None true is = refl
+none_is None false is = absurd cc
+none_is (Some value) true is = absurd cc
+none_is (Some value) false is = refl
+
+-- what was written of a room that was searched to the end
+pub found_told : (search : Search) (spec : RoomSpec) (block name : List ℕ) (crashes : ℕ) (all : AllOutcomes) (well : Bool) (before head after : List ℕ) → block_in block ≡ Ok (spec, length block) → name ≡ spec.name → crashes ≡ crashes_for spec search.crashes
+    → AreAllListed spec crashes search.brief all.listed.items → HasStates spec search.states all.states → IsTaskOfRuns spec (option_map (λ events. events.items) all.breaking) → well ≡ is_none all.breaking
+    → head ≡ before ++ head_line name crashes → after ≡ head ++ found_text spec block all → (text : List ℕ) × IsRoomAnswer search spec well text × (after ≡ before ++ text)
+found_told search spec block name crashes all well before head after says named stopped outcomes states task well_is head_is after_is =
+    let rest = found_text spec block all in
+    let first : head_line name crashes ≡ head_line spec.name (crashes_for spec search.crashes) = ap (λ (n : List ℕ). head_line n crashes) named ∙ ap (head_line spec.name) stopped in
+    let answer : IsRoomAnswer search spec well (head_line spec.name (crashes_for spec search.crashes) ++ rest) = record {
+      block = block;
+      says = says;
+      rest = rest;
+      rest_is = inl (record { all = all; outcomes = subst (λ (n : ℕ). AreAllListed spec n search.brief all.listed.items) stopped outcomes; states = states; task = task; well_is = well_is; text_is = refl });
+      text_is = refl;
+    } in (
+      head_line spec.name (crashes_for spec search.crashes) ++ rest,
+      answer,
+      after_is ∙ ap (λ (t : List ℕ). t ++ rest) head_is ∙ append_assoc before (head_line name crashes) rest ∙ ap (λ (t : List ℕ). before ++ (t ++ rest)) first,
+    )

@@ -1,0 +1,15 @@
+use Rattle.std.proofs.Common.{Bool, ◌&&◌, ap, ◌∙◌, subst}
+use Rattle.room_files.specs.Blocks.{Setup}
+use Rattle.room_files.specs.Verdicts.{outcome_if}
+use Rattle.view_outcomes.specs.Blocks.{AreOutcomesWritten}
+use Rattle.view_outcomes.proofs.blocks.search_blocks.Goals as goal
+
+pub returns : goal.returns
+returns g c =
+    let same = c.rooms.view_is ∙ c.in_ok-rooms.ensures.read in
+    subst (λ (setup : Setup). AreOutcomesWritten c.args.search.now setup c.outcome_if-outcome.result c.write_rooms.new.output) same
+    (record {
+      well = c.in_ok-is_well.is_well;
+      rooms = c.in_ok-is_well.ensures;
+      outcome_is = c.outcome_if-outcome.ensures ∙ ap (λ (accepted : Bool). outcome_if (accepted && c.in_ok-is_well.is_well)) c.is_empty-is_accepted.ensures;
+    })

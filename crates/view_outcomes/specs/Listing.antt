@@ -1,0 +1,36 @@
+-- All outcomes of a room, each with a run that has it.
+use Rattle.std.specs.Prelude.{◌≡◌, ℕ, ◌≤◌, Bool, IfSome, is_none, List, length, map, Option, Some, None, slice_get}
+use Rattle.std.specs.List.{Contains}
+use Rattle.room_spec.specs.Rooms.{RoomSpec}
+use Rattle.transcript.specs.declared.event.Event.{Event}
+use Rattle.transcript.specs.Runs.{IsRun}
+use Rattle.transcript.specs.Tasks.{KeepsOwnTask}
+use Rattle.run_search.specs.declared.ended.Ended.{Ended}
+use Rattle.run_search.specs.Outcomes.{IsRunOutcome, IsShortest, outcome_of}
+use Rattle.run_search.specs.Reached.{AreAllReachable, State}
+use Rattle.run_search.specs.Tasks.{IsBreakingRun}
+use Rattle.view_outcomes.specs.declared.listing.Listed.{Listed}
+
+-- the events are a shortest run that has the outcome; there are none exactly if it is brief
+pub record HasRun (spec : RoomSpec) (brief : Bool) (one : Listed) : Type 0 where
+  pub run : IfSome one.events (λ events. IsRun spec events.items × IsShortest spec events.items × (one.ends.items ≡ outcome_of spec events.items))
+  pub shown : is_none one.events ≡ brief
+
+abbrev pub listed_ends : List Listed → List (List Ended)
+listed_ends all = map (λ one. one.ends.items) all
+
+-- all outcomes of the room's runs in which at most `crashes` processes stop, each once, and each with a shortest run that has it unless brief
+pub record AreAllListed (spec : RoomSpec) (crashes : ℕ) (brief : Bool) (all : List Listed) : Type 0 where
+  pub runs : (i : ℕ) (one : Listed) → slice_get all i ≡ Some one → HasRun spec brief one
+  pub sound : (outcome : List Ended) → Contains (listed_ends all) outcome → IsRunOutcome spec crashes outcome
+  pub complete : (outcome : List Ended) → IsRunOutcome spec crashes outcome → Contains (listed_ends all) outcome
+  pub distinct : (i j : ℕ) (outcome : List Ended) → slice_get (listed_ends all) i ≡ Some outcome → slice_get (listed_ends all) j ≡ Some outcome → i ≡ j
+
+-- the runs of the room have this number of states, which is within the limit
+abbrev pub HasStates : RoomSpec → ℕ → ℕ → Type 0
+HasStates spec limit count = (states : List State) × AreAllReachable spec states × (length states ≡ count) × (count ≤ limit)
+
+-- each run keeps the room's task, or these are the events of one that breaks it
+abbrev pub IsTaskOfRuns : RoomSpec → Option (List Event) → Type 0
+IsTaskOfRuns spec None = (events : List Event) → IsRun spec events → KeepsOwnTask spec events
+IsTaskOfRuns spec (Some events) = IsBreakingRun spec events

@@ -1,0 +1,35 @@
+//! The outcomes of all rooms of a file.
+ghost use Rattle.std.specs.Prelude.{◌≤◌, IfOk, length};
+ghost use Rattle.io_text.specs.Reading.{most_bytes};
+ghost use Rattle.view_outcomes.specs.Blocks.{IsOutcomesFor};
+
+use crate::rooms::{Search, write_rooms};
+use io_text::Text;
+use room_files::{Answer, BlockList, Setup, outcome_if, read_all_blocks};
+use run_search::Progress;
+use std::alloc::{AllocError, Global};
+
+/// Searches each room of a file, and writes the lines of the refused blocks and then all outcomes of each room. All is well if no block
+/// was refused, each room was searched to the end, and each run of each keeps its room's task. Reports how many states of a room have been
+/// searched.
+///
+/// # Errors
+///
+/// An allocation that fails.
+pub fn search_blocks<P: Progress>(
+    alloc: Global,
+    input: &[u8],
+    search: &Search,
+    progress: &mut P,
+) -> Result<Answer, AllocError>
+    requires { length input.now ≤ most_bytes }
+    ensures { IfOk result (λ answer. IsOutcomesFor search.now input.now answer.outcome answer.output) }
+{
+    let no_blocks = Setup::new(BlockList::new(alloc), Text::new(alloc));
+    let Setup { rooms, refused, .. } = read_all_blocks(alloc, no_blocks, input)?;
+    let is_accepted = refused.is_empty();
+    let mut output = refused;
+    let is_well = write_rooms(alloc, &rooms, search, &mut output, progress)?;
+    let outcome = outcome_if(is_accepted & is_well);
+    Ok(Answer { output, outcome })
+}

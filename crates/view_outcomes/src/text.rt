@@ -1,0 +1,294 @@
+//! All outcomes of a room, as text.
+ghost use Rattle.std.specs.Prelude.{◌≡◌, ◌+◌, ◌-◌, ◌∷◌, ◌++◌, OnOk, codes, decimal, option_map};
+ghost use Rattle.std.specs.List.{flat_map, range_with_len};
+ghost use Rattle.view_outcomes.specs.Texts.{breaking_text, complete_line, end_line, end_lines, end_words, found_text, head_line, most_line, none_spent_if, outcome_text, outcomes_text, outcomes_with, spent_line, spent_line_if, spent_lines, task_text, text_if, transcript_text, unfinished_line};
+
+use crate::counts::{can_be_spent, is_any_spent, most_values, values_in};
+use crate::listing::{AllOutcomes, Listed};
+use io_text::Text;
+use room_files::write_block;
+use room_spec::Spec;
+use run_search::Ended;
+use script_play::write_events;
+use std::alloc::AllocError;
+use transcript::Event;
+
+/// Writes the line that a room's outcomes begin with: in each of them at most `crashes` processes have stopped.
+pub fn write_head(output: &mut Text, name: &[u8], crashes: usize) -> Result<(), AllocError>
+    ensures { OnOk result (output.new ≡ output.old ++ head_line name.now crashes) }
+{
+    output.put_two(name, b" outcomes crashes")?;
+    output.put_number(crashes as u64)?;
+    output.put(b"\n")
+}
+
+/// Writes the line of a room that has more than this number of some things, too many for the search.
+pub fn write_unfinished(output: &mut Text, limit: u32, things: &[u8]) -> Result<(), AllocError>
+    ensures { OnOk result (output.new ≡ output.old ++ unfinished_line limit things.now) }
+{
+    output.put(b"more than")?;
+    output.put_number(u64::from(limit))?;
+    output.put(things)
+}
+
+/// Writes all outcomes of the room that this block says, those with most decided values first, each with its transcript, if there is one;
+/// then what they have in common, and whether each run keeps the room's task.
+pub fn write_found(
+    output: &mut Text,
+    spec: &Spec,
+    block: &[u8],
+    all: &AllOutcomes,
+) -> Result<(), AllocError>
+    ensures { OnOk result (output.new ≡ output.old ++ found_text spec.now block.now all.now) }
+{
+    let name = spec.name().as_str().as_bytes();
+    let listed = all.listed.as_slice();
+    write_outcomes(output, name, block, listed)?;
+    write_most(output, name, listed)?;
+    write_spent(output, name, spec.n(), listed)?;
+    write_task(output, name, block, spec.task(), &all.breaking)?;
+    write_complete(output, all.states)
+}
+
+/// Writes the outcomes, those with most decided values first.
+fn write_outcomes(
+    output: &mut Text,
+    name: &[u8],
+    block: &[u8],
+    all: &[Listed],
+) -> Result<(), AllocError>
+    ensures { OnOk result (output.new ≡ output.old ++ outcomes_text name.now block.now all.now) }
+{
+    let most = most_values(all);
+    for fewer in 0..=most {
+        write_outcomes_with(output, name, block, most - fewer, all)?;
+    }
+    Ok(())
+}
+
+/// Writes the outcomes with this number of decided values.
+fn write_outcomes_with(
+    output: &mut Text,
+    name: &[u8],
+    block: &[u8],
+    values: usize,
+    all: &[Listed],
+) -> Result<(), AllocError>
+    ensures { OnOk result (output.new ≡ output.old ++ outcomes_with name.now block.now all.now values) }
+{
+    for one in all {
+        write_if(output, name, block, values, one)?;
+    }
+    Ok(())
+}
+
+/// Writes an outcome if it has this number of decided values.
+fn write_if(
+    output: &mut Text,
+    name: &[u8],
+    block: &[u8],
+    values: usize,
+    one: &Listed,
+) -> Result<(), AllocError>
+    ensures { OnOk result (output.new ≡ output.old ++ text_if name.now block.now values one.now) }
+{
+    if values_in(one.ends.as_slice()) != values {
+        return Ok(());
+    }
+    write_outcome(output, name, block, one)
+}
+
+/// Writes how each process ends, and a transcript of a run that ends so, if there is one.
+fn write_outcome(
+    output: &mut Text,
+    name: &[u8],
+    block: &[u8],
+    one: &Listed,
+) -> Result<(), AllocError>
+    ensures { OnOk result (output.new ≡ output.old ++ outcome_text name.now block.now one.now) }
+{
+    output.put(b"\n")?;
+    write_ends(output, name, one.ends.as_slice())?;
+    match &one.events {
+        None => Ok(()),
+        Some(events) => write_transcript(output, name, block, events.as_slice()),
+    }
+}
+
+/// Writes a line for each process, in order of their numbers: how it ends.
+fn write_ends(output: &mut Text, name: &[u8], ends: &[Ended]) -> Result<(), AllocError>
+    ensures { OnOk result (output.new ≡ output.old ++ end_lines name.now ends.now) }
+{
+    for process in 0..ends.len() {
+        write_end(output, name, process, ends[process])?;
+    }
+    Ok(())
+}
+
+fn write_end(output: &mut Text, name: &[u8], process: usize, ended: Ended) -> Result<(), AllocError>
+    ensures { OnOk result (output.new ≡ output.old ++ end_line name.now process ended) }
+{
+    output.put_two(name, b" process")?;
+    output.put_number(process as u64)?;
+    write_end_words(output, ended)
+}
+
+/// Writes the end of a process's line.
+fn write_end_words(output: &mut Text, ended: Ended) -> Result<(), AllocError>
+    ensures { OnOk result (output.new ≡ output.old ++ end_words ended) }
+{
+    match ended {
+        Ended::Decided(value) => write_decided(output, value),
+        Ended::Spent => output.put(b" spent\n"),
+        Ended::Stopped => output.put(b" stopped\n"),
+    }
+}
+
+fn write_decided(output: &mut Text, value: u32) -> Result<(), AllocError>
+    ensures { OnOk result (output.new ≡ output.old ++ (codes " decided" ++ ((32 ∷ decimal value) ++ codes "\n"))) }
+{
+    output.put(b" decided")?;
+    output.put_number(u64::from(value))?;
+    output.put(b"\n")
+}
+
+/// Writes a transcript of these events, as `bgsim check` reads it.
+fn write_transcript(
+    output: &mut Text,
+    name: &[u8],
+    block: &[u8],
+    events: &[Event],
+) -> Result<(), AllocError>
+    ensures { OnOk result (output.new ≡ output.old ++ transcript_text name.now block.now events.now) }
+{
+    write_block(output, block)?;
+    output.put(b"events\n")?;
+    write_events(output, name, events)
+}
+
+/// Writes how many different values are decided at most.
+fn write_most(output: &mut Text, name: &[u8], all: &[Listed]) -> Result<(), AllocError>
+    ensures { OnOk result (output.new ≡ output.old ++ most_line name.now all.now) }
+{
+    let most = most_values(all) as u64;
+    write_most_line(output, name, b" decided at most", most, b" values\n")
+}
+
+/// Writes a line that says how many of some things there are at most, after a blank one.
+fn write_most_line(
+    output: &mut Text,
+    name: &[u8],
+    words: &[u8],
+    most: u64,
+    things: &[u8],
+) -> Result<(), AllocError>
+    ensures { OnOk result (output.new ≡ output.old ++ ((codes "\n" ++ name.now) ++ (words.now ++ ((32 ∷ decimal most) ++ things.now)))) }
+{
+    output.put_two(b"\n", name)?;
+    output.put(words)?;
+    output.put_number(most)?;
+    output.put(things)
+}
+
+/// Writes which of the `n` processes can be spent, or that none can.
+fn write_spent(output: &mut Text, name: &[u8], n: usize, all: &[Listed]) -> Result<(), AllocError>
+    ensures { OnOk result (output.new ≡ output.old ++ (spent_lines name.now n all.now ++ none_spent_if name.now all.now)) }
+{
+    write_spent_lines(output, name, n, all)?;
+    if is_any_spent(all) {
+        return Ok(());
+    }
+    output.put_two(name, b" no process can be spent\n")
+}
+
+/// Writes a line for each of the `n` processes that can be spent.
+fn write_spent_lines(
+    output: &mut Text,
+    name: &[u8],
+    n: usize,
+    all: &[Listed],
+) -> Result<(), AllocError>
+    ensures { OnOk result (output.new ≡ output.old ++ spent_lines name.now n all.now) }
+{
+    for process in 0..n {
+        write_spent_if(output, name, process, all)?;
+    }
+    Ok(())
+}
+
+/// Writes a line for this process if it can be spent.
+fn write_spent_if(
+    output: &mut Text,
+    name: &[u8],
+    process: usize,
+    all: &[Listed],
+) -> Result<(), AllocError>
+    ensures { OnOk result (output.new ≡ output.old ++ spent_line_if name.now all.now process) }
+{
+    if !can_be_spent(all, process) {
+        return Ok(());
+    }
+    write_spent_line(output, name, process)
+}
+
+fn write_spent_line(output: &mut Text, name: &[u8], process: usize) -> Result<(), AllocError>
+    ensures { OnOk result (output.new ≡ output.old ++ spent_line name.now process) }
+{
+    output.put_two(name, b" process")?;
+    output.put_number(process as u64)?;
+    output.put(b" can be spent\n")
+}
+
+/// Writes whether each run keeps the room's task, if it has one, and else a transcript of a run that breaks it.
+fn write_task(
+    output: &mut Text,
+    name: &[u8],
+    block: &[u8],
+    task: Option<u8>,
+    breaking: &Option<Vec<Event>>,
+) -> Result<(), AllocError>
+    ensures { OnOk result (output.new ≡ output.old ++ task_text name.now block.now task (option_map (λ events. events.items) breaking.now)) }
+{
+    if task.is_none() {
+        return Ok(());
+    }
+    match breaking {
+        None => output.put_two(name, b" task holds in every run\n"),
+        Some(events) => write_breaking(output, name, block, events.as_slice()),
+    }
+}
+
+fn write_breaking(
+    output: &mut Text,
+    name: &[u8],
+    block: &[u8],
+    events: &[Event],
+) -> Result<(), AllocError>
+    ensures { OnOk result (output.new ≡ output.old ++ breaking_text name.now block.now events.now) }
+{
+    let words = b" task broken by this run:\n";
+    write_transcript_after(output, words, name, block, events)
+}
+
+/// Writes a line that begins with the room's name, and a transcript.
+fn write_transcript_after(
+    output: &mut Text,
+    words: &[u8],
+    name: &[u8],
+    block: &[u8],
+    events: &[Event],
+) -> Result<(), AllocError>
+    ensures { OnOk result (output.new ≡ output.old ++ ((name.now ++ words.now) ++ transcript_text name.now block.now events.now)) }
+{
+    output.put_two(name, words)?;
+    write_transcript(output, name, block, events)
+}
+
+/// Writes the last line of a complete search.
+fn write_complete(output: &mut Text, states: usize) -> Result<(), AllocError>
+    ensures { OnOk result (output.new ≡ output.old ++ complete_line states) }
+{
+    output.put(b"these are all outcomes:")?;
+    output.put_number(states as u64)?;
+    output.put(b" states searched\n")
+}

@@ -1,0 +1,7 @@
+pub mod Counts
+pub mod Leads
+pub mod Rooms
+pub mod Sample
+pub mod TaskTexts
+pub mod Tasks
+pub mod Texts

@@ -1,0 +1,56 @@
+-- Rooms that are sampled, and what is written of each.
+use Rattle.std.specs.Prelude.{◌≡◌, ℕ, ◌-◌, Bool, true, ◌&&◌, Option, None, Some, is_some, slice_get, List, [], ◌∷◌, ◌++◌, length, Ok, IfSome, IsPermutation}
+use Rattle.std.specs.List.{All, concat}
+use Rattle.room_spec.specs.Blocks.{block_in}
+use Rattle.room_spec.specs.Rooms.{RoomSpec}
+use Rattle.view_sample.specs.Leads.{HasScript}
+use Rattle.room_sample.specs.Samples.{AreAmongAll, AreMostFirst, Counted, IsSample}
+use Rattle.room_sample.specs.Shown.{AreKept}
+use Rattle.view_sample.specs.Tasks.{first_broken}
+use Rattle.view_sample.specs.TaskTexts.{has_held, task_text}
+use Rattle.view_sample.specs.Texts.{alone_text, sample_text}
+use Rattle.room_sample.specs.declared.sampling.Plan.{Plan}
+
+-- what is written of a room: the outcomes in this order, and its task; or the script of one outcome alone
+abbrev pub room_text : Option ℕ → Plan → RoomSpec → List ℕ → List Counted → List Counted → List ℕ
+room_text None plan spec block short shown = sample_text spec.name block plan shown ++ task_text spec block plan short
+room_text (Some number) plan spec block short shown = alone_text spec.name block (slice_get shown (number - 1))
+
+-- no schedule broke the task; or there is that outcome
+abbrev pub is_well : Option ℕ → RoomSpec → List Counted → List Counted → Bool
+is_well None spec short shown = has_held spec short
+is_well (Some number) spec short shown = is_some (slice_get shown (number - 1))
+
+-- The text shows a sample of the room: those outcomes first that came most often, each with a short script that leads to it, and each among
+-- the outcomes of all runs of the room's protocol. It then says in how many schedules the room's task was broken, with a script that leads to an
+-- outcome that breaks it; all is well if none broke it. The block says the room.
+pub record IsSampleText (plan : Plan) (spec : RoomSpec) (well : Bool) (text : List ℕ) : Type 0 where
+  pub block : List ℕ
+  pub says : block_in block ≡ Ok (spec, length block)
+  pub outcomes : List Counted
+  pub sample : IsSample spec plan outcomes
+  pub among : AreAmongAll spec outcomes
+  -- the same, with schedules that were made short
+  pub short : List Counted
+  pub kept : AreKept spec plan.crashes outcomes short
+  pub shown : List Counted
+  pub all_shown : IsPermutation short shown
+  pub most_first : AreMostFirst shown
+  -- the script of each outcome leads to it
+  pub scripts : All (HasScript spec.name block) shown
+  pub breaking : IfSome (first_broken spec short) (HasScript spec.name block)
+  pub well_is : well ≡ is_well plan.outcome spec short shown
+  pub text_is : text ≡ room_text plan.outcome plan spec block short shown
+
+-- a text for each room, in order; all is well if it is for each
+abbrev pub AreSampleTexts : Plan → List RoomSpec → Bool → List (List ℕ) → Type 0
+AreSampleTexts plan [] well [] = well ≡ true
+AreSampleTexts plan (spec ∷ specs) well (text ∷ texts) = (one others : Bool) × IsSampleText plan spec one text × AreSampleTexts plan specs others texts × (well ≡ (one && others))
+AreSampleTexts plan [] well (text ∷ texts) = ⊥
+AreSampleTexts plan (spec ∷ specs) well [] = ⊥
+
+-- a text for each room was added
+pub record AddsSamples (plan : Plan) (specs : List RoomSpec) (well : Bool) (before after : List ℕ) : Type 0 where
+  pub texts : List (List ℕ)
+  pub each_room : AreSampleTexts plan specs well texts
+  pub after_is : after ≡ before ++ concat texts

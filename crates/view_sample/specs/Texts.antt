@@ -1,0 +1,71 @@
+-- What is written of a room that was sampled.
+use Rattle.std.specs.Prelude.{ℕ, min, Bool, List, [], ◌∷◌, ◌++◌, length, take, Option, None, Some, if◌then◌else◌, codes, decimal}
+use Rattle.std.specs.List.{flat_map}
+use Rattle.room_files.specs.BlockLists.{whole_block}
+use Rattle.script_play.specs.ReplyTexts.{process_lines}
+use Rattle.view_sample.specs.Counts.{held_in, most_of, once_in, values_in}
+use Rattle.room_sample.specs.Samples.{Counted}
+use Rattle.room_sample.specs.declared.sampling.Plan.{Plan}
+use Rattle.room_sample.specs.declared.stretch.Stretch.{Stretch}
+use Rattle.room_sample.specs.declared.stretch.Stretch.TheVariants.{Steps, Crash}
+
+-- ---- the script of a schedule
+
+abbrev pub stretch_line : List ℕ → Stretch → List ℕ
+stretch_line name (Steps simulator count) = codes "step " ++ (name ++ ((32 ∷ decimal simulator) ++ ((32 ∷ decimal count) ++ codes "\n")))
+stretch_line name (Crash simulator) = codes "crash " ++ (name ++ ((32 ∷ decimal simulator) ++ codes "\n"))
+
+-- what `play` is given so that the outcome results and is reported
+abbrev pub script_text : List ℕ → List ℕ → List Stretch → List ℕ
+script_text name block schedule =
+    codes "open\n" ++ (whole_block block ++ (flat_map (stretch_line name) schedule ++ ((codes "settle " ++ (name ++ codes "\n")) ++ (codes "report " ++ (name ++ codes "\n")))))
+
+-- ---- the text
+
+abbrev pub plan_line : List ℕ → Plan → List ℕ
+plan_line name plan =
+    (name ++ (codes " sample" ++ (32 ∷ decimal plan.schedules))) ++ ((codes " crashes" ++ (32 ∷ decimal plan.crashes)) ++ ((codes " seed" ++ (32 ∷ decimal plan.seed)) ++ codes "\n"))
+
+abbrev pub script_unless : Bool → List ℕ → List ℕ → List Stretch → List ℕ
+script_unless brief name block schedule = if brief then [] else script_text name block schedule
+
+-- how often an outcome came, the states of the processes in it, and a script that leads there
+abbrev pub outcome_text : Bool → List ℕ → List ℕ → Counted → List ℕ
+outcome_text brief name block one =
+    (codes "\n" ++ (name ++ (codes " came" ++ ((32 ∷ decimal one.times) ++ codes " times\n")))) ++ (process_lines name one.states ++ script_unless brief name block one.schedule)
+
+abbrev pub number_words : ℕ → List ℕ → List ℕ
+number_words number things = (32 ∷ decimal number) ++ things
+
+-- a line that says a number of something
+abbrev pub number_line : List ℕ → List ℕ → ℕ → List ℕ → List ℕ
+number_line name words number things = name ++ ((words ++ (32 ∷ decimal number)) ++ things)
+
+abbrev pub most_lines : List ℕ → List Counted → List ℕ
+most_lines name outcomes =
+    codes "\n"
+    ++ (number_line name (codes " decided at most") (most_of values_in outcomes) (codes " values\n") ++ number_line name (codes " held at most") (most_of held_in outcomes) (codes " processes\n"))
+
+-- how many outcomes are shown
+abbrev pub shown_count : Option ℕ → ℕ → ℕ
+shown_count None count = count
+shown_count (Some top) count = min top count
+
+abbrev pub outcome_texts : List ℕ → List ℕ → Plan → List Counted → List ℕ
+outcome_texts name block plan outcomes = flat_map (outcome_text plan.brief name block) (take (shown_count plan.top (length outcomes)) outcomes)
+
+-- how many outcomes there are, and how likely a further schedule leads to a new one: as often as one came that came only once (Good 1953)
+abbrev pub new_words : List ℕ → ℕ → ℕ → ℕ → List ℕ
+new_words name count once schedules =
+    number_line name (codes " has") count (codes " outcomes,") ++ (number_words once (codes " of them once: about") ++ (number_words once (codes " in") ++ number_words schedules (codes " more schedules give a new one\n")))
+
+abbrev pub new_line : List ℕ → Plan → List Counted → List ℕ
+new_line name plan outcomes = new_words name (length outcomes) (once_in outcomes) plan.schedules
+
+abbrev pub sample_text : List ℕ → List ℕ → Plan → List Counted → List ℕ
+sample_text name block plan outcomes = plan_line name plan ++ (outcome_texts name block plan outcomes ++ (most_lines name outcomes ++ new_line name plan outcomes))
+
+-- the script of one outcome, if there is one
+abbrev pub alone_text : List ℕ → List ℕ → Option Counted → List ℕ
+alone_text name block None = []
+alone_text name block (Some one) = script_text name block one.schedule

@@ -1,0 +1,17 @@
+//! Laws of the scripts that a sample shows.
+ghost use Rattle.std.specs.Prelude.{◌≡◌, ℕ, List, Ok, length};
+ghost use Rattle.room_spec.specs.Blocks.{block_in};
+ghost use Rattle.room_spec.specs.Rooms.{IsWithinLimits, RoomSpec};
+ghost use Rattle.ws_history.specs.declared.states.ProcessState.{ProcessState};
+ghost use Rattle.room_sample.specs.Schedules.{IsOutcome};
+ghost use Rattle.room_sample.specs.declared.stretch.Stretch.{Stretch};
+ghost use Rattle.view_sample.specs.Leads.{LeadsTo};
+ghost use Rattle.view_sample.specs.Texts.{script_text};
+
+/// The script of an outcome leads to it: `play` replies that the room takes each step and crash of the schedule, and then reports these
+/// states.
+pub fn leading_scripts()
+    ensures { (spec : RoomSpec) (crashes : ℕ) (block : List ℕ) (schedule : List Stretch) (states : List ProcessState) →
+        IsWithinLimits spec → block_in block ≡ Ok (spec, length block) → IsOutcome spec crashes schedule states →
+        LeadsTo spec.name schedule states (script_text spec.name block schedule) }
+{}

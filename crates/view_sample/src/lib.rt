@@ -1,0 +1,12 @@
+//! The outcomes of a sampled room, as text: how often each came, a script that leads to it, and whether they keep the room's task.
+#![tactic(auto)]
+
+mod counts;
+pub mod laws;
+mod rooms;
+mod sample;
+mod task;
+mod task_text;
+mod text;
+
+pub use sample::sample_blocks;

@@ -1,0 +1,97 @@
+//! What a sample says of the room's task, as text.
+ghost use Rattle.std.specs.Prelude.{◌≡◌, ◌≤◌, ◌++◌, IfOk, OnOk};
+ghost use Rattle.std.specs.List.{sum_by};
+ghost use Rattle.view_sample.specs.TaskTexts.{broken_line, broken_text, has_held, held_line, of_words, task_text, times_words};
+
+use room_sample::Plan;
+use room_sample::Stretch;
+use room_sample::Tally;
+use crate::task::{first_broken, times_broken};
+use crate::text::{write_number_line, write_number_words, write_script_unless};
+use io_text::Text;
+use room_spec::Spec;
+use std::alloc::AllocError;
+
+/// Writes in how many schedules the task of the room that this block says was broken, with a script for `play` that breaks it; or that it
+/// held. Gives whether it held. Nothing is written of a room without a task.
+pub(crate) fn write_task(
+    output: &mut Text,
+    spec: &Spec,
+    block: &[u8],
+    plan: &Plan,
+    outcomes: &Tally,
+) -> Result<bool, AllocError>
+    requires { sum_by (λ one. one.times) outcomes.now ≤ plan.now.schedules }
+    ensures text { OnOk result (output.new ≡ output.old ++ task_text spec.now block.now plan.now outcomes.now) }
+    ensures held { IfOk result (λ held. held ≡ has_held spec.now outcomes.now) }
+{
+    if spec.task().is_none() {
+        return Ok(true);
+    }
+    let name = spec.name().as_str().as_bytes();
+    match first_broken(spec, outcomes) {
+        None => {
+            write_held(output, name, plan)?;
+            Ok(true)
+        }
+        Some((_, outcome)) => {
+            let times = times_broken(spec, outcomes, plan.schedules);
+            write_broken(
+                output,
+                name,
+                block,
+                plan,
+                times,
+                outcome.schedule.as_slice(),
+            )?;
+            Ok(false)
+        }
+    }
+}
+
+fn write_held(output: &mut Text, name: &[u8], plan: &Plan) -> Result<(), AllocError>
+    ensures { OnOk result (output.new ≡ output.old ++ held_line name.now plan.now) }
+{
+    let schedules = u64::from(plan.schedules);
+    let things = b" schedules (a sample, no proof)\n";
+    write_number_line(output, name, b" task held in all", schedules, things)
+}
+
+fn write_broken(
+    output: &mut Text,
+    name: &[u8],
+    block: &[u8],
+    plan: &Plan,
+    times: u32,
+    schedule: &[Stretch],
+) -> Result<(), AllocError>
+    ensures { OnOk result (output.new ≡ output.old ++ broken_text name.now block.now plan.now times schedule.now) }
+{
+    write_broken_line(output, name, plan, times)?;
+    write_script_unless(output, plan.brief, name, block, schedule)
+}
+
+fn write_broken_line(
+    output: &mut Text,
+    name: &[u8],
+    plan: &Plan,
+    times: u32,
+) -> Result<(), AllocError>
+    ensures { OnOk result (output.new ≡ output.old ++ broken_line name.now plan.now times) }
+{
+    write_times_words(output, name, times)?;
+    write_of_words(output, plan.schedules)
+}
+
+fn write_times_words(output: &mut Text, name: &[u8], times: u32) -> Result<(), AllocError>
+    ensures { OnOk result (output.new ≡ output.old ++ times_words name.now times) }
+{
+    let broken = u64::from(times);
+    write_number_line(output, name, b" task broken in", broken, b" of")
+}
+
+fn write_of_words(output: &mut Text, schedules: u32) -> Result<(), AllocError>
+    ensures { OnOk result (output.new ≡ output.old ++ of_words schedules) }
+{
+    write_number_words(output, u64::from(schedules), b" schedules\n")
+}

@@ -1,0 +1,305 @@
+//! A sample, as text.
+ghost use Rattle.std.specs.Prelude.{◌≡◌, ◌-◌, ◌≤◌, ◌++◌, ◌∷◌, IfOk, OnOk, codes, decimal, is_some, slice_get};
+ghost use Rattle.std.specs.List.{flat_map};
+ghost use Rattle.room_sample.specs.Samples.{counted_of};
+ghost use Rattle.view_sample.specs.Texts.{alone_text, most_lines, new_line, new_words, number_line, number_words, outcome_text, outcome_texts, plan_line, sample_text, script_text, script_unless, shown_count, stretch_line};
+
+use crate::counts::{most_of, once_in};
+use room_sample::Plan;
+use room_sample::Stretch;
+use room_sample::{Outcome, States, Tally};
+use io_text::Text;
+use room_files::write_block;
+use script_play::write_processes;
+use std::alloc::AllocError;
+
+/// Writes the outcomes of the room of this name, whose block these bytes are: how often each came, and a script for `play` that
+/// leads to it.
+pub fn write_sample(
+    output: &mut Text,
+    name: &[u8],
+    block: &[u8],
+    plan: &Plan,
+    outcomes: &Tally,
+) -> Result<(), AllocError>
+    ensures { OnOk result (output.new ≡ output.old ++ sample_text name.now block.now plan.now outcomes.now) }
+{
+    write_plan(output, name, plan)?;
+    write_outcomes(output, name, block, plan, outcomes)?;
+    write_most(output, name, outcomes)?;
+    write_new(output, name, plan, outcomes)
+}
+
+fn write_plan(output: &mut Text, name: &[u8], plan: &Plan) -> Result<(), AllocError>
+    ensures { OnOk result (output.new ≡ output.old ++ plan_line name.now plan.now) }
+{
+    write_schedules(output, name, plan.schedules)?;
+    write_crashes(output, plan.crashes)?;
+    write_number(output, b" seed", u64::from(plan.seed))?;
+    output.put(b"\n")
+}
+
+fn write_schedules(output: &mut Text, name: &[u8], schedules: u32) -> Result<(), AllocError>
+    ensures { OnOk result (output.new ≡ output.old ++ (name.now ++ (codes " sample" ++ (32 ∷ decimal schedules)))) }
+{
+    output.put(name)?;
+    write_number(output, b" sample", u64::from(schedules))
+}
+
+fn write_crashes(output: &mut Text, crashes: u32) -> Result<(), AllocError>
+    ensures { OnOk result (output.new ≡ output.old ++ (codes " crashes" ++ (32 ∷ decimal crashes))) }
+{
+    write_number(output, b" crashes", u64::from(crashes))
+}
+
+/// Writes words, followed by a number.
+fn write_number(output: &mut Text, words: &[u8], number: u64) -> Result<(), AllocError>
+    ensures { OnOk result (output.new ≡ output.old ++ (words.now ++ (32 ∷ decimal number))) }
+{
+    output.put(words)?;
+    output.put_number(number)
+}
+
+fn write_outcomes(
+    output: &mut Text,
+    name: &[u8],
+    block: &[u8],
+    plan: &Plan,
+    outcomes: &Tally,
+) -> Result<(), AllocError>
+    ensures { OnOk result (output.new ≡ output.old ++ outcome_texts name.now block.now plan.now outcomes.now) }
+{
+    for index in 0..shown_count(plan.top, outcomes.len()) {
+        let Some((states, outcome)) = outcomes.get(index) else {
+            unreachable!() // there is an outcome of each index below their number
+        };
+        write_outcome(output, plan.brief, name, block, states, outcome)?;
+    }
+    Ok(())
+}
+
+/// How many outcomes are shown.
+fn shown_count(top: Option<u32>, count: usize) -> usize
+    ensures value { result ≡ shown_count top count }
+    ensures few { result ≤ count }
+{
+    match top {
+        None => count,
+        Some(top) => (top as usize).min(count),
+    }
+}
+
+fn write_outcome(
+    output: &mut Text,
+    brief: bool,
+    name: &[u8],
+    block: &[u8],
+    states: &States,
+    outcome: &Outcome,
+) -> Result<(), AllocError>
+    ensures { OnOk result (output.new ≡ output.old ++ outcome_text brief name.now block.now (counted_of (states.now, outcome.now))) }
+{
+    write_times(output, name, outcome.times)?;
+    write_processes(output, name, states.as_slice())?;
+    write_script_unless(output, brief, name, block, outcome.schedule.as_slice())
+}
+
+fn write_times(output: &mut Text, name: &[u8], times: u32) -> Result<(), AllocError>
+    ensures { OnOk result (output.new ≡ output.old ++ (codes "\n" ++ (name.now ++ (codes " came" ++ ((32 ∷ decimal times) ++ codes " times\n"))))) }
+{
+    output.put_two(b"\n", name)?;
+    write_number(output, b" came", u64::from(times))?;
+    output.put(b" times\n")
+}
+
+/// Writes a script for `play`, unless scripts are left out.
+pub(crate) fn write_script_unless(
+    output: &mut Text,
+    brief: bool,
+    name: &[u8],
+    block: &[u8],
+    schedule: &[Stretch],
+) -> Result<(), AllocError>
+    ensures { OnOk result (output.new ≡ output.old ++ script_unless brief name.now block.now schedule.now) }
+{
+    if brief {
+        return Ok(());
+    }
+    write_script(output, name, block, schedule)
+}
+
+/// Writes the script of the outcome of this number, from 1, and nothing else. Gives whether there is one.
+pub(crate) fn write_alone(
+    output: &mut Text,
+    name: &[u8],
+    block: &[u8],
+    outcomes: &Tally,
+    number: u32,
+) -> Result<bool, AllocError>
+    ensures text { OnOk result (output.new ≡ output.old ++ alone_text name.now block.now (slice_get outcomes.now (number - 1))) }
+    ensures there { IfOk result (λ there. there ≡ is_some (slice_get outcomes.now (number - 1))) }
+{
+    let Some((_, outcome)) = outcomes.get(number.saturating_sub(1) as usize) else {
+        return Ok(false);
+    };
+    write_script(output, name, block, outcome.schedule.as_slice())?;
+    Ok(true)
+}
+
+/// Writes a script for `play` that follows the schedule in the room of this block.
+fn write_script(
+    output: &mut Text,
+    name: &[u8],
+    block: &[u8],
+    schedule: &[Stretch],
+) -> Result<(), AllocError>
+    ensures { OnOk result (output.new ≡ output.old ++ script_text name.now block.now schedule.now) }
+{
+    output.put(b"open\n")?;
+    write_block(output, block)?;
+    write_stretches(output, name, schedule)?;
+    write_command(output, b"settle ", name)?;
+    write_command(output, b"report ", name)
+}
+
+/// Writes a command that has nothing but the room's name.
+fn write_command(output: &mut Text, word: &[u8], name: &[u8]) -> Result<(), AllocError>
+    ensures { OnOk result (output.new ≡ output.old ++ (word.now ++ (name.now ++ codes "\n"))) }
+{
+    output.put(word)?;
+    output.put_two(name, b"\n")
+}
+
+fn write_stretches(output: &mut Text, name: &[u8], schedule: &[Stretch]) -> Result<(), AllocError>
+    ensures { OnOk result (output.new ≡ output.old ++ flat_map (stretch_line name.now) schedule.now) }
+{
+    for stretch in schedule {
+        write_stretch(output, name, stretch)?;
+    }
+    Ok(())
+}
+
+fn write_stretch(output: &mut Text, name: &[u8], stretch: &Stretch) -> Result<(), AllocError>
+    ensures { OnOk result (output.new ≡ output.old ++ stretch_line name.now stretch.now) }
+{
+    match stretch {
+        Stretch::Steps { simulator, count } => {
+            output.put_two(b"step ", name)?;
+            output.put_number(u64::from(*simulator))?;
+            output.put_number(u64::from(*count))?;
+        }
+        Stretch::Crash { simulator } => {
+            output.put_two(b"crash ", name)?;
+            output.put_number(u64::from(*simulator))?;
+        }
+    }
+    output.put(b"\n")
+}
+
+/// Writes how many values were decided at most, and how many processes were held.
+fn write_most(output: &mut Text, name: &[u8], outcomes: &Tally) -> Result<(), AllocError>
+    ensures { OnOk result (output.new ≡ output.old ++ most_lines name.now outcomes.now) }
+{
+    let (values, held) = most_of(outcomes);
+    output.put(b"\n")?;
+    write_most_values(output, name, values)?;
+    write_most_held(output, name, held)
+}
+
+fn write_most_values(output: &mut Text, name: &[u8], values: usize) -> Result<(), AllocError>
+    ensures { OnOk result (output.new ≡ output.old ++ number_line name.now (codes " decided at most") values (codes " values\n")) }
+{
+    write_number_line(
+        output,
+        name,
+        b" decided at most",
+        values as u64,
+        b" values\n",
+    )
+}
+
+fn write_most_held(output: &mut Text, name: &[u8], held: usize) -> Result<(), AllocError>
+    ensures { OnOk result (output.new ≡ output.old ++ number_line name.now (codes " held at most") held (codes " processes\n")) }
+{
+    write_number_line(output, name, b" held at most", held as u64, b" processes\n")
+}
+
+/// Writes how many outcomes there are, and how likely a further schedule leads to a new one.
+fn write_new(
+    output: &mut Text,
+    name: &[u8],
+    plan: &Plan,
+    outcomes: &Tally,
+) -> Result<(), AllocError>
+    ensures { OnOk result (output.new ≡ output.old ++ new_line name.now plan.now outcomes.now) }
+{
+    let count = outcomes.len() as u64;
+    let once = once_in(outcomes) as u64;
+    write_new_words(output, name, count, once, u64::from(plan.schedules))
+}
+
+fn write_new_words(
+    output: &mut Text,
+    name: &[u8],
+    count: u64,
+    once: u64,
+    schedules: u64,
+) -> Result<(), AllocError>
+    ensures { OnOk result (output.new ≡ output.old ++ new_words name.now count once schedules) }
+{
+    write_count(output, name, count)?;
+    write_once(output, once)?;
+    write_in(output, once)?;
+    write_more(output, schedules)
+}
+
+fn write_count(output: &mut Text, name: &[u8], count: u64) -> Result<(), AllocError>
+    ensures { OnOk result (output.new ≡ output.old ++ number_line name.now (codes " has") count (codes " outcomes,")) }
+{
+    write_number_line(output, name, b" has", count, b" outcomes,")
+}
+
+fn write_once(output: &mut Text, once: u64) -> Result<(), AllocError>
+    ensures { OnOk result (output.new ≡ output.old ++ number_words once (codes " of them once: about")) }
+{
+    write_number_words(output, once, b" of them once: about")
+}
+
+fn write_in(output: &mut Text, once: u64) -> Result<(), AllocError>
+    ensures { OnOk result (output.new ≡ output.old ++ number_words once (codes " in")) }
+{
+    write_number_words(output, once, b" in")
+}
+
+fn write_more(output: &mut Text, schedules: u64) -> Result<(), AllocError>
+    ensures { OnOk result (output.new ≡ output.old ++ number_words schedules (codes " more schedules give a new one\n")) }
+{
+    write_number_words(output, schedules, b" more schedules give a new one\n")
+}
+
+/// Writes a number, followed by words.
+pub(crate) fn write_number_words(
+    output: &mut Text,
+    number: u64,
+    things: &[u8],
+) -> Result<(), AllocError>
+    ensures { OnOk result (output.new ≡ output.old ++ number_words number things.now) }
+{
+    output.put_number(number)?;
+    output.put(things)
+}
+
+/// Writes a line that says a number of some things.
+pub(crate) fn write_number_line(
+    output: &mut Text,
+    name: &[u8],
+    words: &[u8],
+    number: u64,
+    things: &[u8],
+) -> Result<(), AllocError>
+    ensures { OnOk result (output.new ≡ output.old ++ number_line name.now words.now number things.now) }
+{
+    output.put(name)?;
+    write_number(output, words, number)?;
+    output.put(things)
+}

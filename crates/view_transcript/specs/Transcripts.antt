@@ -1,0 +1,203 @@
+-- The transcript of a script's rooms, with the events of each in the order in which they took effect.
+use Rattle.std.specs.Prelude.{◌≡◌, ⊤, ℕ, ◌<◌, Bool, true, false, List, [], ◌∷◌, ◌++◌, map, Option, Some, None, Result, Ok, codes}
+use Rattle.std.specs.declared.alloc.AllocError.{AllocError}
+use Rattle.std.specs.List.{flat_map}
+use Rattle.std.specs.Map.{keys_of, lookup}
+use Rattle.std.specs.Str.{bytes_eq}
+use Rattle.room_spec.specs.Rooms.{RoomSpec, processes}
+use Rattle.transcript.specs.Runs.{IsRun}
+use Rattle.transcript.specs.declared.event.Event.{Event}
+use Rattle.room_core.specs.Calls.{RoomState, configuration_of}
+use Rattle.room_core.specs.Fields.{Fields}
+use Rattle.room_core.specs.Reading.{AreFieldsOf}
+use Rattle.room_core.specs.Rooms.{IsLegal, ScheduleEvent, opening, replay}
+use Rattle.room_core.specs.Observing.{AreSeen, TakenStep}
+use Rattle.ws_history.specs.Linearizations.{AreEventsAtSteps, events_of}
+use Rattle.ws_history.specs.Notes.{AreNotesOf, IsNoted, Notes}
+use Rattle.ws_history.specs.Sources.{history_of}
+use Rattle.room_files.specs.declared.outcome.Outcome.{Outcome}
+use Rattle.service_core.specs.declared.command.Command.{Command}
+use Rattle.service_core.specs.declared.command.Command.TheVariants as commands
+use Rattle.service_core.specs.declared.reply.Reply.{Reply}
+use Rattle.service_core.specs.declared.reply.Reply.TheVariants.{Begun}
+use Rattle.service_core.specs.declared.reply.Refusal.{Refusal}
+use Rattle.service_core.specs.Replies.{name_in}
+use Rattle.service_core.specs.Rooms.{Applies, Entries, room_at, steps_of}
+use Rattle.script_play.specs.Play.{AreDone, AreReplies, Done, IsBlockOf, commands_of, ending_of, refusal_in, replies_in}
+use Rattle.room_files.specs.BlockLists.{whole_block}
+use Rattle.script_play.specs.ReplyTexts.{event_lines}
+use Rattle.script_play.specs.Script.{Entry as Asked, script_says}
+use Rattle.view_transcript.specs.Courses.{Course, course_of, names_by, names_in}
+
+-- ---- one room
+
+-- This schedule leads to the room, and these are the events that take effect at its steps, in their order.
+pub record AreInOrder (room : RoomState) (schedule : List ScheduleEvent) (events : List Event) : Type 0 where
+  pub legal : IsLegal (opening room.spec) schedule
+  pub leads : replay (opening room.spec) schedule ≡ configuration_of room
+  -- each with the number of the step at which it takes effect
+  pub timed : List (ℕ × Event)
+  pub at_steps : AreEventsAtSteps room.spec schedule timed
+  pub events_are : events ≡ map (λ event. event.1) timed
+  -- they are a run of the room's processes,
+  pub run : IsRun room.spec events
+  -- in which each does what it does in the room's history
+  pub same : (fields : Fields) → AreFieldsOf room fields → (p : ℕ) → p < processes room.spec → events_of p events ≡ events_of p (history_of room.spec fields)
+
+-- a room as it is written
+pub record Written : Type 0 where
+  pub block : List ℕ
+  pub events : List Event
+
+-- a room that a script opened is written: a block that says it, and its events
+pub record IsWrittenOf (course : Course) (written : Written) : Type 0 where
+  pub block : IsBlockOf course.room.spec written.block
+  pub events : AreInOrder course.room course.schedule written.events
+
+abbrev pub IsWrittenIf : Option Course → Option Written → Type 0
+IsWrittenIf None None = ⊤
+IsWrittenIf (Some course) (Some written) = IsWrittenOf course written
+IsWrittenIf None (Some written) = ⊥
+IsWrittenIf (Some course) None = ⊥
+
+-- ---- a script
+
+-- each with its name
+abbrev pub WrittenRooms : Type 0
+WrittenRooms = List (List ℕ × Written)
+
+-- all blocks, the line `events`, and the events of one room after those of the other
+abbrev pub transcript_text : WrittenRooms → List ℕ
+transcript_text rooms = flat_map (λ room. whole_block room.1.block) rooms ++ (codes "events\n" ++ flat_map (λ room. event_lines room.0 room.1.events) rooms)
+
+-- the last room of each name that was opened, in the order in which the names were
+pub record AreRoomsOf (all : List Done) (rooms : WrittenRooms) : Type 0 where
+  pub names : keys_of rooms ≡ names_in all
+  pub each : (name : List ℕ) → IsWrittenIf (course_of name all) (lookup (bytes_eq name) rooms)
+
+-- the transcript of a script's rooms, and the end that goes with it
+pub record IsTranscribed (input : List ℕ) (ending : Result Outcome AllocError) (output : List ℕ) : Type 0 where
+  pub entries : List Asked
+  pub asked : script_says input ≡ Ok entries
+  pub all : List Done
+  pub each_entry : AreDone entries all
+  pub replies : AreReplies (commands_of all) (replies_in all)
+  pub rooms : WrittenRooms
+  pub are_rooms : AreRoomsOf all rooms
+  pub output_is : output ≡ transcript_text rooms
+  pub ending_is : ending ≡ ending_of all
+
+-- ---- inside the crate
+
+-- what is kept of a room: its block, notes of its steps, and its events if it was closed
+pub record KeptRoom : Type 0 where
+  pub block : List ℕ
+  pub notes : Notes
+  pub events : Option (List Event)
+
+abbrev pub KeptRooms : Type 0
+KeptRooms = List (List ℕ × KeptRoom)
+
+abbrev pub kept_at : KeptRooms → List ℕ → Option KeptRoom
+kept_at kept name = lookup (bytes_eq name) kept
+
+-- these are the events of a room, by the notes of its steps
+abbrev pub AreByNotes : RoomState → Notes → List Event → Type 0
+AreByNotes room notes events = (schedule : List ScheduleEvent) → AreNotesOf (configuration_of room) schedule notes → AreInOrder room schedule events
+
+-- what is known of an open room by its notes, and of a closed one by its events
+abbrev pub IsKnown : Bool → Course → Option RoomState → Notes → Option (List Event) → Type 0
+IsKnown true course room notes None = (room ≡ Some course.room) × AreNotesOf (configuration_of course.room) course.schedule notes
+IsKnown false course room notes (Some events) = (room ≡ None) × AreInOrder course.room course.schedule events
+IsKnown true course room notes (Some events) = ⊥
+IsKnown false course room notes None = ⊥
+
+pub record IsKept (course : Course) (room : Option RoomState) (kept : KeptRoom) : Type 0 where
+  pub block : IsBlockOf course.room.spec kept.block
+  pub known : IsKnown course.is_open course room kept.notes kept.events
+
+abbrev pub IsFollowed : Option Course → Option RoomState → Option KeptRoom → Type 0
+IsFollowed None None None = ⊤
+IsFollowed (Some course) room (Some kept) = IsKept course room kept
+IsFollowed None (Some room) kept = ⊥
+IsFollowed None None (Some kept) = ⊥
+IsFollowed (Some course) room None = ⊥
+
+-- all of this was done, and leaves these rooms, of which this is kept
+pub record HasNoted (all : List Done) (rooms : Entries) (kept : KeptRooms) : Type 0 where
+  pub names : keys_of kept ≡ names_in all
+  pub each : (name : List ℕ) → IsFollowed (course_of name all) (room_at rooms name) (kept_at kept name)
+
+-- a room of which no simulator has taken a step
+pub record IsFresh (spec : RoomSpec) (kept : KeptRoom) : Type 0 where
+  pub block : IsBlockOf spec kept.block
+  pub notes : AreNotesOf (opening spec) [] kept.notes
+  pub events : kept.events ≡ None
+
+-- of a room that took these steps what is kept has seen them
+pub record HasSeen (steps : List TakenStep) (before after : KeptRoom) : Type 0 where
+  pub block : after.block ≡ before.block
+  pub notes : AreSeen IsNoted before.notes steps after.notes
+  pub events : after.events ≡ before.events
+
+abbrev pub HasSeenIf : List TakenStep → Option KeptRoom → Option KeptRoom → Type 0
+HasSeenIf steps None after = after ≡ None
+HasSeenIf steps (Some before) None = ⊥
+HasSeenIf steps (Some before) (Some after) = HasSeen steps before after
+
+-- of a room that is closed its events are kept
+abbrev pub HasEnded : Option RoomState → KeptRoom → KeptRoom → Type 0
+HasEnded None before after = after ≡ before
+HasEnded (Some room) before after = (events : List Event) × AreByNotes room before.notes events × (after ≡ record before { events = Some events })
+
+abbrev pub HasEndedIf : Option RoomState → Option KeptRoom → Option KeptRoom → Type 0
+HasEndedIf room None after = after ≡ None
+HasEndedIf room (Some before) None = ⊥
+HasEndedIf room (Some before) (Some after) = HasEnded room before after
+
+abbrev pub HasBegun : RoomSpec → Reply → Option KeptRoom → Option KeptRoom → Type 0
+HasBegun spec Begun before after = (kept : KeptRoom) × IsFresh spec kept × (after ≡ Some kept)
+HasBegun spec reply before after = after ≡ before
+
+-- a command that neither opens a room nor closes one
+abbrev pub Sees : Command → Type 0
+Sees (commands.Begin spec) = ⊥
+Sees (commands.Close name) = ⊥
+Sees command = ⊤
+
+-- what a command makes of what is kept of the room of its name
+abbrev pub Keeps : Entries → Command → Reply → Option KeptRoom → Option KeptRoom → Type 0
+Keeps rooms (commands.Begin spec) reply before after = HasBegun spec reply before after
+Keeps rooms (commands.Close name) reply before after = HasEndedIf (room_at rooms name) before after
+Keeps rooms (commands.Step name sim count) reply before after = HasSeenIf (steps_of (room_at rooms name) (commands.Step name sim count)) before after
+Keeps rooms (commands.Crash name sim) reply before after = HasSeenIf (steps_of (room_at rooms name) (commands.Crash name sim)) before after
+Keeps rooms (commands.Settle name) reply before after = HasSeenIf (steps_of (room_at rooms name) (commands.Settle name)) before after
+Keeps rooms (commands.Report name) reply before after = HasSeenIf (steps_of (room_at rooms name) (commands.Report name)) before after
+
+-- a command was done; this says why it was refused, if it was
+pub record IsNotedOn (rooms : Entries) (kept : KeptRooms) (command : Command) (refusal : Option Refusal) (rooms_after : Entries) (kept_after : KeptRooms) : Type 0 where
+  pub reply : Reply
+  pub applies : Applies rooms command reply rooms_after
+  pub refusal_is : refusal ≡ refusal_in reply
+  pub own : Keeps rooms command reply (kept_at kept (name_in command)) (kept_at kept_after (name_in command))
+  pub others : (name : List ℕ) → bytes_eq name (name_in command) ≡ false → kept_at kept_after name ≡ kept_at kept name
+  pub names : keys_of kept_after ≡ names_by command reply (keys_of kept)
+
+-- ---- the text
+
+-- the events of a room: those that are kept, or by its notes if it is open
+abbrev pub HasEvents : Option RoomState → Notes → Option (List Event) → List Event → Type 0
+HasEvents room notes (Some known) events = events ≡ known
+HasEvents (Some core) notes None events = AreByNotes core notes events
+HasEvents None notes None events = events ≡ []
+
+pub record IsWrittenFrom (rooms : Entries) (kept : List ℕ × KeptRoom) (written : List ℕ × Written) : Type 0 where
+  pub name : written.0 ≡ kept.0
+  pub block : written.1.block ≡ kept.1.block
+  pub events : HasEvents (room_at rooms kept.0) kept.1.notes kept.1.events written.1.events
+
+abbrev pub AreWrittenFrom : Entries → KeptRooms → WrittenRooms → Type 0
+AreWrittenFrom rooms [] [] = ⊤
+AreWrittenFrom rooms (kept ∷ others) (written ∷ rest) = IsWrittenFrom rooms kept written × AreWrittenFrom rooms others rest
+AreWrittenFrom rooms [] (written ∷ rest) = ⊥
+AreWrittenFrom rooms (kept ∷ others) [] = ⊥

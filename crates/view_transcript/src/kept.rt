@@ -1,0 +1,111 @@
+//! What is kept of a room that a script opened.
+ghost use Rattle.std.specs.Prelude.{◌≡◌, ◌∷◌, IfOk, MatchOption, None, OnOk, Some, List, map};
+ghost use Rattle.transcript.specs.declared.event.Event.{Event as EventData};
+ghost use Rattle.ws_history.specs.Notes.{IsNoted};
+ghost use Rattle.room_core.specs.Observing.{AreSeen};
+ghost use Rattle.script_play.specs.Play.{IsBlockOf};
+ghost use Rattle.service_core.specs.Replies.{name_in};
+ghost use Rattle.service_core.specs.Rooms.{Applies, room_at, steps_of};
+ghost use Rattle.view_transcript.specs.Transcripts.{AreByNotes, HasSeen, IsFresh};
+
+use room_core::RoomCore;
+use room_spec::Spec;
+use service_core::{Command, Reply, Service};
+use std::alloc::{AllocError, Global};
+use std::collections::BTreeMap;
+use std::marker::Model;
+use transcript::Event;
+use ws_history::{Points, linearize};
+
+/// The block of a room, notes of its steps, and its events if it was closed.
+#[derive(Drop)]
+pub(crate) struct Kept {
+    block: Vec<u8>,
+    points: Points,
+    events: Option<Vec<Event>>,
+}
+
+impl Model for Kept {
+    ghost use Rattle.std.specs.Prelude.{option_map};
+    ghost use Rattle.view_transcript.specs.Transcripts.{KeptRoom};
+
+    ghost Value = { KeptRoom };
+
+    ghost view = { λ k. record { block = k.block.items; notes = k.points; events = option_map (λ events. events.items) k.events } };
+}
+
+impl Kept {
+    /// What is kept of a room of which no simulator has taken a step.
+    pub(crate) fn new(alloc: Global, block: &[u8], spec: &Spec) -> Result<Kept, AllocError>
+        requires { IsBlockOf spec.now block.now }
+        ensures { IfOk result (IsFresh spec.now) }
+    {
+        Ok(Kept {
+            block: Vec::from_slice(alloc, block)?,
+            points: Points::new(alloc, spec)?,
+            events: None,
+        })
+    }
+
+    /// The room's block.
+    pub(crate) fn block(&self) -> &[u8]
+        ensures { result.now ≡ self.now.block }
+    {
+        self.block.as_slice()
+    }
+
+    /// The events of the room, if it was closed.
+    pub(crate) fn events(&self) -> Option<&[Event]>
+        ensures { MatchOption result (self.now.events ≡ None) (λ events. self.now.events ≡ Some events.now) }
+    {
+        match &self.events {
+            Some(events) => Some(events.as_slice()),
+            None => None,
+        }
+    }
+
+    /// The events of the room, which is open, in the order in which they took effect.
+    pub(crate) fn events_in(&self, alloc: Global, room: &RoomCore) -> Result<Vec<Event>, AllocError>
+        ensures { IfOk result (λ events. AreByNotes room.now self.now.notes events.items) }
+    {
+        let _shape = room.spec().shape(); // for the proof: the room is within its limits
+        let timed = linearize(alloc, room, &self.points)?;
+        let events = in_time(alloc, timed)?;
+        Ok(events)
+    }
+
+    /// Does a command, and notes the steps that it takes.
+    pub(crate) fn command(
+        &mut self,
+        alloc: Global,
+        service: &mut Service,
+        command: Command,
+    ) -> Reply
+        ensures applies { Applies service.old command result service.new }
+        ensures seen { HasSeen (steps_of (room_at service.old (name_in command)) command) self.old self.new }
+    {
+        service.apply_observed(alloc, command, &mut self.points)
+    }
+
+    /// Keeps the events of the room, which is closed.
+    pub(crate) fn end(&mut self, alloc: Global, room: &RoomCore) -> Result<(), AllocError>
+        ensures { OnOk result ((events : List EventData) × AreByNotes room.now self.old.notes events × (self.new ≡ record self.old { events = Some events })) }
+    {
+        let events = self.events_in(alloc, room)?;
+        self.keep(events);
+        Ok(())
+    }
+
+    fn keep(&mut self, events: Vec<Event>)
+        ensures { self.new ≡ record self.old { events = Some events.items } }
+    {
+        self.events = Some(events);
+    }
+}
+
+/// Events with their times, in the order of these.
+fn in_time(alloc: Global, timed: BTreeMap<u64, Event>) -> Result<Vec<Event>, AllocError>
+    ensures { IfOk result (λ events. events.items ≡ map (λ event. event.1) timed.entries) }
+{
+    timed.into_values().collect(alloc)
+}
