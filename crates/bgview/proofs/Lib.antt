@@ -1,2 +1,3 @@
 mod Finding
+mod Reading
 mod Subcommands

@@ -41,17 +41,24 @@ top_rule = number_rule (codes "top") 1 1000000
 abbrev pub outcome_rule : Rule
 outcome_rule = number_rule (codes "outcome") 1 1000000
 
+abbrev pub workers_rule : Rule
+workers_rule = number_rule (codes "workers") 1 16
+
 -- an option that takes no value
 abbrev pub brief_rule : Rule
 brief_rule = record (new_rule (codes "brief")) { long = Some (codes "brief"); action = Some SetTrue }
+
+-- an option that takes no value
+abbrev pub json_rule : Rule
+json_rule = record (new_rule (codes "json")) { long = Some (codes "json"); action = Some SetTrue }
 
 -- the subcommand `sample` as far as it says which schedules are drawn: a file and three numbers
 abbrev pub drawing_app : App
 drawing_app = with_rule (with_rule (with_rule (file_app (codes "sample")) schedules_rule) crashes_rule) seed_rule
 
--- the subcommand `sample`, which takes besides two numbers and a flag
+-- the subcommand `sample`, which takes besides three numbers and two flags
 abbrev pub sample_app : App
-sample_app = with_rule (with_rule (with_rule drawing_app top_rule) outcome_rule) brief_rule
+sample_app = with_rule (with_rule (with_rule (with_rule (with_rule drawing_app top_rule) outcome_rule) workers_rule) json_rule) brief_rule
 
 abbrev pub stopped_rule : Rule
 stopped_rule = number_rule (codes "crashes") 0 16
@@ -139,7 +146,9 @@ pub record IsPlanAmong (found : Option (List ℕ × List Row)) (plan : Plan) : T
   pub schedules : IsNumber (value_among (codes "schedules") found) 1000 plan.schedules
   pub crashes : IsNumber (value_among (codes "crashes") found) 1 plan.crashes
   pub seed : IsNumber (value_among (codes "seed") found) 1 plan.seed
+  pub workers : IsNumber (value_among (codes "workers") found) 1 plan.workers
   pub brief : plan.brief ≡ is_given (value_among (codes "brief") found)
+  pub json : plan.json ≡ is_given (value_among (codes "json") found)
   pub top : IsNumberIfAny (value_among (codes "top") found) plan.top
   pub outcome : IsNumberIfAny (value_among (codes "outcome") found) plan.outcome
 

@@ -4,13 +4,13 @@ ghost use Rattle.clap.specs.Kinds.{FailsBy};
 ghost use Rattle.clap.specs.declared.builder.command.Command.TheViews.{out-Command};
 ghost use Rattle.clap.specs.Words.{app_of, fault_of, first_value, found_of, subcommand_of, subcommand_rows_of, with_subcommand};
 ghost use Rattle.clap.specs.Walk.{rule_of};
-ghost use Rattle.bgview.specs.CommandLine.{bgview_app, brief_rule, commands_rule, crashes_rule, drawing_app, fault_app, file_among, file_app, goal_rule, grade_app, is_given, mode_among, mode_of, other_among, outcome_rule, outcomes_app, page_app, plain_app, sample_app, schedules_rule, seed_rule, states_rule, stopped_rule, top_rule, IsGradingAmong, IsNumber, IsNumberIfAny, IsPlanAmong, IsRequestAmong, IsSearchAmong};
+ghost use Rattle.bgview.specs.CommandLine.{bgview_app, brief_rule, commands_rule, crashes_rule, drawing_app, fault_app, file_among, file_app, goal_rule, grade_app, is_given, json_rule, mode_among, mode_of, other_among, outcome_rule, outcomes_app, page_app, plain_app, sample_app, schedules_rule, seed_rule, states_rule, stopped_rule, top_rule, workers_rule, IsGradingAmong, IsNumber, IsNumberIfAny, IsPlanAmong, IsRequestAmong, IsSearchAmong};
 
 use clap::{Arg, ArgAction, ArgMatches, Command, Error, value_parser};
-use view_outcomes::Search;
 use room_sample::Plan;
 use std::alloc::{AllocError, Global};
 use std::convert::AsStr;
+use view_outcomes::Search;
 
 /// What the words ask for.
 #[derive(Clone, Copy, Debug, PartialEq, Eq)]
@@ -164,7 +164,9 @@ fn sample_command<'a>(alloc: Global) -> Result<Command<'a>, AllocError>
     let sample = drawing_command(alloc)?;
     let with_top = sample.arg(top_option(alloc))?;
     let with_outcome = with_top.arg(outcome_option(alloc))?;
-    with_outcome.arg(brief_option(alloc, "Leaves out the scripts"))
+    let with_workers = with_outcome.arg(workers_option(alloc))?;
+    let with_json = with_workers.arg(json_option(alloc))?;
+    with_json.arg(brief_option(alloc, "Leaves out the scripts"))
 }
 
 /// The subcommand `sample` with the options that say which schedules are drawn.
@@ -176,12 +178,35 @@ fn drawing_command<'a>(alloc: Global) -> Result<Command<'a>, AllocError>
         alloc,
         "sample",
         "Runs each room of a file by random schedules, and counts the outcomes",
-        "bgview sample [--schedules N] [--crashes F] [--seed S] [--top K] [--outcome K] [--brief] [FILE]",
+        "bgview sample [--schedules N] [--crashes F] [--seed S] [--workers W] [--top K] [--outcome K] [--json] [--brief] [FILE]",
         "The rooms; without it, standard input is read",
     )?;
     let with_schedules = sample.arg(schedules_option(alloc))?;
     let with_crashes = with_schedules.arg(crashes_option(alloc))?;
     with_crashes.arg(seed_option(alloc))
+}
+
+/// The option `--workers W`.
+fn workers_option<'a>(alloc: Global) -> Arg<'a>
+    ensures rule { rule_of result ≡ workers_rule }
+    ensures local { result.global ≡ false }
+{
+    Arg::new(alloc, "workers")
+        .long("workers")
+        .value_name("W")
+        .value_parser(value_parser!(u32).range(1..=16))
+        .help("How many threads run schedules, 1 to 16; without it, 1. The outcomes are the same")
+}
+
+/// The option `--json`.
+fn json_option<'a>(alloc: Global) -> Arg<'a>
+    ensures rule { rule_of result ≡ json_rule }
+    ensures local { result.global ≡ false }
+{
+    Arg::new(alloc, "json")
+        .long("json")
+        .action(ArgAction::SetTrue)
+        .help("Writes an object of JSON a line")
 }
 
 /// The option `--schedules N`.
@@ -506,16 +531,20 @@ fn plan_in(matches: &ArgMatches<'_>) -> Plan
             schedules: number_among(inner, "schedules", 1000),
             crashes: number_among(inner, "crashes", 1),
             seed: number_among(inner, "seed", 1),
+            workers: number_among(inner, "workers", 1),
             brief: is_given(inner, "brief"),
             top: number_if_any(inner, "top"),
+            json: is_given(inner, "json"),
             outcome: number_if_any(inner, "outcome"),
         },
         None => Plan {
             schedules: 1000,
             crashes: 1,
             seed: 1,
+            workers: 1,
             brief: false,
             top: None,
+            json: false,
             outcome: None,
         },
     }

@@ -18,6 +18,7 @@ use room_files::Outcome;
 use run_search::Progress;
 use std::alloc::Global;
 use std::io::{Read, Write};
+use std::thread::Threads;
 use view_page::{faults_of_both, page_of_both};
 
 /// Answers the input that the reader gives as is requested. The whole input is read and judged before anything is written. What is said of
@@ -27,7 +28,8 @@ use view_page::{faults_of_both, page_of_both};
 ///
 /// A device that failed; an input that is too long; the input's first fault, or the goal's; or an allocation that failed. If that was for a
 /// block or a command of a script, the script goes on to its end.
-pub fn answer_io<R: Read, W: Write, P: Progress>(
+pub fn answer_io<H: Threads + Sync, R: Read, W: Write, P: Progress>(
+    rt: &H,
     alloc: Global,
     reader: &mut Device<R>,
     writer: &mut Device<W>,
@@ -46,11 +48,12 @@ pub fn answer_io<R: Read, W: Write, P: Progress>(
     ensures notes { IfSome (R.remaining reader.old.inner) (λ input. AreNotesIn request.now.mode input result notes.old notes.new) }
 {
     let input = read_input(alloc, reader)?;
-    write_answer(alloc, &input, writer, request, notes, progress)
+    write_answer(rt, alloc, &input, writer, request, notes, progress)
 }
 
 /// Answers an input as is requested.
-fn write_answer<W: Write, P: Progress>(
+fn write_answer<H: Threads + Sync, W: Write, P: Progress>(
+    rt: &H,
     alloc: Global,
     input: &[u8],
     writer: &mut Device<W>,
@@ -67,7 +70,7 @@ fn write_answer<W: Write, P: Progress>(
     ensures writer { HasWritten writer.old writer.new result (is_write_failed result) }
     ensures notes { AreNotesIn request.now.mode input.now result notes.old notes.new }
 {
-    let shown = show(alloc, request, input, notes, progress)?;
+    let shown = show(rt, alloc, request, input, notes, progress)?;
     write_output(writer, shown.output.as_bytes())?;
     written(shown.ending)
 }

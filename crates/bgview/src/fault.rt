@@ -6,9 +6,9 @@ ghost use Rattle.io_text.specs.declared.fault.DeviceFault.TheVariants.{Memory};
 
 use io_text::DeviceFault;
 use room_files::{InputFault, Outcome, TextFault};
-use view_grade::GoalFault;
 use std::alloc::AllocError;
 use thiserror::Error;
+use view_grade::GoalFault;
 
 /// Why an answer was not written whole.
 #[derive(Clone, Copy, Debug, PartialEq, Eq, Error)]

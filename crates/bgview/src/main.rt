@@ -36,11 +36,18 @@ use std::convert::AsStr;
 use std::io;
 use std::io::{Read, Write};
 use std::process::ExitCode;
+use std::thread::Threads;
 use unread::note_unread;
 
 fn main(rt: HostRuntime) -> ExitCode {
     let status = match words(&rt) {
-        Ok(words) => status(&rt, &rt, &mut Device::new(rt.stdout()), words.as_slice()),
+        Ok(words) => status(
+            &rt,
+            &rt,
+            &rt,
+            &mut Device::new(rt.stdout()),
+            words.as_slice(),
+        ),
         Err(error) => unread_status(&rt, &error),
     };
     ExitCode::from(status)
@@ -52,8 +59,9 @@ fn words(rt: &HostRuntime) -> io::Result<Vec<String>> {
 }
 
 /// The exit status for these words, after what they ask for is done.
-fn status<I: Inputs, W: Write, S: AsStr>(
+fn status<H: Threads + Sync, I: Inputs, W: Write, S: AsStr>(
     rt: &HostRuntime,
+    threads: &H,
     inputs: &I,
     writer: &mut Device<W>,
     words: &[S],
@@ -69,6 +77,7 @@ fn status<I: Inputs, W: Write, S: AsStr>(
             let terminal = has_terminal(rt).then(|| rt.stderr());
             let mut counter = Counter::new(terminal);
             let ending = ending(
+                threads,
                 rt.alloc(),
                 inputs,
                 writer,
@@ -84,7 +93,8 @@ fn status<I: Inputs, W: Write, S: AsStr>(
 }
 
 /// How the program ends that does what the words ask for. What is said of the faults of its inputs, or of a file that is not read, becomes `notes`.
-fn ending<I: Inputs, W: Write, P: Progress>(
+fn ending<H: Threads + Sync, I: Inputs, W: Write, P: Progress>(
+    threads: &H,
     alloc: Global,
     inputs: &I,
     writer: &mut Device<W>,
@@ -103,6 +113,7 @@ fn ending<I: Inputs, W: Write, P: Progress>(
     }
     let ending = match line.file {
         None => with_other(
+            threads,
             alloc,
             inputs,
             inputs.standard(),
@@ -112,7 +123,9 @@ fn ending<I: Inputs, W: Write, P: Progress>(
             progress,
         ),
         Some(path) => match inputs.open(path) {
-            Ok(input) => with_other(alloc, inputs, input, writer, matches, notes, progress),
+            Ok(input) => with_other(
+                threads, alloc, inputs, input, writer, matches, notes, progress,
+            ),
             Err(_) => Err(ViewFault::Device(DeviceFault::Read)),
         },
     };
@@ -124,7 +137,8 @@ fn ending<I: Inputs, W: Write, P: Progress>(
 
 /// The answer that the words ask for to an input, and to a second file if they name one, which is written. What is said of their faults becomes
 /// `notes`.
-fn with_other<I: Inputs, R: Read + Drop, W: Write, P: Progress>(
+fn with_other<H: Threads + Sync, I: Inputs, R: Read + Drop, W: Write, P: Progress>(
+    threads: &H,
     alloc: Global,
     inputs: &I,
     input: R,
@@ -140,7 +154,7 @@ fn with_other<I: Inputs, R: Read + Drop, W: Write, P: Progress>(
 {
     let line = line_in(matches);
     match line.other {
-        None => answered(alloc, input, writer, matches, notes, progress),
+        None => answered(threads, alloc, input, writer, matches, notes, progress),
         Some(path) => match inputs.open(path) {
             Ok(next) => pages_io(
                 alloc,
@@ -176,7 +190,8 @@ fn say_faults<W: Write>(
 }
 
 /// The answer that the words ask for to an input, which is written. What is said of an input's faults becomes `notes`.
-fn answered<R: Read + Drop, W: Write, P: Progress>(
+fn answered<H: Threads + Sync, R: Read + Drop, W: Write, P: Progress>(
+    threads: &H,
     alloc: Global,
     input: R,
     writer: &mut Device<W>,
@@ -191,7 +206,15 @@ fn answered<R: Read + Drop, W: Write, P: Progress>(
 {
     let mut reader = Device::new(input);
     let request = request_in(matches);
-    answer_io(alloc, &mut reader, writer, &request, notes, progress)
+    answer_io(
+        threads,
+        alloc,
+        &mut reader,
+        writer,
+        &request,
+        notes,
+        progress,
+    )
 }
 
 fn ending_status(rt: &HostRuntime, ending: Result<Outcome, ViewFault>, notes: &Text) -> u8

@@ -13,21 +13,23 @@ use crate::command_line::{Grading, Mode, Request};
 use crate::fault::ViewFault;
 use file_faults::{lint, room_faults, script_faults, transcript_faults, warnings_of};
 use io_text::{DeviceFault, Text};
-use view_outcomes::search_blocks;
 use room_files::{Answer, InputFault};
 use run_search::Progress;
-use view_grade::{Goal, goal_forms, grade, read_goal};
-use view_draw::draw;
 use script_play::PlayText;
-use view_transcript::transcribe;
 use std::alloc::Global;
+use std::thread::Threads;
+use view_draw::draw;
+use view_grade::{Goal, goal_forms, grade, read_goal};
+use view_outcomes::search_blocks;
 use view_page::{faults_of, page};
 use view_sample::sample_blocks;
 use view_trace::trace;
+use view_transcript::transcribe;
 use view_why::explain;
 
 /// What is shown of an input as is requested. What is said of its faults, or of a goal that is not valid, becomes `notes`.
-pub fn show<P: Progress>(
+pub fn show<H: Threads + Sync, P: Progress>(
+    rt: &H,
     alloc: Global,
     request: &Request<'_>,
     input: &[u8],
@@ -60,7 +62,7 @@ pub fn show<P: Progress>(
         Mode::Grade => grade_or_note(alloc, &request.grading, input, notes),
         Mode::Sample => {
             *notes = room_faults(alloc, input)?;
-            Ok(whole(sample_blocks(alloc, input, &request.plan, progress)?))
+            Ok(whole(sample_blocks(rt, alloc, input, &request.plan, progress)?))
         }
         Mode::Outcomes => {
             *notes = room_faults(alloc, input)?;
@@ -85,11 +87,7 @@ fn whole(answer: Answer) -> PlayText
 }
 
 /// Explains a transcript. What is said of all its faults, if it has a malformed line, becomes `notes`.
-fn explain_or_note(
-    alloc: Global,
-    input: &[u8],
-    notes: &mut Text,
-) -> Result<PlayText, ViewFault>
+fn explain_or_note(alloc: Global, input: &[u8], notes: &mut Text) -> Result<PlayText, ViewFault>
     requires { length input.now ≤ most_bytes }
     ensures shown { IfOk result (λ shown. IsWhole (IsExplanationFor input.now) shown.ending shown.output) }
     ensures err { IfErr result (Ends (fault_in (input_says input.now)) None) }

@@ -54,6 +54,11 @@ pub record IsRunFrom (spec : RoomSpec) (crashes : ℕ) (random : Stream) (run : 
   pub outcome : IsOutcome spec crashes run.schedule run.states
   pub ends : (drawn.draws ≡ most_draws) ⊎ ((i : ℕ) → i < spec.simulators → HasStopped spec run.schedule i)
 
+-- The runs by the schedules of this many numbers from the first one on, in order, each drawn from a stream of its own.
+pub record AreRunsFrom (spec : RoomSpec) (plan : Plan) (first count : ℕ) (runs : List Sampled) : Type 0 where
+  pub length_is : length runs ≡ count
+  pub drawn : (k : ℕ) (run : Sampled) → slice_get runs k ≡ Some run → IsRunFrom spec plan.crashes (random_of plan.seed (first + k)) run
+
 -- The outcomes of this many runs, each by a schedule that is drawn from a stream of its own: that of the seed and of its number, from 0.
 pub record IsSampleOf (spec : RoomSpec) (plan : Plan) (schedules : ℕ) (outcomes : List Counted) : Type 0 where
   pub runs : List Sampled

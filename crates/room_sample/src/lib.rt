@@ -9,6 +9,7 @@ mod run;
 mod sampling;
 mod stretch;
 mod tally;
+mod workers;
 
 pub use sampling::{Plan, sample};
 pub use stretch::Stretch;

@@ -1,15 +1,19 @@
 //! Many runs of one room.
 ghost use Rattle.std.specs.Prelude.{IfOk};
-ghost use Rattle.room_sample.specs.Chances.{random_in};
-ghost use Rattle.room_sample.specs.Samples.{AreAmongAll, IsRunFrom, IsSample};
-ghost use Rattle.room_sample.specs.Ways.{sampled_of};
+ghost use Rattle.room_sample.specs.Samples.{AreAmongAll, IsSample};
 
-use crate::chances::Chances;
-use crate::run::{Run, run_by_chance};
 use crate::tally::Tally;
+use crate::workers::{count_all, run_by_workers};
 use room_spec::Spec;
 use run_search::Progress;
 use std::alloc::{AllocError, Global};
+use std::thread::Threads;
+
+/// How many schedules a worker runs before their outcomes are counted.
+const A_ROUND: u32 = 1024;
+
+/// The most threads at the same time.
+const MOST_WORKERS: u32 = 16;
 
 /// How a room is sampled, and what is written of it.
 #[derive(Clone, Copy, Debug, PartialEq, Eq)]
@@ -20,10 +24,15 @@ pub struct Plan {
     pub crashes: u32,
     /// What the schedules are drawn from: the same seed gives the same ones.
     pub seed: u32,
+    /// How many threads run schedules at the same time, 1 to 16. A smaller number counts as 1, and a larger one as 16. The outcomes are the same
+    /// by any number.
+    pub workers: u32,
     /// Whether scripts are left out.
     pub brief: bool,
     /// How many outcomes are shown at most; if it is not said, all.
     pub top: Option<u32>,
+    /// Whether the outcomes are written as JSON.
+    pub json: bool,
     /// The outcome of which nothing but the script is written, by its number in the order in which they are shown, from 1.
     pub outcome: Option<u32>,
 }
@@ -34,8 +43,9 @@ pub struct Plan {
 /// # Errors
 ///
 /// An allocation that fails.
-#[tactic(auto, using(crate::proofs::OneMore::no_sample, crate::proofs::OneMore::one_more))]
-pub fn sample<P: Progress>(
+#[tactic(auto, using(crate::proofs::OneMore::no_sample, crate::proofs::OneMore::many_more))]
+pub fn sample<R: Threads + Sync, P: Progress>(
+    rt: &R,
     alloc: Global,
     spec: &Spec,
     plan: &Plan,
@@ -45,24 +55,15 @@ pub fn sample<P: Progress>(
     ensures among { IfOk result (AreAmongAll spec.now) }
 {
     let _shape = spec.shape(); // for the proof: the room is within its limits
+    let workers = plan.workers.clamp(1, MOST_WORKERS);
     let mut tally = Tally::new(alloc);
-    for done in 0..plan.schedules {
+    let mut done = 0;
+    while done < plan.schedules {
         progress.reached(u64::from(done));
-        let mut chances = Chances::of(plan.seed, done);
-        let run = run_anew(alloc, spec, &mut chances, plan.crashes)?;
-        tally.count(run)?;
+        let count = (plan.schedules - done).min(A_ROUND * workers);
+        let runs = run_by_workers(rt, alloc, spec, plan, done, count, workers)?;
+        count_all(&mut tally, runs)?;
+        done += count;
     }
     Ok(tally)
-}
-
-/// Opens the room of a spec, and runs it by one random schedule.
-fn run_anew(
-    alloc: Global,
-    spec: &Spec,
-    chances: &mut Chances,
-    crashes: u32,
-) -> Result<Run, AllocError>
-    ensures { IfOk result (λ run. IsRunFrom spec.now crashes (random_in chances.old) (sampled_of run)) }
-{
-    run_by_chance(alloc, spec.clone()?, chances, crashes)
 }

@@ -1,6 +1,8 @@
 mod Breaking
 mod Coming
 mod Following
+mod JsonNumbers
+mod Keeping
 mod Leading
 mod RoomTexts
 mod ScriptLines

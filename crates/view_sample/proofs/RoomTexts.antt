@@ -7,7 +7,7 @@ use Rattle.std.proofs.lemmas.List.Folds.{concat-append}
 use Rattle.room_spec.specs.Blocks.{block_in}
 use Rattle.room_spec.specs.Rooms.{IsWithinLimits, RoomSpec}
 use Rattle.room_files.specs.BlockLists.{IsBlockAt}
-use Rattle.view_sample.specs.Rooms.{AddsSamples, AreSampleTexts, IsSampleText, is_well, room_text}
+use Rattle.view_sample.specs.Rooms.{AddsSamples, AreSampleTexts, IsSampleText, is_well, room_text, end_text, shown_text}
 use Rattle.room_sample.specs.Shown.{AreKept}
 use Rattle.room_sample.specs.Samples.{AreAmongAll, AreMostFirst, Counted, IsSample}
 use Rattle.view_sample.specs.TaskTexts.{has_held, task_text}
@@ -81,17 +81,17 @@ sample_shown plan block spec len outcomes short shown well before after limits r
 
 -- all of it
 pub sample_told : (plan : Plan) (block : List ℕ) (spec : RoomSpec) (len : ℕ) (outcomes short shown : List Counted) (held : Bool) (task before middle after : List ℕ) → plan.outcome ≡ None → IsWithinLimits spec → block_in block ≡ Ok (spec, len) → IsSample spec plan outcomes → AreAmongAll spec outcomes
-    → AreKept spec plan.crashes outcomes short → IsPermutation short shown → AreMostFirst shown → held ≡ has_held spec short → task ≡ task_text spec block plan short → middle ≡ before ++ sample_text spec.name block plan shown → after ≡ middle ++ task
+    → AreKept spec plan.crashes outcomes short → IsPermutation short shown → AreMostFirst shown → held ≡ has_held spec short → task ≡ end_text plan.json plan spec block short → middle ≡ before ++ shown_text plan.json plan spec.name block shown → after ≡ middle ++ task
     → (said : RoomSpec) → block_in block ≡ Ok (said, length block) → (text : List ℕ) × IsSampleText plan said held text × (after ≡ before ++ text)
 sample_told plan block spec len outcomes short shown held task before middle after none limits read sample among kept permuted first held_is task_is middle_is after_is =
-    let listed = sample_text spec.name block plan shown in
+    let listed = shown_text plan.json plan spec.name block shown in
     sample_shown plan block spec len outcomes short shown held before after limits read sample among kept permuted first
     (held_is ∙ ap (λ (o : Option ℕ). is_well o spec short shown) (sym none))
     (after_is ∙ ap (λ (t : List ℕ). t ++ task) middle_is ∙ append_assoc before listed task ∙ ap (λ (t : List ℕ). before ++ (listed ++ t)) task_is ∙ ap (λ (o : Option ℕ). before ++ room_text o plan spec block short shown) (sym none))
 
 -- the script of one outcome
 pub script_told : (plan : Plan) (block : List ℕ) (spec : RoomSpec) (len : ℕ) (outcomes short shown : List Counted) (there : Bool) (number : ℕ) (before after : List ℕ) → plan.outcome ≡ Some number → IsWithinLimits spec → block_in block ≡ Ok (spec, len) → IsSample spec plan outcomes → AreAmongAll spec outcomes
-    → AreKept spec plan.crashes outcomes short → IsPermutation short shown → AreMostFirst shown → there ≡ is_some (slice_get shown (number - 1)) → after ≡ before ++ alone_text spec.name block (slice_get shown (number - 1))
+    → AreKept spec plan.crashes outcomes short → IsPermutation short shown → AreMostFirst shown → there ≡ is_some (slice_get shown (number - 1)) → after ≡ before ++ alone_text spec.name block shown number
     → (said : RoomSpec) → block_in block ≡ Ok (said, length block) → (text : List ℕ) × IsSampleText plan said there text × (after ≡ before ++ text)
 script_told plan block spec len outcomes short shown there number before after some limits read sample among kept permuted first there_is after_is =
     sample_shown plan block spec len outcomes short shown there before after limits read sample among kept permuted first

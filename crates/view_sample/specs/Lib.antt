@@ -1,4 +1,5 @@
 pub mod Counts
+pub mod Json
 pub mod Leads
 pub mod Rooms
 pub mod Sample

@@ -1,20 +1,31 @@
 -- Rooms that are sampled, and what is written of each.
-use Rattle.std.specs.Prelude.{◌≡◌, ℕ, ◌-◌, Bool, true, ◌&&◌, Option, None, Some, is_some, slice_get, List, [], ◌∷◌, ◌++◌, length, Ok, IfSome, IsPermutation}
+use Rattle.std.specs.Prelude.{◌≡◌, ℕ, ◌-◌, Bool, true, false, ◌&&◌, Option, None, Some, is_some, slice_get, List, [], ◌∷◌, ◌++◌, length, Ok, IfSome, IsPermutation}
 use Rattle.std.specs.List.{All, concat}
 use Rattle.room_spec.specs.Blocks.{block_in}
 use Rattle.room_spec.specs.Rooms.{RoomSpec}
 use Rattle.view_sample.specs.Leads.{HasScript}
 use Rattle.room_sample.specs.Samples.{AreAmongAll, AreMostFirst, Counted, IsSample}
 use Rattle.room_sample.specs.Shown.{AreKept}
+use Rattle.view_sample.specs.Json.{outcome_lines, room_line}
 use Rattle.view_sample.specs.Tasks.{first_broken}
 use Rattle.view_sample.specs.TaskTexts.{has_held, task_text}
 use Rattle.view_sample.specs.Texts.{alone_text, sample_text}
 use Rattle.room_sample.specs.declared.sampling.Plan.{Plan}
 
--- what is written of a room: the outcomes in this order, and its task; or the script of one outcome alone
+-- the outcomes in this order, as text or as JSON
+abbrev pub shown_text : Bool → Plan → List ℕ → List ℕ → List Counted → List ℕ
+shown_text false plan name block shown = sample_text name block plan shown
+shown_text true plan name block shown = outcome_lines name plan shown
+
+-- what is said of its task; in JSON, of the room as a whole
+abbrev pub end_text : Bool → Plan → RoomSpec → List ℕ → List Counted → List ℕ
+end_text false plan spec block short = task_text spec block plan short
+end_text true plan spec block short = room_line spec plan short
+
+-- what is written of a room: its outcomes, and its task; or the script of one outcome alone
 abbrev pub room_text : Option ℕ → Plan → RoomSpec → List ℕ → List Counted → List Counted → List ℕ
-room_text None plan spec block short shown = sample_text spec.name block plan shown ++ task_text spec block plan short
-room_text (Some number) plan spec block short shown = alone_text spec.name block (slice_get shown (number - 1))
+room_text None plan spec block short shown = shown_text plan.json plan spec.name block shown ++ end_text plan.json plan spec block short
+room_text (Some number) plan spec block short shown = alone_text spec.name block shown number
 
 -- no schedule broke the task; or there is that outcome
 abbrev pub is_well : Option ℕ → RoomSpec → List Counted → List Counted → Bool

@@ -1,5 +1,5 @@
 -- What is written of a room that was sampled.
-use Rattle.std.specs.Prelude.{ℕ, min, Bool, List, [], ◌∷◌, ◌++◌, length, take, Option, None, Some, if◌then◌else◌, codes, decimal}
+use Rattle.std.specs.Prelude.{ℕ, min, Bool, List, [], ◌∷◌, ◌++◌, ◌-◌, length, take, Option, None, Some, slice_get, if◌then◌else◌, codes, decimal}
 use Rattle.std.specs.List.{flat_map}
 use Rattle.room_files.specs.BlockLists.{whole_block}
 use Rattle.script_play.specs.ReplyTexts.{process_lines}
@@ -65,7 +65,16 @@ new_line name plan outcomes = new_words name (length outcomes) (once_in outcomes
 abbrev pub sample_text : List ℕ → List ℕ → Plan → List Counted → List ℕ
 sample_text name block plan outcomes = plan_line name plan ++ (outcome_texts name block plan outcomes ++ (most_lines name outcomes ++ new_line name plan outcomes))
 
--- the script of one outcome, if there is one
-abbrev pub alone_text : List ℕ → List ℕ → Option Counted → List ℕ
-alone_text name block None = []
-alone_text name block (Some one) = script_text name block one.schedule
+abbrev pub count_words : List ℕ → ℕ → List ℕ
+count_words name count = number_line name (codes " has") count (codes " outcomes, and none has the number")
+
+abbrev pub none_line : List ℕ → ℕ → ℕ → List ℕ
+none_line name count number = count_words name count ++ number_words number (codes "\n")
+
+abbrev pub alone_or_none : List ℕ → List ℕ → ℕ → ℕ → Option Counted → List ℕ
+alone_or_none name block count number None = none_line name count number
+alone_or_none name block count number (Some one) = script_text name block one.schedule
+
+-- the script of the outcome of this number, from 1; or, if there is none, how many outcomes there are
+abbrev pub alone_text : List ℕ → List ℕ → List Counted → ℕ → List ℕ
+alone_text name block shown number = alone_or_none name block (length shown) number (slice_get shown (number - 1))

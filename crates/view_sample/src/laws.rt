@@ -1,11 +1,18 @@
 //! Laws of the scripts that a sample shows.
-ghost use Rattle.std.specs.Prelude.{◌≡◌, ℕ, List, Ok, length};
+ghost use Rattle.std.specs.Prelude.{◌≡◌, ◌↔◌, ℕ, List, Ok, true, length};
 ghost use Rattle.room_spec.specs.Blocks.{block_in};
 ghost use Rattle.room_spec.specs.Rooms.{IsWithinLimits, RoomSpec};
+ghost use Rattle.transcript.specs.Tasks.{KeepsOwnTask};
+ghost use Rattle.room_core.specs.Calls.{RoomState};
+ghost use Rattle.room_core.specs.Fields.{Fields};
+ghost use Rattle.room_core.specs.Reading.{AreFieldsOf};
+ghost use Rattle.ws_history.specs.Reports.{states_of};
+ghost use Rattle.ws_history.specs.Sources.{history_of};
 ghost use Rattle.ws_history.specs.declared.states.ProcessState.{ProcessState};
 ghost use Rattle.room_sample.specs.Schedules.{IsOutcome};
 ghost use Rattle.room_sample.specs.declared.stretch.Stretch.{Stretch};
 ghost use Rattle.view_sample.specs.Leads.{LeadsTo};
+ghost use Rattle.view_sample.specs.Tasks.{keeps_task};
 ghost use Rattle.view_sample.specs.Texts.{script_text};
 
 /// The script of an outcome leads to it: `play` replies that the room takes each step and crash of the schedule, and then reports these
@@ -14,4 +21,11 @@ pub fn leading_scripts()
     ensures { (spec : RoomSpec) (crashes : ℕ) (block : List ℕ) (schedule : List Stretch) (states : List ProcessState) →
         IsWithinLimits spec → block_in block ≡ Ok (spec, length block) → IsOutcome spec crashes schedule states →
         LeadsTo spec.name schedule states (script_text spec.name block schedule) }
+{}
+
+/// The states of a room's processes keep its task exactly if its history does. So a sample says of a schedule that it broke the task exactly if
+/// `bgsim check` would say it of the room's history.
+pub fn kept_tasks()
+    ensures { (room : RoomState) (fields : Fields) → IsWithinLimits room.spec → AreFieldsOf room fields →
+        (keeps_task room.spec (states_of room.spec fields) ≡ true) ↔ KeepsOwnTask room.spec (history_of room.spec fields) }
 {}

@@ -2,6 +2,7 @@
 #![tactic(auto)]
 
 mod counts;
+mod json;
 pub mod laws;
 mod rooms;
 mod sample;

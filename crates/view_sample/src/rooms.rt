@@ -1,17 +1,22 @@
 //! The samples of the rooms of a file.
-ghost use Rattle.std.specs.Prelude.{◌≡◌, ◌++◌, ℕ, IfOk, List, Ok, length};
+ghost use Rattle.std.specs.Prelude.{◌≡◌, ◌≤◌, ◌++◌, ℕ, IfOk, List, Ok, OnOk, length};
+ghost use Rattle.std.specs.List.{sum_by};
 ghost use Rattle.room_files.specs.BlockLists.{IsBlockAt};
 ghost use Rattle.room_spec.specs.Blocks.{block_in};
 ghost use Rattle.room_spec.specs.Rooms.{RoomSpec};
-ghost use Rattle.view_sample.specs.Rooms.{AddsSamples, IsSampleText};
+ghost use Rattle.view_sample.specs.Rooms.{AddsSamples, IsSampleText, end_text, shown_text};
+ghost use Rattle.view_sample.specs.TaskTexts.{has_held};
 
-use room_sample::{Plan, sample};
-use crate::task_text::write_task;
+use crate::json::{write_outcome_lines, write_room_line};
+use crate::task_text::{has_held, write_task};
 use crate::text::{write_alone, write_sample};
 use io_text::Text;
 use room_files::{BlockList, read_room};
+use room_sample::{Plan, Tally, sample};
+use room_spec::Spec;
 use run_search::Progress;
 use std::alloc::{AllocError, Global};
+use std::thread::Threads;
 
 /// How many times more a room is run at most to make its scripts short than to sample it.
 const MORE_TRIES: u32 = 2000;
@@ -21,7 +26,8 @@ const MORE_TRIES: u32 = 2000;
 /// # Errors
 ///
 /// If an allocation fails.
-pub fn write_samples<P: Progress>(
+pub(crate) fn write_samples<R: Threads + Sync, P: Progress>(
+    rt: &R,
     alloc: Global,
     rooms: &BlockList,
     plan: &Plan,
@@ -32,7 +38,7 @@ pub fn write_samples<P: Progress>(
 {
     let mut well = true;
     for index in 0..rooms.len() {
-        let held = write_room(alloc, rooms.block(index), plan, output, progress)?;
+        let held = write_room(rt, alloc, rooms.block(index), plan, output, progress)?;
         well &= held;
     }
     Ok(well)
@@ -49,7 +55,8 @@ fn tries_for(plan: &Plan) -> u32 {
 
 /// Samples the room of a block, and writes its outcomes, those first that came most often, and whether they keep its task. Gives whether
 /// it held.
-fn write_room<P: Progress>(
+fn write_room<R: Threads + Sync, P: Progress>(
+    rt: &R,
     alloc: Global,
     block: &[u8],
     plan: &Plan,
@@ -64,17 +71,55 @@ fn write_room<P: Progress>(
         unreachable!() // it is a room's block
     };
     let _shape = spec.shape(); // for the proof: the room is within its limits
-    let mut outcomes = sample(alloc, &spec, plan, progress)?;
+    let mut outcomes = sample(rt, alloc, &spec, plan, progress)?;
     outcomes.shorten(alloc, &spec, plan.crashes, tries_for(plan))?;
-    let mut task = Text::new(alloc);
-    let held = write_task(&mut task, &spec, block, plan, &outcomes)?;
+    let mut end = Text::new(alloc);
+    let held = write_end(alloc, &mut end, &spec, block, plan, &outcomes)?;
     outcomes.sort_by_times()?;
     let name = spec.name().as_str().as_bytes();
     if let Some(number) = plan.outcome {
         let is_there = write_alone(output, name, block, &outcomes, number)?;
         return Ok(is_there);
     }
-    write_sample(output, name, block, plan, &outcomes)?;
-    output.put(task.as_bytes())?;
+    write_shown(alloc, output, &spec, block, plan, &outcomes)?;
+    output.put(end.as_bytes())?;
     Ok(held)
+}
+
+/// Writes the outcomes of a room, as text or as JSON.
+fn write_shown(
+    alloc: Global,
+    output: &mut Text,
+    spec: &Spec,
+    block: &[u8],
+    plan: &Plan,
+    outcomes: &Tally,
+) -> Result<(), AllocError>
+    ensures { OnOk result (output.new ≡ output.old ++ shown_text plan.now.json plan.now spec.now.name block.now outcomes.now) }
+{
+    let name = spec.name().as_str();
+    if plan.json {
+        return write_outcome_lines(alloc, output, name, plan, outcomes);
+    }
+    write_sample(output, name.as_bytes(), block, plan, outcomes)
+}
+
+/// Writes what is said of the room's task, or, as JSON, of the room as a whole. Gives whether the task held.
+fn write_end(
+    alloc: Global,
+    output: &mut Text,
+    spec: &Spec,
+    block: &[u8],
+    plan: &Plan,
+    outcomes: &Tally,
+) -> Result<bool, AllocError>
+    requires { sum_by (λ one. one.times) outcomes.now ≤ plan.now.schedules }
+    ensures text { OnOk result (output.new ≡ output.old ++ end_text plan.now.json plan.now spec.now block.now outcomes.now) }
+    ensures held { IfOk result (λ held. held ≡ has_held spec.now outcomes.now) }
+{
+    if plan.json {
+        write_room_line(alloc, output, spec, plan, outcomes)?;
+        return Ok(has_held(spec, outcomes));
+    }
+    write_task(output, spec, block, plan, outcomes)
 }

@@ -3,12 +3,10 @@ ghost use Rattle.std.specs.Prelude.{◌≡◌, ◌≤◌, ◌++◌, IfOk, OnOk};
 ghost use Rattle.std.specs.List.{sum_by};
 ghost use Rattle.view_sample.specs.TaskTexts.{broken_line, broken_text, has_held, held_line, of_words, task_text, times_words};
 
-use room_sample::Plan;
-use room_sample::Stretch;
-use room_sample::Tally;
 use crate::task::{first_broken, times_broken};
 use crate::text::{write_number_line, write_number_words, write_script_unless};
 use io_text::Text;
+use room_sample::{Plan, Stretch, Tally};
 use room_spec::Spec;
 use std::alloc::AllocError;
 
@@ -47,6 +45,13 @@ pub(crate) fn write_task(
             Ok(false)
         }
     }
+}
+
+/// Whether no outcome breaks the room's task.
+pub(crate) fn has_held(spec: &Spec, outcomes: &Tally) -> bool
+    ensures { result ≡ has_held spec.now outcomes.now }
+{
+    spec.task().is_none() || first_broken(spec, outcomes).is_none()
 }
 
 fn write_held(output: &mut Text, name: &[u8], plan: &Plan) -> Result<(), AllocError>

@@ -2,20 +2,18 @@
 ghost use Rattle.std.specs.Prelude.{◌≡◌, ◌-◌, ◌≤◌, ◌++◌, ◌∷◌, IfOk, OnOk, codes, decimal, is_some, slice_get};
 ghost use Rattle.std.specs.List.{flat_map};
 ghost use Rattle.room_sample.specs.Samples.{counted_of};
-ghost use Rattle.view_sample.specs.Texts.{alone_text, most_lines, new_line, new_words, number_line, number_words, outcome_text, outcome_texts, plan_line, sample_text, script_text, script_unless, shown_count, stretch_line};
+ghost use Rattle.view_sample.specs.Texts.{alone_text, count_words, most_lines, new_line, new_words, none_line, number_line, number_words, outcome_text, outcome_texts, plan_line, sample_text, script_text, script_unless, shown_count, stretch_line};
 
 use crate::counts::{most_of, once_in};
-use room_sample::Plan;
-use room_sample::Stretch;
-use room_sample::{Outcome, States, Tally};
 use io_text::Text;
 use room_files::write_block;
+use room_sample::{Outcome, Plan, States, Stretch, Tally};
 use script_play::write_processes;
 use std::alloc::AllocError;
 
 /// Writes the outcomes of the room of this name, whose block these bytes are: how often each came, and a script for `play` that
 /// leads to it.
-pub fn write_sample(
+pub(crate) fn write_sample(
     output: &mut Text,
     name: &[u8],
     block: &[u8],
@@ -79,7 +77,7 @@ fn write_outcomes(
 }
 
 /// How many outcomes are shown.
-fn shown_count(top: Option<u32>, count: usize) -> usize
+pub(crate) fn shown_count(top: Option<u32>, count: usize) -> usize
     ensures value { result ≡ shown_count top count }
     ensures few { result ≤ count }
 {
@@ -128,7 +126,7 @@ pub(crate) fn write_script_unless(
     write_script(output, name, block, schedule)
 }
 
-/// Writes the script of the outcome of this number, from 1, and nothing else. Gives whether there is one.
+/// Writes the script of the outcome of this number, from 1, and nothing else; or, if there is none, how many outcomes there are. Gives whether there is one.
 pub(crate) fn write_alone(
     output: &mut Text,
     name: &[u8],
@@ -136,14 +134,30 @@ pub(crate) fn write_alone(
     outcomes: &Tally,
     number: u32,
 ) -> Result<bool, AllocError>
-    ensures text { OnOk result (output.new ≡ output.old ++ alone_text name.now block.now (slice_get outcomes.now (number - 1))) }
+    ensures text { OnOk result (output.new ≡ output.old ++ alone_text name.now block.now outcomes.now number) }
     ensures there { IfOk result (λ there. there ≡ is_some (slice_get outcomes.now (number - 1))) }
 {
     let Some((_, outcome)) = outcomes.get(number.saturating_sub(1) as usize) else {
+        write_none(output, name, outcomes.len() as u64, number)?;
         return Ok(false);
     };
     write_script(output, name, block, outcome.schedule.as_slice())?;
     Ok(true)
+}
+
+/// Writes how many outcomes there are, none of which has this number.
+fn write_none(output: &mut Text, name: &[u8], count: u64, number: u32) -> Result<(), AllocError>
+    ensures { OnOk result (output.new ≡ output.old ++ none_line name.now count number) }
+{
+    write_count_words(output, name, count)?;
+    write_number_words(output, u64::from(number), b"\n")
+}
+
+fn write_count_words(output: &mut Text, name: &[u8], count: u64) -> Result<(), AllocError>
+    ensures { OnOk result (output.new ≡ output.old ++ count_words name.now count) }
+{
+    let things = b" outcomes, and none has the number";
+    write_number_line(output, name, b" has", count, things)
 }
 
 /// Writes a script for `play` that follows the schedule in the room of this block.

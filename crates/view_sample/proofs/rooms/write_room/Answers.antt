@@ -1,13 +1,13 @@
 use Rattle.std.proofs.Common.{◌≡◌, ◌∙◌, ◌++◌, ◌-◌, List, ℕ, Ok, arith, rules, sym, ap}
 use Rattle.std.specs.Prelude.{slice_get}
 use Rattle.room_spec.specs.Blocks.{block_in}
-use Rattle.view_sample.specs.Texts.{alone_text, sample_text}
+use Rattle.view_sample.specs.Texts.{alone_text}
 use Rattle.view_sample.proofs.RoomTexts.{sample_told, script_told}
 use Rattle.room_sample.proofs.CallerLemmas.{same_total}
 use Rattle.view_sample.proofs.rooms.write_room.Goals as goal
 
-pub write_task-requires : goal.write_task-requires
-write_task-requires g c =
+pub write_end-requires : goal.write_end-requires
+write_end-requires g c =
     let total = c.in_ok-outcomes.ensures.sample.total in
     let same = same_total c.in-Ok.spec c.args.plan.now.crashes c.in_ok-outcomes.outcomes c.shorten.new.self c.in_ok-shorten.ensures in
     omega (arith, total, same)
@@ -16,10 +16,10 @@ pub returns : goal.returns
 returns g c =
     let read : block_in c.args.block.now ≡ Ok (c.in-Ok.spec, c.in-Ok.field-0-1) = sym c.in_ok-spec.ensures.read ∙ c.in-Ok.is in
     let named : c.as_bytes-name.result.now ≡ c.in-Ok.spec.name = search rules in
-    sample_told c.args.plan.now c.args.block.now c.in-Ok.spec c.in-Ok.field-0-1 c.in_ok-outcomes.outcomes c.shorten.new.self c.sort_by_times.new.self c.in_ok-held.held c.write_task.new.output c.args.output.now c.write_sample.new.output c.put.new.self
+    sample_told c.args.plan.now c.args.block.now c.in-Ok.spec c.in-Ok.field-0-1 c.in_ok-outcomes.outcomes c.shorten.new.self c.sort_by_times.new.self c.in_ok-held.held c.write_end.new.output c.args.output.now c.write_shown.new.output c.put.new.self
     (search rules) c.shape-shape.ensures.limits read c.in_ok-outcomes.ensures.sample c.in_ok-outcomes.ensures.among c.in_ok-shorten.ensures c.sort_by_times.ensures.all c.in_ok-sort_by_times.ensures.sorted
     c.in_ok-held.ensures.held (c.in_ok-held.ensures.text ∙ ap (λ (t : List ℕ). t) (search rules))
-    (c.in_ok-write_sample.ensures ∙ ap (λ (name : List ℕ). c.args.output.now ++ sample_text name c.args.block.now c.args.plan.now c.sort_by_times.new.self) named)
+    c.in_ok-write_shown.ensures
     (search rules)
 
 pub returns-in-Some : goal.returns-in-Some
@@ -29,4 +29,4 @@ returns-in-Some g c =
     script_told c.args.plan.now c.args.block.now c.in-Ok.spec c.in-Ok.field-0-1 c.in_ok-outcomes.outcomes c.shorten.new.self c.sort_by_times.new.self c.in_ok-is_there.is_there c.in-Some.number c.args.output.now c.write_alone.new.output
     c.in-Some.is c.shape-shape.ensures.limits read c.in_ok-outcomes.ensures.sample c.in_ok-outcomes.ensures.among c.in_ok-shorten.ensures c.sort_by_times.ensures.all c.in_ok-sort_by_times.ensures.sorted
     c.in_ok-is_there.ensures.there
-    (c.in_ok-is_there.ensures.text ∙ ap (λ (name : List ℕ). c.args.output.now ++ alone_text name c.args.block.now (slice_get c.sort_by_times.new.self (c.in-Some.number - 1))) named)
+    (c.in_ok-is_there.ensures.text ∙ ap (λ (name : List ℕ). c.args.output.now ++ alone_text name c.args.block.now c.sort_by_times.new.self c.in-Some.number) named)

@@ -1,0 +1,8 @@
+use Rattle.std.proofs.Common.{◌≡◌, map, take}
+use Rattle.serde_json.specs.View.{view}
+use Rattle.view_sample.specs.Json.{process_data}
+use Rattle.view_sample.proofs.json.processes_value.Given as goal
+
+-- the states so far
+abbrev pub invariant-loop-state : goal.invariant-loop-state
+invariant-loop-state l = map view l.values.items ≡ map process_data (take l.state-index l.states)

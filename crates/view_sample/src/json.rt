@@ -1,0 +1,189 @@
+//! A sample as JSON: an object a line.
+ghost use Rattle.std.specs.Prelude.{◌≡◌, ◌≤◌, ◌++◌, false, IfOk, OnOk};
+ghost use Rattle.std.specs.List.{sum_by};
+ghost use Rattle.serde_json.specs.View.{view};
+ghost use Rattle.serde_json.specs.Written.{has_float};
+ghost use Rattle.room_sample.specs.Samples.{counted_of};
+ghost use Rattle.view_sample.specs.Json.{broken_data, json_line, outcome_data, outcome_lines, process_data, processes_data, room_data, room_line, schedule_data, schedule_unless, stretch_data};
+
+use crate::counts::{most_of, once_in};
+use crate::task::times_broken;
+use crate::text::shown_count;
+use io_text::Text;
+use room_sample::{Outcome, Plan, States, Stretch, Tally};
+use room_spec::Spec;
+use serde_json::{Value, json};
+use std::alloc::{AllocError, Global};
+use ws_history::ProcessState;
+
+/// Writes the outcomes of the room of this name, an object a line.
+pub(crate) fn write_outcome_lines(
+    alloc: Global,
+    output: &mut Text,
+    name: &str,
+    plan: &Plan,
+    outcomes: &Tally,
+) -> Result<(), AllocError>
+    ensures { OnOk result (output.new ≡ output.old ++ outcome_lines name.now plan.now outcomes.now) }
+{
+    for index in 0..shown_count(plan.top, outcomes.len()) {
+        let Some((states, outcome)) = outcomes.get(index) else {
+            unreachable!() // there is an outcome of each index below their number
+        };
+        write_outcome_line(alloc, output, name, plan.brief, states, outcome)?;
+    }
+    Ok(())
+}
+
+fn write_outcome_line(
+    alloc: Global,
+    output: &mut Text,
+    name: &str,
+    brief: bool,
+    states: &States,
+    outcome: &Outcome,
+) -> Result<(), AllocError>
+    ensures { OnOk result (output.new ≡ output.old ++ json_line (outcome_data name.now brief (counted_of (states.now, outcome.now)))) }
+{
+    let value = outcome_value(alloc, name, brief, states, outcome)?;
+    write_line(alloc, output, &value)
+}
+
+/// Writes what is said of a room and its sample as a whole, on one line.
+pub(crate) fn write_room_line(
+    alloc: Global,
+    output: &mut Text,
+    spec: &Spec,
+    plan: &Plan,
+    outcomes: &Tally,
+) -> Result<(), AllocError>
+    requires { sum_by (λ one. one.times) outcomes.now ≤ plan.now.schedules }
+    ensures { OnOk result (output.new ≡ output.old ++ room_line spec.now plan.now outcomes.now) }
+{
+    let value = room_value(alloc, spec, plan, outcomes)?;
+    write_line(alloc, output, &value)
+}
+
+/// Writes a value on a line of its own.
+fn write_line(alloc: Global, output: &mut Text, value: &Value) -> Result<(), AllocError>
+    requires { has_float (view value.now) ≡ false }
+    ensures { OnOk result (output.new ≡ output.old ++ json_line (view value.now)) }
+{
+    let bytes = value.to_vec(alloc)?;
+    output.put_two(bytes.as_slice(), b"\n")
+}
+
+/// An outcome: how often it came, the states of the processes, and a schedule that leads to it, unless that is left out.
+fn outcome_value(
+    alloc: Global,
+    name: &str,
+    brief: bool,
+    states: &States,
+    outcome: &Outcome,
+) -> Result<Value, AllocError>
+    ensures { IfOk result (λ value. view value ≡ outcome_data name.now brief (counted_of (states.now, outcome.now))) }
+{
+    let processes = processes_value(alloc, states.as_slice())?;
+    let schedule = schedule_unless(alloc, brief, outcome.schedule.as_slice())?;
+    let times = outcome.times;
+    json!(in alloc; {"processes": processes, "room": name, "schedule": schedule, "times": times})
+}
+
+/// A schedule, unless schedules are left out.
+fn schedule_unless(alloc: Global, brief: bool, schedule: &[Stretch]) -> Result<Value, AllocError>
+    ensures { IfOk result (λ value. view value ≡ schedule_unless brief schedule.now) }
+{
+    if brief {
+        return Ok(Value::Null);
+    }
+    schedule_value(alloc, schedule)
+}
+
+/// A room and its sample: the plan, and the numbers at the end of the text.
+fn room_value(
+    alloc: Global,
+    spec: &Spec,
+    plan: &Plan,
+    outcomes: &Tally,
+) -> Result<Value, AllocError>
+    requires { sum_by (λ one. one.times) outcomes.now ≤ plan.now.schedules }
+    ensures { IfOk result (λ value. view value ≡ room_data spec.now plan.now outcomes.now) }
+{
+    let name = spec.name().as_str();
+    let broken = broken_value(spec, plan, outcomes);
+    let (values, held) = most_of(outcomes);
+    let (count, once) = (outcomes.len(), once_in(outcomes));
+    let (crashes, schedules, seed) = (plan.crashes, plan.schedules, plan.seed);
+    json!(in alloc; {
+        "crashes": crashes,
+        "decided_at_most": values,
+        "held_at_most": held,
+        "once": once,
+        "outcomes": count,
+        "room": name,
+        "schedules": schedules,
+        "seed": seed,
+        "task_broken": broken
+    })
+}
+
+/// In how many schedules the room's task was broken, if it has one.
+fn broken_value(spec: &Spec, plan: &Plan, outcomes: &Tally) -> Value
+    requires { sum_by (λ one. one.times) outcomes.now ≤ plan.now.schedules }
+    ensures { view result ≡ broken_data spec.now outcomes.now }
+{
+    match spec.task() {
+        None => Value::Null,
+        Some(_) => Value::from(times_broken(spec, outcomes, plan.schedules)),
+    }
+}
+
+/// The state of a process.
+fn process_value(alloc: Global, state: ProcessState) -> Result<Value, AllocError>
+    ensures { IfOk result (λ value. view value ≡ process_data state) }
+{
+    match state {
+        ProcessState::Decided(v) => json!(in alloc; {"state": "decided", "value": v}),
+        ProcessState::Held(i) => json!(in alloc; {"by": i, "state": "held"}),
+        ProcessState::Spent => json!(in alloc; {"state": "spent"}),
+        ProcessState::Going => json!(in alloc; {"state": "going"}),
+    }
+}
+
+/// The states of processes, in order.
+fn processes_value(alloc: Global, states: &[ProcessState]) -> Result<Value, AllocError>
+    ensures { IfOk result (λ value. view value ≡ processes_data states.now) }
+{
+    let mut values = Vec::new(alloc);
+    for state in states {
+        values.push(process_value(alloc, *state)?)?;
+    }
+    Ok(Value::Array(values))
+}
+
+/// What happens in a stretch of a schedule.
+fn stretch_value(alloc: Global, stretch: &Stretch) -> Result<Value, AllocError>
+    ensures { IfOk result (λ value. view value ≡ stretch_data stretch.now) }
+{
+    match stretch {
+        Stretch::Steps { simulator, count } => {
+            let (i, steps) = (*simulator, *count);
+            json!(in alloc; {"simulator": i, "steps": steps})
+        }
+        Stretch::Crash { simulator } => {
+            let i = *simulator;
+            json!(in alloc; {"crash": true, "simulator": i})
+        }
+    }
+}
+
+/// A schedule, stretch by stretch.
+fn schedule_value(alloc: Global, schedule: &[Stretch]) -> Result<Value, AllocError>
+    ensures { IfOk result (λ value. view value ≡ schedule_data schedule.now) }
+{
+    let mut values = Vec::new(alloc);
+    for stretch in schedule {
+        values.push(stretch_value(alloc, stretch)?)?;
+    }
+    Ok(Value::Array(values))
+}
