@@ -1,6 +1,6 @@
 //! Why an event may not follow those before it.
 ghost use Rattle.std.specs.Prelude.{◌≡◌, ℕ, List, None};
-ghost use Rattle.transcript.specs.Runs.{process_of, written_by};
+ghost use Rattle.transcript.specs.Runs.{written_by};
 ghost use Rattle.history_checker.specs.Processes.{Tracks};
 ghost use Rattle.history_checker.specs.Reasons.{Breaks, IsLastWrite, IsReason};
 
@@ -66,27 +66,16 @@ pub fn reason_of(
         Rule::Process => Reason::NoProcess,
         Rule::Length => Reason::OtherLength,
         Rule::Turn => Reason::OutOfTurn {
-            next: processes[process_of(event)].could_do(spec),
+            next: processes[usize::from(event.process())].could_do(spec),
         },
         Rule::Action => Reason::OtherAction {
-            asked: processes[process_of(event)].asked(),
+            asked: processes[usize::from(event.process())].asked(),
         },
         Rule::Entry(process) => Reason::WrongEntry {
             process,
             written: last_write(before, process),
         },
         Rule::Rounds => Reason::TooManyWrites,
-    }
-}
-
-/// The number of the process whose event it is.
-fn process_of(event: &Event) -> usize
-    ensures { result ≡ process_of event.now }
-{
-    match event {
-        Event::Write { p, .. } => usize::from(*p),
-        Event::Snap { p, .. } => usize::from(*p),
-        Event::Decide { p, .. } => usize::from(*p),
     }
 }
 

@@ -54,7 +54,7 @@ impl Rooms {
         ensures processed { OnOk result ((fed : List FedEvent) → fed_to spec.name fed ≡ [] → HasProcessed self.old fed → HasProcessed self.new fed) }
         ensures err { OnErr result (self.new ≡ self.old) }
     {
-        if self.rooms.contains_key(spec.name()) {
+        if self.has(spec.name()) {
             return Err(AddFault::NameTaken);
         }
         match self.push(alloc, spec) {
@@ -63,8 +63,15 @@ impl Rooms {
         }
     }
 
-    /// Adds a room whose name no room has.
-    fn push(&mut self, alloc: Global, spec: Spec) -> Result<(), AllocError>
+    /// Whether a room has this name.
+    pub fn has(&self, name: &Name) -> bool
+        ensures { result ≡ has_room name.now (specs_of self.now) }
+    {
+        self.rooms.contains_key(name)
+    }
+
+    /// Adds a room whose name no room has, and which has no events yet. An `Err` drops the spec and changes nothing.
+    pub fn push(&mut self, alloc: Global, spec: Spec) -> Result<(), AllocError>
         requires { IsFalse (has_room spec.name (specs_of self.now)) }
         ensures added { OnOk result (specs_of self.new ≡ specs_of self.old ++ spec ∷ []) }
         ensures processed { OnOk result ((fed : List FedEvent) → fed_to spec.name fed ≡ [] → HasProcessed self.old fed → HasProcessed self.new fed) }
@@ -89,9 +96,7 @@ impl Rooms {
         let Some(index) = self.rooms.get_index_of(name) else {
             return Err(NoRoom);
         };
-        let Some(room) = self.rooms.get_index_mut(index) else {
-            unreachable!() // the name was found at this index
-        };
+        let room = &mut self.rooms[index];
         room.feed(event, line);
         Ok(())
     }
@@ -109,9 +114,7 @@ impl Rooms {
         let Some(index) = self.rooms.get_index_of(Spelled { bytes }) else {
             return Err(fault_of_stray(line));
         };
-        let Some(room) = self.rooms.get_index_mut(index) else {
-            unreachable!() // the name was found at this index
-        };
+        let room = &mut self.rooms[index];
         let _ = room.spec.name().as_str(); // for the proof: a room's name is a name
         if let Err(fault) = room.feed_line(line, number) {
             return Err(FeedFault::BadLine(fault));

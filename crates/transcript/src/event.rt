@@ -11,3 +11,18 @@ pub enum Event {
     Snap { p: u8, row: View },
     Decide { p: u8, v: u32 },
 }
+
+impl Event {
+    ghost use Rattle.std.specs.Prelude.{◌≡◌};
+    ghost use Rattle.transcript.specs.Runs.{process_of};
+
+    /// The number of the process whose event it is.
+    #[inline]
+    pub fn process(&self) -> u8
+        ensures { result ≡ process_of self.now }
+    {
+        match self {
+            Event::Write { p, .. } | Event::Snap { p, .. } | Event::Decide { p, .. } => *p,
+        }
+    }
+}

@@ -19,17 +19,17 @@ returns-clause-known c =
 
 pub invariant_of-self : goal.invariant_of-self
 invariant_of-self c =
-    IsKeyed-with_room spec_in c.self.inside.rooms.entries c.in-Some.index c.in-Some-get_index_mut.room.now c.feed.new.self (sym c.in-Some-get_index_mut.ensures.value) c.feed.ensures.spec c.self.invariant
+    IsKeyed-with_room spec_in c.self.inside.rooms.entries c.in-Some.index c.index_mut-room.result.now c.feed.new.self c.index_mut-room.ensures.value c.feed.ensures.spec c.self.invariant
 
 pub returns-clause-rooms : goal.returns-clause-rooms
 returns-clause-rooms c =
-    specs-with_room spec_in c.self.inside.rooms.entries c.in-Some.index c.in-Some-get_index_mut.room.now c.feed.new.self (sym c.in-Some-get_index_mut.ensures.value) c.feed.ensures.spec ∙ ap specs_of c.self.view_is
+    specs-with_room spec_in c.self.inside.rooms.entries c.in-Some.index c.index_mut-room.result.now c.feed.new.self c.index_mut-room.ensures.value c.feed.ensures.spec ∙ ap specs_of c.self.view_is
 
 pub returns-clause-processed : goal.returns-clause-processed
 returns-clause-processed c = λ fed processed.
-    let room = c.in-Some-get_index_mut.room.now in
+    let room = c.index_mut-room.result.now in
     let one : FedEvent = record { name = c.args.name.now; event = c.args.event.now; line = c.args.line } in
-    after-with_room spec_in IsAfter c.self.inside.rooms.entries c.in-Some.index room c.feed.new.self fed one c.self.invariant c.in-Some-get_index_mut.ensures.unique (sym c.in-Some.ensures.index) (sym c.in-Some-get_index_mut.ensures.value)
+    after-with_room spec_in IsAfter c.self.inside.rooms.entries c.in-Some.index room c.feed.new.self fed one c.self.invariant c.in-Some.ensures.unique (sym c.in-Some.ensures.index) c.index_mut-room.ensures.value
     c.feed.ensures.spec
     (c.feed.ensures.processed (fed_to room.spec.name fed) one refl refl)
     (subst (λ rooms. HasProcessed rooms fed) (sym c.self.view_is) processed)
