@@ -1,7 +1,9 @@
 -- Blocks taken one by one.
-use Rattle.std.proofs.Common.{◌≡◌, ◌∙◌, ◌==◌, ℕ, zero, suc, ◌+◌, ◌-◌, ◌<◌, ◌≤◌, Bool, true, false, List, [], ◌∷◌, ◌++◌, min, length, take, drop, decimal, Option, Some, None, Result, refl, sym, ap, subst, arith, inl, inr}
+use Rattle.std.proofs.Common.{◌≡◌, ◌∙◌, ◌==◌, ℕ, zero, suc, ◌+◌, ◌-◌, ◌<◌, ◌≤◌, Bool, true, false, List, [], ◌∷◌, ◌++◌, min, length, take, drop, decimal, Option, Some, None, Result, Ok, Err, refl, sym, ap, subst, arith, inl, inr}
 use Rattle.std.specs.Prelude.{◌⊎◌, IsOk, codes}
 use Rattle.std.specs.Option.{option_map}
+use Rattle.std.specs.Result.{OnOk, OnErr}
+use Rattle.std.specs.declared.alloc.AllocError.{AllocError}
 use Rattle.std.specs.Str.{bytes_eq}
 use Rattle.std.proofs.lemmas.Fmt.{decimal_digit, decimal_step}
 use Rattle.std.proofs.Math.Nat.{min-le_right}
@@ -55,22 +57,23 @@ step_blocks zero setup now rest later len most some within other found now_is la
 step_blocks (suc fewer) setup now rest later len most some within other found now_is later_is =
     (fewer, rw (later_is, length-drop len rest) (omega arith), rw (other, found, now_is, later_is) refl)
 
-opens : (setup : Setup) (room : RoomSpec) → has_room room.name setup.rooms ≡ true → open_room setup room ≡ refuse setup (codes "41")
-opens setup room known = rw known refl
+-- a room whose name is taken is refused
+pub refused_name : (setup : Setup) (room : RoomSpec) → has_room room.name setup.rooms ≡ true → refuse setup (codes "41") ≡ open_room setup room
+refused_name setup room known = rw known refl
 
-pub refused_name : {R : Type 0} (specs : R → List RoomSpec) (rooms after : R) (refused : List ℕ) (line : ℕ) (setup : Setup) (room : RoomSpec) (result : Setup) → record { rooms = specs rooms; refused = refused; line = line } ≡ setup
-    → after ≡ rooms → has_room room.name (specs rooms) ≡ true → result ≡ refuse (record { rooms = specs after; refused = refused; line = line }) (codes "41") → result ≡ open_room setup room
-refused_name {R} specs rooms after refused line setup room result view_is same known is =
-    is ∙ ap (λ (rs : R). refuse (record { rooms = specs rs; refused = refused; line = line }) (codes "41")) same
-    ∙ ap (λ (s : Setup). refuse s (codes "41")) view_is ∙ sym (opens setup room (subst (λ (s : Setup). has_room room.name s.rooms ≡ true) view_is known))
+-- one whose name is free is opened
+pub opened_name : (setup : Setup) (room : RoomSpec) (rooms : List RoomSpec) → has_room room.name setup.rooms ≡ false → rooms ≡ setup.rooms ++ room ∷ []
+    → record { rooms = rooms; refused = setup.refused; line = setup.line } ≡ open_room setup room
+opened_name setup room rooms free is = rw (free, is) refl
 
 -- the code of a name that is taken, as it is written
 pub taken_code : decimal 41 ≡ codes "41"
 taken_code = decimal_step 41 (omega arith) (omega arith) ∙ ap (λ digits. digits ++ 49 ∷ []) (decimal_digit 4 (omega arith))
 
--- rooms that stay as they were still have no events
-pub unfed_still : {R : Type 0} (is_unfed : R → Type 0) (rooms after : R) → after ≡ rooms → is_unfed rooms → is_unfed after
-unfed_still is_unfed rooms after same before = subst is_unfed (sym same) before
+-- rooms of which one was opened, or none, still have no events
+pub still_unfed : {R : Type 0} (is_unfed : R → Type 0) (rooms after : R) (result : Result (Unit {0}) AllocError) → OnOk result (is_unfed rooms → is_unfed after) → OnErr result (after ≡ rooms) → is_unfed rooms → is_unfed after
+still_unfed is_unfed rooms after (Ok done) unfed same before = unfed before
+still_unfed is_unfed rooms after (Err fault) unfed same before = subst is_unfed (sym same) before
 
 -- want of memory comes only behind the beginning of a block
 pub begins : (input rest : List ℕ) (len : ℕ) → (rest ≡ input) ⊎ BeginsWithBlock input → bytes_eq (first_line rest) (codes "events") ≡ false → block_len rest ≡ Some len → BeginsWithBlock input

@@ -7,9 +7,8 @@ ghost use Rattle.room_files.specs.BlockLists.{IsBlockAt, whole_block};
 
 use crate::blocks::Opens;
 use crate::spec_list::SpecList;
-use history_checker::AddFault;
 use io_text::Text;
-use room_spec::Spec;
+use room_spec::{Name, Spec};
 use std::alloc::{AllocError, Global};
 use std::marker::Model;
 
@@ -83,14 +82,12 @@ impl Opens for BlockList {
 
     ghost is_unfed = { λ list. Unit {0} };
 
-    fn open(&mut self, alloc: Global, spec: Spec, block: &[u8]) -> Result<(), AddFault> {
-        if self.rooms.has(spec.name()) {
-            return Err(AddFault::NameTaken);
-        }
-        match self.push(alloc, spec, block) {
-            Ok(()) => Ok(()),
-            Err(AllocError) => Err(AddFault::OutOfMemory),
-        }
+    fn has(&self, name: &Name) -> bool {
+        self.rooms.has(name)
+    }
+
+    fn push(&mut self, alloc: Global, spec: Spec, block: &[u8]) -> Result<(), AllocError> {
+        BlockList::push(self, alloc, spec, block)
     }
 }
 

@@ -10,13 +10,13 @@ use crate::report::{write_refused, write_refused_code};
 use history_checker::{AddFault, Rooms};
 use io_text::Text;
 use protocol_lang::ParseFault;
-use room_spec::{Block, Protocols, Spec, SpecFault, read_block};
+use room_spec::{Block, Name, Protocols, Spec, SpecFault, read_block};
 use std::alloc::{AllocError, Global};
 use std::marker::Model;
 
 /// Rooms that are opened one by one.
 pub trait Opens: Drop {
-    ghost use Rattle.std.specs.Prelude.{◌≡◌, ◌↔◌, ◌∷◌, ◌++◌, [], List, IsTrue, IsErrOf, Ok, OnOk, OnErr, length};
+    ghost use Rattle.std.specs.Prelude.{◌≡◌, ◌∷◌, ◌++◌, [], List, IsFalse, Ok, OnOk, OnErr, length};
     ghost use Rattle.room_spec.specs.Blocks.{block_in};
     ghost use Rattle.room_spec.specs.Rooms.{RoomSpec};
     ghost use Rattle.history_checker.specs.Verdicts.{has_room};
@@ -27,11 +27,14 @@ pub trait Opens: Drop {
     // None of them has an event.
     ghost is_unfed: { Self → Type 0 };
 
-    /// Opens one more, which a block of these bytes says. An `Err` drops the spec and changes nothing. It is `NameTaken` wherever
-    /// a room has this name already, and `OutOfMemory` only for a new name.
-    fn open(&mut self, alloc: Global, spec: Spec, block: &[u8]) -> Result<(), AddFault>
-        requires { block_in block.now ≡ Ok (spec, length block.now) }
-        ensures taken { IsErrOf result AddFault.NameTaken ↔ IsTrue (has_room spec.name (specs self.old)) }
+    /// Whether one of them has this name.
+    fn has(&self, name: &Name) -> bool
+        ensures { result ≡ has_room name.now (specs self.now) };
+
+    /// Opens one more, whose name none has, and which a block of these bytes says. An `Err` drops the spec and changes nothing.
+    fn push(&mut self, alloc: Global, spec: Spec, block: &[u8]) -> Result<(), AllocError>
+        requires free { IsFalse (has_room spec.name (specs self.old)) }
+        requires block { block_in block.now ≡ Ok (spec, length block.now) }
         ensures opened { OnOk result (specs self.new ≡ specs self.old ++ spec ∷ []) }
         ensures unfed { OnOk result (is_unfed self.old → is_unfed self.new) }
         ensures err { OnErr result (self.new ≡ self.old) };
@@ -45,8 +48,12 @@ impl Opens for Rooms {
 
     ghost is_unfed = { λ rooms. HasProcessed rooms [] };
 
-    fn open(&mut self, alloc: Global, spec: Spec, _block: &[u8]) -> Result<(), AddFault> {
-        self.add(alloc, spec)
+    fn has(&self, name: &Name) -> bool {
+        Rooms::has(self, name)
+    }
+
+    fn push(&mut self, alloc: Global, spec: Spec, _block: &[u8]) -> Result<(), AllocError> {
+        Rooms::push(self, alloc, spec)
     }
 }
 
@@ -152,11 +159,10 @@ impl<R: Opens, T: Refuses> Setup<R, T> {
         ensures room { OnOk result (self.new ≡ open_room self.old spec) }
         ensures line { OnOk result (self.new.line ≡ self.old.line) }
     {
-        match self.rooms.open(alloc, spec, block) {
-            Ok(()) => Ok(()),
-            Err(AddFault::OutOfMemory) => Err(AllocError),
-            Err(AddFault::NameTaken) => self.refuse(BlockFault::NameTaken, block),
+        if self.rooms.has(spec.name()) {
+            return self.refuse(BlockFault::NameTaken, block);
         }
+        self.rooms.push(alloc, spec, block)
     }
 
     /// Refuses a block of these bytes.

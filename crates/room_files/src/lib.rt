@@ -14,7 +14,7 @@ mod spec_list;
 
 pub use block_list::{BlockList, write_block};
 pub use blocks::{Opens, Refuses, Setup, read_room};
-pub use events::feed_events;
+pub use events::{TakesEvents, feed_events};
 pub use fault::{BlockFault, InputFault, TextFault};
 pub use lines::{count_lines, next_line};
 pub use outcome::{Answer, Outcome, is_well, outcome_if};

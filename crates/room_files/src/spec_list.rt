@@ -3,7 +3,6 @@ ghost use Rattle.std.specs.Prelude.{◌≡◌, ◌∷◌, ◌++◌, [], OnOk, On
 ghost use Rattle.history_checker.specs.Verdicts.{has_room};
 
 use crate::blocks::Opens;
-use history_checker::AddFault;
 use indexmap::IndexMap;
 use indexmap::map::IntoValues;
 use room_spec::{Name, Spec};
@@ -73,13 +72,11 @@ impl Opens for SpecList {
 
     ghost is_unfed = { λ list. Unit {0} };
 
-    fn open(&mut self, _alloc: Global, spec: Spec, _block: &[u8]) -> Result<(), AddFault> {
-        if self.has(spec.name()) {
-            return Err(AddFault::NameTaken);
-        }
-        match self.push(spec) {
-            Ok(()) => Ok(()),
-            Err(AllocError) => Err(AddFault::OutOfMemory),
-        }
+    fn has(&self, name: &Name) -> bool {
+        SpecList::has(self, name)
+    }
+
+    fn push(&mut self, _alloc: Global, spec: Spec, _block: &[u8]) -> Result<(), AllocError> {
+        SpecList::push(self, spec)
     }
 }

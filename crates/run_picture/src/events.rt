@@ -2,7 +2,6 @@
 ghost use Rattle.std.specs.Prelude.{◌≡◌, ◌+◌, ◌*◌, ◌++◌, ◌∷◌, ◌≤◌, IfOk, OnOk, length, min};
 ghost use Rattle.std.specs.List.{flat_map, sum_by};
 ghost use Rattle.transcript.specs.Grammar.{entry_text};
-ghost use Rattle.transcript.specs.Runs.{process_of};
 ghost use Rattle.run_picture.specs.History.{box_width, drawn_events, entries_text, event_box, event_cell, event_fill, event_ink, event_label, event_mark, event_marks, event_style, event_title, event_width, event_words, events_from, events_start, history_right};
 
 use crate::elements::{
@@ -88,7 +87,7 @@ fn write_event(
     ensures width { IfOk result (λ width. (width ≡ event_width event.now) × (width ≤ 1420)) }
 {
     let words = event_words(alloc, event)?;
-    let y = process_y(simulators, process_of(event));
+    let y = process_y(simulators, event.process());
     write_event_cell(output, x, y, event, words.as_bytes())?;
     Ok(box_width(words.as_bytes()) + 6)
 }
@@ -135,14 +134,6 @@ fn write_entry(output: &mut Text, entry: Option<u32>) -> Result<(), AllocError>
     }
 }
 
-fn process_of(event: &Event) -> u8
-    ensures { result ≡ process_of event.now }
-{
-    match event {
-        Event::Write { p, .. } | Event::Snap { p, .. } | Event::Decide { p, .. } => *p,
-    }
-}
-
 /// How wide the box of these words is.
 fn box_width(words: &[u8]) -> u64
     ensures value { result ≡ box_width words.now }
@@ -163,7 +154,7 @@ fn write_event_cell(
     requires y { y ≤ WIDE }
     ensures { OnOk result (output.new ≡ output.old ++ event_cell x y event.now words.now) }
 {
-    write_event_title(output, process_of(event), words)?;
+    write_event_title(output, event.process(), words)?;
     write_event_box(output, x, y, event, words)?;
     write_event_label(output, x, y, event, words)?;
     end_hint(output)
@@ -201,7 +192,7 @@ fn write_event_box(
         frame,
         event_style(event),
         event_fill(event),
-        hue(process_of(event)),
+        hue(event.process()),
     )
 }
 

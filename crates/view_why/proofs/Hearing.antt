@@ -1,31 +1,27 @@
 -- Lines told one by one.
-use Rattle.std.proofs.Common.{◌≡◌, ◌≢◌, ◌∙◌, inl, ℕ, suc, Bool, true, false, List, [], ◌∷◌, length, Option, Some, None, Result, Ok, Err, codes, if◌then◌else◌, refl, sym, ap}
+use Rattle.std.proofs.Common.{◌≡◌, ◌≢◌, ◌∙◌, inl, ℕ, Bool, true, false, List, [], length, Option, Some, None, Result, Ok, Err, codes, if◌then◌else◌, refl, sym, ap}
 use Rattle.std.specs.Prelude.{IsSome}
 use Rattle.std.specs.Str.{bytes_eq}
 use Rattle.room_spec.specs.Blocks.{block_len}
 use Rattle.room_spec.specs.Texts.{first_line, later_lines}
 use Rattle.room_files.specs.Lines.{text_lines}
 use Rattle.room_spec.specs.Rooms.{RoomSpec}
-use Rattle.transcript.specs.Lines.{line_in}
 use Rattle.transcript.specs.declared.event.Event.{Event}
 use Rattle.transcript.specs.declared.fault.LineFault.{LineFault}
-use Rattle.history_checker.specs.Verdicts.{FedEvent, has_room}
+use Rattle.history_checker.specs.Verdicts.{has_room}
 use Rattle.room_files.specs.Blocks.{IsFaultOr, Setup, no_blocks, pass_lines}
 use Rattle.room_files.specs.Faults.{FaultAt}
 use Rattle.room_files.specs.Inputs.{BeginsWithBlock, MayLackMemory, blocks_from, blocks_in, fed_from, input_says, next_block, of_known_room}
 use Rattle.room_files.specs.declared.fault.InputFault.{InputFault}
+use Rattle.room_files.specs.declared.fault.TextFault.TheVariants.{NoRoom}
 use Rattle.room_files.specs.declared.fault.InputFault.TheVariants.{BadInput, Memory}
-use Rattle.room_files.proofs.CallerLemmas.{fed_fault}
 
 pub known : (rooms : List RoomSpec) (line : ℕ) (said : Result (List ℕ × Event) LineFault) (read : List ℕ × Event) → said ≡ Ok read → has_room read.0 rooms ≡ true
     → of_known_room rooms line said ≡ Ok (record { name = read.0; event = read.1; line = line })
 known rooms line said read is there = rw (is, there) refl
 
--- the first fault of a line is that of all
-pub fault_told : (lacks : Type 0) (rooms : List RoomSpec) (fed : List FedEvent) (line : ℕ) (text : List ℕ) (texts : List (List ℕ)) (whole : Result (List FedEvent) FaultAt) (fault : InputFault)
-    → whole ≡ fed_from rooms fed line (text ∷ texts) → IsFaultOr lacks (of_known_room rooms line (line_in text)) fault → IsFaultOr lacks whole fault
-fault_told lacks rooms fed line text texts whole Memory is bad = bad
-fault_told lacks rooms fed line text texts whole (BadInput at wrong) is bad = is ∙ fed_fault rooms fed line text texts (at, wrong) bad
+pub unknown : (rooms : List RoomSpec) (line : ℕ) (said : Result (List ℕ × Event) LineFault) (read : List ℕ × Event) → said ≡ Ok read → has_room read.0 rooms ≡ false → of_known_room rooms line said ≡ Err (line, NoRoom)
+unknown rooms line said read is none = rw (is, none) refl
 
 -- where a room is, there are rooms
 pub has_some : (name : List ℕ) (rooms : List RoomSpec) → has_room name rooms ≡ true → rooms ≢ []

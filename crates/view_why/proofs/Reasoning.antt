@@ -1,5 +1,5 @@
 -- A line of a room's events, and why it breaks its run or its task, behind a text.
-use Rattle.std.proofs.Common.{◌≡◌, ◌∙◌, ℕ, List, [], ◌∷◌, ◌++◌, Some, None, ap, refl, sym}
+use Rattle.std.proofs.Common.{◌≡◌, ◌∙◌, ℕ, List, [], ◌∷◌, ◌++◌, Some, None, ap, sym}
 use Rattle.std.specs.Prelude.{codes, slice_get, Result, Ok, Err, OnOk}
 use Rattle.std.proofs.lemmas.List.{append-nil, append_assoc}
 use Rattle.transcript.specs.declared.event.Event.{Event}

@@ -13,13 +13,14 @@ ghost use Rattle.view_why.specs.Why.{IsBecause, IsExcessSaid, IsExplanation, IsE
 
 use crate::excess::write_excess_words;
 use crate::reasons::write_reason;
-use crate::rooms::{ToldRooms, tell_events};
+use crate::rooms::ToldRooms;
 use crate::told::{Excess, LineBreak, Told};
 use fault_text::{Refusals, write_indented};
 use history_checker::{TaskVerdict, Verdict};
 use io_text::Text;
 use room_files::{
-    Answer, InputFault, Setup, is_well, outcome_if, read_blocks, write_task, write_verdict,
+    Answer, InputFault, Setup, feed_events, is_well, outcome_if, read_blocks, write_task,
+    write_verdict,
 };
 use room_spec::Spec;
 use std::alloc::{AllocError, Global};
@@ -39,7 +40,7 @@ pub fn explain(alloc: Global, input: &[u8]) -> Result<Answer, InputFault>
         refused,
         line,
     } = setup;
-    tell_events(&mut rooms, line, transcript)?;
+    feed_events(&mut rooms, line, transcript)?;
     Ok(answer_of(alloc, input, &rooms, &refused)?)
 }
 

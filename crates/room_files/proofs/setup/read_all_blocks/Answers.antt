@@ -1,4 +1,4 @@
-use Rattle.std.proofs.Common.{◌≡◌, ◌∙◌, ◌+◌, ◌<◌, ◌≤◌, ℕ, List, Result, Ok, Err, length, refl, subst, sym, ap, arith, rules}
+use Rattle.std.proofs.Common.{◌≡◌, ◌∙◌, ◌+◌, ◌≤◌, ℕ, List, Result, Ok, Err, length, refl, subst, sym, ap, arith, rules}
 use Rattle.std.specs.Prelude.{IfErr}
 use Rattle.room_files.specs.Blocks.{after_block, or_all}
 use Rattle.room_files.proofs.BlockEnds.{positive_len}

@@ -15,18 +15,18 @@ pub returns-clause-output : goal.returns-clause-output
 returns-clause-output c =
     let setup : Setup = record { rooms = specs_of c.setup.inside.rooms; refused = flat_map refusal_line c.setup.inside.refused; line = c.setup.inside.line } in
     let transcript = c.in_ok-setup.transcript.now in
-    let told = c.in_ok-tell_events.ensures.told in
+    let told = c.in_ok-feed_events.ensures.fed in
     let answer = c.in_ok-answer_of.field-0 in (
       setup,
       told.0,
       says (blocks_in c.args.input.now) setup transcript told.0 (c.in_ok-setup.ensures.read ∙ ap (λ (s : Setup). Ok (s, transcript)) (sym c.setup.view_is)) told.1,
-      subst (λ (rooms : List RoomSpec). IsExplanation c.args.input.now rooms setup.refused told.0 answer.outcome answer.output) c.in_ok-tell_events.ensures.rooms (c.in_ok-answer_of.ensures told.0 told.2),
+      subst (λ (rooms : List RoomSpec). IsExplanation c.args.input.now rooms setup.refused told.0 answer.outcome answer.output) c.in_ok-feed_events.ensures.rooms (c.in_ok-answer_of.ensures told.0 told.2),
     )
 
-pub returns-in_err-tell_events-clause-err : goal.returns-in_err-tell_events-clause-err
-returns-in_err-tell_events-clause-err c =
+pub returns-in_err-feed_events-clause-err : goal.returns-in_err-feed_events-clause-err
+returns-in_err-feed_events-clause-err c =
     let setup : Setup = record { rooms = specs_of c.setup.inside.rooms; refused = flat_map refusal_line c.setup.inside.refused; line = c.setup.inside.line } in
     let transcript = c.in_ok-setup.transcript.now in
-    let p = err_from_is_err_and c.from_residual-in_err-tell_events.result c.from_residual-in_err-tell_events.ensures.1 in
+    let p = err_from_is_err_and c.from_residual-in_err-feed_events.result c.from_residual-in_err-feed_events.ensures.1 in
     rw (p.1, p.2)
-    (events_fault c.args.input.now setup transcript c.in_err-tell_events.field-0.0 (c.in_ok-setup.ensures.read ∙ ap (λ (s : Setup). Ok (s, transcript)) (sym c.setup.view_is)) c.in_err-tell_events.ensures.err)
+    (events_fault c.args.input.now setup transcript c.in_err-feed_events.field-0.0 (c.in_ok-setup.ensures.read ∙ ap (λ (s : Setup). Ok (s, transcript)) (sym c.setup.view_is)) c.in_err-feed_events.ensures.err)

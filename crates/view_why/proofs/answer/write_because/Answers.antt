@@ -1,6 +1,6 @@
 use Rattle.view_why.specs.Why.{IsBecause}
 use Rattle.transcript.specs.Grammar.{event_line}
-use Rattle.std.proofs.Common.{◌≡◌, refl, sym}
+use Rattle.std.proofs.Common.{refl, sym}
 use Rattle.view_why.specs.Words.{reason_words}
 use Rattle.view_why.proofs.Reasoning.{never, two_lines}
 use Rattle.view_why.proofs.answer.write_because.Goals as goal

@@ -1,4 +1,4 @@
-use Rattle.std.proofs.Common.{◌≡◌, ◌∙◌, ◌++◌, List, ap, refl, sym}
+use Rattle.std.proofs.Common.{◌∙◌, ◌++◌, List, ap, refl, sym}
 use Rattle.transcript.specs.Grammar.{event_line}
 use Rattle.view_why.specs.Told.{ToldRoom}
 use Rattle.view_why.specs.Why.{IsExcessSaid}

@@ -1,16 +1,21 @@
-use Rattle.std.proofs.Common.{Err, ap}
+use Rattle.std.proofs.Common.{◌≡◌, ◌∙◌, ℕ, List, false, true, sym, ap}
 use Rattle.indexmap.proofs.MapLemmas.{OnOk-map}
-use Rattle.room_files.proofs.BlockSteps.{refused_name, unfed_still}
+use Rattle.history_checker.specs.Verdicts.{has_room}
+use Rattle.room_files.specs.Blocks.{Setup, open_room}
+use Rattle.room_files.proofs.BlockSteps.{opened_name, refused_name, still_unfed}
 use Rattle.room_files.proofs.blocks.Setup.open_room.Goals as goal
 
+pub returns-clause-room : goal.returns-clause-room
+returns-clause-room g c =
+    let rooms = g.R.Opens.specs c.self.inside.rooms in
+    let free : has_room c.args.spec.name rooms ≡ false = ap (λ (name : List ℕ). has_room name rooms) (sym c.name.ensures) ∙ sym c.if-has.ensures in
+    let setup : Setup = record { rooms = rooms; refused = g.T.Refuses.lines c.self.inside.refused; line = c.self.inside.line } in
+    OnOk-map c.push.result _ _ (λ opened. opened_name setup c.args.spec (g.R.Opens.specs c.push.new.self) free opened ∙ ap (λ (s : Setup). open_room s c.args.spec) c.self.view_is) c.push.ensures.opened
+
+pub returns-then-has-clause-room : goal.returns-then-has-clause-room
+returns-then-has-clause-room g c =
+    let known : has_room c.args.spec.name c.args.self.now.rooms ≡ true = ap (λ (s : Setup). has_room c.args.spec.name s.rooms) (sym c.self.view_is) ∙ ap (λ (name : List ℕ). has_room name (g.R.Opens.specs c.self.inside.rooms)) (sym c.name.ensures) ∙ sym c.if-has.ensures in
+    OnOk-map c.refuse.result _ _ (λ refused. refused ∙ refused_name c.args.self.now c.args.spec known) c.refuse.ensures.refused
+
 pub invariant_of-self : goal.invariant_of-self
-invariant_of-self g c = c.in-Ok.ensures.unfed c.self.invariant
-
-pub returns-in-Err-NameTaken-clause-room : goal.returns-in-Err-NameTaken-clause-room
-returns-in-Err-NameTaken-clause-room g c =
-    OnOk-map c.refuse.result _ _
-    (λ is. refused_name g.R.Opens.specs c.self.inside.rooms c.open.new.self _ c.self.inside.line c.args.self.now c.args.spec c.refuse.new.self c.self.view_is c.in-Err-NameTaken.ensures.err (c.in-Err-NameTaken.ensures.taken.0 (ap Err c.in-Err-NameTaken.field-0-is)) is)
-    c.refuse.ensures.refused
-
-pub invariant_of-self-in-Err-NameTaken : goal.invariant_of-self-in-Err-NameTaken
-invariant_of-self-in-Err-NameTaken g c = unfed_still g.R.Opens.is_unfed c.self.inside.rooms c.open.new.self c.in-Err-NameTaken.ensures.err c.self.invariant
+invariant_of-self g c = still_unfed g.R.Opens.is_unfed c.self.inside.rooms c.push.new.self c.push.result c.push.ensures.unfed c.push.ensures.err c.self.invariant
