@@ -1,9 +1,9 @@
 -- What calls for steps leave of a room, and how many steps they take.
-use Rattle.std.proofs.Common.{◌≡◌, ℕ, zero, suc, ◌+◌, ◌-◌, ◌<◌, ◌≤◌, Bool, true, false, cond, List, [], ◌∷◌, length, refl, ap, ◌∙◌, arith}
+use Rattle.std.proofs.Common.{◌≡◌, ℕ, zero, suc, ◌+◌, ◌-◌, ◌<◌, ◌≤◌, Bool, true, false, cond, [], ◌∷◌, length, refl, ap, ◌∙◌, arith}
 use Rattle.room_core.specs.declared.reply.StepReply.{StepReply}
 use Rattle.room_core.specs.declared.reply.StepReply.TheVariants as steps
 use Rattle.room_core.specs.Calls.{RoomState, room_after_step, room_after_steps, step_reply}
-use Rattle.room_core.specs.Observing.{TakenStep, is_stepped, steps_of_steps}
+use Rattle.room_core.specs.Observing.{is_stepped, steps_of_steps}
 use Rattle.service_core.specs.declared.reply.Reply.TheVariants.{Steps}
 use Rattle.service_core.specs.Rooms.{room_stepped}
 

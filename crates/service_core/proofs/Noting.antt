@@ -1,13 +1,13 @@
 -- Notes of a room's schedule go on over the commands to it.
-use Rattle.std.proofs.Common.{◌≡◌, ◌≢◌, ℕ, zero, suc, Bool, true, false, cond, leb, List, [], ◌∷◌, ◌++◌, Option, Some, None, refl, sym, ap, subst}
+use Rattle.std.proofs.Common.{◌≡◌, ℕ, zero, suc, Bool, true, false, cond, leb, List, [], ◌∷◌, ◌++◌, Some, refl, sym, subst}
 use Rattle.std.proofs.lemmas.Bool.{leb-false}
 use Rattle.std.proofs.lemmas.List.{append-nil}
 use Rattle.std.specs.Prelude.{◌||◌}
 use Rattle.simulator.specs.declared.sweep.Ready.{Ready}
 use Rattle.simulator.specs.declared.sweep.Ready.TheVariants as ready
 use Rattle.room_core.specs.Calls.{RoomState, configuration_of, has_crashed, marked, ready_at, reply_when, room_after_settle, room_after_step, room_when, step_reply}
-use Rattle.room_core.specs.Rooms.{Configuration, ScheduleEvent, crashes}
-use Rattle.room_core.specs.Observing.{AreSeen, Follow, TakenStep, is_stepped, steps_of_settling, steps_of_steps}
+use Rattle.room_core.specs.Rooms.{ScheduleEvent, crashes}
+use Rattle.room_core.specs.Observing.{AreSeen, Follow, is_stepped, steps_of_settling, steps_of_steps}
 use Rattle.room_core.specs.declared.reply.StepReply.{StepReply}
 use Rattle.room_core.specs.declared.reply.StepReply.TheVariants.{Stepped, Idle, OutOfTurns, Crashed, NoSimulator}
 use Rattle.room_core.proofs.CallerLemmas.{settling_follows, woken_data}
@@ -15,7 +15,7 @@ use Rattle.ws_history.specs.Notes.{AreNotesOf, IsNoted, Notes}
 use Rattle.ws_history.proofs.CallerLemmas.{crash_noted, seen_noted}
 use Rattle.service_core.specs.declared.command.Command.{Command}
 use Rattle.service_core.specs.declared.command.Command.TheVariants as commands
-use Rattle.service_core.specs.Rooms.{crash_of, events_by, room_left, room_stepped, steps_of}
+use Rattle.service_core.specs.Rooms.{events_by, room_left, room_stepped, steps_of}
 
 -- ---- calls for steps
 

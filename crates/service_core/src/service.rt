@@ -124,9 +124,7 @@ impl Service {
         let Some(index) = self.rooms.get_index_of(Spelled { bytes: name }) else {
             return Err(Refusal::NoRoom);
         };
-        let Some(core) = self.rooms.get_index_mut(index) else {
-            unreachable!() // the index was found just now
-        };
+        let core = &mut self.rooms[index];
         let _ = core.spec().name().as_str(); // for the proof: a room's name is a name
         step(core, sim, count)
     }
@@ -213,10 +211,7 @@ impl Service {
         let Some(index) = self.rooms.get_index_of(name) else {
             return Reply::Refused(Refusal::NoRoom);
         };
-        let Some(room) = self.rooms.get_index_mut(index) else {
-            unreachable!() // the index was found just now
-        };
-        answer(room, what, observer)
+        answer(&mut self.rooms[index], what, observer)
     }
 
     /// Closes the room of this name, if there is one.
