@@ -8,12 +8,12 @@ ghost use Rattle.fault_text.specs.Phrases.{form_fault};
 
 use crate::choices::write_choices;
 use crate::hints::{NO_BLOCK, write_advice, write_token_hints, write_unknown_hints};
-use crate::lines::{line_at, split_line, split_text, write_indented};
+use crate::lines::{line_at, split_text, write_indented};
 use crate::phrases::write_form_fault;
 use crate::places::{last_line, write_heading, write_place};
 use io_text::Text;
 use protocol_lang::ParseFault;
-use room_files::BlockFault;
+use room_files::{BlockFault, split_line};
 use room_spec::SpecFault;
 use std::alloc::{AllocError, Global};
 

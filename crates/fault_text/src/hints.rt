@@ -4,10 +4,11 @@ ghost use Rattle.std.specs.List.{prefix_len, starts_with};
 ghost use Rattle.fault_text.specs.Hints.{advice, blank_advice, differs_once, end_advice, first_word, hint, is_letter, is_one_edit, is_swapped, letters_of, line_hints, meaning, meaning_or_near, near_hint, near_to, near_word, near_words, nearest, no_word, shape_hints, token_hints, unknown_hints, word_hints};
 ghost use Rattle.fault_text.specs.Lines.{indented};
 
-use crate::lines::{split_line, split_text, write_indented};
+use crate::lines::{split_text, write_indented};
 use crate::phrases::word_len;
 use crate::places::is_blank;
 use io_text::Text;
+use room_files::split_line;
 use std::alloc::AllocError;
 
 /// What may help with a line of a block, a script or a transcript, by the bytes at the place where it leaves its form: a line of

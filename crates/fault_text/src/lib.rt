@@ -13,7 +13,7 @@ mod strangers;
 
 pub use blocks::{HEAD_LINES, later_line, program_of, write_block_fault, write_program_place};
 pub use hints::{NO_COMMAND, NO_EVENT, write_advice};
-pub use lines::{line_at, split_line, write_indented};
+pub use lines::{line_at, write_indented};
 pub use phrases::{COMMANDS, EVENTS, write_form_fault};
 pub use places::{write_heading, write_place};
 pub use refusals::{ENOUGH, MOST_EXPLAINED, Refusals, RefusedBlock};

@@ -4,7 +4,7 @@ ghost use Rattle.room_spec.specs.Texts.{first_line, later_lines};
 ghost use Rattle.fault_text.specs.Lines.{behind_lines, indented, line_at};
 
 use io_text::Text;
-use room_spec::cut;
+use room_files::split_line;
 use std::alloc::AllocError;
 
 /// Writes a line after another, for people.
@@ -32,18 +32,6 @@ pub(crate) fn behind_lines(text: &[u8], lines: u64) -> &[u8]
         (_, rest) = split_line(rest);
     }
     rest
-}
-
-/// The first line of a text, and what comes after it.
-pub fn split_line(text: &[u8]) -> (&[u8], &[u8])
-    ensures first { result.0.now ≡ first_line text.now }
-    ensures later { result.1.now ≡ later_lines text.now }
-    ensures shorter { 0 < length text.now → length result.1.now < length text.now }
-{
-    match cut(text, b'\n') {
-        (line, Some(later)) => (line, later),
-        (line, None) => (line, &[]),
-    }
 }
 
 /// What comes before a place of a text, and what comes after it.

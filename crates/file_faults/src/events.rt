@@ -9,12 +9,12 @@ ghost use Rattle.file_faults.specs.Walks.{left_after, said_if_left};
 
 use crate::walk::write_part;
 use fault_text::{
-    EVENTS, MOST_EXPLAINED, NO_EVENT, Refusals, Strangers, later_line, split_line, write_advice,
+    EVENTS, MOST_EXPLAINED, NO_EVENT, Refusals, Strangers, later_line, write_advice,
     write_form_fault, write_place,
 };
 use history_checker::NoRoom;
 use io_text::Text;
-use room_files::SpecList;
+use room_files::{SpecList, split_line};
 use room_spec::Name;
 use std::alloc::{AllocError, Global};
 use std::marker::Model;

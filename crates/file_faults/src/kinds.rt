@@ -6,9 +6,8 @@ ghost use Rattle.file_faults.specs.Kinds.{AreFaultsOf, begins_with_command, has_
 
 use crate::files::{room_faults, transcript_faults};
 use crate::scripts::script_faults;
-use fault_text::split_line;
 use io_text::Text;
-use room_files::next_line;
+use room_files::{next_line, split_line};
 use script_play::read_command;
 use std::alloc::{AllocError, Global};
 

@@ -8,11 +8,11 @@ ghost use Rattle.file_faults.specs.Walks.{left_after, said_if_left};
 
 use crate::walk::write_part;
 use fault_text::{
-    COMMANDS, MOST_EXPLAINED, NO_COMMAND, later_line, split_line, write_advice, write_block_fault,
+    COMMANDS, MOST_EXPLAINED, NO_COMMAND, later_line, write_advice, write_block_fault,
     write_form_fault,
 };
 use io_text::Text;
-use room_files::{TextFault, count_lines, read_room, write_refused};
+use room_files::{TextFault, count_lines, read_room, split_line, write_refused};
 use room_spec::{SpecFault, block_len};
 use script_play::read_command;
 use std::alloc::{AllocError, Global};

@@ -5,9 +5,9 @@ ghost use Rattle.file_faults.specs.Warnings.{block_warnings, file_warnings, next
 
 use crate::scripts::{begins_with_block, block_extent, block_in_front};
 use crate::walk::write_part;
-use fault_text::{MOST_EXPLAINED, later_line, split_line};
+use fault_text::{MOST_EXPLAINED, later_line};
 use io_text::Text;
-use room_files::{count_lines, read_room};
+use room_files::{count_lines, read_room, split_line};
 use room_warnings::write_warnings;
 use std::alloc::{AllocError, Global};
 

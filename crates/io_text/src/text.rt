@@ -1,5 +1,6 @@
 //! Text that grows at its end.
 ghost use Rattle.std.specs.Prelude.{◌≡◌, ◌+◌, ◌<◌, ◌≤◌, ◌^◌, ◌==◌, [], ◌∷◌, ◌++◌, ◌⊎◌, OnErr, OnOk, decimal, length, slice_range, take};
+ghost use Rattle.io_text.specs.Numbers.{numbers_text};
 
 use itoa::write_digits;
 use std::alloc::{AllocError, Global};
@@ -137,6 +138,16 @@ impl Text {
         let mut bytes = [0; 48];
         let start = write_spaced(value, &mut bytes);
         self.put_spaced(&bytes, start)
+    }
+
+    /// Appends each number after a space to the text.
+    pub fn put_numbers(&mut self, numbers: &[u8]) -> Result<(), AllocError>
+        ensures { OnOk result (self.new ≡ self.old ++ numbers_text numbers.now) }
+    {
+        for number in numbers {
+            self.put_number(u64::from(*number))?;
+        }
+        Ok(())
     }
 
     /// Appends a space and a number, whose text is there, to the text. An `Err` leaves it as it was.

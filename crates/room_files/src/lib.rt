@@ -16,7 +16,7 @@ pub use block_list::{BlockList, write_block};
 pub use blocks::{Opens, Refuses, Setup, read_room};
 pub use events::{TakesEvents, feed_events};
 pub use fault::{BlockFault, InputFault, TextFault};
-pub use lines::{count_lines, next_line};
+pub use lines::{count_lines, next_line, split_line};
 pub use outcome::{Answer, Outcome, is_well, outcome_if};
 pub use report::{write_refused, write_refused_code, write_task, write_verdict};
 pub use setup::{read_all_blocks, read_blocks};

@@ -3,14 +3,14 @@ use Rattle.std.specs.Prelude.{ℕ, ◌^◌, ◌&&◌, ◌||◌, Bool, false, Lis
 use Rattle.std.specs.List.{prefix_len, starts_with}
 use Rattle.std.specs.Option.{option_map}
 use Rattle.protocol_lang.specs.Numbers.{is_digit, number_of}
-use Rattle.room_warnings.specs.Words.{behind, behind_blanks}
+use Rattle.room_warnings.specs.Words.{after_byte, after_blanks}
 
 abbrev pub is_call : List ℕ → Bool
 is_call text = starts_with nat_eq text (codes "cell") || starts_with nat_eq text (codes "seen")
 
 -- what comes after the parenthesis after the word with which a text begins
 abbrev pub argument : List ℕ → List ℕ
-argument text = behind_blanks (behind 40 (behind_blanks (drop 4 text)))
+argument text = after_blanks (after_byte 40 (after_blanks (drop 4 text)))
 
 abbrev pub digits_in : List ℕ → ℕ
 digits_in text = prefix_len is_digit text
@@ -24,7 +24,7 @@ abbrev pub is_beyond : ℕ → List ℕ → Bool
 is_beyond n digits = is_no_process n (option_map (λ number. min number (2 ^ 32)) (number_of digits))
 
 abbrev pub is_closed : List ℕ → Bool
-is_closed text = starts_with nat_eq (behind_blanks text) (codes ")")
+is_closed text = starts_with nat_eq (after_blanks text) (codes ")")
 
 -- the text begins with `cell(K)` or `seen(K)`, and K is the number of no process of a room of n
 abbrev pub calls_none : ℕ → List ℕ → Bool

@@ -8,13 +8,13 @@ is_blank byte = byte == 32 || byte == 10
 abbrev pub blanks_in : List ℕ → ℕ
 blanks_in text = prefix_len is_blank text
 
-abbrev pub behind_blanks : List ℕ → List ℕ
-behind_blanks text = drop (blanks_in text) text
+abbrev pub after_blanks : List ℕ → List ℕ
+after_blanks text = drop (blanks_in text) text
 
 -- what comes after this byte, with which a text begins; nothing if it doesn't
-abbrev pub behind : ℕ → List ℕ → List ℕ
-behind byte [] = []
-behind byte (first ∷ rest) = if first == byte then rest else []
+abbrev pub after_byte : ℕ → List ℕ → List ℕ
+after_byte byte [] = []
+after_byte byte (first ∷ rest) = if first == byte then rest else []
 
 -- a word is in a text: no word of the language is a part of another one that is looked for
 unfoldable pub has_word : List ℕ → List ℕ → Bool

@@ -2,7 +2,7 @@
 ghost use Rattle.std.specs.Prelude.{◌≡◌, ◌≤◌, drop, length, nat_eq, take};
 ghost use Rattle.room_warnings.specs.Calls.{argument, calls_none, digits_in, is_beyond, is_call, is_closed};
 
-use crate::words::{behind, behind_blanks};
+use crate::words::{after_blanks, after_byte};
 use protocol_lang::read_number;
 
 /// Whether a text begins with `cell(K)` or `seen(K)` where K is the number of no process of a room of `n`.
@@ -24,7 +24,7 @@ fn is_call(text: &[u8]) -> bool
 fn argument(text: &[u8]) -> &[u8]
     ensures { result.now ≡ argument text.now }
 {
-    behind_blanks(behind(b'(', behind_blanks(after_word(text))))
+    after_blanks(after_byte(b'(', after_blanks(after_word(text))))
 }
 
 fn after_word(text: &[u8]) -> &[u8]
@@ -53,5 +53,5 @@ fn is_beyond(n: usize, digits: &[u8]) -> bool
 fn is_closed(text: &[u8]) -> bool
     ensures { result ≡ is_closed text.now }
 {
-    behind_blanks(text).starts_with(b")")
+    after_blanks(text).starts_with(b")")
 }

@@ -1,7 +1,7 @@
 //! Words and symbols of a protocol's text that has no fault.
 ghost use Rattle.std.specs.Prelude.{◌≡◌, ◌≤◌, drop, length, nat_eq, take};
 ghost use Rattle.std.specs.List.{starts_with};
-ghost use Rattle.room_warnings.specs.Words.{behind, behind_blanks, blanks_in, has_word, is_blank};
+ghost use Rattle.room_warnings.specs.Words.{after_byte, after_blanks, blanks_in, has_word, is_blank};
 
 pub(crate) fn is_blank(byte: u8) -> bool
     ensures { result ≡ is_blank byte }
@@ -18,15 +18,15 @@ fn blanks_in(text: &[u8]) -> usize
 }
 
 /// What comes after the blanks with which a text begins.
-pub(crate) fn behind_blanks(text: &[u8]) -> &[u8]
-    ensures { result.now ≡ behind_blanks text.now }
+pub(crate) fn after_blanks(text: &[u8]) -> &[u8]
+    ensures { result.now ≡ after_blanks text.now }
 {
     &text[blanks_in(text)..]
 }
 
 /// What comes after this byte, with which a text begins; nothing if it doesn't.
-pub(crate) fn behind(byte: u8, text: &[u8]) -> &[u8]
-    ensures { result.now ≡ behind byte text.now }
+pub(crate) fn after_byte(byte: u8, text: &[u8]) -> &[u8]
+    ensures { result.now ≡ after_byte byte text.now }
 {
     match text {
         [first, rest @ ..] if *first == byte => rest,

@@ -1,6 +1,7 @@
 -- The lines of replies.
 use Rattle.std.specs.Prelude.{ℕ, List, ◌++◌, length, map, slice_index_or, codes, decimal}
 use Rattle.std.specs.List.{concat, flat_map, range_with_len}
+use Rattle.io_text.specs.Numbers.{numbers_text}
 use Rattle.room_core.specs.declared.reply.StepReply.{StepReply}
 use Rattle.room_core.specs.declared.reply.StepReply.TheVariants as steps
 use Rattle.room_core.specs.declared.reply.CrashReply.{CrashReply}
@@ -29,10 +30,6 @@ process_line name process state = name ++ (codes " process " ++ (decimal process
 
 abbrev pub process_lines : List ℕ → List ProcessState → List ℕ
 process_lines name states = concat (map (λ process. process_line name process (slice_index_or states process Going)) (range_with_len 0 (length states)))
-
--- a space and a number for each
-abbrev pub numbers_text : List ℕ → List ℕ
-numbers_text numbers = flat_map (λ number. codes " " ++ decimal number) numbers
 
 abbrev pub event_lines : List ℕ → List Event → List ℕ
 event_lines name events = flat_map (λ event. event_line name event ++ codes "\n") events

@@ -6,7 +6,8 @@ ghost use Rattle.service_core.specs.Replies.{refusal_code};
 ghost use Rattle.protocol_lang.specs.declared.meaning.TheConstants.{MAX_PROCESSES};
 ghost use Rattle.transcript.specs.Grammar.{entry_text, event_line};
 ghost use Rattle.script_play.specs.Play.{refusal_in};
-ghost use Rattle.script_play.specs.ReplyTexts.{crash_word, event_lines, numbers_text, process_line, process_lines, reply_text, report_text, sim_in, state_text, step_word};
+ghost use Rattle.io_text.specs.Numbers.{numbers_text};
+ghost use Rattle.script_play.specs.ReplyTexts.{crash_word, event_lines, process_line, process_lines, reply_text, report_text, sim_in, state_text, step_word};
 
 use io_text::{Numeral, Text};
 use room_core::{CrashReply, StepReply};
@@ -155,18 +156,8 @@ fn write_crashed(output: &mut Text, name: &[u8], crashed: &[u8]) -> Result<(), A
     ensures { OnOk result (output.new ≡ output.old ++ (name.now ++ (codes " crashed" ++ (numbers_text crashed.now ++ codes "\n")))) }
 {
     output.put_two(name, b" crashed")?;
-    write_numbers(output, crashed)?;
+    output.put_numbers(crashed)?;
     output.put(b"\n")
-}
-
-/// Writes each number after a space.
-fn write_numbers(output: &mut Text, numbers: &[u8]) -> Result<(), AllocError>
-    ensures { OnOk result (output.new ≡ output.old ++ numbers_text numbers.now) }
-{
-    for number in numbers {
-        output.put_number(u64::from(*number))?;
-    }
-    Ok(())
 }
 
 fn write_count(output: &mut Text, name: &[u8], count: usize) -> Result<(), AllocError>
