@@ -1,6 +1,7 @@
 -- What there is to see at an atomic step: the word that was loaded or written, decoded.
 use Rattle.std.specs.Prelude.{ℕ, ◌+◌, ◌-◌, List, [], ◌∷◌, ◌++◌, Option, Some, None, map, replicate, slice_set, codes, decimal, ◌==◌, if◌then◌else◌}
-use Rattle.std.specs.List.{concat, flat_map, range_with_len}
+use Rattle.std.specs.List.{concat, range_with_len}
+use Rattle.io_text.specs.Numbers.{numbers_text}
 use Rattle.room_spec.specs.Rooms.{RoomSpec, processes}
 use Rattle.room_spec.specs.Sizes.{sizes_in}
 use Rattle.room_spec.specs.declared.spec.TheConstants.{MAX_MEMORY_WORDS}
@@ -38,9 +39,6 @@ abbrev pub raised_text : ℕ → List ℕ
 raised_text number = (32 ∷ decimal number) ++ behind (codes " to") (number + 1)
 
 -- ---- levels
-
-abbrev pub numbers_text : List ℕ → List ℕ
-numbers_text numbers = flat_map (λ number. 32 ∷ decimal number) numbers
 
 abbrev pub chosen_text : Option ℕ → List ℕ
 chosen_text None = codes ": not resolved"

@@ -1,6 +1,6 @@
 //! What there is to see at an atomic step.
 ghost use Rattle.std.specs.Prelude.{◌≡◌, ◌<◌, ◌^◌, ◌++◌, OnOk, codes, length, if◌then◌else◌};
-ghost use Rattle.std.specs.List.{flat_map, range_with_len};
+ghost use Rattle.std.specs.List.{range_with_len};
 ghost use Rattle.room_spec.specs.Rooms.{processes};
 ghost use Rattle.room_spec.specs.Sizes.{memory_words, sizes_in};
 ghost use Rattle.view_table.specs.Places.{IsPlace};
@@ -8,7 +8,7 @@ ghost use Rattle.room_spec.specs.declared.spec.TheConstants.{MAX_MEMORY_WORDS};
 ghost use Rattle.level_cells.specs.Fields.{level_of, levels_of};
 ghost use Rattle.sim_memory.specs.Steps.{step_in};
 ghost use Rattle.step_words.specs.Lines.{IsStepIn};
-ghost use Rattle.step_words.specs.Sights.{added_text, chosen_text, entered_text, entry_text, levels_say, levels_text, loaded_text, memory_with, numbers_text, raised_text};
+ghost use Rattle.step_words.specs.Sights.{added_text, chosen_text, entered_text, entry_text, levels_say, levels_text, loaded_text, memory_with, raised_text};
 ghost use Rattle.step_words.specs.Sights.{row_text, shown_in, sight_text, withdrawn_text, written_text};
 
 use crate::pieces::{write_between, write_number};
@@ -147,7 +147,7 @@ fn write_levels(output: &mut Text, spec: &Spec, line: Line, word: u64) -> Result
     ensures { OnOk result (output.new ≡ output.old ++ levels_text line (levels_of word spec.now.simulators)) }
 {
     output.put(b" levels")?;
-    write_numbers(output, levels(word, spec.m()).as_slice())?;
+    output.put_numbers(levels(word, spec.m()).as_slice())?;
     match line {
         Line::Look => write_standing(output, has_level(word, spec.m(), 2)),
         _ => write_chosen(output, resolved_in(word, spec.m())),
@@ -176,16 +176,6 @@ fn write_chosen(output: &mut Text, chosen: Option<usize>) -> Result<(), AllocErr
             b" is chosen",
         ),
     }
-}
-
-/// Writes each number after a space.
-fn write_numbers(output: &mut Text, numbers: &[u8]) -> Result<(), AllocError>
-    ensures { OnOk result (output.new ≡ output.old ++ numbers_text numbers.now) }
-{
-    for number in numbers {
-        output.put_number(u64::from(*number))?;
-    }
-    Ok(())
 }
 
 /// The memory words of a room, of which this one alone is known.
