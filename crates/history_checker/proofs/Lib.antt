@@ -7,6 +7,7 @@ mod Showing
 mod Feeding
 pub mod CallerLemmas
 mod NamedRooms
+mod Judged
 mod RoomLists
 mod SaidLines
 mod Rows

@@ -5,4 +5,5 @@ mod Explaining
 mod Hearing
 mod Reasoning
 mod RoomLists
+mod Running
 mod Telling

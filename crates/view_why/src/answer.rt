@@ -14,6 +14,7 @@ ghost use Rattle.view_why.specs.Why.{IsBecause, IsExcessSaid, IsExplanation, IsE
 use crate::excess::write_excess_words;
 use crate::reasons::write_reason;
 use crate::rooms::ToldRooms;
+use crate::runs::explain_runs;
 use crate::told::{Excess, LineBreak, Told};
 use fault_text::{Refusals, write_indented};
 use history_checker::{TaskVerdict, Verdict};
@@ -31,6 +32,18 @@ pub fn explain(alloc: Global, input: &[u8]) -> Result<Answer, InputFault>
     requires { length input.now ≤ most_bytes }
     ensures output { IfOk result (λ answer. IsExplanationFor input.now answer.outcome answer.output) }
     // Memory is allocated for a block, and for the answer to an input that has no fault.
+    ensures err { IfErr result (IsFaultOr (MayLackMemory input.now) (input_says input.now)) }
+{
+    match explain_runs(alloc, input)? {
+        Some(answer) => Ok(answer),
+        None => explain_rooms(alloc, input),
+    }
+}
+
+/// The same, with the events of all rooms kept.
+fn explain_rooms(alloc: Global, input: &[u8]) -> Result<Answer, InputFault>
+    requires { length input.now ≤ most_bytes }
+    ensures output { IfOk result (λ answer. IsExplanationFor input.now answer.outcome answer.output) }
     ensures err { IfErr result (IsFaultOr (MayLackMemory input.now) (input_says input.now)) }
 {
     let setup = Setup::new(ToldRooms::new(alloc), Refusals::new(alloc));

@@ -5,6 +5,7 @@ mod answer;
 mod excess;
 mod reasons;
 mod rooms;
+mod runs;
 mod told;
 
 pub use answer::explain;

@@ -1,4 +1,3 @@
-use Rattle.std.proofs.Common.{◌≡◌}
 use Rattle.bgsim_console.specs.Endings.{done, refused}
 use Rattle.bgsim_console.proofs.status.Goals as goal
 

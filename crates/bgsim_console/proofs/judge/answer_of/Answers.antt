@@ -3,7 +3,8 @@ use Rattle.std.specs.Prelude.{slice_get}
 use Rattle.std.proofs.lemmas.List.{append_assoc}
 use Rattle.history_checker.specs.Verdicts.{specs_of}
 use Rattle.room_files.specs.Reports.{task_line, verdict_line}
-use Rattle.bgsim_console.proofs.Verdicts.{none_yet, one_more, all_judged, room_judged, task_judged, never_none, never_nameless, name_there}
+use Rattle.history_checker.proofs.CallerLemmas.{name_there, room_judged, task_judged}
+use Rattle.bgsim_console.proofs.Verdicts.{none_yet, one_more, all_judged, never_none, never_nameless}
 use Rattle.bgsim_console.proofs.judge.answer_of.Goals.{in_default-via-in-Some+in_default, in_default-via-in_default}
 use Rattle.bgsim_console.proofs.judge.answer_of.Goals as goal
 

@@ -9,7 +9,7 @@ use Rattle.view_why.specs.Why.{IsExplanation}
 use Rattle.std.proofs.lemmas.Result.{err_from_is_err_and}
 use Rattle.view_why.proofs.Explaining.{says}
 use Rattle.view_why.proofs.Hearing.{events_fault}
-use Rattle.view_why.proofs.answer.explain.Goals as goal
+use Rattle.view_why.proofs.answer.explain_rooms.Goals as goal
 
 pub returns-clause-output : goal.returns-clause-output
 returns-clause-output c =
