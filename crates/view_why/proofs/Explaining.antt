@@ -4,7 +4,7 @@ use Rattle.std.specs.Prelude.{slice_get, Result, Ok, Err, IsOk}
 use Rattle.std.specs.List.{All, AllByRecursion, flat_map, list_all}
 use Rattle.std.proofs.lemmas.Grind.{flat_map-append}
 use Rattle.std.proofs.lemmas.List.{append-nil, append_assoc, map_push, take_all}
-use Rattle.std.proofs.lemmas.List.Elements.{All-from_recursion, All-push, recursion_from_All}
+use Rattle.std.proofs.lemmas.List.Elements.{All-from_recursion, All-nil, All-push, recursion_from_All}
 use Rattle.std.proofs.lemmas.List.Folds.{list_all-append}
 use Rattle.std.proofs.lemmas.Option.{slice_get_within, get_or_from_slice_get}
 use Rattle.std.proofs.Math.Seq.{take-suc}
@@ -58,6 +58,9 @@ and_true false = refl
 and_assoc : (a b c : Bool) → ((a && b) && c) ≡ (a && (b && c))
 and_assoc true b c = refl
 and_assoc false b c = refl
+
+pub none_yet : (rooms : List RoomSpec) (start refused : List ℕ) (fed : List FedEvent) (well : Bool) → well ≡ (length refused == 0) → SoFar rooms start refused fed 0 start well
+none_yet rooms start refused fed well is = ([], refl, All-nil (IsExplained fed), sym (append-nil start), is ∙ and_true (length refused == 0))
 
 well_more : (all : List Explained) (one : Explained) → (list_all (λ (o : Judged). is_well o.verdict o.task) (map (λ (o : Explained). o.judged) all) && is_well one.judged.verdict one.judged.task)
     ≡ list_all (λ (o : Judged). is_well o.verdict o.task) (map (λ (o : Explained). o.judged) (all ++ one ∷ []))

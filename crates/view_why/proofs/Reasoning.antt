@@ -1,12 +1,8 @@
 -- A line of a room's events, and why it breaks its run or its task, behind a text.
-use Rattle.std.proofs.Common.{◌≡◌, ◌∙◌, ℕ, List, [], ◌∷◌, ◌++◌, Some, None, ap, sym}
-use Rattle.std.specs.Prelude.{codes, slice_get, Result, Ok, Err, OnOk}
+use Rattle.std.proofs.Common.{◌≡◌, ◌∙◌, ℕ, List, [], ◌∷◌, ◌++◌, ap, sym}
+use Rattle.std.specs.Prelude.{codes, Result, Ok, Err, OnOk}
 use Rattle.std.proofs.lemmas.List.{append-nil, append_assoc}
-use Rattle.transcript.specs.declared.event.Event.{Event}
 use Rattle.fault_text.specs.Lines.{indented, indented_all}
-
-pub never : (events : List Event) (at : ℕ) (event : Event) → None ≡ slice_get events at → slice_get events at ≡ Some event → ⊥
-never events at event none some = let bad = none ∙ some in absurd cc
 
 -- two lines behind a text, the second piece by piece
 pieces : (start first second : List ℕ) → (((start ++ indented first) ++ codes "    ") ++ second) ++ codes "\n" ≡ start ++ indented_all (first ∷ second ∷ [])

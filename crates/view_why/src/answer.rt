@@ -70,10 +70,7 @@ fn answer_of(
     let mut output = Text::new(alloc);
     refusals.write(alloc, &mut output, input)?;
     let mut all_well = refusals.is_empty();
-    for index in 0..rooms.len() {
-        let Some(told) = rooms.get(index) else {
-            unreachable!() // there is a room of each index below their number
-        };
+    for told in rooms.iter() {
         all_well &= write_room(alloc, &mut output, told)?;
     }
     Ok(Answer {
@@ -146,9 +143,7 @@ fn write_because(
     requires { IsLineBreak told.now broken }
     ensures { OnOk result ((notes : List (List ℕ)) × IsBecause told.now broken.line notes × (output.new ≡ output.old ++ indented_all notes)) }
 {
-    let Some(event) = told.event(broken.at) else {
-        unreachable!() // it breaks the run
-    };
+    let event = told.event(broken.at);
     write_event_line(alloc, output, told, event)?;
     output.put(b"    ")?;
     write_reason(output, event, broken.reason, broken.earlier)?;
@@ -180,9 +175,7 @@ fn write_excess(
     requires { IsExcess told.now excess }
     ensures { OnOk result ((notes : List (List ℕ)) × IsExcessSaid told.now excess.line notes × (output.new ≡ output.old ++ indented_all notes)) }
 {
-    let Some(event) = told.event(excess.at) else {
-        unreachable!() // it breaks the task
-    };
+    let event = told.event(excess.at);
     write_event_line(alloc, output, told, event)?;
     let before = told.decided_before(alloc, excess.at)?;
     output.put(b"    ")?;

@@ -1,6 +1,5 @@
 //! A reason in words.
 ghost use Rattle.std.specs.Prelude.{◌≡◌, ◌++◌, OnOk, codes};
-ghost use Rattle.transcript.specs.Runs.{process_of};
 ghost use Rattle.view_why.specs.Words.{action_words, entry_words, lacking_words, line_words, next_words, process_words, reason_words};
 ghost use Rattle.view_why.specs.Words.{shown_of, shown_words, written_words};
 
@@ -19,7 +18,7 @@ pub fn write_reason(
 ) -> Result<(), AllocError>
     ensures { OnOk result (output.new ≡ output.old ++ reason_words event.now reason earlier) }
 {
-    let owner = process_of(event);
+    let owner = u64::from(event.process());
     match reason {
         Reason::NoProcess => write_of_process(output, b"the room has no process", owner, b""),
         Reason::OtherLength => output.put(b"the snapshot hasn't one entry for each process"),
@@ -41,17 +40,6 @@ pub fn write_reason(
             owner,
             b" has made all its writes",
         ),
-    }
-}
-
-/// The number of the process whose event it is.
-fn process_of(event: &Event) -> u64
-    ensures { result ≡ process_of event.now }
-{
-    match event {
-        Event::Write { p, .. } => u64::from(*p),
-        Event::Snap { p, .. } => u64::from(*p),
-        Event::Decide { p, .. } => u64::from(*p),
     }
 }
 

@@ -7,6 +7,7 @@ ghost use Rattle.view_why.specs.Told.{AreTold, specs_of};
 
 use crate::told::Told;
 use indexmap::IndexMap;
+use indexmap::map::Values;
 use room_files::{InputFault, Opens, TakesEvents, TextFault};
 use room_spec::{Name, Spec};
 use std::alloc::{AllocError, Global};
@@ -63,19 +64,11 @@ impl ToldRooms {
         Ok(())
     }
 
-    /// How many rooms there are.
-    pub fn len(&self) -> usize
-        ensures { result ≡ length self.now }
+    /// The rooms, in order of adding.
+    pub fn iter(&self) -> Values<'_, Name, Told>
+        ensures { result ≡ self.now }
     {
-        self.rooms.len()
-    }
-
-    /// The room of this index, from 0 in order of adding, or `None` if there is none.
-    pub fn get(&self, index: usize) -> Option<&Told>
-        ensures { option_map (λ told. told.now) result ≡ slice_get self.now index }
-    {
-        let (_, told) = self.rooms.get_index(index)?;
-        Some(told)
+        self.rooms.values()
     }
 }
 

@@ -1,5 +1,5 @@
 //! A room, and what a transcript says of it.
-ghost use Rattle.std.specs.Prelude.{◌≡◌, ◌↔◌, ◌+◌, ◌<◌, ◌≤◌, ◌==◌, ◌∷◌, ◌++◌, [], ℕ, Some, IsOk, IfErr, IfOk, Err, OnOk, OnErr, length, option_map, slice_get};
+ghost use Rattle.std.specs.Prelude.{◌≡◌, ◌↔◌, ◌+◌, ◌<◌, ◌≤◌, ◌==◌, ◌∷◌, ◌++◌, [], ℕ, Some, IsOk, IfErr, IfOk, Err, OnOk, OnErr, length, slice_get};
 ghost use Rattle.std.specs.List.{list_any};
 ghost use Rattle.transcript.specs.Runs.{IsRun};
 ghost use Rattle.transcript.specs.Tasks.{KeepsOwnTask};
@@ -107,11 +107,12 @@ impl Told {
         }
     }
 
-    /// The event of this index, from 0, or `None` if there is none.
-    pub fn event(&self, at: usize) -> Option<&Event>
-        ensures { option_map (λ event. event.now) result ≡ slice_get self.now.events at }
+    /// The event of this index, from 0.
+    pub fn event(&self, at: usize) -> &Event
+        requires { at < length self.now.events }
+        ensures { slice_get self.now.events at ≡ Some result.now }
     {
-        self.events.get(at)
+        &self.events[at]
     }
 
     /// Whether the decisions keep the room's task, if it has one. Else the first event that decides what the task doesn't allow.

@@ -1,28 +1,52 @@
-use Rattle.std.proofs.Common.{◌≡◌, ◌∙◌, ◌≤◌, Some, subst, sym}
-use Rattle.std.specs.Prelude.{slice_get}
-use Rattle.std.proofs.lemmas.List.{length-map}
-use Rattle.history_checker.specs.Verdicts.{fed_to}
+use Rattle.std.proofs.Common.{◌≡◌, ◌∙◌, ◌++◌, ◌∷◌, ◌&&◌, [], ℕ, List, length, ap, subst, sym}
 use Rattle.std.specs.List.{flat_map}
+use Rattle.std.proofs.lemmas.List.{append_assoc}
+use Rattle.history_checker.specs.Verdicts.{fed_to}
+use Rattle.history_checker.proofs.CallerLemmas.{after_there, spec_there}
 use Rattle.fault_text.specs.Refusals.{refusal_line, said_refusals}
-use Rattle.view_why.specs.Told.{ToldRoom, specs_of}
-use Rattle.view_why.proofs.Explaining.{all_said, one_more}
-use Rattle.history_checker.proofs.CallerLemmas.{spec_there, after_there}
-use Rattle.view_why.proofs.RoomLists.{spec_in}
-use Rattle.view_why.specs.Told.{IsTold}
+use Rattle.view_why.specs.Told.{IsTold, ToldRoom, specs_of}
+use Rattle.view_why.proofs.Explaining.{SoFar, all_said, none_yet, one_more}
+use Rattle.view_why.proofs.RoomLists.{all_done, one_done, room_there, spec_in}
 use Rattle.view_why.proofs.answer.answer_of.Goals as goal
 
-pub loop-index-preserved : goal.loop-index-preserved
-loop-index-preserved c = λ fed told.
+pub loop-told-init : goal.loop-told-init
+loop-told-init c =
+    let start = said_refusals c.args.input.now c.args.refusals.now in
+    let refused = flat_map refusal_line c.args.refusals.now in
+    let specs = specs_of c.args.rooms.now in
+    let written : c.write.new.output ≡ start = c.in_ok-write.ensures ∙ ap (λ (text : List ℕ). text ++ start) c.new-output.ensures in (
+      tt,
+      tt,
+      [],
+      sym (c.into_iter-told-iterator.ensures.into_iter_gives ∙ c.iter-told-items.ensures),
+      λ fed told. subst (λ (text : List ℕ). SoFar specs start refused fed 0 text c.is_empty-all_well.result) (sym written) (none_yet specs start refused fed c.is_empty-all_well.result c.is_empty-all_well.ensures),
+    )
+
+pub loop-told-preserved : goal.loop-told-preserved
+loop-told-preserved c =
+    let start = said_refusals c.args.input.now c.args.refusals.now in
+    let refused = flat_map refusal_line c.args.refusals.now in
     let rooms = c.args.rooms.now in
+    let specs = specs_of rooms in
+    let done = c.loop-told.invariant.2 in
     let room = c.in-Some.told.now in
-    let there : slice_get rooms c.loop-index.index ≡ Some room = sym c.in-Some.ensures in
-    one_more (specs_of rooms) (said_refusals c.args.input.now c.args.refusals.now) (flat_map refusal_line c.args.refusals.now) fed c.loop-index.index c.loop-index.output c.loop-index.all_well room.spec c.write_room.new.output c.in_ok-all_well.field-0
-    (c.loop-index.invariant fed told) (spec_there spec_in rooms c.loop-index.index room there)
-    (c.in_ok-all_well.ensures (fed_to room.spec.name fed) (after_there spec_in IsTold rooms fed c.loop-index.index room there told))
+    let rest = c.next.new.self in
+    let split : rooms ≡ done ++ room ∷ rest = c.loop-told.invariant.3 ∙ ap (λ (left : List ToldRoom). done ++ left) c.in-Some.ensures.steps in
+    let there = room_there rooms done rest room split in (
+      tt,
+      tt,
+      done ++ room ∷ [],
+      split ∙ sym (append_assoc done (room ∷ []) rest),
+      λ fed told.
+          subst (λ (count : ℕ). SoFar specs start refused fed count c.write_room.new.output (c.loop-told.all_well && c.in_ok-all_well.field-0)) (one_done done room)
+          (one_more specs start refused fed (length done) c.loop-told.output c.loop-told.all_well room.spec c.write_room.new.output c.in_ok-all_well.field-0
+          (c.loop-told.invariant.4 fed told) (spec_there spec_in rooms (length done) room there)
+          (c.in_ok-all_well.ensures (fed_to room.spec.name fed) (after_there spec_in IsTold rooms fed (length done) room there told))),
+    )
 
 pub returns : goal.returns
 returns c = λ fed told.
     let rooms = c.args.rooms.now in
-    let count = c.len-index-end.ensures ∙ sym (length-map rooms (λ (room : ToldRoom). room.spec)) in
-    all_said c.args.input.now c.args.refusals.now (specs_of rooms) fed c.loop-index.index c.loop-index.output c.loop-index.all_well c.outcome_if.result
-    (subst (λ n. n ≤ c.loop-index.index) count c.loop-index-test.false) c.outcome_if.ensures (c.loop-index.invariant fed told)
+    let done = c.loop-told.invariant.2 in
+    all_said c.args.input.now c.args.refusals.now (specs_of rooms) fed (length done) c.loop-told.output c.loop-told.all_well c.outcome_if.result
+    (all_done rooms done (c.loop-told.invariant.3 ∙ ap (λ (left : List ToldRoom). done ++ left) c.in-None.ensures.steps.0)) c.outcome_if.ensures (c.loop-told.invariant.4 fed told)
