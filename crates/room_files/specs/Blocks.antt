@@ -97,7 +97,3 @@ ReadsBlock block (Err fault) = block_in block ≡ Err fault
 abbrev pub IsFaultOr : {A : Type 0} → Type 0 → Result A FaultAt → InputFault → Type 0
 IsFaultOr memory read (BadInput line fault) = read ≡ Err (line, fault)
 IsFaultOr memory read Memory = memory
-
--- nothing takes memory there
-abbrev pub IsFaultOf : {A : Type 0} → Result A FaultAt → InputFault → Type 0
-IsFaultOf read fault = IsFaultOr ⊥ read fault

@@ -1,8 +1,6 @@
 //! The rooms of a transcript, each with what it says of them.
-ghost use Rattle.std.specs.Prelude.{◌≡◌, ◌<◌, ◌∷◌, ◌++◌, [], List, IfSome, IsFalse, OnErr, OnOk, Some, is_some, length, option_map, slice_get};
-ghost use Rattle.std.specs.List.{position};
-ghost use Rattle.std.specs.Str.{bytes_eq};
-ghost use Rattle.history_checker.specs.Verdicts.{FedEvent, has_room, names_of};
+ghost use Rattle.std.specs.Prelude.{◌≡◌, ◌∷◌, ◌++◌, [], IsFalse, OnErr, OnOk};
+ghost use Rattle.history_checker.specs.Verdicts.{has_room};
 ghost use Rattle.view_why.specs.Told.{AreTold, specs_of};
 
 use crate::told::Told;
@@ -12,7 +10,7 @@ use room_files::{InputFault, Opens, TakesEvents, TextFault};
 use room_spec::{Name, Spec};
 use std::alloc::{AllocError, Global};
 use std::marker::Model;
-use transcript::{Event, EventLine};
+use transcript::EventLine;
 
 /// Rooms in order of adding, each with its events in a transcript.
 #[derive(Drop)]
