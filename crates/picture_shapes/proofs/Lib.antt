@@ -1,0 +1,3 @@
+mod Attributing
+mod Elements
+mod WellFormed

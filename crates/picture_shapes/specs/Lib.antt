@@ -1,0 +1,4 @@
+pub mod Attributes
+pub mod Shapes
+pub mod Svg
+pub mod Xml
