@@ -1,4 +1,5 @@
 pub mod Attributes
+pub mod Places
 pub mod Shapes
 pub mod Svg
 pub mod Xml

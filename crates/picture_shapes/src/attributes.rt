@@ -9,7 +9,11 @@ use itoa::write_digits;
 use std::alloc::AllocError;
 
 /// Writes a number alone.
-pub(crate) fn write_decimal(output: &mut Text, value: u64) -> Result<(), AllocError>
+///
+/// # Errors
+///
+/// If an allocation fails.
+pub fn write_decimal(output: &mut Text, value: u64) -> Result<(), AllocError>
     ensures { OnOk result (output.new ≡ output.old ++ decimal value) }
 {
     let mut digits = [0; 20];

@@ -8,6 +8,7 @@ mod shape;
 mod sheet;
 mod svg;
 
+pub use attributes::write_decimal;
 pub use colour::Colour;
 pub use shape::{Anchor, Dashes, Face, Font, Frame, Point, Shape};
 pub use sheet::Sheet;

@@ -1,4 +1,6 @@
 //! The shapes of a picture.
+ghost use Rattle.std.specs.Prelude.{◌≡◌};
+ghost use Rattle.picture_shapes.specs.Places.{frame_at, moved};
 
 use crate::colour::Colour;
 use io_text::Text;
@@ -17,6 +19,32 @@ pub struct Frame {
     pub y: u64,
     pub width: u64,
     pub height: u64,
+}
+
+impl Point {
+    /// The point this far to the right and down. Coordinates stop at the greatest number.
+    pub fn moved(self, right: u64, down: u64) -> Point
+        ensures { result ≡ moved self right down }
+    {
+        Point {
+            x: self.x.saturating_add(right),
+            y: self.y.saturating_add(down),
+        }
+    }
+}
+
+impl Frame {
+    /// The area of these sizes that begins at a point.
+    pub fn at(start: Point, width: u64, height: u64) -> Frame
+        ensures { result ≡ frame_at start width height }
+    {
+        Frame {
+            x: start.x,
+            y: start.y,
+            width,
+            height,
+        }
+    }
 }
 
 /// Whether a line has gaps.

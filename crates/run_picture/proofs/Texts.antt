@@ -1,4 +1,4 @@
--- Texts made of pieces.
+-- Lists made of pieces, one for each number.
 use Rattle.std.proofs.Common.{◌≡◌, ◌∙◌, ℕ, ◌+◌, List, [], ◌∷◌, ◌++◌, sym, ap, arith}
 use Rattle.std.specs.List.{flat_map, range_with_len}
 use Rattle.std.proofs.lemmas.List.{append-nil, append_assoc, map-id}
@@ -9,13 +9,13 @@ numbers_more : (i : ℕ) → range_with_len 0 (i + 1) ≡ range_with_len 0 i ++ 
 numbers_more i =
     sym (map-id (range_with_len 0 (i + 1))) ∙ map-range_with_len_more (λ k. k) 0 i i (omega arith) ∙ ap (λ (r : List ℕ). r ++ i ∷ []) (map-id (range_with_len 0 i))
 
-one_more : (text : ℕ → List ℕ) (i : ℕ) → flat_map text (range_with_len 0 (i + 1)) ≡ flat_map text (range_with_len 0 i) ++ text i
-one_more text i =
+one_more : {A : Type 0} (text : ℕ → List A) (i : ℕ) → flat_map text (range_with_len 0 (i + 1)) ≡ flat_map text (range_with_len 0 i) ++ text i
+one_more {A} text i =
     ap (flat_map text) (numbers_more i) ∙ flat_map-append text (range_with_len 0 i) (i ∷ [])
-    ∙ ap (λ (t : List ℕ). flat_map text (range_with_len 0 i) ++ t) (append-nil (text i))
+    ∙ ap (λ (t : List A). flat_map text (range_with_len 0 i) ++ t) (append-nil (text i))
 
 -- one piece more behind those of the first numbers
-pub piece_more : (text : ℕ → List ℕ) (start before after : List ℕ) (i : ℕ) → before ≡ start ++ flat_map text (range_with_len 0 i) → after ≡ before ++ text i
+pub piece_more : {A : Type 0} (text : ℕ → List A) (start before after : List A) (i : ℕ) → before ≡ start ++ flat_map text (range_with_len 0 i) → after ≡ before ++ text i
     → after ≡ start ++ flat_map text (range_with_len 0 (i + 1))
-piece_more text start before after i so_far more =
-    more ∙ ap (λ (b : List ℕ). b ++ text i) so_far ∙ append_assoc start (flat_map text (range_with_len 0 i)) (text i) ∙ ap (λ (t : List ℕ). start ++ t) (sym (one_more text i))
+piece_more {A} text start before after i so_far more =
+    more ∙ ap (λ (b : List A). b ++ text i) so_far ∙ append_assoc start (flat_map text (range_with_len 0 i)) (text i) ∙ ap (λ (t : List A). start ++ t) (sym (one_more text i))

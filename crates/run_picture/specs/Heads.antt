@@ -3,9 +3,13 @@ use Rattle.std.specs.Prelude.{◌≡◌, ℕ, ◌==◌, nat_le, List, [], ◌∷
 use Rattle.std.specs.List.{flat_map}
 use Rattle.protocol_lang.specs.Printing.{printed}
 use Rattle.room_spec.specs.Rooms.{RoomSpec}
+use Rattle.picture_shapes.specs.declared.colour.Colour.TheVariants.{Faint, Ink}
+use Rattle.picture_shapes.specs.declared.shape.Shape.{Shape}
+use Rattle.picture_shapes.specs.declared.shape.Shape.TheVariants.{Label}
 use Rattle.run_picture.specs.declared.head.Head.{Head}
-use Rattle.run_picture.specs.Elements.{counted, escaped_byte, label, label_start, label_end}
-use Rattle.run_picture.specs.declared.elements.TheConstants.{FAINT, INK}
+use Rattle.run_picture.specs.declared.layout.TheConstants.{MARGIN}
+use Rattle.run_picture.specs.declared.fonts.TheConstants.{CODE, TITLE, WORDS}
+use Rattle.run_picture.specs.Words.{counted}
 
 -- what is known of a room's spec: its name, its numbers and its protocol's shortest text
 pub record IsHeadOf (spec : RoomSpec) (head : Head) : Type 0 where
@@ -29,12 +33,15 @@ unfoldable pub numbers_words : ℕ → ℕ → List ℕ
 numbers_words simulators rounds =
     codes ", " ++ (counted simulators (codes " simulator") (codes " simulators") ++ (codes ", " ++ counted rounds (codes " round") (codes " rounds")))
 
+unfoldable pub room_words : Head → List ℕ
+room_words head = processes_words head.inputs.items ++ numbers_words head.simulators head.rounds
+
 -- each rule of the protocol has a space after it
 abbrev pub protocol_byte : ℕ → List ℕ
-protocol_byte byte = if byte == 59 then codes "; " else escaped_byte byte
+protocol_byte byte = if byte == 59 then codes "; " else byte ∷ []
 
-unfoldable pub protocol_words : List ℕ → List ℕ
-protocol_words text = flat_map protocol_byte text
+unfoldable pub all_rules : List ℕ → List ℕ
+all_rules text = flat_map protocol_byte text
 
 -- of a protocol with a long text only the beginning is shown
 unfoldable pub shown_part : List ℕ → List ℕ
@@ -43,18 +50,12 @@ shown_part text = take 200 text
 unfoldable pub rest_words : List ℕ → List ℕ
 rest_words text = if nat_le (length text) 200 then [] else codes " .."
 
-unfoldable pub name_line : List ℕ → List ℕ
-name_line name = label (record { x = 16; y = 26 }) (codes " font-size=\"16\" font-weight=\"600\"") INK.now name
+unfoldable pub protocol_words : List ℕ → List ℕ
+protocol_words text = all_rules (shown_part text) ++ rest_words text
 
-unfoldable pub numbers_line : Head → List ℕ
-numbers_line head =
-    label_start (record { x = 16; y = 44 }) [] FAINT.now ++ (processes_words head.inputs.items ++ (numbers_words head.simulators head.rounds ++ label_end))
-
-unfoldable pub protocol_start : List ℕ
-protocol_start = label_start (record { x = 16; y = 61 }) (codes " font-size=\"11\" font-family=\"monospace\"") FAINT.now
-
-unfoldable pub protocol_line : List ℕ → List ℕ
-protocol_line text = protocol_start ++ (protocol_words (shown_part text) ++ (rest_words text ++ label_end))
-
-unfoldable pub head_lines : Head → List ℕ
-head_lines head = name_line head.name ++ (numbers_line head ++ protocol_line (string_bytes head.protocol))
+unfoldable pub head_shapes : Head → List Shape
+head_shapes head =
+    Label (record { x = MARGIN; y = 26 }) TITLE Ink head.name
+    ∷ Label (record { x = MARGIN; y = 44 }) WORDS Faint (room_words head)
+    ∷ Label (record { x = MARGIN; y = 61 }) CODE Faint (protocol_words (string_bytes head.protocol))
+    ∷ []

@@ -7,10 +7,28 @@ use Rattle.transcript.specs.Grammar.{entry_text}
 use Rattle.transcript.specs.Runs.{process_of}
 use Rattle.ws_history.specs.declared.states.ProcessState.{ProcessState}
 use Rattle.ws_history.specs.declared.states.ProcessState.TheVariants.{Decided, Spent, Held, Going}
-use Rattle.run_picture.specs.Elements.{hint_start, hint_middle, hint_end, hue_of, label, label_start, label_end, line_right, rectangle}
-use Rattle.run_picture.specs.Layout.{left, process_y}
+use Rattle.picture_shapes.specs.declared.colour.Colour.{Colour}
+use Rattle.picture_shapes.specs.declared.colour.Colour.TheVariants.{Alarm, Faint, Hue, Ink, Rule, White}
+use Rattle.picture_shapes.specs.declared.shape.Dashes.TheVariants.{Long, Solid}
+use Rattle.picture_shapes.specs.declared.shape.Point.{Point}
+use Rattle.picture_shapes.specs.declared.shape.Shape.{Shape}
+use Rattle.picture_shapes.specs.declared.shape.Shape.TheVariants.{Area, Hint, Label, Line}
+use Rattle.picture_shapes.specs.Places.{frame_at, moved}
+use Rattle.run_picture.specs.declared.fonts.TheConstants.{EVENT, WORDS}
+use Rattle.run_picture.specs.declared.layout.Grid.{Grid}
+use Rattle.run_picture.specs.declared.layout.TheConstants.{LEFT, MARGIN}
+use Rattle.run_picture.specs.Layout.{row_y, rows}
 use Rattle.run_picture.specs.Words.{process_name, simulator_name}
-use Rattle.run_picture.specs.declared.elements.TheConstants.{ALARM, FAINT, INK, RULE, WHITE}
+
+-- ---- places
+
+-- the upper end of what the processes did, below the simulators
+unfoldable pub history_y : Grid → ℕ
+history_y grid = row_y grid (rows grid) + 12
+
+-- the left and upper end of a process's lane, at this x
+unfoldable pub process_at : Grid → ℕ → ℕ → Point
+process_at grid x process = record { x = x; y = history_y grid + 16 + 40 * process }
 
 -- ---- events
 
@@ -31,88 +49,78 @@ abbrev pub event_width : Event → ℕ
 event_width event = box_width (event_words event) + 6
 
 -- a decision is filled, and a snapshot has round ends
-unfoldable pub event_fill : Event → List ℕ
-event_fill (Write p v) = WHITE.now
-event_fill (Snap p row) = WHITE.now
-event_fill (Decide p v) = hue_of p
+abbrev pub event_fill : Event → Colour
+event_fill (Write p v) = White
+event_fill (Snap p row) = White
+event_fill (Decide p v) = Hue p
 
-unfoldable pub event_ink : Event → List ℕ
-event_ink (Write p v) = INK.now
-event_ink (Snap p row) = INK.now
-event_ink (Decide p v) = WHITE.now
+abbrev pub event_ink : Event → Colour
+event_ink (Write p v) = Ink
+event_ink (Snap p row) = Ink
+event_ink (Decide p v) = White
 
-unfoldable pub event_style : Event → List ℕ
-event_style (Write p v) = codes " rx=\"3\""
-event_style (Snap p row) = codes " rx=\"11\""
-event_style (Decide p v) = codes " rx=\"3\""
+abbrev pub event_corner : Event → ℕ
+event_corner (Write p v) = 3
+event_corner (Snap p row) = 11
+event_corner (Decide p v) = 3
 
-unfoldable pub event_title : ℕ → List ℕ → List ℕ
-event_title process words = hint_start ++ (process_name process ++ (codes ": " ++ (words ++ hint_middle)))
+unfoldable pub event_hint : ℕ → List ℕ → List ℕ
+event_hint process words = process_name process ++ (codes ": " ++ words)
 
-unfoldable pub event_box : ℕ → ℕ → Event → List ℕ → List ℕ
-event_box x y event words =
-    rectangle (record { x = x; y = y; width = box_width words; height = 22 }) (event_style event) (event_fill event) (hue_of (process_of event))
+-- an event with these words, from this point on
+unfoldable pub event_box : Point → Event → List ℕ → List Shape
+event_box start event words =
+    Area (frame_at start (box_width words) 22) (event_corner event) (event_fill event) (Hue (process_of event)) Solid
+    ∷ Label (moved start (box_width words / 2) 15) EVENT (event_ink event) words
+    ∷ Hint (frame_at start (box_width words) 22) (event_hint (process_of event) words)
+    ∷ []
 
-unfoldable pub event_label : ℕ → ℕ → Event → List ℕ → List ℕ
-event_label x y event words = label (record { x = x + box_width words / 2; y = y + 15 }) [] (event_ink event) words
-
-unfoldable pub event_cell : ℕ → ℕ → Event → List ℕ → List ℕ
-event_cell x y event words =
-    event_title (process_of event) words ++ (event_box x y event words ++ (event_label x y event words ++ hint_end))
-
--- an event, in its process's lane below those of this many simulators
-unfoldable pub event_mark : ℕ → ℕ → Event → List ℕ
-event_mark simulators x event = event_cell x (process_y simulators (process_of event)) event (event_words event)
+-- an event, in its process's lane
+unfoldable pub event_mark : Grid → ℕ → Event → List Shape
+event_mark grid x event = event_box (process_at grid x (process_of event)) event (event_words event)
 
 -- one after the other
-abbrev pub events_from : ℕ → ℕ → List Event → List ℕ
-events_from simulators x [] = []
-events_from simulators x (event ∷ events) = event_mark simulators x event ++ events_from simulators (x + event_width event) events
+abbrev pub events_from : Grid → ℕ → List Event → List Shape
+events_from grid x [] = []
+events_from grid x (event ∷ events) = event_mark grid x event ++ events_from grid (x + event_width event) events
 
 -- A room's history has at most 496 events.
 unfoldable pub drawn_events : List Event → List Event
 drawn_events events = take 500 events
 
 -- the right end of the events
-abbrev pub history_right : List Event → ℕ
-history_right events = left + sum_by event_width (drawn_events events)
-
-unfoldable pub events_start : List ℕ
-events_start = codes "<g font-size=\"11\" font-family=\"monospace\" text-anchor=\"middle\">\n"
-
-unfoldable pub event_marks : ℕ → List Event → List ℕ
-event_marks simulators events = events_start ++ (events_from simulators left (drawn_events events) ++ hint_end)
+unfoldable pub history_right : List Event → ℕ
+history_right events = LEFT + sum_by event_width (drawn_events events)
 
 -- ---- processes
 
--- what follows the events of a process: its state
 unfoldable pub held_words : ℕ → List ℕ
-held_words simulator = codes "held by " ++ (simulator_name simulator ++ label_end)
+held_words simulator = codes "held by " ++ simulator_name simulator
 
 unfoldable pub decided_words : ℕ → List ℕ
-decided_words value = codes "decided " ++ (decimal value ++ label_end)
+decided_words value = codes "decided " ++ decimal value
 
--- a dashed line, for one that is not through
-unfoldable pub dashes : ℕ → ℕ → List ℕ → List ℕ
-dashes right y colour = line_right (record { x = right; y = y + 11 }) (right + 50) (codes " stroke-dasharray=\"4 4\"") colour
+-- a dashed line, for a process that isn't through, and what follows it
+unfoldable pub unended : Point → Colour → List ℕ → List Shape
+unended end colour words =
+    Line (moved end 0 11) (moved end 50 11) 1 colour Long ∷ Label (moved end 56 15) WORDS colour words ∷ []
 
-unfoldable pub state_part : ℕ → ℕ → ProcessState → List ℕ
-state_part right y (Decided value) = label_start (record { x = right + 10; y = y + 15 }) [] FAINT.now ++ decided_words value
-state_part right y Spent = label (record { x = right + 10; y = y + 15 }) [] FAINT.now (codes "spent")
-state_part right y (Held simulator) =
-    dashes right y ALARM.now ++ (label_start (record { x = right + 56; y = y + 15 }) [] ALARM.now ++ held_words simulator)
-state_part right y Going = dashes right y FAINT.now ++ label (record { x = right + 56; y = y + 15 }) [] FAINT.now (codes "may still go on")
+-- what follows the events of a process: its state
+abbrev pub state_shapes : Point → ProcessState → List Shape
+state_shapes end (Decided value) = Label (moved end 10 15) WORDS Faint (decided_words value) ∷ []
+state_shapes end Spent = Label (moved end 10 15) WORDS Faint (codes "spent") ∷ []
+state_shapes end (Held simulator) = unended end Alarm (held_words simulator)
+state_shapes end Going = unended end Faint (codes "may still go on")
 
-unfoldable pub process_label : ℕ → ℕ → List ℕ
-process_label y process = label_start (record { x = 16; y = y + 15 }) [] (hue_of process) ++ (process_name process ++ label_end)
+unfoldable pub lane_of_process : Point → Point → ℕ → ProcessState → List Shape
+lane_of_process start end process state =
+    Label (moved start 0 15) WORDS (Hue process) (process_name process)
+    ∷ Line (moved start 82 11) (moved end 0 11) 1 Rule Solid
+    ∷ state_shapes end state
 
-unfoldable pub lane_of_process : ℕ → ℕ → ℕ → ProcessState → List ℕ
-lane_of_process right y process state =
-    process_label y process ++ (line_right (record { x = 98; y = y + 11 }) right [] RULE.now ++ state_part right y state)
+abbrev pub process_lane : Grid → ℕ → List ProcessState → ℕ → List Shape
+process_lane grid right states process =
+    lane_of_process (process_at grid MARGIN process) (process_at grid right process) process (slice_index_or states process Going)
 
-abbrev pub process_lane : ℕ → ℕ → List ProcessState → ℕ → List ℕ
-process_lane simulators right states process =
-    lane_of_process right (process_y simulators process) process (slice_index_or states process Going)
-
-unfoldable pub process_lanes : ℕ → ℕ → List ProcessState → List ℕ
-process_lanes simulators right states = flat_map (process_lane simulators right states) (range_with_len 0 (length states))
+unfoldable pub process_lanes : Grid → ℕ → List ProcessState → List Shape
+process_lanes grid right states = flat_map (process_lane grid right states) (range_with_len 0 (length states))

@@ -1,93 +1,108 @@
--- The lanes of the simulators: the axis of the steps, who is inside an agreement, and since when.
-use Rattle.std.specs.Prelude.{ℕ, ◌+◌, ◌-◌, ◌%◌, ◌==◌, ◌&&◌, nat_lt, Bool, true, false, List, [], ◌++◌, Option, Some, None, codes, length, if◌then◌else◌}
-use Rattle.std.specs.List.{find, flat_map, range_with_len}
-use Rattle.run_picture.specs.declared.column.Change.{Change}
-use Rattle.run_picture.specs.declared.column.Change.TheVariants.{Nothing, Enters, Leaves, Crashes}
-use Rattle.run_picture.specs.declared.column.Scale.{Scale}
-use Rattle.run_picture.specs.declared.column.Scale.TheVariants.{Steps, Turns, Simulators}
-use Rattle.run_picture.specs.declared.column.Column.{Column}
-use Rattle.run_picture.specs.Columns.{Columns, simulator_of}
-use Rattle.run_picture.specs.Elements.{label_start, label_end, line_right, line_down, number_label, rectangle}
-use Rattle.run_picture.specs.Layout.{column_x, lane_y}
+-- The lanes of the simulators: the numbers of steps, and who is inside an agreement.
+use Rattle.std.specs.Prelude.{ℕ, ◌+◌, ◌-◌, ◌*◌, ◌%◌, ◌==◌, ◌&&◌, Bool, List, [], ◌∷◌, ◌++◌, decimal, if◌then◌else◌}
+use Rattle.std.specs.List.{flat_map, range_with_len}
+use Rattle.picture_shapes.specs.declared.colour.Colour.{Colour}
+use Rattle.picture_shapes.specs.declared.colour.Colour.TheVariants.{Clear, Faint, Hatched, Ink, Pale, Rule}
+use Rattle.picture_shapes.specs.declared.shape.Dashes.TheVariants.{Solid}
+use Rattle.picture_shapes.specs.declared.shape.Point.{Point}
+use Rattle.picture_shapes.specs.declared.shape.Shape.{Shape}
+use Rattle.picture_shapes.specs.declared.shape.Shape.TheVariants.{Area, Label, Line}
+use Rattle.picture_shapes.specs.Places.{frame_at, moved}
+use Rattle.run_columns.specs.declared.column.Change.{Change}
+use Rattle.run_columns.specs.declared.column.Change.TheVariants.{Nothing, Enters, Leaves, Crashes}
+use Rattle.run_columns.specs.declared.column.Column.{Column}
+use Rattle.run_columns.specs.declared.column.Scale.{Scale}
+use Rattle.run_columns.specs.declared.column.Scale.TheVariants.{Steps, Turns, Simulators}
+use Rattle.run_columns.specs.Columns.{simulator_of}
+use Rattle.run_picture.specs.declared.fonts.TheConstants.{AXIS, WORDS}
+use Rattle.run_picture.specs.declared.lanes.Phase.{Phase}
+use Rattle.run_picture.specs.declared.lanes.Phase.TheVariants.{Outside, Inside, Stuck}
+use Rattle.run_picture.specs.declared.layout.Grid.{Grid}
+use Rattle.run_picture.specs.declared.layout.TheConstants.{LANE, MARGIN}
+use Rattle.run_picture.specs.Layout.{across, cell, column_x, lane_y, row_of, row_right, row_y, rows}
 use Rattle.run_picture.specs.Words.{simulator_name}
-use Rattle.run_picture.specs.declared.elements.TheConstants.{INK, FAINT, RULE}
 
--- the right end of the columns
-unfoldable pub right_of : Columns → ℕ
-right_of run = column_x run.scale (length run.columns)
+-- ---- the numbers of steps
 
--- ---- the axis
-
--- Each tenth step has a mark, or each tenth column where a column shows several steps.
+-- Each tenth step has its number, or each tenth column if columns show several steps.
 abbrev pub is_tick : Scale → Column → Bool
 is_tick Steps column = (column.count == 1) && (column.before % 10 == 0)
 is_tick Turns column = column.place % 10 == 0
 is_tick Simulators column = column.place % 10 == 0
 
--- a line down all lanes, and how many steps were taken up to it
-unfoldable pub tick_at : ℕ → ℕ → ℕ → List ℕ
-tick_at x bottom steps =
-    line_down (record { x = x; y = 112 }) bottom [] RULE.now
-    ++ number_label (record { x = x; y = bottom + 12 }) (codes " font-size=\"9\" text-anchor=\"middle\"") FAINT.now steps
+-- a line down all lanes of this height, and under it how many steps were taken up to it
+unfoldable pub tick_at : Point → ℕ → ℕ → List Shape
+tick_at top height steps =
+    Line top (moved top 0 height) 1 Rule Solid ∷ Label (moved top 0 (height + 12)) AXIS Faint (decimal steps) ∷ []
 
-abbrev pub tick : Scale → ℕ → Column → List ℕ
-tick scale bottom column = if is_tick scale column then tick_at (column_x scale column.place) bottom column.before else []
+unfoldable pub row_start : Grid → Column → Point
+row_start grid column = record { x = column_x grid column.place; y = row_y grid (row_of grid column.place) }
 
-unfoldable pub ticks : ℕ → Columns → List ℕ
-ticks bottom run = flat_map (tick run.scale bottom) run.columns
+abbrev pub tick : Grid → Column → List Shape
+tick grid column = if is_tick grid.scale column then tick_at (row_start grid column) (LANE * grid.simulators) column.before else []
 
--- the line of a lane, and its simulator
-unfoldable pub lane : ℕ → ℕ → List ℕ
-lane right simulator =
-    label_start (record { x = 16; y = lane_y simulator + 19 }) [] INK.now
-    ++ (simulator_name simulator ++ (label_end ++ line_right (record { x = 98; y = lane_y simulator + 15 }) right [] RULE.now))
+unfoldable pub ticks : Grid → List Column → List Shape
+ticks grid columns = flat_map (tick grid) columns
 
-unfoldable pub lanes : ℕ → ℕ → List ℕ
-lanes right simulators = flat_map (lane right) (range_with_len 0 simulators)
+-- ---- lanes
+
+-- the name of a simulator, and the line of its lane
+unfoldable pub lane_at : ℕ → ℕ → ℕ → List Shape
+lane_at y right simulator =
+    Label (moved (record { x = MARGIN; y = y }) 0 19) WORDS Ink (simulator_name simulator)
+    ∷ Line (moved (record { x = 98; y = y }) 0 15) (moved (record { x = right; y = y }) 0 15) 1 Rule Solid
+    ∷ []
+
+abbrev pub lane : Grid → ℕ → ℕ → List Shape
+lane grid row simulator = lane_at (lane_y grid row simulator) (row_right grid row) simulator
+
+unfoldable pub row_lanes : Grid → ℕ → List Shape
+row_lanes grid row = flat_map (lane grid row) (range_with_len 0 grid.simulators)
+
+unfoldable pub lanes : Grid → List Shape
+lanes grid = flat_map (row_lanes grid) (range_with_len 0 (rows grid))
 
 -- ---- inside an agreement
 
-abbrev pub changes : Change → Bool
-changes Nothing = false
-changes Enters = true
-changes Leaves = true
-changes Crashes = true
+-- the phase of a simulator in a column of its own, and after it
+abbrev pub phase_in : Change → Phase → Phase
+phase_in Nothing phase = phase
+phase_in Enters phase = Inside
+phase_in Leaves phase = phase
+phase_in Crashes Inside = Stuck
+phase_in Crashes Outside = Outside
+phase_in Crashes Stuck = Stuck
 
--- whether a column is after another and changes where its simulator is
-abbrev pub changes_behind : Column → Column → Bool
-changes_behind column later = (nat_lt column.place later.place && (simulator_of later.first == simulator_of column.first)) && changes later.change
+abbrev pub phase_after : Change → Phase → Phase
+phase_after Nothing phase = phase
+phase_after Enters phase = Inside
+phase_after Leaves phase = Outside
+phase_after Crashes Inside = Stuck
+phase_after Crashes Outside = Outside
+phase_after Crashes Stuck = Stuck
 
-abbrev pub next_change : Column → List Column → Option Column
-next_change column columns = find (changes_behind column) columns
+-- what a column changes for a simulator: nothing if it is one of another's
+abbrev pub change_for : ℕ → Column → Change
+change_for simulator column = if simulator_of column.first == simulator then column.change else Nothing
 
--- a stretch of a lane, from one x to another
-unfoldable pub band : ℕ → ℕ → ℕ → List ℕ → List ℕ
-band simulator from to style =
-    rectangle (record { x = from; y = lane_y simulator + 2; width = to - from; height = 26 }) style (codes "url(#inside)") (codes "none")
+unfoldable pub inside_at : Grid → Point → Colour → List Shape
+inside_at grid corner fill = Area (frame_at (moved corner 0 2) (across grid.scale 1) 26) 0 fill Clear Solid ∷ []
 
--- A simulator that crashes inside an agreement stays there: the stretch goes on, paler, to the end.
-unfoldable pub crashed_band : ℕ → ℕ → ℕ → ℕ → List ℕ
-crashed_band simulator from to right = band simulator from to [] ++ band simulator to right (codes " opacity=\"0.5\"")
+-- A lane is hatched while its simulator is inside an agreement, and paler after its crash there.
+abbrev pub inside : Grid → ℕ → ℕ → Phase → List Shape
+inside grid simulator place Outside = []
+inside grid simulator place Inside = inside_at grid (cell grid simulator place) Hatched
+inside grid simulator place Stuck = inside_at grid (cell grid simulator place) Pale
 
--- the stretch in which a simulator is inside, up to the column in which it leaves or crashes, if there is one
-abbrev pub band_by : Change → Scale → ℕ → Column → ℕ → List ℕ
-band_by Crashes scale right column place = crashed_band (simulator_of column.first) (column_x scale column.place) (column_x scale place) right
-band_by Nothing scale right column place = band (simulator_of column.first) (column_x scale column.place) (column_x scale (place + 1)) []
-band_by Enters scale right column place = band (simulator_of column.first) (column_x scale column.place) (column_x scale (place + 1)) []
-band_by Leaves scale right column place = band (simulator_of column.first) (column_x scale column.place) (column_x scale (place + 1)) []
+-- the lane of a simulator that is in this phase before the first column
+abbrev pub insides_from : Grid → ℕ → Phase → List Column → List Shape
+insides_from grid simulator phase [] = []
+insides_from grid simulator phase (column ∷ columns) =
+    inside grid simulator column.place (phase_in (change_for simulator column) phase)
+    ++ insides_from grid simulator (phase_after (change_for simulator column) phase) columns
 
-abbrev pub band_to : Scale → ℕ → Column → Option Column → List ℕ
-band_to scale right column None = band (simulator_of column.first) (column_x scale column.place) right []
-band_to scale right column (Some later) = band_by later.change scale right column later.place
+unfoldable pub lane_insides : Grid → List Column → ℕ → List Shape
+lane_insides grid columns simulator = insides_from grid simulator Outside columns
 
-abbrev pub inside_from : Change → Columns → Column → List ℕ
-inside_from Enters run column = band_to run.scale (right_of run) column (next_change column run.columns)
-inside_from Nothing run column = []
-inside_from Leaves run column = []
-inside_from Crashes run column = []
-
-abbrev pub inside : Columns → Column → List ℕ
-inside run column = inside_from column.change run column
-
-unfoldable pub insides : Columns → List ℕ
-insides run = flat_map (inside run) run.columns
+unfoldable pub insides : Grid → List Column → List Shape
+insides grid columns = flat_map (lane_insides grid columns) (range_with_len 0 grid.simulators)

@@ -1,32 +1,61 @@
--- Positions in the picture of a room.
-use Rattle.std.specs.Prelude.{ℕ, ◌+◌, ◌*◌}
-use Rattle.run_picture.specs.declared.column.Scale.{Scale}
-use Rattle.run_picture.specs.declared.column.Scale.TheVariants.{Steps, Turns, Simulators}
+-- Where the columns and the lanes of a room are.
+use Rattle.std.specs.Prelude.{ℕ, ◌+◌, ◌-◌, ◌*◌, ◌/◌, ◌%◌, ◌==◌, nat_lt, max, min, if◌then◌else◌}
+use Rattle.run_columns.specs.declared.column.Scale.{Scale}
+use Rattle.run_columns.specs.declared.column.Scale.TheVariants.{Steps, Turns, Simulators}
+use Rattle.picture_shapes.specs.declared.shape.Point.{Point}
+use Rattle.run_picture.specs.declared.layout.Grid.{Grid}
+use Rattle.run_picture.specs.declared.layout.TheConstants.{LANE, LEFT, TOP}
 
--- how wide a column is
-abbrev pub pitch : Scale → ℕ
-pitch Steps = 16
-pitch Turns = 40
-pitch Simulators = 40
+-- how wide a number of columns is
+abbrev pub across : Scale → ℕ → ℕ
+across Steps columns = 16 * columns
+across Turns columns = 40 * columns
+across Simulators columns = 40 * columns
 
--- where the first column begins
-abbrev pub left : ℕ
-left = 104
+-- ---- rows
+
+-- how many columns a whole row has
+abbrev pub in_row : Grid → ℕ
+in_row grid = max grid.wrap 1
+
+unfoldable pub row_of : Grid → ℕ → ℕ
+row_of grid place = place / in_row grid
+
+unfoldable pub rows : Grid → ℕ
+rows grid = max (row_of grid (grid.count + in_row grid - 1)) 1
+
+-- how many columns a row has
+unfoldable pub columns_in : Grid → ℕ → ℕ
+columns_in grid row =
+    if nat_lt row (row_of grid grid.count) then in_row grid
+    else (if row == row_of grid grid.count then grid.count % in_row grid else 0)
+
+-- a row has a lane for each simulator, and under them the numbers of steps
+unfoldable pub row_height : Grid → ℕ
+row_height grid = LANE * grid.simulators + 30
+
+-- the upper end of a row
+unfoldable pub row_y : Grid → ℕ → ℕ
+row_y grid row = TOP + row * row_height grid
+
+-- the right end of its columns
+unfoldable pub row_right : Grid → ℕ → ℕ
+row_right grid row = LEFT + across grid.scale (columns_in grid row)
+
+-- the right end of all columns
+unfoldable pub right_of : Grid → ℕ
+right_of grid = LEFT + across grid.scale (min grid.count (in_row grid))
+
+-- ---- columns and lanes
 
 -- the left end of the column at a place
-unfoldable pub column_x : Scale → ℕ → ℕ
-column_x Steps place = left + 16 * place
-column_x Turns place = left + 40 * place
-column_x Simulators place = left + 40 * place
+unfoldable pub column_x : Grid → ℕ → ℕ
+column_x grid place = LEFT + across grid.scale (place % in_row grid)
 
--- the upper end of a simulator's lane
-unfoldable pub lane_y : ℕ → ℕ
-lane_y simulator = 112 + 46 * simulator
+-- the upper end of a simulator's lane in a row
+unfoldable pub lane_y : Grid → ℕ → ℕ → ℕ
+lane_y grid row simulator = row_y grid row + LANE * simulator
 
--- the upper end of what the processes did, below the lanes of this many simulators
-unfoldable pub history_y : ℕ → ℕ
-history_y simulators = lane_y simulators + 42
-
--- the upper end of a process's lane, below the lanes of this many simulators
-unfoldable pub process_y : ℕ → ℕ → ℕ
-process_y simulators process = history_y simulators + 16 + 40 * process
+-- the left and upper end of a column in a simulator's lane
+unfoldable pub cell : Grid → ℕ → ℕ → Point
+cell grid simulator place = record { x = column_x grid place; y = lane_y grid (row_of grid place) simulator }

@@ -1,12 +1,9 @@
-pub mod Elements
-pub mod Columns
 pub mod Layout
 pub mod Words
-pub mod Lanes
-pub mod Squares
-pub mod Turns
-pub mod History
 pub mod Heads
+pub mod Lanes
+pub mod Turns
+pub mod Squares
+pub mod History
 pub mod Panels
 pub mod Picture
-pub mod Seen

@@ -4,7 +4,7 @@ use Rattle.transcript.specs.declared.event.Event.{Event}
 use Rattle.ws_history.specs.declared.states.ProcessState.{ProcessState}
 use Rattle.ws_history.specs.declared.states.Report.{Report}
 use Rattle.run_picture.specs.declared.head.Head.{Head}
-use Rattle.run_picture.specs.declared.mark.Mark.{Mark}
+use Rattle.run_columns.specs.declared.mark.Mark.{Mark}
 
 -- what is known of its spec; what happened in it, in order; and its final state, once that is known
 pub record Panel : Type 0 where

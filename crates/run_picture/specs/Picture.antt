@@ -1,20 +1,32 @@
 -- The whole picture.
-use Rattle.std.specs.Prelude.{ℕ, ◌+◌, ◌*◌, ◌==◌, List, [], ◌∷◌, ◌++◌, codes, decimal, length, max, string_bytes, if◌then◌else◌, min}
-use Rattle.run_picture.specs.declared.mark.Deed.{Deed}
-use Rattle.run_picture.specs.declared.mark.Deed.TheVariants.{StoreWrite, CountWrite, Snapshot, Propose, Enter, Look, Stand, Withdraw, Ask, LoadView, LoadValue, Decide}
-use Rattle.run_picture.specs.declared.column.Scale.{Scale}
-use Rattle.run_picture.specs.declared.column.Scale.TheVariants.{Steps, Turns, Simulators}
+use Rattle.std.specs.Prelude.{ℕ, ◌+◌, ◌*◌, ◌/◌, ◌%◌, ◌==◌, ◌&&◌, nat_le, Bool, true, false, List, [], ◌∷◌, ◌++◌, codes, length, max, min, string_bytes, if◌then◌else◌}
+use Rattle.std.specs.List.{filter, list_any}
+use Rattle.picture_shapes.specs.declared.colour.Colour.TheVariants.{Faint, Ink}
+use Rattle.picture_shapes.specs.declared.shape.Point.{Point}
+use Rattle.picture_shapes.specs.declared.shape.Shape.{Shape}
+use Rattle.picture_shapes.specs.declared.shape.Shape.TheVariants.{Label}
+use Rattle.picture_shapes.specs.declared.svg.Size.{Size}
+use Rattle.picture_shapes.specs.Places.{moved, plus}
+use Rattle.picture_shapes.specs.Svg.{Part, Picture}
+use Rattle.run_columns.specs.declared.column.Scale.{Scale}
+use Rattle.run_columns.specs.declared.column.Scale.TheVariants.{Steps, Turns, Simulators}
+use Rattle.run_columns.specs.declared.mark.Deed.{Deed}
+use Rattle.run_columns.specs.declared.mark.Mark.{Mark}
+use Rattle.run_columns.specs.declared.mark.Mark.TheVariants.{Step, Crash}
+use Rattle.run_columns.specs.Columns.{Columns, columns_of, most_columns}
+use Rattle.run_columns.specs.Deeds.{all_deeds, is_same, letter_of, meaning_of}
+use Rattle.run_picture.specs.declared.fonts.TheConstants.{HEADING, LEGEND, WORDS}
+use Rattle.run_picture.specs.declared.layout.Grid.{Grid}
+use Rattle.run_picture.specs.declared.layout.TheConstants.{LEFT, MARGIN}
+use Rattle.run_picture.specs.declared.picture.TheConstants.{MIN_WIDTH, TITLE}
+use Rattle.run_picture.specs.Heads.{head_shapes, shown_part}
+use Rattle.run_picture.specs.History.{drawn_events, events_from, history_right, history_y, process_lanes}
+use Rattle.run_picture.specs.Lanes.{insides, lanes, ticks}
+use Rattle.run_picture.specs.Layout.{right_of}
 use Rattle.run_picture.specs.Panels.{Panel, events_in, states_in}
-use Rattle.run_picture.specs.Columns.{Columns, more, run_of}
-use Rattle.run_picture.specs.Elements.{counted, hint_end, label, label_start, label_end, sized}
-use Rattle.run_picture.specs.Heads.{head_lines, shown_part}
-use Rattle.run_picture.specs.History.{event_marks, history_right, process_lanes}
-use Rattle.run_picture.specs.Lanes.{insides, lanes, right_of, ticks}
-use Rattle.run_picture.specs.Layout.{history_y, lane_y}
 use Rattle.run_picture.specs.Squares.{squares}
 use Rattle.run_picture.specs.Turns.{turns}
-use Rattle.run_picture.specs.Words.{letter_of, meaning_of}
-use Rattle.run_picture.specs.declared.elements.TheConstants.{FAINT, INK}
+use Rattle.run_picture.specs.Words.{counted}
 
 -- ---- the simulators
 
@@ -25,114 +37,107 @@ scale_words Turns = codes "each box is a stretch of one turn, with the number of
 scale_words Simulators = codes "each box is a stretch of one simulator, with the number of its steps"
 
 unfoldable pub left_out_words : ℕ → List ℕ
-left_out_words count = if count == 0 then [] else codes ", and behind these stand " ++ counted count (codes " box more") (codes " boxes more")
+left_out_words count = if count == 0 then [] else codes "; after these come " ++ counted count (codes " more box") (codes " more boxes")
 
-unfoldable pub steps_heading : List ℕ
-steps_heading = label (record { x = 16; y = 98 }) (codes " font-weight=\"600\"") INK.now (codes "Simulators, step by step")
+unfoldable pub note_words : Columns → List ℕ
+note_words columns = scale_words columns.scale ++ left_out_words columns.left_out
 
-unfoldable pub scale_note : Columns → List ℕ
-scale_note run = label_start (record { x = 180; y = 98 }) [] FAINT.now ++ (scale_words run.scale ++ (left_out_words run.left_out ++ label_end))
+unfoldable pub steps_title : List Shape
+steps_title = Label (record { x = MARGIN; y = 98 }) HEADING Ink (codes "Simulators, step by step") ∷ []
 
--- under the squares: the axis, the lanes, and who is inside an agreement
-unfoldable pub ground_lines : ℕ → Columns → List ℕ
-ground_lines simulators run = ticks (lane_y simulators) run ++ (lanes (right_of run) simulators ++ insides run)
+unfoldable pub steps_heading : Columns → List Shape
+steps_heading columns = steps_title ++ Label (record { x = 180; y = 98 }) WORDS Faint (note_words columns) ∷ []
 
-unfoldable pub steps_part : ℕ → Columns → List ℕ
-steps_part simulators run =
-    steps_heading ++ (scale_note run ++ (ground_lines simulators run ++ (turns run ++ squares run)))
+-- the squares are drawn over the turns, these over what is inside an agreement, and all over the lanes
+unfoldable pub steps_shapes : Grid → Columns → List Shape
+steps_shapes grid columns =
+    ticks grid columns.columns ++ (lanes grid ++ (insides grid columns.columns ++ (turns grid columns.columns ++ squares grid columns.columns)))
 
 -- ---- a room
 
-unfoldable pub history_heading : ℕ → List ℕ
-history_heading y = label (record { x = 16; y = y }) (codes " font-weight=\"600\"") INK.now (codes "What the processes did")
+unfoldable pub history_heading : ℕ → List Shape
+history_heading y = Label (record { x = MARGIN; y = y }) HEADING Ink (codes "What the processes did") ∷ []
 
-unfoldable pub history_part : Panel → List ℕ
-history_part panel =
-    history_heading (history_y panel.head.simulators)
-    ++ (process_lanes panel.head.simulators (history_right (events_in panel.report)) (states_in panel.report)
-    ++ event_marks panel.head.simulators (events_in panel.report))
+unfoldable pub history_shapes : Grid → Panel → List Shape
+history_shapes grid panel =
+    history_heading (history_y grid)
+    ++ (process_lanes grid (history_right (events_in panel.report)) (states_in panel.report)
+    ++ events_from grid LEFT (drawn_events (events_in panel.report)))
 
-unfoldable pub panel_start : ℕ → List ℕ
-panel_start y = codes "<g transform=\"translate(0 " ++ (decimal y ++ codes ")\">\n")
+unfoldable pub grid_of : Panel → Columns → Grid
+grid_of panel columns = record { scale = columns.scale; wrap = 65535; count = length columns.columns; simulators = panel.head.simulators }
 
-unfoldable pub panel_text : ℕ → Panel → List ℕ
-panel_text y panel =
-    panel_start y ++ (head_lines panel.head ++ (steps_part panel.head.simulators (run_of panel.marks) ++ (history_part panel ++ hint_end)))
+unfoldable pub shapes_with : Panel → Columns → List Shape
+shapes_with panel columns =
+    head_shapes panel.head
+    ++ (steps_heading columns ++ (steps_shapes (grid_of panel columns) columns ++ history_shapes (grid_of panel columns) panel))
+
+abbrev pub panel_shapes : Panel → List Shape
+panel_shapes panel = shapes_with panel (columns_of panel.marks)
 
 -- how high and how wide the picture of a room is
-unfoldable pub panel_height : Panel → ℕ
-panel_height panel = history_y panel.head.simulators + 40 * length (states_in panel.report) + 40
+unfoldable pub height_with : Panel → Columns → ℕ
+height_with panel columns = history_y (grid_of panel columns) + 40 * length (states_in panel.report) + 40
 
 -- a room has up to 16 inputs, of up to 10 digits each
 unfoldable pub head_width : Panel → ℕ
 head_width panel = max (8 * length (shown_part (string_bytes panel.head.protocol)) + 60) (77 * min (length panel.head.inputs.items) 16 + 382)
 
-unfoldable pub panel_width : Panel → ℕ
-panel_width panel = max (head_width panel) (max (right_of (run_of panel.marks) + 80) (history_right (events_in panel.report) + 200))
+unfoldable pub width_with : Panel → Columns → ℕ
+width_with panel columns = max (head_width panel) (max (right_of (grid_of panel columns) + 80) (history_right (events_in panel.report) + 200))
 
--- one below the other
-abbrev pub panels_from : ℕ → List Panel → List ℕ
-panels_from y [] = []
-panels_from y (panel ∷ panels) = panel_text y panel ++ panels_from (more y (panel_height panel)) panels
+abbrev pub panel_height : Panel → ℕ
+panel_height panel = height_with panel (columns_of panel.marks)
+
+abbrev pub panel_width : Panel → ℕ
+panel_width panel = width_with panel (columns_of panel.marks)
+
+-- ---- the letters
+
+abbrev pub shows_deed : Deed → Mark → Bool
+shows_deed deed (Step step) = is_same step.deed deed
+shows_deed deed (Crash simulator) = false
+
+-- whether a letter is in the picture of a room, in which there are letters if each column is a step
+abbrev pub has_letter : Deed → Panel → Bool
+has_letter deed panel = nat_le (length panel.marks) most_columns && list_any (shows_deed deed) panel.marks
+
+abbrev pub deeds_in : List Panel → List Deed
+deeds_in panels = filter (λ deed. list_any (has_letter deed) panels) all_deeds
+
+unfoldable pub legend_entry : ℕ → Deed → List Shape
+legend_entry index deed =
+    Label (record { x = MARGIN + 150 * (index % 4); y = 16 + 18 * (index / 4) }) LEGEND Faint (letter_of deed)
+    ∷ Label (record { x = MARGIN + 150 * (index % 4) + 16; y = 16 + 18 * (index / 4) }) WORDS Faint (meaning_of deed)
+    ∷ []
+
+-- four in a row
+abbrev pub legend_from : ℕ → List Deed → List Shape
+legend_from index [] = []
+legend_from index (deed ∷ deeds) = legend_entry index deed ++ legend_from (index + 1) deeds
+
+-- ---- the whole
+
+-- the rooms one below the other from here on, and the letters below all of them
+abbrev pub parts_from : List Deed → ℕ → List Panel → List Part
+parts_from deeds top [] = record { top = top; shapes = legend_from 0 deeds } ∷ []
+parts_from deeds top (panel ∷ panels) = record { top = top; shapes = panel_shapes panel } ∷ parts_from deeds (plus top (panel_height panel)) panels
 
 abbrev pub bottom_from : ℕ → List Panel → ℕ
-bottom_from y [] = y
-bottom_from y (panel ∷ panels) = bottom_from (more y (panel_height panel)) panels
+bottom_from top [] = top
+bottom_from top (panel ∷ panels) = bottom_from (plus top (panel_height panel)) panels
 
 abbrev pub width_from : ℕ → List Panel → ℕ
 width_from width [] = width
 width_from width (panel ∷ panels) = width_from (max width (panel_width panel)) panels
 
--- ---- the letters
+-- the letters have 80 below the rooms
+abbrev pub size_to : ℕ → ℕ → Size
+size_to width bottom = record { width = width; height = plus bottom 80; scale = 1 }
 
-unfoldable pub bold : List ℕ → List ℕ
-bold letter = codes "<tspan font-weight=\"700\">" ++ (letter ++ codes "</tspan> ")
+abbrev pub size_of : List Panel → Size
+size_of panels = size_to (width_from MIN_WIDTH panels) (bottom_from 0 panels)
 
-unfoldable pub legend_entry : ℕ → ℕ → Deed → List ℕ
-legend_entry x y deed = label_start (record { x = x; y = y }) [] FAINT.now ++ (bold (letter_of deed) ++ (meaning_of deed ++ label_end))
-
-unfoldable pub writing_row : List ℕ
-writing_row = legend_entry 16 16 StoreWrite ++ (legend_entry 166 16 CountWrite ++ (legend_entry 316 16 Snapshot ++ legend_entry 466 16 Propose))
-
-unfoldable pub agreement_row : List ℕ
-agreement_row = legend_entry 16 34 Enter ++ (legend_entry 166 34 Look ++ (legend_entry 316 34 Stand ++ legend_entry 466 34 Withdraw))
-
-unfoldable pub decision_row : List ℕ
-decision_row = legend_entry 16 52 Ask ++ (legend_entry 166 52 LoadView ++ (legend_entry 316 52 LoadValue ++ legend_entry 466 52 Decide))
-
--- below all rooms
-unfoldable pub legend : ℕ → List ℕ
-legend y = panel_start y ++ (writing_row ++ (agreement_row ++ (decision_row ++ hint_end)))
-
--- ---- the whole
-
-unfoldable pub svg_open : List ℕ
-svg_open = codes "<svg xmlns=\"http://www.w3.org/2000/svg\" font-family=\"Helvetica, Arial, sans-serif\" font-size=\"12\" viewBox=\"0 0 "
-
-unfoldable pub view_box : ℕ → ℕ → List ℕ
-view_box width height = decimal width ++ (32 ∷ decimal height ++ codes "\"")
-
--- how the stretches inside an agreement are hatched
-unfoldable pub hatching : List ℕ
-hatching = codes "<defs><pattern id=\"inside\" width=\"6\" height=\"6\" patternUnits=\"userSpaceOnUse\" patternTransform=\"rotate(45)\">"
-
-unfoldable pub hatching_lines : List ℕ
-hatching_lines = codes "<rect width=\"6\" height=\"6\" fill=\"#f6e3c5\"/><path d=\"M 0 0 V 6\" stroke=\"#a86f1d\" stroke-width=\"2\"/></pattern></defs>\n"
-
-unfoldable pub paper : List ℕ
-paper = codes "<rect width=\"100%\" height=\"100%\" fill=\"white\"/>\n"
-
-unfoldable pub ground_of_all : List ℕ
-ground_of_all = hatching ++ (hatching_lines ++ paper)
-
-unfoldable pub svg_start : ℕ → ℕ → List ℕ
-svg_start width height = svg_open ++ (view_box width height ++ (sized width height ++ (codes ">\n" ++ ground_of_all)))
-
-unfoldable pub svg_end : List ℕ
-svg_end = codes "</svg>\n"
-
--- the picture of these rooms, from the first byte to the last
-unfoldable pub picture_text : List Panel → List ℕ
-picture_text panels =
-    svg_start (width_from 640 panels) (more (bottom_from 0 panels) 80)
-    ++ (panels_from 0 panels ++ (legend (bottom_from 0 panels) ++ svg_end))
+-- the picture of these rooms
+abbrev pub picture_of : List Panel → Picture
+picture_of panels = record { size = size_of panels; title = TITLE.now; parts = parts_from (deeds_in panels) 0 panels }

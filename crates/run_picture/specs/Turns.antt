@@ -1,17 +1,25 @@
 -- The turns of the simulators: a bar under the steps of each.
-use Rattle.std.specs.Prelude.{ℕ, ◌+◌, ◌-◌, ◌==◌, ◌&&◌, nat_le, Bool, false, List, [], ◌++◌, Option, Some, None, codes, decimal, fold, if◌then◌else◌}
-use Rattle.std.specs.List.{find, flat_map}
+use Rattle.std.specs.Prelude.{ℕ, ◌+◌, ◌-◌, ◌==◌, ◌&&◌, nat_le, Bool, false, List, [], ◌∷◌, ◌++◌, Option, Some, None, codes, decimal, fold, if◌then◌else◌}
+use Rattle.std.specs.List.{find, flat_map, range_with_len}
 use Rattle.simulator.specs.declared.turn.Turn.{Turn}
 use Rattle.simulator.specs.declared.turn.Turn.TheVariants.{Still, Useful, Quiet}
-use Rattle.run_picture.specs.declared.mark.Step.{Step as StepMark}
-use Rattle.run_picture.specs.declared.mark.Mark.{Mark}
-use Rattle.run_picture.specs.declared.mark.Mark.TheVariants.{Step, Crash}
-use Rattle.run_picture.specs.declared.column.Scale.{Scale}
-use Rattle.run_picture.specs.declared.column.Scale.TheVariants.{Steps, Turns, Simulators}
-use Rattle.run_picture.specs.declared.column.Column.{Column}
-use Rattle.run_picture.specs.Columns.{Columns}
-use Rattle.run_picture.specs.Elements.{hint_start, hint_middle, hint_end, hue_of, label_start, label_end, line_right}
-use Rattle.run_picture.specs.Layout.{column_x, lane_y}
+use Rattle.picture_shapes.specs.declared.colour.Colour.TheVariants.{Hue}
+use Rattle.picture_shapes.specs.declared.shape.Dashes.{Dashes}
+use Rattle.picture_shapes.specs.declared.shape.Dashes.TheVariants.{Short, Solid}
+use Rattle.picture_shapes.specs.declared.shape.Point.{Point}
+use Rattle.picture_shapes.specs.declared.shape.Shape.{Shape}
+use Rattle.picture_shapes.specs.declared.shape.Shape.TheVariants.{Hint, Label, Line}
+use Rattle.picture_shapes.specs.Places.{frame_at, moved}
+use Rattle.run_columns.specs.declared.column.Column.{Column}
+use Rattle.run_columns.specs.declared.column.Scale.{Scale}
+use Rattle.run_columns.specs.declared.column.Scale.TheVariants.{Steps, Turns, Simulators}
+use Rattle.run_columns.specs.declared.mark.Mark.{Mark}
+use Rattle.run_columns.specs.declared.mark.Mark.TheVariants.{Step, Crash}
+use Rattle.run_columns.specs.declared.mark.Step.{Step as StepMark}
+use Rattle.run_picture.specs.declared.fonts.TheConstants.{SMALL}
+use Rattle.run_picture.specs.declared.layout.Grid.{Grid}
+use Rattle.run_picture.specs.declared.layout.TheConstants.{LEFT}
+use Rattle.run_picture.specs.Layout.{across, column_x, lane_y, row_of, row_right, rows}
 use Rattle.run_picture.specs.Words.{process_round, simulator_name}
 
 -- whether this is a step of the same turn
@@ -33,16 +41,7 @@ abbrev pub is_at : ℕ → Option Column → Bool
 is_at place None = false
 is_at place (Some column) = column.place == place
 
--- ---- the bar
-
--- a quiet turn's bar is dashed
-unfoldable pub bar_style : Turn → List ℕ
-bar_style Still = codes " stroke-width=\"3\""
-bar_style Useful = codes " stroke-width=\"3\""
-bar_style Quiet = codes " stroke-width=\"3\" stroke-dasharray=\"3 2\""
-
-unfoldable pub bar_line : ℕ → ℕ → StepMark → Turn → List ℕ
-bar_line from to step end = line_right (record { x = from + 1; y = lane_y step.simulator + 33 }) (to - 1) (bar_style end) (hue_of step.process)
+-- ---- words
 
 unfoldable pub ending_words : Turn → List ℕ
 ending_words Still = []
@@ -56,9 +55,6 @@ turn_number step = codes "turn " ++ (decimal step.turn ++ (codes " of " ++ simul
 unfoldable pub turn_words : StepMark → Turn → List ℕ
 turn_words step end = turn_number step ++ (codes ": " ++ (process_round step.process step.round ++ ending_words end))
 
-unfoldable pub turn_title : StepMark → Turn → List ℕ
-turn_title step end = hint_start ++ (turn_words step end ++ hint_middle)
-
 -- as much of the name as there is room for: p0 r1 quiet
 unfoldable pub round_part : ℕ → ℕ → List ℕ
 round_part width round = if nat_le 34 width then codes " r" ++ decimal round else []
@@ -71,38 +67,59 @@ quiet_part width Useful = []
 unfoldable pub turn_name : ℕ → StepMark → Turn → List ℕ
 turn_name width step end = codes "p" ++ (decimal step.process ++ (round_part width step.round ++ quiet_part width end))
 
-unfoldable pub turn_label : ℕ → ℕ → StepMark → Turn → List ℕ
-turn_label from to step end =
-    label_start (record { x = from + 1; y = lane_y step.simulator + 44 }) [] (hue_of step.process) ++ (turn_name (to - from) step end ++ label_end)
+-- ---- the bar
 
-unfoldable pub bar : ℕ → ℕ → StepMark → Turn → List ℕ
-bar from to step end = turn_title step end ++ (bar_line from to step end ++ (turn_label from to step end ++ hint_end))
+-- a quiet turn's bar is dashed
+abbrev pub bar_dashes : Turn → Dashes
+bar_dashes Still = Solid
+bar_dashes Useful = Solid
+bar_dashes Quiet = Short
+
+-- a bar of this width, under a lane that begins here
+unfoldable pub bar : Point → ℕ → StepMark → Turn → List Shape
+bar start width step end =
+    Line (moved start 1 33) (moved start (width - 1) 33) 3 (Hue step.process) (bar_dashes end)
+    ∷ Label (moved start 1 44) SMALL (Hue step.process) (turn_name width step end)
+    ∷ Hint (frame_at (moved start 0 30) width 16) (turn_words step end)
+    ∷ []
+
+-- ends of the bar in a row: those of the turn, or those of the row if the turn goes on in another
+unfoldable pub bar_left : Grid → Column → ℕ → ℕ
+bar_left grid first row = if row_of grid first.place == row then column_x grid first.place else LEFT
+
+unfoldable pub bar_right : Grid → Column → ℕ → ℕ
+bar_right grid last row = if row_of grid last.place == row then column_x grid last.place + across grid.scale 1 else row_right grid row
+
+unfoldable pub bar_in : Grid → Column → Column → StepMark → ℕ → List Shape
+bar_in grid first last step row =
+    bar (record { x = bar_left grid first row; y = lane_y grid row step.simulator }) (bar_right grid last row - bar_left grid first row) step last.end
+
+abbrev pub bar_part : Grid → Column → Column → StepMark → ℕ → List Shape
+bar_part grid first last step row =
+    if nat_le (row_of grid first.place) row && nat_le row (row_of grid last.place) then bar_in grid first last step row else []
+
+unfoldable pub bar_parts : Grid → Column → Column → StepMark → List Shape
+bar_parts grid first last step = flat_map (bar_part grid first last step) (range_with_len 0 (rows grid))
 
 -- ---- all turns
 
-unfoldable pub bar_to : Scale → Column → StepMark → Column → List ℕ
-bar_to scale column step last = bar (column_x scale column.place) (column_x scale (last.place + 1)) step last.end
-
 -- the bar begins at the first column of the turn
-abbrev pub turn_from : Mark → Columns → Column → List ℕ
-turn_from (Step step) run column =
-    if is_at column.place (first_place step run.columns) then bar_to run.scale column step (last_of step column run.columns) else []
-turn_from (Crash simulator) run column = []
+abbrev pub turn_from : Mark → Grid → List Column → Column → List Shape
+turn_from (Step step) grid columns column =
+    if is_at column.place (first_place step columns) then bar_parts grid column (last_of step column columns) step else []
+turn_from (Crash simulator) grid columns column = []
 
-abbrev pub turn : Columns → Column → List ℕ
-turn run column = turn_from column.first run column
+abbrev pub turn : Grid → List Column → Column → List Shape
+turn grid columns column = turn_from column.first grid columns column
 
-unfoldable pub all_turns : Columns → List ℕ
-all_turns run = flat_map (turn run) run.columns
+unfoldable pub all_turns : Grid → List Column → List Shape
+all_turns grid columns = flat_map (turn grid columns) columns
 
-unfoldable pub turns_start : List ℕ
-turns_start = codes "<g font-size=\"10\">\n"
+-- there are none if a column may show several turns
+abbrev pub turns_at : Scale → Grid → List Column → List Shape
+turns_at Steps grid columns = all_turns grid columns
+turns_at Turns grid columns = all_turns grid columns
+turns_at Simulators grid columns = []
 
--- where a column may show several turns there are none
-abbrev pub turns_at : Scale → Columns → List ℕ
-turns_at Steps run = turns_start ++ (all_turns run ++ hint_end)
-turns_at Turns run = turns_start ++ (all_turns run ++ hint_end)
-turns_at Simulators run = []
-
-unfoldable pub turns : Columns → List ℕ
-turns run = turns_at run.scale run
+abbrev pub turns : Grid → List Column → List Shape
+turns grid columns = turns_at grid.scale grid columns

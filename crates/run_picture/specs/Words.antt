@@ -1,68 +1,7 @@
--- What steps do, in letters and in words.
-use Rattle.std.specs.Prelude.{ℕ, Bool, true, false, List, [], ◌++◌, Option, Some, None, codes, decimal}
-use Rattle.run_picture.specs.declared.mark.Deed.{Deed}
-use Rattle.run_picture.specs.declared.mark.Deed.TheVariants.{StoreWrite, CountWrite, Snapshot, Propose, Enter, Look, Stand, Withdraw, Ask, LoadView, LoadValue, Decide}
-use Rattle.run_picture.specs.declared.mark.Step.{Step as StepMark}
-
--- the letter on a step's square
-unfoldable pub letter_of : Deed → List ℕ
-letter_of StoreWrite = codes "W"
-letter_of CountWrite = codes "+"
-letter_of Snapshot = codes "S"
-letter_of Propose = codes "V"
-letter_of Enter = codes "1"
-letter_of Look = codes "?"
-letter_of Stand = codes "2"
-letter_of Withdraw = codes "0"
-letter_of Ask = codes "A"
-letter_of LoadView = codes "G"
-letter_of LoadValue = codes "r"
-letter_of Decide = codes "D"
-
--- what the letter stands for
-unfoldable pub meaning_of : Deed → List ℕ
-meaning_of StoreWrite = codes "store a write"
-meaning_of CountWrite = codes "count it"
-meaning_of Snapshot = codes "snapshot"
-meaning_of Propose = codes "propose it"
-meaning_of Enter = codes "enter"
-meaning_of Look = codes "look"
-meaning_of Stand = codes "leave, it stands"
-meaning_of Withdraw = codes "leave, too late"
-meaning_of Ask = codes "ask"
-meaning_of LoadView = codes "get the view"
-meaning_of LoadValue = codes "read a value"
-meaning_of Decide = codes "store decision"
-
--- what a simulator does, up to the words that say for which process
-unfoldable pub verb_of : Deed → List ℕ
-verb_of StoreWrite = codes " stores the write of "
-verb_of CountWrite = codes " counts the write of "
-verb_of Snapshot = codes " takes a snapshot for "
-verb_of Propose = codes " proposes its snapshot for "
-verb_of Enter = codes " enters the agreement on "
-verb_of Look = codes " looks who is in the agreement on "
-verb_of Stand = codes " keeps its proposal and leaves the agreement on "
-verb_of Withdraw = codes " withdraws its proposal and leaves the agreement on "
-verb_of Ask = codes " asks what was agreed on for "
-verb_of LoadView = codes " loads the chosen proposal for "
-verb_of LoadValue = codes " loads a value for "
-verb_of Decide = codes " stores the decision of "
-
--- whether a step changes the agreement or decides
-abbrev pub is_marked : Deed → Bool
-is_marked StoreWrite = false
-is_marked CountWrite = false
-is_marked Snapshot = false
-is_marked Propose = false
-is_marked Enter = true
-is_marked Look = false
-is_marked Stand = true
-is_marked Withdraw = true
-is_marked Ask = false
-is_marked LoadView = false
-is_marked LoadValue = false
-is_marked Decide = true
+-- What steps do, in words.
+use Rattle.std.specs.Prelude.{ℕ, ◌==◌, List, [], ◌++◌, Option, Some, None, codes, decimal, if◌then◌else◌}
+use Rattle.run_columns.specs.declared.mark.Step.{Step as StepMark}
+use Rattle.run_columns.specs.Deeds.{verb_of}
 
 unfoldable pub process_name : ℕ → List ℕ
 process_name process = codes "process " ++ decimal process
@@ -84,3 +23,11 @@ actor_words step = codes ": " ++ (simulator_name step.simulator ++ verb_of step.
 -- : simulator 0 enters the agreement on process 0, round 1
 unfoldable pub deed_words : StepMark → List ℕ
 deed_words step = actor_words step ++ (process_round step.process step.round ++ word_words step.word)
+
+-- step 5: simulator 0 enters the agreement on process 0, round 1
+unfoldable pub step_words : ℕ → StepMark → List ℕ
+step_words number step = codes "step " ++ (decimal number ++ deed_words step)
+
+-- a number of things: the word for one, or for several
+unfoldable pub counted : ℕ → List ℕ → List ℕ → List ℕ
+counted count one several = decimal count ++ (if count == 1 then one else several)

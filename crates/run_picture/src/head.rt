@@ -1,12 +1,12 @@
 //! What is above the picture of a room.
 ghost use Rattle.std.specs.Prelude.{◌≡◌, ◌++◌, ◌≤◌, IfOk, OnOk, length, take, string_bytes};
-ghost use Rattle.run_picture.specs.Heads.{IsHeadOf, head_lines, inputs_count, inputs_words, name_line, numbers_line, numbers_words, processes_words, protocol_byte, protocol_line, protocol_start, protocol_words, rest_words, shown_part};
+ghost use Rattle.run_picture.specs.Heads.{IsHeadOf, all_rules, head_shapes, inputs_count, inputs_words, numbers_words, processes_words, protocol_byte, protocol_words, rest_words, room_words, shown_part};
 
-use crate::elements::{
-    FAINT, INK, Point, end_label, start_label, write_counted, write_escaped_byte, write_label,
-};
+use crate::fonts::{CODE, TITLE, WORDS};
 use crate::layout::MARGIN;
+use crate::words::write_counted;
 use io_text::Text;
+use picture_shapes::{Colour, Point, Sheet};
 use protocol_lang::print;
 use room_spec::{Name, Spec};
 use std::alloc::{AllocError, Global};
@@ -64,38 +64,30 @@ fn inputs_of(alloc: Global, spec: &Spec) -> Result<Vec<u32>, AllocError>
     Ok(inputs)
 }
 
-/// Writes the lines over the picture of a room.
-#[tactic(auto, unfolding(crate::specs::Heads::head_lines))]
-pub(crate) fn write_head(output: &mut Text, head: &Head) -> Result<(), AllocError>
-    ensures { OnOk result (output.new ≡ output.old ++ head_lines head.now) }
+/// Writes what is above the picture of a room.
+#[tactic(auto, unfolding(crate::specs::Heads::head_shapes))]
+pub(crate) fn add_head(sheet: &mut Sheet, head: &Head) -> Result<(), AllocError>
+    ensures { OnOk result (sheet.new ≡ sheet.old ++ head_shapes head.now) }
 {
-    write_name_line(output, head.name.as_str().as_bytes())?;
-    write_numbers_line(output, head)?;
-    write_protocol_line(output, head.protocol.as_bytes())
+    let name = Point { x: MARGIN, y: 26 };
+    sheet.label(name, TITLE, Colour::Ink, head.name.as_str().as_bytes())?;
+    let numbers = room_words(sheet.alloc(), head)?;
+    let below = Point { x: MARGIN, y: 44 };
+    sheet.label(below, WORDS, Colour::Faint, numbers.as_bytes())?;
+    let protocol = protocol_words(sheet.alloc(), head.protocol.as_bytes())?;
+    let last = Point { x: MARGIN, y: 61 };
+    sheet.label(last, CODE, Colour::Faint, protocol.as_bytes())
 }
 
-#[tactic(auto, unfolding(crate::specs::Heads::name_line))]
-fn write_name_line(output: &mut Text, name: &[u8]) -> Result<(), AllocError>
-    ensures { OnOk result (output.new ≡ output.old ++ name_line name.now) }
+/// How many processes, simulators and rounds a room has, and with which inputs.
+#[tactic(auto, unfolding(crate::specs::Heads::room_words))]
+fn room_words(alloc: Global, head: &Head) -> Result<Text, AllocError>
+    ensures { IfOk result (λ words. words ≡ room_words head.now) }
 {
-    let start = Point { x: MARGIN, y: 26 };
-    write_label(
-        output,
-        start,
-        b" font-size=\"16\" font-weight=\"600\"",
-        INK,
-        name,
-    )
-}
-
-#[tactic(auto, unfolding(crate::specs::Heads::numbers_line))]
-fn write_numbers_line(output: &mut Text, head: &Head) -> Result<(), AllocError>
-    ensures { OnOk result (output.new ≡ output.old ++ numbers_line head.now) }
-{
-    start_label(output, Point { x: MARGIN, y: 44 }, b"", FAINT)?;
-    write_processes(output, head.inputs.as_slice())?;
-    write_numbers(output, head.simulators, head.rounds)?;
-    end_label(output)
+    let mut words = Text::new(alloc);
+    write_processes(&mut words, head.inputs.as_slice())?;
+    write_numbers(&mut words, head.simulators, head.rounds)?;
+    Ok(words)
 }
 
 #[tactic(auto, unfolding(crate::specs::Heads::processes_words))]
@@ -138,22 +130,15 @@ fn write_numbers(output: &mut Text, simulators: u8, rounds: u8) -> Result<(), Al
     write_counted(output, u64::from(rounds), b" round", b" rounds")
 }
 
-#[tactic(auto, unfolding(crate::specs::Heads::protocol_line))]
-fn write_protocol_line(output: &mut Text, text: &[u8]) -> Result<(), AllocError>
-    ensures { OnOk result (output.new ≡ output.old ++ protocol_line text.now) }
+/// The beginning of a protocol's text.
+#[tactic(auto, unfolding(crate::specs::Heads::protocol_words))]
+fn protocol_words(alloc: Global, text: &[u8]) -> Result<Text, AllocError>
+    ensures { IfOk result (λ words. words ≡ protocol_words text.now) }
 {
-    start_protocol(output)?;
-    write_protocol(output, shown_part(text))?;
-    output.put(rest_words(text))?;
-    end_label(output)
-}
-
-#[tactic(auto, unfolding(crate::specs::Heads::protocol_start))]
-fn start_protocol(output: &mut Text) -> Result<(), AllocError>
-    ensures { OnOk result (output.new ≡ output.old ++ protocol_start) }
-{
-    let style = b" font-size=\"11\" font-family=\"monospace\"";
-    start_label(output, Point { x: MARGIN, y: 61 }, style, FAINT)
+    let mut words = Text::new(alloc);
+    write_rules(&mut words, shown_part(text))?;
+    words.put(rest_words(text))?;
+    Ok(words)
 }
 
 /// The beginning of a protocol's text that is shown.
@@ -178,9 +163,9 @@ fn rest_words(text: &[u8]) -> &'static [u8]
 }
 
 /// Writes a protocol's text with a space after each rule.
-#[tactic(auto, unfolding(crate::specs::Heads::protocol_words))]
-fn write_protocol(output: &mut Text, text: &[u8]) -> Result<(), AllocError>
-    ensures { OnOk result (output.new ≡ output.old ++ protocol_words text.now) }
+#[tactic(auto, unfolding(crate::specs::Heads::all_rules))]
+fn write_rules(output: &mut Text, text: &[u8]) -> Result<(), AllocError>
+    ensures { OnOk result (output.new ≡ output.old ++ all_rules text.now) }
 {
     for byte in text {
         write_protocol_byte(output, *byte)?;
@@ -194,6 +179,6 @@ fn write_protocol_byte(output: &mut Text, byte: u8) -> Result<(), AllocError>
     if byte == b';' {
         output.put(b"; ")
     } else {
-        write_escaped_byte(output, byte)
+        output.put(&[byte])
     }
 }

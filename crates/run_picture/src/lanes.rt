@@ -1,60 +1,56 @@
-//! The lanes of the simulators: the axis of the steps, and who is inside an agreement.
-ghost use Rattle.std.specs.Prelude.{◌≡◌, ◌++◌, ◌+◌, ◌*◌, ◌≤◌, OnOk};
-ghost use Rattle.run_picture.specs.Lanes.{band, band_by, band_to, changes, changes_behind, crashed_band, inside, insides, is_tick, lane, lanes, next_change, right_of, tick, tick_at, ticks};
+//! The lanes of the simulators: the numbers of steps, and who is inside an agreement.
+ghost use Rattle.std.specs.Prelude.{◌≡◌, ◌++◌, ◌+◌, ◌*◌, ◌≤◌, IfOk, OnOk, decimal};
+ghost use Rattle.run_picture.specs.Lanes.{change_for, inside, inside_at, insides, is_tick, lane, lane_at, lane_insides, lanes, phase_after, phase_in, row_lanes, row_start, tick, tick_at, ticks};
+ghost use Rattle.run_picture.specs.Words.{simulator_name};
 
-use crate::column::{Change, Column, Run, Scale};
-use crate::elements::{
-    FAINT, Frame, INK, Point, RULE, end_label, start_label, write_line_down, write_line_right,
-    write_number_label, write_rectangle,
-};
-use crate::layout::{MARGIN, lane_y};
-use crate::words::write_simulator;
+use crate::fonts::{AXIS, WORDS};
+use crate::layout::{Grid, LANE, MARGIN, across};
+use crate::words::{simulator_name, write_simulator};
 use io_text::Text;
-use std::alloc::AllocError;
+use picture_shapes::{Colour, Dashes, Frame, Point, Sheet, write_decimal};
+use run_columns::{Change, Column, Scale};
+use std::alloc::{AllocError, Global};
 
-impl Run {
-    /// The right end of the columns.
-    #[tactic(auto, unfolding(crate::specs::Lanes::right_of))]
-    pub(crate) fn right(&self) -> u64
-        ensures value { result ≡ right_of self.now }
-        ensures range { result ≤ 104 + 40 * 65536 }
-    {
-        self.scale().column_x(self.columns().len() as u64)
-    }
+/// Whether a simulator is inside an agreement, for one who draws its lane.
+#[derive(Clone, Copy, Debug, PartialEq, Eq)]
+pub(crate) enum Phase {
+    Outside,
+    Inside,
+    /// It has crashed there.
+    Stuck,
 }
 
-/// Writes the marks of the axis, and the lines down from them.
+/// Draws the numbers of the steps, with a line down all lanes at each.
 #[tactic(auto, unfolding(crate::specs::Lanes::ticks))]
-pub(crate) fn write_ticks(output: &mut Text, bottom: u64, run: &Run) -> Result<(), AllocError>
-    requires { bottom ≤ 12000 }
-    ensures { OnOk result (output.new ≡ output.old ++ ticks bottom run.now) }
+pub(crate) fn add_ticks(sheet: &mut Sheet, grid: Grid, columns: &[Column]) -> Result<(), AllocError>
+    ensures { OnOk result (sheet.new ≡ sheet.old ++ ticks grid columns.now) }
 {
-    let scale = run.scale();
-    let columns = run.columns();
     for column in columns {
-        write_tick(output, scale, bottom, column)?;
+        add_tick(sheet, grid, column)?;
     }
     Ok(())
 }
 
-fn write_tick(
-    output: &mut Text,
-    scale: Scale,
-    bottom: u64,
-    column: &Column,
-) -> Result<(), AllocError>
-    requires { bottom ≤ 12000 }
-    ensures { OnOk result (output.new ≡ output.old ++ tick scale bottom column.now) }
+fn add_tick(sheet: &mut Sheet, grid: Grid, column: &Column) -> Result<(), AllocError>
+    ensures { OnOk result (sheet.new ≡ sheet.old ++ tick grid column.now) }
 {
-    if !is_tick(scale, column) {
+    if !is_tick(grid.scale, column) {
         return Ok(());
     }
-    write_tick_at(
-        output,
-        scale.column_x(u64::from(column.place)),
-        bottom,
-        column.before,
-    )
+    let height = LANE * u64::from(grid.simulators);
+    add_tick_at(sheet, row_start(grid, column), height, column.before)
+}
+
+/// Where the row of a column begins, at the column's left end.
+#[tactic(auto, unfolding(crate::specs::Lanes::row_start))]
+fn row_start(grid: Grid, column: &Column) -> Point
+    ensures { result ≡ row_start grid column.now }
+{
+    let place = u64::from(column.place);
+    Point {
+        x: grid.column_x(place),
+        y: grid.row_y(grid.row(place)),
+    }
 }
 
 fn is_tick(scale: Scale, column: &Column) -> bool
@@ -67,170 +63,171 @@ fn is_tick(scale: Scale, column: &Column) -> bool
 }
 
 #[tactic(auto, unfolding(crate::specs::Lanes::tick_at))]
-fn write_tick_at(output: &mut Text, x: u64, bottom: u64, steps: u64) -> Result<(), AllocError>
-    requires { bottom ≤ 12000 }
-    ensures { OnOk result (output.new ≡ output.old ++ tick_at x bottom steps) }
+fn add_tick_at(sheet: &mut Sheet, top: Point, height: u64, steps: u64) -> Result<(), AllocError>
+    requires { height ≤ 12000 }
+    ensures { OnOk result (sheet.new ≡ sheet.old ++ tick_at top height steps) }
 {
-    write_line_down(output, Point { x, y: 112 }, bottom, b"", RULE)?;
-    let below = Point { x, y: bottom + 12 };
-    write_number_label(
-        output,
-        below,
-        b" font-size=\"9\" text-anchor=\"middle\"",
-        FAINT,
-        steps,
+    sheet.line(top, top.moved(0, height), 1, Colour::Rule, Dashes::Solid)?;
+    let number = number_text(sheet.alloc(), steps)?;
+    sheet.label(
+        top.moved(0, height + 12),
+        AXIS,
+        Colour::Faint,
+        number.as_bytes(),
     )
 }
 
-/// Writes the lanes of this many simulators, up to this x.
+pub(crate) fn number_text(alloc: Global, number: u64) -> Result<Text, AllocError>
+    ensures { IfOk result (λ text. text ≡ decimal number) }
+{
+    let mut text = Text::new(alloc);
+    write_decimal(&mut text, number)?;
+    Ok(text)
+}
+
+/// Draws the lanes of all rows.
 #[tactic(auto, unfolding(crate::specs::Lanes::lanes))]
-pub(crate) fn write_lanes(output: &mut Text, right: u64, simulators: u8) -> Result<(), AllocError>
-    ensures { OnOk result (output.new ≡ output.old ++ lanes right simulators) }
+pub(crate) fn add_lanes(sheet: &mut Sheet, grid: Grid) -> Result<(), AllocError>
+    ensures { OnOk result (sheet.new ≡ sheet.old ++ lanes grid) }
 {
-    for simulator in 0..simulators {
-        write_lane(output, right, simulator)?;
+    for row in 0..grid.rows() {
+        add_row_lanes(sheet, grid, row)?;
     }
     Ok(())
 }
 
-#[tactic(auto, unfolding(crate::specs::Lanes::lane))]
-fn write_lane(output: &mut Text, right: u64, simulator: u8) -> Result<(), AllocError>
-    ensures { OnOk result (output.new ≡ output.old ++ lane right simulator) }
+#[tactic(auto, unfolding(crate::specs::Lanes::row_lanes))]
+fn add_row_lanes(sheet: &mut Sheet, grid: Grid, row: u64) -> Result<(), AllocError>
+    requires { row ≤ 2 * 65535 }
+    ensures { OnOk result (sheet.new ≡ sheet.old ++ row_lanes grid row) }
 {
-    let y = lane_y(simulator);
-    let name = Point {
-        x: MARGIN,
-        y: y + 19,
-    };
-    start_label(output, name, b"", INK)?;
-    write_simulator(output, simulator)?;
-    end_label(output)?;
-    write_line_right(output, Point { x: 98, y: y + 15 }, right, b"", RULE)
+    for simulator in 0..grid.simulators {
+        add_lane(sheet, grid, row, simulator)?;
+    }
+    Ok(())
 }
 
-/// Hatches each stretch in which a simulator is inside an agreement.
+fn add_lane(sheet: &mut Sheet, grid: Grid, row: u64, simulator: u8) -> Result<(), AllocError>
+    requires { row ≤ 2 * 65535 }
+    ensures { OnOk result (sheet.new ≡ sheet.old ++ lane grid row simulator) }
+{
+    let y = grid.lane_y(row, simulator);
+    add_lane_at(sheet, y, grid.row_right(row), simulator)
+}
+
+/// Draws a lane from its upper end on: its simulator's name, and its line up to this x.
+#[tactic(auto, unfolding(crate::specs::Lanes::lane_at))]
+fn add_lane_at(sheet: &mut Sheet, y: u64, right: u64, simulator: u8) -> Result<(), AllocError>
+    ensures { OnOk result (sheet.new ≡ sheet.old ++ lane_at y right simulator) }
+{
+    let name = simulator_name(sheet.alloc(), simulator)?;
+    let start = Point { x: MARGIN, y };
+    sheet.label(start.moved(0, 19), WORDS, Colour::Ink, name.as_bytes())?;
+    let from = Point { x: 98, y };
+    let to = Point { x: right, y };
+    sheet.line(
+        from.moved(0, 15),
+        to.moved(0, 15),
+        1,
+        Colour::Rule,
+        Dashes::Solid,
+    )
+}
+
+/// Hatches the lanes where their simulators are inside an agreement.
 #[tactic(auto, unfolding(crate::specs::Lanes::insides))]
-pub(crate) fn write_insides(output: &mut Text, run: &Run) -> Result<(), AllocError>
-    ensures { OnOk result (output.new ≡ output.old ++ insides run.now) }
+pub(crate) fn add_insides(
+    sheet: &mut Sheet,
+    grid: Grid,
+    columns: &[Column],
+) -> Result<(), AllocError>
+    ensures { OnOk result (sheet.new ≡ sheet.old ++ insides grid columns.now) }
 {
-    let columns = run.columns();
-    for column in columns {
-        write_inside(output, run, column)?;
+    for simulator in 0..grid.simulators {
+        add_lane_insides(sheet, grid, columns, simulator)?;
     }
     Ok(())
 }
 
-fn write_inside(output: &mut Text, run: &Run, column: &Column) -> Result<(), AllocError>
-    ensures { OnOk result (output.new ≡ output.old ++ inside run.now column.now) }
+#[tactic(auto, unfolding(crate::specs::Lanes::lane_insides))]
+fn add_lane_insides(
+    sheet: &mut Sheet,
+    grid: Grid,
+    columns: &[Column],
+    simulator: u8,
+) -> Result<(), AllocError>
+    ensures { OnOk result (sheet.new ≡ sheet.old ++ lane_insides grid columns.now simulator) }
 {
-    match column.change {
-        Change::Enters => {
-            let later = next_change(column, run.columns());
-            write_band_to(output, run.scale(), run.right(), column, later)
-        }
-        Change::Nothing | Change::Leaves | Change::Crashes => Ok(()),
+    let mut phase = Phase::Outside;
+    for column in columns {
+        let change = change_for(simulator, column);
+        add_inside(sheet, grid, simulator, column.place, phase.under(change))?;
+        phase = phase.after(change);
+    }
+    Ok(())
+}
+
+/// What a column changes for a simulator: nothing if it is one of another's.
+fn change_for(simulator: u8, column: &Column) -> Change
+    ensures { result ≡ change_for simulator column.now }
+{
+    if column.first.simulator() == simulator {
+        column.change
+    } else {
+        Change::Nothing
     }
 }
 
-/// The next column in which the same simulator enters or leaves an agreement, or crashes.
-fn next_change(column: &Column, columns: &[Column]) -> Option<Column>
-    ensures { result ≡ next_change column.now columns.now }
-{
-    columns
-        .iter()
-        .copied()
-        .find(|later| changes_behind(column, later))
-}
-
-fn changes_behind(column: &Column, later: &Column) -> bool
-    ensures { result ≡ changes_behind column.now later.now }
-{
-    column.place < later.place
-        && later.first.simulator() == column.first.simulator()
-        && later.change.changes()
-}
-
-impl Change {
-    /// Whether it is one.
-    fn changes(self) -> bool
-        ensures { result ≡ changes self }
+impl Phase {
+    /// The phase of a simulator in a column of its own that changes this.
+    fn under(self, change: Change) -> Phase
+        ensures { result ≡ phase_in change self }
     {
-        match self {
-            Change::Nothing => false,
-            Change::Enters | Change::Leaves | Change::Crashes => true,
+        match (change, self) {
+            (Change::Nothing | Change::Leaves, phase) => phase,
+            (Change::Enters, _) => Phase::Inside,
+            (Change::Crashes, Phase::Outside) => Phase::Outside,
+            (Change::Crashes, Phase::Inside | Phase::Stuck) => Phase::Stuck,
+        }
+    }
+
+    /// The phase after such a column.
+    fn after(self, change: Change) -> Phase
+        ensures { result ≡ phase_after change self }
+    {
+        match change {
+            Change::Leaves => Phase::Outside,
+            Change::Nothing | Change::Enters | Change::Crashes => self.under(change),
         }
     }
 }
 
-/// Hatches from the column in which a simulator enters up to that in which it leaves or crashes, if there is one.
-fn write_band_to(
-    output: &mut Text,
-    scale: Scale,
-    right: u64,
-    column: &Column,
-    later: Option<Column>,
-) -> Result<(), AllocError>
-    ensures { OnOk result (output.new ≡ output.old ++ band_to scale right column.now later) }
-{
-    let Some(later) = later else {
-        let from = scale.column_x(u64::from(column.place));
-        return write_band(output, column.first.simulator(), from, right, b"");
-    };
-    write_band_by(output, later.change, scale, right, column, later.place)
-}
-
-fn write_band_by(
-    output: &mut Text,
-    change: Change,
-    scale: Scale,
-    right: u64,
-    column: &Column,
+fn add_inside(
+    sheet: &mut Sheet,
+    grid: Grid,
+    simulator: u8,
     place: u16,
+    phase: Phase,
 ) -> Result<(), AllocError>
-    ensures { OnOk result (output.new ≡ output.old ++ band_by change scale right column.now place) }
+    ensures { OnOk result (sheet.new ≡ sheet.old ++ inside grid simulator place phase) }
 {
-    let simulator = column.first.simulator();
-    let from = scale.column_x(u64::from(column.place));
-    let place = u64::from(place);
-    match change {
-        Change::Crashes => {
-            write_crashed_band(output, simulator, from, scale.column_x(place), right)
-        }
-        Change::Nothing | Change::Enters | Change::Leaves => {
-            write_band(output, simulator, from, scale.column_x(place + 1), b"")
-        }
+    let corner = grid.cell(simulator, place);
+    match phase {
+        Phase::Outside => Ok(()),
+        Phase::Inside => add_inside_at(sheet, grid, corner, Colour::Hatched),
+        Phase::Stuck => add_inside_at(sheet, grid, corner, Colour::Pale),
     }
 }
 
-#[tactic(auto, unfolding(crate::specs::Lanes::crashed_band))]
-fn write_crashed_band(
-    output: &mut Text,
-    simulator: u8,
-    from: u64,
-    to: u64,
-    right: u64,
+#[tactic(auto, unfolding(crate::specs::Lanes::inside_at))]
+fn add_inside_at(
+    sheet: &mut Sheet,
+    grid: Grid,
+    corner: Point,
+    fill: Colour,
 ) -> Result<(), AllocError>
-    ensures { OnOk result (output.new ≡ output.old ++ crashed_band simulator from to right) }
+    ensures { OnOk result (sheet.new ≡ sheet.old ++ inside_at grid corner fill) }
 {
-    write_band(output, simulator, from, to, b"")?;
-    write_band(output, simulator, to, right, b" opacity=\"0.5\"")
-}
-
-#[tactic(auto, unfolding(crate::specs::Lanes::band))]
-fn write_band(
-    output: &mut Text,
-    simulator: u8,
-    from: u64,
-    to: u64,
-    style: &[u8],
-) -> Result<(), AllocError>
-    ensures { OnOk result (output.new ≡ output.old ++ band simulator from to style.now) }
-{
-    let frame = Frame {
-        x: from,
-        y: lane_y(simulator) + 2,
-        width: to.saturating_sub(from),
-        height: 26,
-    };
-    write_rectangle(output, frame, style, b"url(#inside)", b"none")
+    let frame = Frame::at(corner.moved(0, 2), across(grid.scale, 1), 26);
+    sheet.area(frame, 0, fill, Colour::Clear, Dashes::Solid)
 }

@@ -1,64 +1,151 @@
-//! Positions in the picture of a room.
-ghost use Rattle.std.specs.Prelude.{◌≡◌, ◌+◌, ◌*◌, ◌≤◌, ◌^◌};
-ghost use Rattle.run_picture.specs.Layout.{column_x, history_y, lane_y, left, pitch, process_y};
+//! Where the columns and the lanes of a room are.
+ghost use Rattle.std.specs.Prelude.{◌≡◌, ◌+◌, ◌*◌, ◌≤◌, ◌<◌, ◌^◌};
+ghost use Rattle.run_picture.specs.Layout.{across, cell, column_x, columns_in, in_row, lane_y, right_of, row_height, row_of, row_right, row_y, rows};
 
-use crate::column::Scale;
-
-/// Where the first column begins.
-pub(crate) const LEFT: u64 = 104;
+use picture_shapes::Point;
+use run_columns::Scale;
 
 /// How far to the left all words begin.
 pub(crate) const MARGIN: u64 = 16;
 
-impl Scale {
-    /// How wide a column is.
-    pub(crate) fn pitch(self) -> u64
-        ensures value { result ≡ pitch self }
-        ensures range { (16 ≤ result) × (result ≤ 40) }
+/// Where the first column of a row begins.
+pub(crate) const LEFT: u64 = 104;
+
+/// Where the first row begins.
+pub(crate) const TOP: u64 = 112;
+
+/// How high the lane of a simulator is.
+pub(crate) const LANE: u64 = 46;
+
+/// The columns of a room in rows, one below the other. In each row each simulator has a lane.
+#[derive(Clone, Copy, Debug)]
+pub(crate) struct Grid {
+    pub scale: Scale,
+    /// How many columns a row has at most.
+    pub wrap: u16,
+    /// How many columns there are.
+    pub count: u16,
+    pub simulators: u8,
+}
+
+/// How wide a number of columns is.
+pub(crate) fn across(scale: Scale, columns: u64) -> u64
+    requires { columns ≤ 65535 }
+    ensures value { result ≡ across scale columns }
+    ensures range { result ≤ 40 * 65535 }
+{
+    match scale {
+        Scale::Steps => 16 * columns,
+        Scale::Turns | Scale::Simulators => 40 * columns,
+    }
+}
+
+impl Grid {
+    fn in_row(self) -> u64
+        ensures value { result ≡ in_row self }
+        ensures range { (1 ≤ result) × (result ≤ 65535) }
     {
-        match self {
-            Scale::Steps => 16,
-            Scale::Turns | Scale::Simulators => 40,
+        u64::from(self.wrap).max(1)
+    }
+
+    /// The row of the column at a place.
+    #[tactic(auto, unfolding(crate::specs::Layout::row_of))]
+    pub(crate) fn row(self, place: u64) -> u64
+        ensures value { result ≡ row_of self place }
+        ensures range { result ≤ place }
+    {
+        place / self.in_row()
+    }
+
+    /// How many rows there are.
+    #[tactic(auto, unfolding(crate::specs::Layout::rows))]
+    pub(crate) fn rows(self) -> u64
+        ensures value { result ≡ rows self }
+        ensures range { result ≤ 2 * 65535 }
+    {
+        let last = u64::from(self.count) + self.in_row() - 1;
+        self.row(last).max(1)
+    }
+
+    #[tactic(auto, unfolding(crate::specs::Layout::columns_in))]
+    fn columns_in(self, row: u64) -> u64
+        ensures value { result ≡ columns_in self row }
+        ensures range { result ≤ 65535 }
+    {
+        let count = u64::from(self.count);
+        let whole = self.row(count);
+        if row < whole {
+            self.in_row()
+        } else if row == whole {
+            count % self.in_row()
+        } else {
+            0
         }
+    }
+
+    #[tactic(auto, unfolding(crate::specs::Layout::row_height))]
+    fn row_height(self) -> u64
+        ensures value { result ≡ row_height self }
+        ensures range { result ≤ 12000 }
+    {
+        LANE * u64::from(self.simulators) + 30
+    }
+
+    /// The upper end of a row.
+    #[tactic(auto, unfolding(crate::specs::Layout::row_y))]
+    pub(crate) fn row_y(self, row: u64) -> u64
+        requires { row ≤ 2 * 65535 }
+        ensures value { result ≡ row_y self row }
+        ensures range { result ≤ 112 + 2 * 65535 * 12000 }
+    {
+        TOP + row * self.row_height()
+    }
+
+    /// The right end of a row's columns.
+    #[tactic(auto, unfolding(crate::specs::Layout::row_right))]
+    pub(crate) fn row_right(self, row: u64) -> u64
+        ensures value { result ≡ row_right self row }
+        ensures range { result ≤ 104 + 40 * 65535 }
+    {
+        LEFT + across(self.scale, self.columns_in(row))
+    }
+
+    /// The right end of all columns.
+    #[tactic(auto, unfolding(crate::specs::Layout::right_of))]
+    pub(crate) fn right(self) -> u64
+        ensures value { result ≡ right_of self }
+        ensures range { result ≤ 104 + 40 * 65535 }
+    {
+        LEFT + across(self.scale, u64::from(self.count).min(self.in_row()))
     }
 
     /// The left end of the column at a place.
     #[tactic(auto, unfolding(crate::specs::Layout::column_x))]
     pub(crate) fn column_x(self, place: u64) -> u64
-        requires { place ≤ 2 ^ 16 }
         ensures value { result ≡ column_x self place }
-        ensures range { result ≤ 104 + 40 * 2 ^ 16 }
+        ensures range { result ≤ 104 + 40 * 65535 }
     {
-        match self {
-            Scale::Steps => LEFT + 16 * place,
-            Scale::Turns | Scale::Simulators => LEFT + 40 * place,
+        LEFT + across(self.scale, place % self.in_row())
+    }
+
+    /// The upper end of a simulator's lane in a row.
+    #[tactic(auto, unfolding(crate::specs::Layout::lane_y))]
+    pub(crate) fn lane_y(self, row: u64, simulator: u8) -> u64
+        requires { row ≤ 2 * 65535 }
+        ensures { result ≡ lane_y self row simulator }
+    {
+        self.row_y(row) + LANE * u64::from(simulator)
+    }
+
+    /// The left and upper end of a column in a simulator's lane.
+    #[tactic(auto, unfolding(crate::specs::Layout::cell))]
+    pub(crate) fn cell(self, simulator: u8, place: u16) -> Point
+        ensures { result ≡ cell self simulator place }
+    {
+        let place = u64::from(place);
+        Point {
+            x: self.column_x(place),
+            y: self.lane_y(self.row(place), simulator),
         }
     }
-}
-
-/// The upper end of a simulator's lane.
-#[tactic(auto, unfolding(crate::specs::Layout::lane_y))]
-pub(crate) fn lane_y(simulator: u8) -> u64
-    ensures value { result ≡ lane_y simulator }
-    ensures range { result ≤ 12000 }
-{
-    112 + 46 * u64::from(simulator)
-}
-
-/// The upper end of what the processes did, below the lanes of this many simulators.
-#[tactic(auto, unfolding(crate::specs::Layout::history_y))]
-pub(crate) fn history_y(simulators: u8) -> u64
-    ensures value { result ≡ history_y simulators }
-    ensures range { result ≤ 13000 }
-{
-    lane_y(simulators) + 42
-}
-
-/// The upper end of a process's lane, below the lanes of this many simulators.
-#[tactic(auto, unfolding(crate::specs::Layout::process_y))]
-pub(crate) fn process_y(simulators: u8, process: u8) -> u64
-    ensures value { result ≡ process_y simulators process }
-    ensures range { result ≤ 24000 }
-{
-    history_y(simulators) + 16 + 40 * u64::from(process)
 }

@@ -1,70 +1,83 @@
 //! What the letters stand for.
-ghost use Rattle.std.specs.Prelude.{◌≡◌, ◌++◌, OnOk};
-ghost use Rattle.run_picture.specs.Picture.{agreement_row, bold, decision_row, legend, legend_entry, writing_row};
+ghost use Rattle.std.specs.Prelude.{◌≡◌, ◌++◌, ◌*◌, ◌+◌, ◌≤◌, IfOk, OnOk, length};
+ghost use Rattle.std.specs.List.{list_any};
+ghost use Rattle.run_picture.specs.Picture.{deeds_in, has_letter, legend_entry, legend_from, shows_deed};
 
-use crate::elements::{FAINT, Point, end_hint, end_label, start_label};
-use crate::mark::Deed;
-use crate::picture::start_panel;
-use io_text::Text;
-use std::alloc::AllocError;
+use crate::fonts::{LEGEND, WORDS};
+use crate::layout::MARGIN;
+use crate::panel::Panel;
+use picture_shapes::{Colour, Point, Sheet};
+use run_columns::{Deed, MAX_COLUMNS, Mark};
+use std::alloc::{AllocError, Global};
 
-/// Writes what each letter stands for, from this y on.
-#[tactic(auto, unfolding(crate::specs::Picture::legend))]
-pub(crate) fn write_legend(output: &mut Text, y: u64) -> Result<(), AllocError>
-    ensures { OnOk result (output.new ≡ output.old ++ legend y) }
+/// The letters that are in the pictures of these rooms.
+pub(crate) fn deeds_in(alloc: Global, panels: &[Panel]) -> Result<Vec<Deed>, AllocError>
+    ensures value { IfOk result (λ deeds. deeds.items ≡ deeds_in panels.now) }
+    ensures few { IfOk result (λ deeds. length deeds.items ≤ 12) }
 {
-    start_panel(output, y)?;
-    write_writing_row(output)?;
-    write_agreement_row(output)?;
-    write_decision_row(output)?;
-    end_hint(output)
+    let mut deeds = Vec::new(alloc);
+    for deed in &Deed::all() {
+        if is_in(*deed, panels) {
+            deeds.push(*deed)?;
+        }
+    }
+    Ok(deeds)
 }
 
-#[tactic(auto, unfolding(crate::specs::Picture::writing_row))]
-fn write_writing_row(output: &mut Text) -> Result<(), AllocError>
-    ensures { OnOk result (output.new ≡ output.old ++ writing_row) }
+fn is_in(deed: Deed, panels: &[Panel]) -> bool
+    ensures { result ≡ list_any (has_letter deed) panels.now }
 {
-    write_entry(output, 16, 16, Deed::StoreWrite)?;
-    write_entry(output, 166, 16, Deed::CountWrite)?;
-    write_entry(output, 316, 16, Deed::Snapshot)?;
-    write_entry(output, 466, 16, Deed::Propose)
+    panels.iter().any(|panel| has_letter(deed, panel))
 }
 
-#[tactic(auto, unfolding(crate::specs::Picture::agreement_row))]
-fn write_agreement_row(output: &mut Text) -> Result<(), AllocError>
-    ensures { OnOk result (output.new ≡ output.old ++ agreement_row) }
+/// Whether a letter is in the picture of a room. It has letters if each column is a step.
+fn has_letter(deed: Deed, panel: &Panel) -> bool
+    ensures { result ≡ has_letter deed panel.now }
 {
-    write_entry(output, 16, 34, Deed::Enter)?;
-    write_entry(output, 166, 34, Deed::Look)?;
-    write_entry(output, 316, 34, Deed::Stand)?;
-    write_entry(output, 466, 34, Deed::Withdraw)
+    panel.marks().len() <= MAX_COLUMNS && is_among(deed, panel.marks())
 }
 
-#[tactic(auto, unfolding(crate::specs::Picture::decision_row))]
-fn write_decision_row(output: &mut Text) -> Result<(), AllocError>
-    ensures { OnOk result (output.new ≡ output.old ++ decision_row) }
+fn is_among(deed: Deed, marks: &[Mark]) -> bool
+    ensures { result ≡ list_any (shows_deed deed) marks.now }
 {
-    write_entry(output, 16, 52, Deed::Ask)?;
-    write_entry(output, 166, 52, Deed::LoadView)?;
-    write_entry(output, 316, 52, Deed::LoadValue)?;
-    write_entry(output, 466, 52, Deed::Decide)
+    marks.iter().any(|mark| shows_deed(deed, *mark))
+}
+
+fn shows_deed(deed: Deed, mark: Mark) -> bool
+    ensures { result ≡ shows_deed deed mark }
+{
+    match mark {
+        Mark::Step(step) => step.deed.is_same(deed),
+        Mark::Crash { .. } => false,
+    }
+}
+
+/// Writes what each of these letters stands for, four in a row.
+pub(crate) fn add_legend(sheet: &mut Sheet, deeds: &[Deed]) -> Result<(), AllocError>
+    requires { length deeds.now ≤ 12 }
+    ensures { OnOk result (sheet.new ≡ sheet.old ++ legend_from 0 deeds.now) }
+{
+    let mut index = 0;
+    for deed in deeds {
+        add_entry(sheet, index, *deed)?;
+        index += 1;
+    }
+    Ok(())
 }
 
 #[tactic(auto, unfolding(crate::specs::Picture::legend_entry))]
-fn write_entry(output: &mut Text, x: u64, y: u64, deed: Deed) -> Result<(), AllocError>
-    ensures { OnOk result (output.new ≡ output.old ++ legend_entry x y deed) }
+fn add_entry(sheet: &mut Sheet, index: u64, deed: Deed) -> Result<(), AllocError>
+    requires { index ≤ 12 }
+    ensures { OnOk result (sheet.new ≡ sheet.old ++ legend_entry index deed) }
 {
-    start_label(output, Point { x, y }, b"", FAINT)?;
-    write_bold(output, deed.letter())?;
-    output.put(deed.meaning())?;
-    end_label(output)
-}
-
-#[tactic(auto, unfolding(crate::specs::Picture::bold))]
-fn write_bold(output: &mut Text, letter: &[u8]) -> Result<(), AllocError>
-    ensures { OnOk result (output.new ≡ output.old ++ bold letter.now) }
-{
-    output.put(b"<tspan font-weight=\"700\">")?;
-    output.put(letter)?;
-    output.put(b"</tspan> ")
+    let at = Point {
+        x: MARGIN + 150 * (index % 4),
+        y: 16 + 18 * (index / 4),
+    };
+    sheet.label(at, LEGEND, Colour::Faint, deed.letter())?;
+    let after = Point {
+        x: at.x + 16,
+        y: at.y,
+    };
+    sheet.label(after, WORDS, Colour::Faint, deed.meaning())
 }

@@ -1,24 +1,18 @@
-//! Draws what became of rooms, as SVG: each room's simulators step by step, and below them what its processes did.
+//! The layout of pictures of rooms: of each room the shapes that show its simulators step by step, and below them what its processes did.
 #![tactic(auto)]
 
-mod column;
-mod elements;
-mod events;
+mod fonts;
 mod head;
+mod history;
 mod lanes;
 mod layout;
 mod legend;
-mod mark;
 mod panel;
 mod picture;
-mod processes;
-mod seen;
 mod squares;
-mod steps;
 mod turns;
 mod words;
 
 pub use head::Head;
-pub use mark::{Deed, Mark, Step};
 pub use panel::Panel;
 pub use picture::write_picture;

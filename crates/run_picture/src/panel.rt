@@ -3,8 +3,8 @@ ghost use Rattle.std.specs.Prelude.{◌≡◌, ◌++◌, ◌≤◌, [], None, So
 ghost use Rattle.run_picture.specs.Panels.{events_in, states_in};
 
 use crate::head::Head;
-use crate::mark::Mark;
 use room_spec::MAX_PROCESSES;
+use run_columns::Mark;
 use std::alloc::{AllocError, Global};
 use std::marker::Model;
 use transcript::Event;

@@ -1,80 +1,67 @@
 //! The turns of the simulators: a bar under the steps of each.
-ghost use Rattle.std.specs.Prelude.{◌≡◌, ◌++◌, ◌≤◌, [], OnOk, if◌then◌else◌};
-ghost use Rattle.run_picture.specs.Turns.{all_turns, bar, bar_line, bar_style, bar_to, ending_words, first_place, is_at, is_in_turn, last_of, quiet_part, round_part, shows_turn, turn, turn_label, turn_name, turn_number, turn_title, turn_words, turns, turns_start};
+ghost use Rattle.std.specs.Prelude.{◌≡◌, ◌++◌, ◌*◌, ◌≤◌, [], IfOk, OnOk, if◌then◌else◌};
+ghost use Rattle.run_picture.specs.Turns.{all_turns, bar, bar_dashes, bar_in, bar_left, bar_part, bar_parts, bar_right, ending_words, first_place, is_at, last_of, quiet_part, round_part, shows_turn, turn, turn_name, turn_number, turn_words, turns};
 
-use crate::column::{Column, Run, Scale};
-use crate::elements::{
-    Point, end_hint, end_hint_words, end_label, hue, start_hint, start_label, write_decimal,
-    write_line_right,
-};
-use crate::layout::lane_y;
-use crate::mark::{Mark, Step};
+use crate::fonts::SMALL;
+use crate::layout::{Grid, LEFT, across};
 use crate::words::{write_process_round, write_simulator};
 use io_text::Text;
+use picture_shapes::{Colour, Dashes, Frame, Point, Sheet, write_decimal};
+use run_columns::{Column, Mark, Scale, Step};
 use simulator::Turn;
-use std::alloc::AllocError;
-
-/// Greater than each x in a picture.
-const WIDE: u64 = 10000000;
+use std::alloc::{AllocError, Global};
 
 /// Draws a bar for each turn, unless a column may show several.
-#[tactic(auto, unfolding(crate::specs::Turns::turns))]
-pub(crate) fn write_turns(output: &mut Text, run: &Run) -> Result<(), AllocError>
-    ensures { OnOk result (output.new ≡ output.old ++ turns run.now) }
+pub(crate) fn add_turns(sheet: &mut Sheet, grid: Grid, columns: &[Column]) -> Result<(), AllocError>
+    ensures { OnOk result (sheet.new ≡ sheet.old ++ turns grid columns.now) }
 {
-    match run.scale() {
+    match grid.scale {
         Scale::Simulators => Ok(()),
-        Scale::Steps | Scale::Turns => {
-            start_turns(output)?;
-            write_all_turns(output, run)?;
-            end_hint(output)
-        }
+        Scale::Steps | Scale::Turns => add_all_turns(sheet, grid, columns),
     }
 }
 
-#[tactic(auto, unfolding(crate::specs::Turns::turns_start))]
-fn start_turns(output: &mut Text) -> Result<(), AllocError>
-    ensures { OnOk result (output.new ≡ output.old ++ turns_start) }
-{
-    output.put(b"<g font-size=\"10\">\n")
-}
-
 #[tactic(auto, unfolding(crate::specs::Turns::all_turns))]
-fn write_all_turns(output: &mut Text, run: &Run) -> Result<(), AllocError>
-    ensures { OnOk result (output.new ≡ output.old ++ all_turns run.now) }
+fn add_all_turns(sheet: &mut Sheet, grid: Grid, columns: &[Column]) -> Result<(), AllocError>
+    ensures { OnOk result (sheet.new ≡ sheet.old ++ all_turns grid columns.now) }
 {
-    let columns = run.columns();
     for column in columns {
-        write_turn(output, run, column)?;
+        add_turn(sheet, grid, columns, column)?;
     }
     Ok(())
 }
 
 /// Draws the bar of the turn that begins in this column, if one does.
-fn write_turn(output: &mut Text, run: &Run, column: &Column) -> Result<(), AllocError>
-    ensures { OnOk result (output.new ≡ output.old ++ turn run.now column.now) }
+fn add_turn(
+    sheet: &mut Sheet,
+    grid: Grid,
+    columns: &[Column],
+    column: &Column,
+) -> Result<(), AllocError>
+    ensures { OnOk result (sheet.new ≡ sheet.old ++ turn grid columns.now column.now) }
 {
     match column.first {
-        Mark::Step(step) => write_turn_from(output, run, column, &step),
+        Mark::Step(step) => add_turn_from(sheet, grid, columns, column, &step),
         Mark::Crash { .. } => Ok(()),
     }
 }
 
-fn write_turn_from(
-    output: &mut Text,
-    run: &Run,
+fn add_turn_from(
+    sheet: &mut Sheet,
+    grid: Grid,
+    columns: &[Column],
     column: &Column,
     step: &Step,
 ) -> Result<(), AllocError>
-    ensures { OnOk result (output.new ≡ output.old ++
-        (if is_at column.now.place (first_place step.now run.now.columns)
-        then bar_to run.now.scale column.now step.now (last_of step.now column.now run.now.columns) else [])) }
+    ensures { OnOk result (sheet.new ≡ sheet.old ++
+        (if is_at column.now.place (first_place step.now columns.now)
+        then bar_parts grid column.now (last_of step.now column.now columns.now) step.now else [])) }
 {
-    if !is_first(column, step, run.columns()) {
+    if !is_first(column, step, columns) {
         return Ok(());
     }
-    let last = last_of(step, column, run.columns());
-    write_bar_to(output, run.scale(), column, step, &last)
+    let last = last_of(step, column, columns);
+    add_bar_parts(sheet, grid, column, &last, step)
 }
 
 /// Whether this is the first column that shows a step of the same turn.
@@ -118,55 +105,127 @@ fn shows_turn(step: &Step, column: &Column) -> bool
     }
 }
 
-#[tactic(auto, unfolding(crate::specs::Turns::bar_to))]
-fn write_bar_to(
-    output: &mut Text,
-    scale: Scale,
-    column: &Column,
-    step: &Step,
+/// Draws the bar of a turn, from its first to its last column, in each row that it touches.
+#[tactic(auto, unfolding(crate::specs::Turns::bar_parts))]
+fn add_bar_parts(
+    sheet: &mut Sheet,
+    grid: Grid,
+    first: &Column,
     last: &Column,
+    step: &Step,
 ) -> Result<(), AllocError>
-    ensures { OnOk result (output.new ≡ output.old ++ bar_to scale column.now step.now last.now) }
+    ensures { OnOk result (sheet.new ≡ sheet.old ++ bar_parts grid first.now last.now step.now) }
 {
-    let from = scale.column_x(u64::from(column.place));
-    let to = scale.column_x(u64::from(last.place) + 1);
-    write_bar(output, from, to, step, last.end)
+    for row in 0..grid.rows() {
+        add_bar_part(sheet, grid, first, last, step, row)?;
+    }
+    Ok(())
 }
 
+fn add_bar_part(
+    sheet: &mut Sheet,
+    grid: Grid,
+    first: &Column,
+    last: &Column,
+    step: &Step,
+    row: u64,
+) -> Result<(), AllocError>
+    requires { row ≤ 2 * 65535 }
+    ensures { OnOk result (sheet.new ≡ sheet.old ++ bar_part grid first.now last.now step.now row) }
+{
+    if grid.row(u64::from(first.place)) <= row && row <= grid.row(u64::from(last.place)) {
+        add_bar_in(sheet, grid, first, last, step, row)
+    } else {
+        Ok(())
+    }
+}
+
+#[tactic(auto, unfolding(crate::specs::Turns::bar_in))]
+fn add_bar_in(
+    sheet: &mut Sheet,
+    grid: Grid,
+    first: &Column,
+    last: &Column,
+    step: &Step,
+    row: u64,
+) -> Result<(), AllocError>
+    requires { row ≤ 2 * 65535 }
+    ensures { OnOk result (sheet.new ≡ sheet.old ++ bar_in grid first.now last.now step.now row) }
+{
+    let start = Point {
+        x: bar_left(grid, first, row),
+        y: grid.lane_y(row, step.simulator),
+    };
+    let width = bar_right(grid, last, row).saturating_sub(start.x);
+    add_bar(sheet, start, width, step, last.end)
+}
+
+/// The left end of a turn's bar in a row.
+#[tactic(auto, unfolding(crate::specs::Turns::bar_left))]
+fn bar_left(grid: Grid, first: &Column, row: u64) -> u64
+    ensures { result ≡ bar_left grid first.now row }
+{
+    let place = u64::from(first.place);
+    if grid.row(place) == row {
+        grid.column_x(place)
+    } else {
+        LEFT
+    }
+}
+
+/// The right end of a turn's bar in a row.
+#[tactic(auto, unfolding(crate::specs::Turns::bar_right))]
+fn bar_right(grid: Grid, last: &Column, row: u64) -> u64
+    ensures { result ≡ bar_right grid last.now row }
+{
+    let place = u64::from(last.place);
+    if grid.row(place) == row {
+        grid.column_x(place) + across(grid.scale, 1)
+    } else {
+        grid.row_right(row)
+    }
+}
+
+/// Draws a bar of this width, under a lane that begins here.
 #[tactic(auto, unfolding(crate::specs::Turns::bar))]
-fn write_bar(
-    output: &mut Text,
-    from: u64,
-    to: u64,
+fn add_bar(
+    sheet: &mut Sheet,
+    start: Point,
+    width: u64,
     step: &Step,
     end: Turn,
 ) -> Result<(), AllocError>
-    requires { from ≤ WIDE }
-    ensures { OnOk result (output.new ≡ output.old ++ bar from to step.now end) }
+    ensures { OnOk result (sheet.new ≡ sheet.old ++ bar start width step.now end) }
 {
-    write_turn_title(output, step, end)?;
-    write_bar_line(output, from, to, step, end)?;
-    write_turn_label(output, from, to, step, end)?;
-    end_hint(output)
+    let hue = Colour::Hue(step.process);
+    let right = start.moved(width.saturating_sub(1), 33);
+    sheet.line(start.moved(1, 33), right, 3, hue, bar_dashes(end))?;
+    let name = turn_name(sheet.alloc(), width, step, end)?;
+    sheet.label(start.moved(1, 44), SMALL, hue, name.as_bytes())?;
+    let words = turn_words(sheet.alloc(), step, end)?;
+    sheet.hint(Frame::at(start.moved(0, 30), width, 16), words.as_bytes())
 }
 
-#[tactic(auto, unfolding(crate::specs::Turns::turn_title))]
-fn write_turn_title(output: &mut Text, step: &Step, end: Turn) -> Result<(), AllocError>
-    ensures { OnOk result (output.new ≡ output.old ++ turn_title step.now end) }
+/// A quiet turn's bar is dashed.
+fn bar_dashes(end: Turn) -> Dashes
+    ensures { result ≡ bar_dashes end }
 {
-    start_hint(output)?;
-    write_turn_words(output, step, end)?;
-    end_hint_words(output)
+    match end {
+        Turn::Still | Turn::Useful => Dashes::Solid,
+        Turn::Quiet => Dashes::Short,
+    }
 }
 
 #[tactic(auto, unfolding(crate::specs::Turns::turn_words))]
-fn write_turn_words(output: &mut Text, step: &Step, end: Turn) -> Result<(), AllocError>
-    ensures { OnOk result (output.new ≡ output.old ++ turn_words step.now end) }
+fn turn_words(alloc: Global, step: &Step, end: Turn) -> Result<Text, AllocError>
+    ensures { IfOk result (λ words. words ≡ turn_words step.now end) }
 {
-    write_turn_number(output, step)?;
-    output.put(b": ")?;
-    write_process_round(output, step.process, step.round)?;
-    output.put(ending_words(end))
+    let mut words = Text::new(alloc);
+    write_turn_number(&mut words, step)?;
+    words.put(b": ")?;
+    write_process_round(&mut words, step.process, step.round)?;
+    words.put(ending_words(end))?;
+    Ok(words)
 }
 
 #[tactic(auto, unfolding(crate::specs::Turns::ending_words))]
@@ -190,70 +249,17 @@ fn write_turn_number(output: &mut Text, step: &Step) -> Result<(), AllocError>
     write_simulator(output, step.simulator)
 }
 
-#[tactic(auto, unfolding(crate::specs::Turns::bar_line))]
-fn write_bar_line(
-    output: &mut Text,
-    from: u64,
-    to: u64,
-    step: &Step,
-    end: Turn,
-) -> Result<(), AllocError>
-    requires { from ≤ WIDE }
-    ensures { OnOk result (output.new ≡ output.old ++ bar_line from to step.now end) }
-{
-    let start = Point {
-        x: from + 1,
-        y: lane_y(step.simulator) + 33,
-    };
-    write_line_right(
-        output,
-        start,
-        to.saturating_sub(1),
-        bar_style(end),
-        hue(step.process),
-    )
-}
-
-/// How a turn's bar is drawn: dashed if the turn was quiet.
-#[tactic(auto, unfolding(crate::specs::Turns::bar_style))]
-fn bar_style(end: Turn) -> &'static [u8]
-    ensures { result.now ≡ bar_style end }
-{
-    match end {
-        Turn::Still | Turn::Useful => b" stroke-width=\"3\"",
-        Turn::Quiet => b" stroke-width=\"3\" stroke-dasharray=\"3 2\"",
-    }
-}
-
-#[tactic(auto, unfolding(crate::specs::Turns::turn_label))]
-fn write_turn_label(
-    output: &mut Text,
-    from: u64,
-    to: u64,
-    step: &Step,
-    end: Turn,
-) -> Result<(), AllocError>
-    requires { from ≤ WIDE }
-    ensures { OnOk result (output.new ≡ output.old ++ turn_label from to step.now end) }
-{
-    let start = Point {
-        x: from + 1,
-        y: lane_y(step.simulator) + 44,
-    };
-    start_label(output, start, b"", hue(step.process))?;
-    write_turn_name(output, to.saturating_sub(from), step, end)?;
-    end_label(output)
-}
-
-/// Writes as much of a turn's name as there is room for.
+/// As much of a turn's name as there is room for.
 #[tactic(auto, unfolding(crate::specs::Turns::turn_name))]
-fn write_turn_name(output: &mut Text, width: u64, step: &Step, end: Turn) -> Result<(), AllocError>
-    ensures { OnOk result (output.new ≡ output.old ++ turn_name width step.now end) }
+fn turn_name(alloc: Global, width: u64, step: &Step, end: Turn) -> Result<Text, AllocError>
+    ensures { IfOk result (λ words. words ≡ turn_name width step.now end) }
 {
-    output.put(b"p")?;
-    write_decimal(output, u64::from(step.process))?;
-    write_round_part(output, width, step.round)?;
-    output.put(quiet_part(width, end))
+    let mut words = Text::new(alloc);
+    words.put(b"p")?;
+    write_decimal(&mut words, u64::from(step.process))?;
+    write_round_part(&mut words, width, step.round)?;
+    words.put(quiet_part(width, end))?;
+    Ok(words)
 }
 
 #[tactic(auto, unfolding(crate::specs::Turns::round_part))]

@@ -1,86 +1,11 @@
-//! What steps do, in letters and in words.
-ghost use Rattle.std.specs.Prelude.{◌≡◌, ◌++◌, OnOk};
-ghost use Rattle.run_picture.specs.Words.{actor_words, deed_words, is_marked, letter_of, meaning_of, process_name, process_round, simulator_name, verb_of, word_words};
+//! What steps do, in words.
+ghost use Rattle.std.specs.Prelude.{◌≡◌, ◌++◌, IfOk, OnOk};
+ghost use Rattle.run_picture.specs.Words.{actor_words, counted, deed_words, process_name, process_round, simulator_name, step_words, word_words};
 
-use crate::elements::write_decimal;
-use crate::mark::{Deed, Step};
 use io_text::Text;
-use std::alloc::AllocError;
-
-impl Deed {
-    /// The letter on a step's square.
-    #[tactic(auto, unfolding(crate::specs::Words::letter_of))]
-    pub(crate) fn letter(self) -> &'static [u8]
-        ensures { result.now ≡ letter_of self }
-    {
-        match self {
-            Deed::StoreWrite => b"W",
-            Deed::CountWrite => b"+",
-            Deed::Snapshot => b"S",
-            Deed::Propose => b"V",
-            Deed::Enter => b"1",
-            Deed::Look => b"?",
-            Deed::Stand => b"2",
-            Deed::Withdraw => b"0",
-            Deed::Ask => b"A",
-            Deed::LoadView => b"G",
-            Deed::LoadValue => b"r",
-            Deed::Decide => b"D",
-        }
-    }
-
-    /// What the letter stands for.
-    #[tactic(auto, unfolding(crate::specs::Words::meaning_of))]
-    pub(crate) fn meaning(self) -> &'static [u8]
-        ensures { result.now ≡ meaning_of self }
-    {
-        match self {
-            Deed::StoreWrite => b"store a write",
-            Deed::CountWrite => b"count it",
-            Deed::Snapshot => b"snapshot",
-            Deed::Propose => b"propose it",
-            Deed::Enter => b"enter",
-            Deed::Look => b"look",
-            Deed::Stand => b"leave, it stands",
-            Deed::Withdraw => b"leave, too late",
-            Deed::Ask => b"ask",
-            Deed::LoadView => b"get the view",
-            Deed::LoadValue => b"read a value",
-            Deed::Decide => b"store decision",
-        }
-    }
-
-    /// What a simulator does, up to the words that say for which process.
-    #[tactic(auto, unfolding(crate::specs::Words::verb_of))]
-    fn verb(self) -> &'static [u8]
-        ensures { result.now ≡ verb_of self }
-    {
-        match self {
-            Deed::StoreWrite => b" stores the write of ",
-            Deed::CountWrite => b" counts the write of ",
-            Deed::Snapshot => b" takes a snapshot for ",
-            Deed::Propose => b" proposes its snapshot for ",
-            Deed::Enter => b" enters the agreement on ",
-            Deed::Look => b" looks who is in the agreement on ",
-            Deed::Stand => b" keeps its proposal and leaves the agreement on ",
-            Deed::Withdraw => b" withdraws its proposal and leaves the agreement on ",
-            Deed::Ask => b" asks what was agreed on for ",
-            Deed::LoadView => b" loads the chosen proposal for ",
-            Deed::LoadValue => b" loads a value for ",
-            Deed::Decide => b" stores the decision of ",
-        }
-    }
-
-    /// Whether it changes the agreement or decides.
-    pub(crate) fn is_marked(self) -> bool
-        ensures { result ≡ is_marked self }
-    {
-        matches!(
-            self,
-            Deed::Enter | Deed::Stand | Deed::Withdraw | Deed::Decide
-        )
-    }
-}
+use picture_shapes::write_decimal;
+use run_columns::Step;
+use std::alloc::{AllocError, Global};
 
 /// Names a process.
 #[tactic(auto, unfolding(crate::specs::Words::process_name))]
@@ -144,4 +69,43 @@ pub(crate) fn write_deed(output: &mut Text, step: &Step) -> Result<(), AllocErro
     write_actor(output, step)?;
     write_process_round(output, step.process, step.round)?;
     write_word(output, step.word)
+}
+
+/// What the step of this number does.
+#[tactic(auto, unfolding(crate::specs::Words::step_words))]
+pub(crate) fn step_words(alloc: Global, number: u64, step: &Step) -> Result<Text, AllocError>
+    ensures { IfOk result (λ words. words ≡ step_words number step.now) }
+{
+    let mut words = Text::new(alloc);
+    words.put(b"step ")?;
+    write_decimal(&mut words, number)?;
+    write_deed(&mut words, step)?;
+    Ok(words)
+}
+
+/// Writes a number of things: after it the word for one, or for several.
+#[tactic(auto, unfolding(crate::specs::Words::counted))]
+pub(crate) fn write_counted(
+    output: &mut Text,
+    count: u64,
+    one: &[u8],
+    several: &[u8],
+) -> Result<(), AllocError>
+    ensures { OnOk result (output.new ≡ output.old ++ counted count one.now several.now) }
+{
+    write_decimal(output, count)?;
+    if count == 1 {
+        output.put(one)
+    } else {
+        output.put(several)
+    }
+}
+
+/// The name of a simulator.
+pub(crate) fn simulator_name(alloc: Global, simulator: u8) -> Result<Text, AllocError>
+    ensures { IfOk result (λ words. words ≡ simulator_name simulator) }
+{
+    let mut words = Text::new(alloc);
+    write_simulator(&mut words, simulator)?;
+    Ok(words)
 }

@@ -8,7 +8,7 @@ use Rattle.std.proofs.lemmas.Slice.Eq.{bytes_eq-Decides}
 use Rattle.ws_history.specs.declared.states.Report.{Report as ReportData}
 use Rattle.run_picture.specs.Panels.{Panel}
 use Rattle.run_picture.specs.declared.head.Head.{Head}
-use Rattle.run_picture.specs.declared.mark.Mark.{Mark}
+use Rattle.run_columns.specs.declared.mark.Mark.{Mark}
 use Rattle.view_draw.specs.Drawn.{AreIndexed, IsPlace, Places, changed, changed_at, finished, fresh, is_of, noted, with_marks, with_report}
 use Rattle.view_draw.proofs.Changing.{set_changed}
 use Rattle.view_draw.proofs.Places.{first_pushed, place_aside, place_gone, place_is, place_kept, place_pushed}

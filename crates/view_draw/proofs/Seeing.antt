@@ -2,7 +2,7 @@
 use Rattle.std.proofs.Common.{◌≡◌, ◌∙◌, false, List, [], ◌∷◌, ◌++◌, sym, ap}
 use Rattle.std.proofs.lemmas.List.{append-nil, append_assoc}
 use Rattle.room_core.specs.Observing.{AreSeen, TakenStep}
-use Rattle.run_picture.specs.declared.mark.Mark.{Mark}
+use Rattle.run_columns.specs.declared.mark.Mark.{Mark}
 use Rattle.view_draw.specs.Seen.{AreMarks, IsOneMore, Keeps, Kept}
 
 -- the marks of steps, behind others

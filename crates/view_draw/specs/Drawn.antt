@@ -19,10 +19,11 @@ use Rattle.room_files.specs.declared.outcome.Outcome.{Outcome}
 use Rattle.script_play.specs.Play.{AreDone, Done, Replied, Faulty, Unread, ending_of, refusal_in}
 use Rattle.run_picture.specs.Heads.{IsHeadOf}
 use Rattle.run_picture.specs.Panels.{Panel}
-use Rattle.run_picture.specs.Picture.{picture_text}
+use Rattle.picture_shapes.specs.Svg.{svg_of}
+use Rattle.run_picture.specs.Picture.{picture_of}
 use Rattle.run_picture.specs.declared.head.Head.{Head}
-use Rattle.run_picture.specs.declared.mark.Mark.{Mark}
-use Rattle.run_picture.specs.declared.mark.Mark.TheVariants.{Crash}
+use Rattle.run_columns.specs.declared.mark.Mark.{Mark}
+use Rattle.run_columns.specs.declared.mark.Mark.TheVariants.{Crash}
 use Rattle.view_draw.specs.Seen.{AreMarks}
 
 -- ---- panels
@@ -147,7 +148,7 @@ pub record IsDrawn (input : List ℕ) (ending : Result Outcome AllocError) (outp
   pub same_rooms : (name : List ℕ) → room_at left name ≡ room_at rooms name
   pub at_end : List Panel
   pub finished_are : AreFinished left panels at_end
-  pub output_is : output ≡ picture_text at_end
+  pub output_is : output ≡ svg_of (picture_of at_end)
   pub ending_is : ending ≡ ending_of all
 
 -- ---- inside the crate
@@ -192,7 +193,7 @@ pub record IsClosed (rooms : Entries) (panels : List Panel) (name : List ℕ) (r
 pub record IsPictureOf (rooms : Entries) (panels : List Panel) (output : List ℕ) : Type 0 where
   pub at_end : List Panel
   pub finished_are : AreFinished rooms panels at_end
-  pub output_is : output ≡ picture_text at_end
+  pub output_is : output ≡ svg_of (picture_of at_end)
 
 abbrev pub HaveSameRooms : Entries → Entries → Type 0
 HaveSameRooms left rooms = (name : List ℕ) → room_at left name ≡ room_at rooms name

@@ -5,9 +5,9 @@ use Rattle.room_core.specs.Calls.{RoomState}
 use Rattle.room_core.specs.Observing.{TakenStep}
 use Rattle.room_steps.specs.Steps.{IsStepOf}
 use Rattle.room_steps.specs.declared.step.AtomicStep.{AtomicStep}
-use Rattle.run_picture.specs.Seen.{step_mark}
-use Rattle.run_picture.specs.declared.mark.Mark.{Mark}
-use Rattle.run_picture.specs.declared.mark.Mark.TheVariants.{Step}
+use Rattle.run_columns.specs.Seen.{step_mark}
+use Rattle.run_columns.specs.declared.mark.Mark.{Mark}
+use Rattle.run_columns.specs.declared.mark.Mark.TheVariants.{Step}
 
 -- what is drawn of the step that simulator i took in this room, as it was before
 pub record IsMarkOf (room : RoomState) (i : ℕ) (mark : Mark) : Type 0 where

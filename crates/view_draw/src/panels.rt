@@ -4,7 +4,8 @@ ghost use Rattle.view_draw.specs.Drawn.{IsPlace, finished, fresh, is_of, noted};
 
 use indexmap::IndexMap;
 use room_spec::Name;
-use run_picture::{Head, Mark, Panel};
+use run_columns::Mark;
+use run_picture::{Head, Panel};
 use std::alloc::{AllocError, Global};
 use std::marker::Model;
 use ws_history::Report;

@@ -1,10 +1,10 @@
 //! An observer of the steps of rooms, which keeps what is drawn of them.
 ghost use Rattle.std.specs.Prelude.{◌≡◌, ◌++◌, ◌∷◌, [], false, true, MatchOption};
-ghost use Rattle.run_picture.specs.declared.mark.Mark.TheVariants.{Step as StepOf};
+ghost use Rattle.run_columns.specs.declared.mark.Mark.TheVariants.{Step as StepOf};
 
 use room_core::{Observer, RoomCore, StepReply};
 use room_steps::take_step;
-use run_picture::{Mark, Step};
+use run_columns::{Mark, Step};
 use std::alloc::Global;
 use std::marker::Model;
 

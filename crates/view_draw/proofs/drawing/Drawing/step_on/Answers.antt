@@ -1,5 +1,5 @@
 use Rattle.std.proofs.Common.{◌≡◌, ℕ, List, ap, subst, sym}
-use Rattle.run_picture.specs.declared.mark.Mark.{Mark}
+use Rattle.run_columns.specs.declared.mark.Mark.{Mark}
 use Rattle.service_core.specs.Replies.{name_in}
 use Rattle.service_core.specs.Rooms.{room_at, steps_of}
 use Rattle.view_draw.specs.Seen.{AreMarks}

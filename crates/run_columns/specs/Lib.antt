@@ -1,0 +1,3 @@
+pub mod Columns
+pub mod Deeds
+pub mod Seen

@@ -1,0 +1,72 @@
+//! What happens in a room: atomic steps and crashes.
+ghost use Rattle.std.specs.Prelude.{◌≡◌};
+ghost use Rattle.run_columns.specs.Columns.{simulator_of};
+
+use simulator::Turn;
+
+/// What an atomic step does for its process.
+#[derive(Clone, Copy, Debug, PartialEq, Eq)]
+pub enum Deed {
+    /// It stores the process's next write.
+    StoreWrite,
+    /// It counts that write.
+    CountWrite,
+    /// It loads the step numbers, or one word of them.
+    Snapshot,
+    /// It stores that snapshot as a proposal, or one word of it.
+    Propose,
+    /// It enters the agreement.
+    Enter,
+    /// It looks at the levels of those who are in the agreement.
+    Look,
+    /// It leaves the agreement, and its proposal is kept.
+    Stand,
+    /// It leaves the agreement, and its proposal is withdrawn.
+    Withdraw,
+    /// It asks which proposal was chosen.
+    Ask,
+    /// It loads the chosen proposal, or one word of it.
+    LoadView,
+    /// It loads a value that the chosen proposal shows.
+    LoadValue,
+    /// It stores the decision.
+    Decide,
+}
+
+/// An atomic step of a simulator.
+#[derive(Clone, Copy, Debug, PartialEq, Eq)]
+pub struct Step {
+    /// To which of the simulator's turns it belongs, counted from 1.
+    pub turn: u64,
+    pub simulator: u8,
+    /// The process that the turn works on.
+    pub process: u8,
+    /// The round of the process, counted from 1.
+    pub round: u8,
+    /// Which word of a snapshot it loads or stores, counted from 0, where the snapshot takes several.
+    pub word: Option<u8>,
+    pub deed: Deed,
+    /// Whether it ends the turn, and how.
+    pub end: Turn,
+}
+
+/// Something that happens in a room.
+#[derive(Clone, Copy, Debug, PartialEq, Eq)]
+pub enum Mark {
+    /// A simulator takes a step.
+    Step(Step),
+    /// A simulator crashes.
+    Crash { simulator: u8 },
+}
+
+impl Mark {
+    /// The simulator that it happens to.
+    pub fn simulator(self) -> u8
+        ensures { result ≡ simulator_of self }
+    {
+        match self {
+            Mark::Step(step) => step.simulator,
+            Mark::Crash { simulator } => simulator,
+        }
+    }
+}

@@ -1,0 +1,93 @@
+//! Atomic steps as they are drawn.
+ghost use Rattle.std.specs.Prelude.{◌≡◌, min};
+ghost use Rattle.room_steps.specs.Steps.{turn_of};
+ghost use Rattle.run_columns.specs.Seen.{deed_of, is_on_snapshot, step_mark, word_in, word_of};
+
+use crate::mark::{Deed, Step};
+use room_steps::AtomicStep;
+use simulator::{Goal, Line, Move, Turn};
+use view_table::Place;
+
+impl Step {
+    /// What is drawn of an atomic step of a room with this many memory words.
+    pub fn of(step: &AtomicStep, words: usize) -> Step
+        ensures { result ≡ step_mark words step.now }
+    {
+        Step {
+            turn: step.turn,
+            simulator: small(step.simulator),
+            process: small(step.process),
+            round: step.round,
+            word: word_of(words, step.line, step.place),
+            deed: deed_of(step.line, step.operation),
+            end: end_of(step.end),
+        }
+    }
+}
+
+/// A number that is below 256 in each room.
+fn small(number: usize) -> u8
+    ensures { result ≡ min number 255 }
+{
+    number.min(255) as u8
+}
+
+/// What a step at this line does. The first step of a turn is an ask where it loads.
+fn deed_of(line: Line, operation: Move) -> Deed
+    ensures { result ≡ deed_of line operation }
+{
+    match line {
+        Line::Rest => match operation {
+            Move::Load(_) => Deed::Ask,
+            _ => Deed::StoreWrite,
+        },
+        Line::Raise => Deed::CountWrite,
+        Line::Snap => Deed::Snapshot,
+        Line::Show => Deed::Propose,
+        Line::Enter => Deed::Enter,
+        Line::Look => Deed::Look,
+        Line::Leave { saw_two: true } => Deed::Withdraw,
+        Line::Leave { saw_two: false } => Deed::Stand,
+        Line::Ask => Deed::Ask,
+        Line::GetView { .. } => Deed::LoadView,
+        Line::Values => Deed::LoadValue,
+        Line::Out { .. } => Deed::Decide,
+    }
+}
+
+/// Which word of a snapshot a step at this line is on, if a snapshot takes several.
+fn word_of(words: usize, line: Line, place: Place) -> Option<u8>
+    ensures { result ≡ word_of words line place }
+{
+    if words > 1 && is_on_snapshot(line) {
+        word_in(place)
+    } else {
+        None
+    }
+}
+
+fn is_on_snapshot(line: Line) -> bool
+    ensures { result ≡ is_on_snapshot line }
+{
+    matches!(line, Line::Snap | Line::Show | Line::GetView { .. })
+}
+
+fn word_in(place: Place) -> Option<u8>
+    ensures { result ≡ word_in place }
+{
+    match place {
+        Place::Memory { word } | Place::View { word, .. } => Some(small(word)),
+        Place::Levels { .. } | Place::Value { .. } | Place::Out { .. } => None,
+    }
+}
+
+/// Whether a step ended its turn, after which this is left to do: an ask for the same snapshot where the turn was quiet.
+fn end_of(left: Option<Goal>) -> Turn
+    ensures { result ≡ turn_of left }
+{
+    match left {
+        None => Turn::Still,
+        Some(Goal::Ask { .. }) => Turn::Quiet,
+        Some(_) => Turn::Useful,
+    }
+}

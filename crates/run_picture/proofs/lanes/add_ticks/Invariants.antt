@@ -1,0 +1,7 @@
+use Rattle.std.proofs.Common.{◌≡◌, ◌++◌, take}
+use Rattle.std.specs.List.{flat_map, range_with_len}
+use Rattle.run_picture.specs.Lanes.{tick}
+use Rattle.run_picture.proofs.lanes.add_ticks.Given as goal
+
+abbrev pub invariant-loop-column : goal.invariant-loop-column
+invariant-loop-column l = l.sheet ≡ l.initial.sheet ++ flat_map (tick l.grid) (take l.column-index l.columns)

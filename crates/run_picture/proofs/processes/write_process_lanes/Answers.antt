@@ -1,7 +1,0 @@
-use Rattle.run_picture.specs.History.{process_lane}
-use Rattle.run_picture.proofs.Texts.{piece_more}
-use Rattle.run_picture.proofs.processes.write_process_lanes.Goals as goal
-
-pub loop-process-preserved : goal.loop-process-preserved
-loop-process-preserved c =
-    piece_more (process_lane c.args.simulators c.args.right c.args.states.now) _ _ _ _ c.loop-process.invariant c.in_ok-write_process_lane.ensures
