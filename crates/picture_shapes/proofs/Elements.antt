@@ -1,5 +1,5 @@
 -- Elements as they are written.
-use Rattle.std.proofs.Common.{◌≡◌, ◌∙◌, ℕ, List, [], ◌∷◌, ◌++◌, codes, decimal, refl, sym, subst, true, rules}
+use Rattle.std.proofs.Common.{◌≡◌, ℕ, List, [], ◌∷◌, ◌++◌, codes, decimal, refl, sym, subst, true, rules}
 use Rattle.std.specs.List.{flat_map, list_all}
 use Rattle.std.proofs.lemmas.List.{append-nil, append_assoc}
 use Rattle.picture_shapes.specs.declared.colour.Colour.{Colour}
@@ -11,7 +11,7 @@ use Rattle.picture_shapes.specs.declared.shape.Shape.{Shape}
 use Rattle.picture_shapes.specs.declared.shape.Shape.TheVariants.{Area, Line, Label, Hint}
 use Rattle.picture_shapes.specs.Attributes.{attribute, colour_of, dashes_of, escaped, font_of, framed, standing}
 use Rattle.picture_shapes.specs.Shapes.{all_shapes, area, hint, hint_start, hint_start_end, label, label_start, line, line_ends, line_width, part_start, part_text, shape_text, stroked, title_text}
-use Rattle.picture_shapes.specs.Xml.{AreWords, IsContent, IsXmlName, byte, element, empty, is_bare, no_words, nothing, words}
+use Rattle.picture_shapes.specs.Xml.{IsContent, IsXmlName, byte, element, empty, is_bare, no_words, nothing, words}
 use Rattle.picture_shapes.proofs.Attributing.{Adds, alone, bare_joined, has_font, is_dashed, is_framed, number, number_is_bare, one, paint, stands, two, words_written}
 
 -- written before other content it leaves content

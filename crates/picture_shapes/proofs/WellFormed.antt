@@ -1,6 +1,6 @@
 -- A picture is well-formed XML.
 use Rattle.std.proofs.Common.{◌≡◌, ℕ, List, [], ◌∷◌, ◌++◌, codes, decimal, refl, subst, true, rules}
-use Rattle.std.specs.List.{flat_map, list_all}
+use Rattle.std.specs.List.{list_all}
 use Rattle.std.proofs.lemmas.List.{append_assoc}
 use Rattle.picture_shapes.specs.declared.svg.Size.{Size}
 use Rattle.picture_shapes.specs.Attributes.{attribute, sized}

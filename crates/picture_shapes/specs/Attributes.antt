@@ -1,5 +1,5 @@
 -- The attributes of elements, and the words between tags.
-use Rattle.std.specs.Prelude.{ℕ, ◌%◌, ◌||◌, ◌==◌, Bool, nat_lt, List, [], ◌∷◌, ◌++◌, codes, decimal, slice_index_or, if◌then◌else◌}
+use Rattle.std.specs.Prelude.{ℕ, ◌%◌, ◌||◌, ◌==◌, nat_lt, List, [], ◌∷◌, ◌++◌, codes, decimal, slice_index_or, if◌then◌else◌}
 use Rattle.std.specs.List.{flat_map}
 use Rattle.picture_shapes.specs.declared.colour.Colour.{Colour}
 use Rattle.picture_shapes.specs.declared.colour.Colour.TheVariants.{Clear, White, Ink, Faint, Rule, Alarm, Hatched, Pale, Hue}

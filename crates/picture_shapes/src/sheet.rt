@@ -47,6 +47,18 @@ impl Sheet {
         &self.shapes
     }
 
+    /// Draws all of another sheet over this one.
+    ///
+    /// # Errors
+    ///
+    /// If an allocation fails.
+    pub fn append(&mut self, other: Sheet) -> Result<(), AllocError>
+        ensures { OnOk result (self.new ≡ self.old ++ other) }
+    {
+        let mut shapes = other.shapes;
+        self.shapes.append(&mut shapes)
+    }
+
     fn add(&mut self, shape: Shape) -> Result<(), AllocError>
         ensures { OnOk result (self.new ≡ self.old ++ shape ∷ []) }
     {

@@ -1,5 +1,5 @@
 -- The columns of a run's picture: its marks one by one, or stretches of them.
-use Rattle.std.specs.Prelude.{ℕ, ◌+◌, ◌-◌, ◌^◌, Bool, false, ◌&&◌, ◌==◌, nat_le, List, [], ◌∷◌, length, min, take, if◌then◌else◌}
+use Rattle.std.specs.Prelude.{◌≡◌, ⊤, ℕ, ◌+◌, ◌-◌, ◌^◌, Bool, false, ◌&&◌, ◌==◌, nat_le, List, [], ◌∷◌, length, min, take, if◌then◌else◌}
 use Rattle.simulator.specs.declared.turn.Turn.{Turn}
 use Rattle.simulator.specs.declared.turn.Turn.TheVariants.{Still}
 use Rattle.run_columns.specs.declared.mark.Deed.{Deed}
@@ -113,3 +113,10 @@ columns_at scale columns = record { scale = scale; columns = take most_columns c
 
 abbrev pub columns_of : List Mark → Columns
 columns_of marks = columns_at (scale_of marks) (columns_by (scale_of marks) marks)
+
+-- ---- laws
+
+-- each column says how many steps are before it, if this many are before the first
+abbrev pub AreNumbered : ℕ → List Column → Type 0
+AreNumbered before [] = ⊤
+AreNumbered before (column ∷ columns) = (column.before ≡ before) × AreNumbered (before + column.count) columns

@@ -1,3 +1,4 @@
 pub mod Columns
 pub mod Deeds
 pub mod Seen
+pub mod Sought

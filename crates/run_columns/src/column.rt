@@ -96,7 +96,7 @@ impl Change {
     }
 }
 
-fn steps_in(mark: Mark) -> u64
+pub(crate) fn steps_in(mark: Mark) -> u64
     ensures { result ≡ steps_in mark }
 {
     match mark {

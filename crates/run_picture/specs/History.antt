@@ -1,6 +1,6 @@
--- What the processes did: an axis of its own, with a column for each event.
-use Rattle.std.specs.Prelude.{ℕ, ◌+◌, ◌*◌, ◌/◌, Option, List, [], ◌∷◌, ◌++◌, codes, decimal, length, min, take, slice_index_or}
-use Rattle.std.specs.List.{flat_map, range_with_len, sum_by}
+-- The lanes of the processes: each event at the step at which it takes effect, and the state of each process.
+use Rattle.std.specs.Prelude.{ℕ, ◌+◌, ◌-◌, ◌*◌, ◌/◌, ◌==◌, Option, Some, None, List, [], ◌∷◌, ◌++◌, codes, decimal, fold, length, max, min, slice_index_or, if◌then◌else◌}
+use Rattle.std.specs.List.{flat_map, range_with_len}
 use Rattle.transcript.specs.declared.event.Event.{Event}
 use Rattle.transcript.specs.declared.event.Event.TheVariants.{Write, Snap, Decide}
 use Rattle.transcript.specs.Grammar.{entry_text}
@@ -8,27 +8,23 @@ use Rattle.transcript.specs.Runs.{process_of}
 use Rattle.ws_history.specs.declared.states.ProcessState.{ProcessState}
 use Rattle.ws_history.specs.declared.states.ProcessState.TheVariants.{Decided, Spent, Held, Going}
 use Rattle.picture_shapes.specs.declared.colour.Colour.{Colour}
-use Rattle.picture_shapes.specs.declared.colour.Colour.TheVariants.{Alarm, Faint, Hue, Ink, Rule, White}
+use Rattle.picture_shapes.specs.declared.colour.Colour.TheVariants.{Alarm, Faint, Hue, Ink, White}
+use Rattle.picture_shapes.specs.declared.shape.Dashes.{Dashes}
 use Rattle.picture_shapes.specs.declared.shape.Dashes.TheVariants.{Long, Solid}
 use Rattle.picture_shapes.specs.declared.shape.Point.{Point}
 use Rattle.picture_shapes.specs.declared.shape.Shape.{Shape}
 use Rattle.picture_shapes.specs.declared.shape.Shape.TheVariants.{Area, Hint, Label, Line}
-use Rattle.picture_shapes.specs.Places.{frame_at, moved}
-use Rattle.run_picture.specs.declared.fonts.TheConstants.{EVENT, WORDS}
+use Rattle.picture_shapes.specs.Places.{frame_at, moved, plus}
+use Rattle.run_columns.specs.declared.column.Column.{Column}
+use Rattle.run_columns.specs.Columns.{simulator_of}
+use Rattle.run_picture.specs.declared.fonts.TheConstants.{EVENT, SMALL, WORDS}
+use Rattle.run_picture.specs.declared.history.Pen.{Pen}
 use Rattle.run_picture.specs.declared.layout.Grid.{Grid}
 use Rattle.run_picture.specs.declared.layout.TheConstants.{LEFT, MARGIN}
-use Rattle.run_picture.specs.Layout.{row_y, rows}
+use Rattle.run_picture.specs.Effects.{column_of, event_step, round_at}
+use Rattle.run_picture.specs.Layout.{cell, column_x, dashes_for, process_y, right_of, row_of, row_right, rows}
+use Rattle.run_picture.specs.Panels.{Panel, events_in}
 use Rattle.run_picture.specs.Words.{process_name, simulator_name}
-
--- ---- places
-
--- the upper end of what the processes did, below the simulators
-unfoldable pub history_y : Grid → ℕ
-history_y grid = row_y grid (rows grid) + 12
-
--- the left and upper end of a process's lane, at this x
-unfoldable pub process_at : Grid → ℕ → ℕ → Point
-process_at grid x process = record { x = x; y = history_y grid + 16 + 40 * process }
 
 -- ---- events
 
@@ -70,29 +66,91 @@ event_hint process words = process_name process ++ (codes ": " ++ words)
 -- an event with these words, from this point on
 unfoldable pub event_box : Point → Event → List ℕ → List Shape
 event_box start event words =
-    Area (frame_at start (box_width words) 22) (event_corner event) (event_fill event) (Hue (process_of event)) Solid
+    Area (frame_at start (box_width words) 22) (event_corner event) (event_fill event) (Hue (process_of event)) (dashes_for (process_of event))
     ∷ Label (moved start (box_width words / 2) 15) EVENT (event_ink event) words
     ∷ Hint (frame_at start (box_width words) 22) (event_hint (process_of event) words)
     ∷ []
 
--- an event, in its process's lane
-unfoldable pub event_mark : Grid → ℕ → Event → List Shape
-event_mark grid x event = event_box (process_at grid x (process_of event)) event (event_words event)
+-- ---- the events of a process
 
--- one after the other
-abbrev pub events_from : Grid → ℕ → List Event → List Shape
-events_from grid x [] = []
-events_from grid x (event ∷ events) = event_mark grid x event ++ events_from grid (x + event_width event) events
+-- an event begins at its column, or after the event before it if that is in the way
+abbrev pub event_x : Grid → Pen → Column → ℕ
+event_x grid pen column =
+    if row_of grid column.place == pen.row then max (column_x grid column.place) pen.x else column_x grid column.place
 
--- A room's history has at most 496 events.
-unfoldable pub drawn_events : List Event → List Event
-drawn_events events = take 500 events
+unfoldable pub event_start : Grid → Pen → Event → Column → Point
+event_start grid pen event column =
+    record { x = event_x grid pen column; y = process_y grid (row_of grid column.place) (process_of event) }
 
--- the right end of the events
-unfoldable pub history_right : List Event → ℕ
-history_right events = LEFT + sum_by event_width (drawn_events events)
+-- two thin lines from a step's square, down and then to the event that takes effect there
+unfoldable pub tie : Point → Point → Colour → List Shape
+tie corner start hue =
+    Line (moved corner 8 24) (record { x = plus corner.x 8; y = start.y - 6 }) 1 hue Solid
+    ∷ Line (record { x = plus corner.x 8; y = start.y - 6 }) (moved start 8 0) 1 hue Solid
+    ∷ []
 
--- ---- processes
+-- what is drawn of an event that begins at a point, and of its column
+abbrev pub Drawing : Type 0
+Drawing = Grid → Point → Event → Column → List Shape
+
+unfoldable pub tied : Drawing
+tied grid start event column = tie (cell grid (simulator_of column.first) column.place) start (Hue (process_of event))
+
+abbrev pub boxed : Drawing
+boxed grid start event column = event_box start event (event_words event)
+
+-- an event whose step no column shows isn't drawn
+abbrev pub event_shapes : Drawing → Grid → Pen → Event → Option Column → List Shape
+event_shapes drawing grid pen event None = []
+event_shapes drawing grid pen event (Some column) = drawing grid (event_start grid pen event column) event column
+
+abbrev pub pen_after : Grid → Pen → Event → Option Column → Pen
+pen_after grid pen event None = record pen { round = round_at pen.round event }
+pen_after grid pen event (Some column) = record {
+  round = round_at pen.round event;
+  row = row_of grid column.place;
+  x = plus (event_x grid pen column) (event_width event);
+  right = max pen.right (plus (event_x grid pen column) (event_width event));
+}
+
+-- the column of an event, after what is drawn so far
+abbrev pub column_for : Panel → List Column → Pen → Event → Option Column
+column_for panel columns pen event = column_of columns (event_step panel.head.words panel.marks (round_at pen.round event) event)
+
+-- an event of any process, for the lane of this one
+abbrev pub own_shapes : Drawing → Panel → List Column → Grid → ℕ → Pen → Event → List Shape
+own_shapes drawing panel columns grid process pen event =
+    if process_of event == process then event_shapes drawing grid pen event (column_for panel columns pen event) else []
+
+abbrev pub own_pen : Panel → List Column → Grid → ℕ → Pen → Event → Pen
+own_pen panel columns grid process pen event =
+    if process_of event == process then pen_after grid pen event (column_for panel columns pen event) else pen
+
+abbrev pub events_from : Drawing → Panel → List Column → Grid → ℕ → Pen → List Event → List Shape
+events_from drawing panel columns grid process pen [] = []
+events_from drawing panel columns grid process pen (event ∷ events) =
+    own_shapes drawing panel columns grid process pen event
+    ++ events_from drawing panel columns grid process (own_pen panel columns grid process pen event) events
+
+abbrev pub first_pen : Pen
+first_pen = record { round = 0; row = 0; x = 0; right = 0 }
+
+unfoldable pub lane_events : Drawing → Panel → List Column → Grid → ℕ → List Shape
+lane_events drawing panel columns grid process = events_from drawing panel columns grid process first_pen (events_in panel.report)
+
+unfoldable pub lane_right : Panel → List Column → Grid → ℕ → ℕ
+lane_right panel columns grid process = (fold (own_pen panel columns grid process) first_pen (events_in panel.report)).right
+
+unfoldable pub all_events : Drawing → Panel → List Column → Grid → List Shape
+all_events drawing panel columns grid = flat_map (lane_events drawing panel columns grid) (range_with_len 0 grid.processes)
+
+-- how far right the events and all columns reach
+
+unfoldable pub events_right : Panel → List Column → Grid → ℕ
+events_right panel columns grid =
+    fold (λ right process. max right (lane_right panel columns grid process)) (right_of grid) (range_with_len 0 grid.processes)
+
+-- ---- lanes
 
 unfoldable pub held_words : ℕ → List ℕ
 held_words simulator = codes "held by " ++ simulator_name simulator
@@ -100,27 +158,28 @@ held_words simulator = codes "held by " ++ simulator_name simulator
 unfoldable pub decided_words : ℕ → List ℕ
 decided_words value = codes "decided " ++ decimal value
 
--- a dashed line, for a process that isn't through, and what follows it
-unfoldable pub unended : Point → Colour → List ℕ → List Shape
-unended end colour words =
-    Line (moved end 0 11) (moved end 50 11) 1 colour Long ∷ Label (moved end 56 15) WORDS colour words ∷ []
+-- the name of a process and the line of its lane, with what is said under the name
+unfoldable pub lane_line : ℕ → ℕ → ℕ → List ℕ → Colour → Dashes → List Shape
+lane_line y right process words colour dashes =
+    Label (moved (record { x = MARGIN; y = y }) 0 11) WORDS (Hue process) (process_name process)
+    ∷ Label (moved (record { x = MARGIN; y = y }) 0 23) SMALL colour words
+    ∷ Line (moved (record { x = LEFT - 6; y = y }) 0 11) (moved (record { x = right; y = y }) 0 11) 1 colour dashes
+    ∷ []
 
--- what follows the events of a process: its state
-abbrev pub state_shapes : Point → ProcessState → List Shape
-state_shapes end (Decided value) = Label (moved end 10 15) WORDS Faint (decided_words value) ∷ []
-state_shapes end Spent = Label (moved end 10 15) WORDS Faint (codes "spent") ∷ []
-state_shapes end (Held simulator) = unended end Alarm (held_words simulator)
-state_shapes end Going = unended end Faint (codes "may still go on")
+-- in the last row is the state of the process, and the line is dashed if the process isn't through
+abbrev pub last_line : ℕ → ℕ → ℕ → ProcessState → List Shape
+last_line y right process (Decided value) = lane_line y right process (decided_words value) Faint Solid
+last_line y right process Spent = lane_line y right process (codes "spent") Faint Solid
+last_line y right process (Held simulator) = lane_line y right process (held_words simulator) Alarm Long
+last_line y right process Going = lane_line y right process (codes "may still go on") Faint Long
 
-unfoldable pub lane_of_process : Point → Point → ℕ → ProcessState → List Shape
-lane_of_process start end process state =
-    Label (moved start 0 15) WORDS (Hue process) (process_name process)
-    ∷ Line (moved start 82 11) (moved end 0 11) 1 Rule Solid
-    ∷ state_shapes end state
+abbrev pub process_lane : Grid → ℕ → List ProcessState → ℕ → ℕ → List Shape
+process_lane grid right states row process =
+    if row + 1 == rows grid then last_line (process_y grid row process) right process (slice_index_or states process Going)
+    else lane_line (process_y grid row process) (row_right grid row) process [] Faint Solid
 
-abbrev pub process_lane : Grid → ℕ → List ProcessState → ℕ → List Shape
-process_lane grid right states process =
-    lane_of_process (process_at grid MARGIN process) (process_at grid right process) process (slice_index_or states process Going)
+unfoldable pub row_processes : Grid → ℕ → List ProcessState → ℕ → List Shape
+row_processes grid right states row = flat_map (process_lane grid right states row) (range_with_len 0 (length states))
 
 unfoldable pub process_lanes : Grid → ℕ → List ProcessState → List Shape
-process_lanes grid right states = flat_map (process_lane grid right states) (range_with_len 0 (length states))
+process_lanes grid right states = flat_map (row_processes grid right states) (range_with_len 0 (rows grid))

@@ -18,7 +18,7 @@ use Rattle.run_picture.specs.declared.fonts.TheConstants.{AXIS, WORDS}
 use Rattle.run_picture.specs.declared.lanes.Phase.{Phase}
 use Rattle.run_picture.specs.declared.lanes.Phase.TheVariants.{Outside, Inside, Stuck}
 use Rattle.run_picture.specs.declared.layout.Grid.{Grid}
-use Rattle.run_picture.specs.declared.layout.TheConstants.{LANE, MARGIN}
+use Rattle.run_picture.specs.declared.layout.TheConstants.{LANE, LEFT, MARGIN}
 use Rattle.run_picture.specs.Layout.{across, cell, column_x, lane_y, row_of, row_right, row_y, rows}
 use Rattle.run_picture.specs.Words.{simulator_name}
 
@@ -50,7 +50,7 @@ ticks grid columns = flat_map (tick grid) columns
 unfoldable pub lane_at : ℕ → ℕ → ℕ → List Shape
 lane_at y right simulator =
     Label (moved (record { x = MARGIN; y = y }) 0 19) WORDS Ink (simulator_name simulator)
-    ∷ Line (moved (record { x = 98; y = y }) 0 15) (moved (record { x = right; y = y }) 0 15) 1 Rule Solid
+    ∷ Line (moved (record { x = LEFT - 6; y = y }) 0 15) (moved (record { x = right; y = y }) 0 15) 1 Rule Solid
     ∷ []
 
 abbrev pub lane : Grid → ℕ → ℕ → List Shape

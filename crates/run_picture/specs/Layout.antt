@@ -1,10 +1,12 @@
 -- Where the columns and the lanes of a room are.
-use Rattle.std.specs.Prelude.{ℕ, ◌+◌, ◌-◌, ◌*◌, ◌/◌, ◌%◌, ◌==◌, nat_lt, max, min, if◌then◌else◌}
+use Rattle.std.specs.Prelude.{ℕ, ◌+◌, ◌-◌, ◌*◌, ◌/◌, ◌%◌, ◌==◌, nat_le, nat_lt, max, min, if◌then◌else◌}
 use Rattle.run_columns.specs.declared.column.Scale.{Scale}
 use Rattle.run_columns.specs.declared.column.Scale.TheVariants.{Steps, Turns, Simulators}
+use Rattle.picture_shapes.specs.declared.shape.Dashes.{Dashes}
+use Rattle.picture_shapes.specs.declared.shape.Dashes.TheVariants.{Short, Solid}
 use Rattle.picture_shapes.specs.declared.shape.Point.{Point}
 use Rattle.run_picture.specs.declared.layout.Grid.{Grid}
-use Rattle.run_picture.specs.declared.layout.TheConstants.{LANE, LEFT, TOP}
+use Rattle.run_picture.specs.declared.layout.TheConstants.{LANE, LEFT, PROCESS, TOP}
 
 -- how wide a number of columns is
 abbrev pub across : Scale → ℕ → ℕ
@@ -30,9 +32,9 @@ columns_in grid row =
     if nat_lt row (row_of grid grid.count) then in_row grid
     else (if row == row_of grid grid.count then grid.count % in_row grid else 0)
 
--- a row has a lane for each simulator, and under them the numbers of steps
+-- a row has a lane for each simulator, under them the numbers of steps, and then a lane for each process
 unfoldable pub row_height : Grid → ℕ
-row_height grid = LANE * grid.simulators + 30
+row_height grid = LANE * grid.simulators + (PROCESS * grid.processes + 50)
 
 -- the upper end of a row
 unfoldable pub row_y : Grid → ℕ → ℕ
@@ -56,6 +58,15 @@ column_x grid place = LEFT + across grid.scale (place % in_row grid)
 unfoldable pub lane_y : Grid → ℕ → ℕ → ℕ
 lane_y grid row simulator = row_y grid row + LANE * simulator
 
+-- the upper end of a process's lane in a row
+unfoldable pub process_y : Grid → ℕ → ℕ → ℕ
+process_y grid row process = row_y grid row + (LANE * grid.simulators + (PROCESS * process + 26))
+
 -- the left and upper end of a column in a simulator's lane
 unfoldable pub cell : Grid → ℕ → ℕ → Point
 cell grid simulator place = record { x = column_x grid place; y = lane_y grid (row_of grid place) simulator }
+
+-- ---- processes
+
+abbrev pub dashes_for : ℕ → Dashes
+dashes_for process = if nat_le 8 process then Short else Solid

@@ -4,6 +4,7 @@ pub mod Heads
 pub mod Lanes
 pub mod Turns
 pub mod Squares
+pub mod Effects
 pub mod History
 pub mod Panels
 pub mod Picture

@@ -1,12 +1,11 @@
 -- The whole picture.
-use Rattle.std.specs.Prelude.{ℕ, ◌+◌, ◌*◌, ◌/◌, ◌%◌, ◌==◌, ◌&&◌, nat_le, Bool, true, false, List, [], ◌∷◌, ◌++◌, codes, length, max, min, string_bytes, if◌then◌else◌}
+use Rattle.std.specs.Prelude.{ℕ, ◌+◌, ◌*◌, ◌/◌, ◌%◌, ◌==◌, ◌&&◌, nat_le, Bool, false, List, [], ◌∷◌, ◌++◌, codes, length, max, if◌then◌else◌}
 use Rattle.std.specs.List.{filter, list_any}
 use Rattle.picture_shapes.specs.declared.colour.Colour.TheVariants.{Faint, Ink}
-use Rattle.picture_shapes.specs.declared.shape.Point.{Point}
 use Rattle.picture_shapes.specs.declared.shape.Shape.{Shape}
 use Rattle.picture_shapes.specs.declared.shape.Shape.TheVariants.{Label}
 use Rattle.picture_shapes.specs.declared.svg.Size.{Size}
-use Rattle.picture_shapes.specs.Places.{moved, plus}
+use Rattle.picture_shapes.specs.Places.{plus}
 use Rattle.picture_shapes.specs.Svg.{Part, Picture}
 use Rattle.run_columns.specs.declared.column.Scale.{Scale}
 use Rattle.run_columns.specs.declared.column.Scale.TheVariants.{Steps, Turns, Simulators}
@@ -17,13 +16,13 @@ use Rattle.run_columns.specs.Columns.{Columns, columns_of, most_columns}
 use Rattle.run_columns.specs.Deeds.{all_deeds, is_same, letter_of, meaning_of}
 use Rattle.run_picture.specs.declared.fonts.TheConstants.{HEADING, LEGEND, WORDS}
 use Rattle.run_picture.specs.declared.layout.Grid.{Grid}
-use Rattle.run_picture.specs.declared.layout.TheConstants.{LEFT, MARGIN}
+use Rattle.run_picture.specs.declared.layout.TheConstants.{MARGIN}
 use Rattle.run_picture.specs.declared.picture.TheConstants.{MIN_WIDTH, TITLE}
-use Rattle.run_picture.specs.Heads.{head_shapes, shown_part}
-use Rattle.run_picture.specs.History.{drawn_events, events_from, history_right, history_y, process_lanes}
+use Rattle.run_picture.specs.Heads.{head_shapes, head_width}
+use Rattle.run_picture.specs.History.{all_events, boxed, events_right, process_lanes, tied}
 use Rattle.run_picture.specs.Lanes.{insides, lanes, ticks}
-use Rattle.run_picture.specs.Layout.{right_of}
-use Rattle.run_picture.specs.Panels.{Panel, events_in, states_in}
+use Rattle.run_picture.specs.Layout.{row_y, rows}
+use Rattle.run_picture.specs.Panels.{Panel, states_in}
 use Rattle.run_picture.specs.Squares.{squares}
 use Rattle.run_picture.specs.Turns.{turns}
 use Rattle.run_picture.specs.Words.{counted}
@@ -43,10 +42,10 @@ unfoldable pub note_words : Columns → List ℕ
 note_words columns = scale_words columns.scale ++ left_out_words columns.left_out
 
 unfoldable pub steps_title : List Shape
-steps_title = Label (record { x = MARGIN; y = 98 }) HEADING Ink (codes "Simulators, step by step") ∷ []
+steps_title = Label (record { x = MARGIN; y = 98 }) HEADING Ink (codes "Step by step") ∷ []
 
 unfoldable pub steps_heading : Columns → List Shape
-steps_heading columns = steps_title ++ Label (record { x = 180; y = 98 }) WORDS Faint (note_words columns) ∷ []
+steps_heading columns = steps_title ++ Label (record { x = 100; y = 98 }) WORDS Faint (note_words columns) ∷ []
 
 -- the squares are drawn over the turns, these over what is inside an agreement, and all over the lanes
 unfoldable pub steps_shapes : Grid → Columns → List Shape
@@ -55,36 +54,40 @@ steps_shapes grid columns =
 
 -- ---- a room
 
-unfoldable pub history_heading : ℕ → List Shape
-history_heading y = Label (record { x = MARGIN; y = y }) HEADING Ink (codes "What the processes did") ∷ []
-
-unfoldable pub history_shapes : Grid → Panel → List Shape
-history_shapes grid panel =
-    history_heading (history_y grid)
-    ++ (process_lanes grid (history_right (events_in panel.report)) (states_in panel.report)
-    ++ events_from grid LEFT (drawn_events (events_in panel.report)))
+-- how many columns a row has, so that a picture is 640 wide
+abbrev pub wrap_of : Scale → ℕ
+wrap_of Steps = 28
+wrap_of Turns = 11
+wrap_of Simulators = 11
 
 unfoldable pub grid_of : Panel → Columns → Grid
-grid_of panel columns = record { scale = columns.scale; wrap = 65535; count = length columns.columns; simulators = panel.head.simulators }
+grid_of panel columns = record {
+  scale = columns.scale;
+  wrap = wrap_of columns.scale;
+  count = length columns.columns;
+  simulators = panel.head.simulators;
+  processes = length (states_in panel.report);
+}
+
+-- the ties of events are drawn over the steps, then the lanes of the processes, and then the events
+unfoldable pub room_shapes : Grid → Panel → Columns → List Shape
+room_shapes grid panel columns =
+    steps_shapes grid columns
+    ++ (all_events tied panel columns.columns grid
+    ++ (process_lanes grid (events_right panel columns.columns grid) (states_in panel.report) ++ all_events boxed panel columns.columns grid))
 
 unfoldable pub shapes_with : Panel → Columns → List Shape
-shapes_with panel columns =
-    head_shapes panel.head
-    ++ (steps_heading columns ++ (steps_shapes (grid_of panel columns) columns ++ history_shapes (grid_of panel columns) panel))
+shapes_with panel columns = head_shapes panel.head ++ (steps_heading columns ++ room_shapes (grid_of panel columns) panel columns)
 
 abbrev pub panel_shapes : Panel → List Shape
 panel_shapes panel = shapes_with panel (columns_of panel.marks)
 
 -- how high and how wide the picture of a room is
 unfoldable pub height_with : Panel → Columns → ℕ
-height_with panel columns = history_y (grid_of panel columns) + 40 * length (states_in panel.report) + 40
-
--- a room has up to 16 inputs, of up to 10 digits each
-unfoldable pub head_width : Panel → ℕ
-head_width panel = max (8 * length (shown_part (string_bytes panel.head.protocol)) + 60) (77 * min (length panel.head.inputs.items) 16 + 382)
+height_with panel columns = row_y (grid_of panel columns) (rows (grid_of panel columns))
 
 unfoldable pub width_with : Panel → Columns → ℕ
-width_with panel columns = max (head_width panel) (max (right_of (grid_of panel columns) + 80) (history_right (events_in panel.report) + 200))
+width_with panel columns = max (head_width panel.head) (plus (events_right panel columns.columns (grid_of panel columns)) 72)
 
 abbrev pub panel_height : Panel → ℕ
 panel_height panel = height_with panel (columns_of panel.marks)
@@ -133,7 +136,7 @@ width_from width (panel ∷ panels) = width_from (max width (panel_width panel))
 
 -- the letters have 80 below the rooms
 abbrev pub size_to : ℕ → ℕ → Size
-size_to width bottom = record { width = width; height = plus bottom 80; scale = 1 }
+size_to width bottom = record { width = width; height = plus bottom 80; scale = 2 }
 
 abbrev pub size_of : List Panel → Size
 size_of panels = size_to (width_from MIN_WIDTH panels) (bottom_from 0 panels)

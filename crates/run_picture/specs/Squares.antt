@@ -1,5 +1,5 @@
 -- A square for each column: a step, or a stretch of steps; or the cross of a crash.
-use Rattle.std.specs.Prelude.{ℕ, ◌+◌, List, [], ◌∷◌, ◌++◌, Option, Some, None, codes, decimal, if◌then◌else◌}
+use Rattle.std.specs.Prelude.{ℕ, ◌&&◌, nat_le, List, [], ◌∷◌, ◌++◌, Option, Some, None, codes, decimal, if◌then◌else◌}
 use Rattle.std.specs.List.{flat_map}
 use Rattle.picture_shapes.specs.declared.colour.Colour.{Colour}
 use Rattle.picture_shapes.specs.declared.colour.Colour.TheVariants.{Alarm, Clear, Faint, Hue, White}
@@ -18,7 +18,7 @@ use Rattle.run_columns.specs.Columns.{more, simulator_of}
 use Rattle.run_columns.specs.Deeds.{is_marked, letter_of}
 use Rattle.run_picture.specs.declared.fonts.TheConstants.{DIGIT, LETTER, SMALL_BOLD}
 use Rattle.run_picture.specs.declared.layout.Grid.{Grid}
-use Rattle.run_picture.specs.Layout.{cell}
+use Rattle.run_picture.specs.Layout.{cell, dashes_for}
 use Rattle.run_picture.specs.Words.{counted, simulator_name, step_words}
 
 -- ---- one step
@@ -30,6 +30,10 @@ step_fill step = if is_marked step.deed then Hue step.process else White
 unfoldable pub step_ink : StepMark → Colour
 step_ink step = if is_marked step.deed then White else Hue step.process
 
+-- Of two processes with the same hue the second has dashed outlines, white ones if the square is filled.
+unfoldable pub step_outline : StepMark → Colour
+step_outline step = if is_marked step.deed && nat_le 8 step.process then White else Hue step.process
+
 -- its letter, and the number of its word if it has one
 abbrev pub letter_shapes : Point → StepMark → Option ℕ → List Shape
 letter_shapes corner step None = Label (moved corner 8 19) LETTER (step_ink step) (letter_of step.deed) ∷ []
@@ -38,7 +42,7 @@ letter_shapes corner step (Some word) =
 
 unfoldable pub step_square : Point → ℕ → StepMark → List Shape
 step_square corner number step =
-    Area (frame_at (moved corner 1 7) 14 16) 3 (step_fill step) (Hue step.process) Solid
+    Area (frame_at (moved corner 1 7) 14 16) 3 (step_fill step) (step_outline step) (dashes_for step.process)
     ∷ (letter_shapes corner step step.word ++ Hint (frame_at (moved corner 1 7) 14 16) (step_words number step) ∷ [])
 
 -- ---- several steps

@@ -1,18 +1,18 @@
 //! What is above the picture of a room.
-ghost use Rattle.std.specs.Prelude.{◌≡◌, ◌++◌, ◌≤◌, IfOk, OnOk, length, take, string_bytes};
-ghost use Rattle.run_picture.specs.Heads.{IsHeadOf, all_rules, head_shapes, inputs_count, inputs_words, numbers_words, processes_words, protocol_byte, protocol_words, rest_words, room_words, shown_part};
+ghost use Rattle.std.specs.Prelude.{◌≡◌, ◌++◌, ◌∷◌, [], IfOk, OnOk, take, string_bytes, if◌then◌else◌};
+ghost use Rattle.run_picture.specs.Heads.{IsHeadOf, head_shapes, head_width, inputs_count, inputs_words, is_digit, is_letter, is_parted, numbers_words, processes_words, protocol_shapes, protocol_words, rest_words, room_words, shown_part, spaced};
 
 use crate::fonts::{CODE, TITLE, WORDS};
 use crate::layout::MARGIN;
 use crate::words::write_counted;
 use io_text::Text;
-use picture_shapes::{Colour, Point, Sheet};
+use picture_shapes::{Colour, Frame, Point, Sheet};
 use protocol_lang::print;
 use room_spec::{Name, Spec};
 use std::alloc::{AllocError, Global};
 
 /// The most bytes of a protocol's text that are shown.
-const MAX_SHOWN: usize = 200;
+const MAX_SHOWN: usize = 84;
 
 /// What is known of a room's spec.
 #[derive(Drop)]
@@ -22,6 +22,8 @@ pub struct Head {
     pub inputs: Vec<u32>,
     pub simulators: u8,
     pub rounds: u8,
+    /// Of how many words a snapshot of its step numbers is read.
+    pub words: u8,
     /// The shortest text of the protocol.
     pub protocol: String,
 }
@@ -40,6 +42,7 @@ impl Head {
             inputs: inputs_of(alloc, spec)?,
             simulators: spec.m() as u8,
             rounds: spec.rounds() as u8,
+            words: spec.shape().memory_words().min(255) as u8,
             protocol: print(alloc, spec.protocol())?,
         })
     }
@@ -74,9 +77,29 @@ pub(crate) fn add_head(sheet: &mut Sheet, head: &Head) -> Result<(), AllocError>
     let numbers = room_words(sheet.alloc(), head)?;
     let below = Point { x: MARGIN, y: 44 };
     sheet.label(below, WORDS, Colour::Faint, numbers.as_bytes())?;
-    let protocol = protocol_words(sheet.alloc(), head.protocol.as_bytes())?;
-    let last = Point { x: MARGIN, y: 61 };
-    sheet.label(last, CODE, Colour::Faint, protocol.as_bytes())
+    let protocol = spaced(sheet.alloc(), head.protocol.as_bytes())?;
+    add_protocol(sheet, protocol.as_bytes())
+}
+
+/// Writes the beginning of a protocol's text, with a hint that has the whole.
+#[tactic(auto, unfolding(crate::specs::Heads::protocol_shapes))]
+fn add_protocol(sheet: &mut Sheet, text: &[u8]) -> Result<(), AllocError>
+    ensures { OnOk result (sheet.new ≡ sheet.old ++ protocol_shapes text.now) }
+{
+    let words = protocol_words(sheet.alloc(), text)?;
+    let start = Point { x: MARGIN, y: 61 };
+    sheet.label(start, CODE, Colour::Faint, words.as_bytes())?;
+    let above = Point { x: MARGIN, y: 50 };
+    sheet.hint(Frame::at(above, 600, 16), text)
+}
+
+/// How wide the lines are, with about 7 for each byte of the numbers.
+#[tactic(auto, unfolding(crate::specs::Heads::head_width))]
+pub(crate) fn head_width(alloc: Global, head: &Head) -> Result<u64, AllocError>
+    ensures { IfOk result (λ width. width ≡ head_width head.now) }
+{
+    let words = room_words(alloc, head)?;
+    Ok(7 * words.as_bytes().len().min(1000) as u64 + 32)
 }
 
 /// How many processes, simulators and rounds a room has, and with which inputs.
@@ -136,16 +159,14 @@ fn protocol_words(alloc: Global, text: &[u8]) -> Result<Text, AllocError>
     ensures { IfOk result (λ words. words ≡ protocol_words text.now) }
 {
     let mut words = Text::new(alloc);
-    write_rules(&mut words, shown_part(text))?;
+    words.put(shown_part(text))?;
     words.put(rest_words(text))?;
     Ok(words)
 }
 
-/// The beginning of a protocol's text that is shown.
 #[tactic(auto, unfolding(crate::specs::Heads::shown_part))]
-pub(crate) fn shown_part(text: &[u8]) -> &[u8]
-    ensures value { result.now ≡ shown_part text.now }
-    ensures few { length result.now ≤ MAX_SHOWN }
+fn shown_part(text: &[u8]) -> &[u8]
+    ensures { result.now ≡ shown_part text.now }
 {
     if text.len() > MAX_SHOWN {
         &text[..MAX_SHOWN]
@@ -162,23 +183,45 @@ fn rest_words(text: &[u8]) -> &'static [u8]
     if text.len() > MAX_SHOWN { b" .." } else { b"" }
 }
 
-/// Writes a protocol's text with a space after each rule.
-#[tactic(auto, unfolding(crate::specs::Heads::all_rules))]
-fn write_rules(output: &mut Text, text: &[u8]) -> Result<(), AllocError>
-    ensures { OnOk result (output.new ≡ output.old ++ all_rules text.now) }
+/// A protocol's text with a space after each rule, and between a number or `)` and a word.
+fn spaced(alloc: Global, text: &[u8]) -> Result<Text, AllocError>
+    ensures { IfOk result (λ words. words ≡ spaced text.now) }
 {
+    let mut words = Text::new(alloc);
+    let mut last = b' ';
     for byte in text {
-        write_protocol_byte(output, *byte)?;
+        put_parted(&mut words, last, *byte)?;
+        last = *byte;
     }
-    Ok(())
+    Ok(words)
 }
 
-fn write_protocol_byte(output: &mut Text, byte: u8) -> Result<(), AllocError>
-    ensures { OnOk result (output.new ≡ output.old ++ protocol_byte byte) }
+fn put_parted(output: &mut Text, last: u8, byte: u8) -> Result<(), AllocError>
+    ensures { OnOk result (output.new ≡ output.old ++ (if is_parted last byte then 32 ∷ byte ∷ [] else byte ∷ [])) }
 {
-    if byte == b';' {
-        output.put(b"; ")
+    if is_parted(last, byte) {
+        output.put(&[b' ', byte])
     } else {
         output.put(&[byte])
     }
+}
+
+fn is_parted(last: u8, byte: u8) -> bool
+    ensures { result ≡ is_parted last byte }
+{
+    last == b';'
+        || (((is_digit(last) || last == b')') && is_letter(byte))
+            || (is_letter(last) && is_digit(byte)))
+}
+
+fn is_letter(byte: u8) -> bool
+    ensures { result ≡ is_letter byte }
+{
+    b'a' <= byte && byte <= b'z'
+}
+
+fn is_digit(byte: u8) -> bool
+    ensures { result ≡ is_digit byte }
+{
+    b'0' <= byte && byte <= b'9'
 }

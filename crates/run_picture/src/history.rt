@@ -1,50 +1,229 @@
-//! What the processes of a room did: their lanes, and one event after the other in them.
+//! The lanes of the processes: each event at the step at which it takes effect, and the state of each process.
 ghost use Rattle.std.specs.Prelude.{◌≡◌, ◌+◌, ◌*◌, ◌++◌, ◌∷◌, ◌≤◌, ◌<◌, IfOk, OnOk, length};
-ghost use Rattle.std.specs.List.{sum_by};
 ghost use Rattle.transcript.specs.Grammar.{entry_text};
 ghost use Rattle.transcript.specs.Runs.{process_of};
-ghost use Rattle.run_picture.specs.History.{box_width, decided_words, drawn_events, entries_text, event_box, event_corner, event_fill, event_hint, event_ink, event_mark, event_width, event_words, events_from, held_words, history_right, history_y, lane_of_process, process_at, process_lane, process_lanes, state_shapes, unended};
+ghost use Rattle.run_picture.specs.History.{all_events, box_width, boxed, column_for, decided_words, entries_text, event_box, event_corner, event_fill, event_hint, event_ink, event_shapes, event_start, event_width, event_words, event_x, events_right, first_pen, held_words, lane_events, lane_line, lane_right, last_line, own_pen, own_shapes, pen_after, process_lane, process_lanes, row_processes, tie, tied};
 ghost use Rattle.run_picture.specs.Words.{process_name};
 
-use crate::fonts::{EVENT, WORDS};
-use crate::layout::{Grid, LEFT, MARGIN};
+use crate::effects::{event_column, round_at};
+use crate::fonts::{EVENT, SMALL, WORDS};
+use crate::layout::{Grid, LEFT, MARGIN, dashes_for};
+use crate::panel::Panel;
 use crate::words::{write_process, write_simulator};
 use io_text::Text;
 use picture_shapes::{Colour, Dashes, Frame, Point, Sheet, write_decimal};
 use room_spec::MAX_PROCESSES;
+use run_columns::Column;
 use std::alloc::{AllocError, Global};
 use transcript::Event;
 use ws_history::ProcessState;
 
-/// The most events that are drawn. No room's history has as many.
-const MAX_EVENTS: usize = 500;
+/// How far the lane of a process is drawn.
+#[derive(Clone, Copy, Debug)]
+struct Pen {
+    /// The round of the process.
+    round: u8,
+    /// The row of its last event,
+    row: u64,
+    /// and where that ends.
+    x: u64,
+    /// Where the rightmost event of any row ends.
+    right: u64,
+}
 
-/// Greater than each x in a picture.
-const WIDE: u64 = 10000000;
-
-impl Grid {
-    /// The upper end of what the processes did.
-    #[tactic(auto, unfolding(crate::specs::History::history_y))]
-    pub(crate) fn history_y(self) -> u64
-        ensures value { result ≡ history_y self }
-        ensures range { result ≤ 124 + 2 * 65535 * 12000 }
-    {
-        self.row_y(self.rows()) + 12
+/// Draws the events of all processes: the ties to their steps on `ties`, and their boxes. Gives how far right they and the columns reach.
+#[tactic(auto, unfolding(crate::specs::History::all_events, crate::specs::History::events_right))]
+pub(crate) fn add_all_events(
+    ties: &mut Sheet,
+    boxes: &mut Sheet,
+    panel: &Panel,
+    columns: &[Column],
+    grid: Grid,
+) -> Result<u64, AllocError>
+    ensures ties { OnOk result (ties.new ≡ ties.old ++ all_events tied panel.now columns.now grid) }
+    ensures boxes { OnOk result (boxes.new ≡ boxes.old ++ all_events boxed panel.now columns.now grid) }
+    ensures right { IfOk result (λ right. right ≡ events_right panel.now columns.now grid) }
+{
+    let mut right = grid.right();
+    for process in 0..grid.processes {
+        right = right.max(add_lane_events(ties, boxes, panel, columns, grid, process)?);
     }
+    Ok(right)
+}
 
-    /// The left and upper end of a process's lane, at this x.
-    #[tactic(auto, unfolding(crate::specs::History::process_at))]
-    fn process_at(self, x: u64, process: u8) -> Point
-        ensures { result ≡ process_at self x process }
-    {
-        Point {
-            x,
-            y: self.history_y() + 16 + 40 * u64::from(process),
-        }
+/// Draws the ties and the boxes of the events of a process. Gives where the rightmost of them ends.
+#[tactic(auto, unfolding(crate::specs::History::lane_events, crate::specs::History::lane_right))]
+fn add_lane_events(
+    ties: &mut Sheet,
+    boxes: &mut Sheet,
+    panel: &Panel,
+    columns: &[Column],
+    grid: Grid,
+    process: u8,
+) -> Result<u64, AllocError>
+    ensures ties { OnOk result (ties.new ≡ ties.old ++ lane_events tied panel.now columns.now grid process) }
+    ensures boxes { OnOk result (boxes.new ≡ boxes.old ++ lane_events boxed panel.now columns.now grid process) }
+    ensures right { IfOk result (λ right. right ≡ lane_right panel.now columns.now grid process) }
+{
+    let mut pen = first_pen();
+    let events = panel.events();
+    for event in events {
+        pen = add_own(ties, boxes, panel, columns, grid, process, pen, event)?;
+    }
+    Ok(pen.right)
+}
+
+fn first_pen() -> Pen
+    ensures { result ≡ first_pen }
+{
+    Pen {
+        round: 0,
+        row: 0,
+        x: 0,
+        right: 0,
     }
 }
 
-/// Draws a lane for each process, up to this x, and after it the state of the process.
+/// Draws the tie and the box of an event if it is one of this process.
+fn add_own(
+    ties: &mut Sheet,
+    boxes: &mut Sheet,
+    panel: &Panel,
+    columns: &[Column],
+    grid: Grid,
+    process: u8,
+    pen: Pen,
+    event: &Event,
+) -> Result<Pen, AllocError>
+    ensures ties { OnOk result (ties.new ≡ ties.old ++ own_shapes tied panel.now columns.now grid process pen event.now) }
+    ensures boxes { OnOk result (boxes.new ≡ boxes.old ++ own_shapes boxed panel.now columns.now grid process pen event.now) }
+    ensures pen { IfOk result (λ after. after ≡ own_pen panel.now columns.now grid process pen event.now) }
+{
+    if process_of(event) != process {
+        return Ok(pen);
+    }
+    let column = column_for(ties.alloc(), panel, columns, pen, event)?;
+    add_event(ties, boxes, grid, pen, event, column)?;
+    pen_after(ties.alloc(), grid, pen, event, column)
+}
+
+/// The column of an event, after what is drawn so far.
+fn column_for(
+    alloc: Global,
+    panel: &Panel,
+    columns: &[Column],
+    pen: Pen,
+    event: &Event,
+) -> Result<Option<Column>, AllocError>
+    ensures { IfOk result (λ column. column ≡ column_for panel.now columns.now pen event.now) }
+{
+    let round = round_at(pen.round, event);
+    let words = panel.head().words;
+    event_column(alloc, words, panel.marks(), columns, round, event)
+}
+
+fn pen_after(
+    alloc: Global,
+    grid: Grid,
+    pen: Pen,
+    event: &Event,
+    column: Option<Column>,
+) -> Result<Pen, AllocError>
+    ensures { IfOk result (λ after. after ≡ pen_after grid pen event.now column) }
+{
+    let round = round_at(pen.round, event);
+    let Some(column) = column else {
+        return Ok(Pen { round, ..pen });
+    };
+    let width = event_width(alloc, event)?;
+    let x = event_x(grid, pen, &column).saturating_add(width);
+    Ok(Pen {
+        round,
+        row: grid.row(u64::from(column.place)),
+        x,
+        right: pen.right.max(x),
+    })
+}
+
+/// How far from the beginning of an event the next one is at least.
+fn event_width(alloc: Global, event: &Event) -> Result<u64, AllocError>
+    ensures { IfOk result (λ width. width ≡ event_width event.now) }
+{
+    let words = event_words(alloc, event)?;
+    Ok(box_width(words.as_bytes()) + 6)
+}
+
+/// Where an event begins: at its column, or after the event before it if that is in the way.
+fn event_x(grid: Grid, pen: Pen, column: &Column) -> u64
+    ensures { result ≡ event_x grid pen column.now }
+{
+    let place = u64::from(column.place);
+    if grid.row(place) == pen.row {
+        grid.column_x(place).max(pen.x)
+    } else {
+        grid.column_x(place)
+    }
+}
+
+#[tactic(auto, unfolding(crate::specs::History::event_start))]
+fn event_start(grid: Grid, pen: Pen, event: &Event, column: &Column) -> Point
+    ensures { result ≡ event_start grid pen event.now column.now }
+{
+    let row = grid.row(u64::from(column.place));
+    Point {
+        x: event_x(grid, pen, column),
+        y: grid.process_y(row, process_of(event)),
+    }
+}
+
+/// Draws the tie and the box of an event, if a column shows its step.
+fn add_event(
+    ties: &mut Sheet,
+    boxes: &mut Sheet,
+    grid: Grid,
+    pen: Pen,
+    event: &Event,
+    column: Option<Column>,
+) -> Result<(), AllocError>
+    ensures ties { OnOk result (ties.new ≡ ties.old ++ event_shapes tied grid pen event.now column) }
+    ensures boxes { OnOk result (boxes.new ≡ boxes.old ++ event_shapes boxed grid pen event.now column) }
+{
+    let Some(column) = column else {
+        return Ok(());
+    };
+    let start = event_start(grid, pen, event, &column);
+    add_tied(ties, grid, start, event, &column)?;
+    add_event_box(boxes, start, event)
+}
+
+#[tactic(auto, unfolding(crate::specs::History::tied))]
+fn add_tied(
+    sheet: &mut Sheet,
+    grid: Grid,
+    start: Point,
+    event: &Event,
+    column: &Column,
+) -> Result<(), AllocError>
+    ensures { OnOk result (sheet.new ≡ sheet.old ++ tied grid start event.now column.now) }
+{
+    let corner = grid.cell(column.first.simulator(), column.place);
+    add_tie(sheet, corner, start, Colour::Hue(process_of(event)))
+}
+
+/// Draws thin lines from a step's square, down and then to the event that takes effect there.
+#[tactic(auto, unfolding(crate::specs::History::tie))]
+fn add_tie(sheet: &mut Sheet, corner: Point, start: Point, hue: Colour) -> Result<(), AllocError>
+    ensures { OnOk result (sheet.new ≡ sheet.old ++ tie corner start hue) }
+{
+    let turning = Point {
+        x: corner.x.saturating_add(8),
+        y: start.y.saturating_sub(6),
+    };
+    sheet.line(corner.moved(8, 24), turning, 1, hue, Dashes::Solid)?;
+    sheet.line(turning, start.moved(8, 0), 1, hue, Dashes::Solid)
+}
+
+/// Draws the lanes of the processes in all rows, up to this x in the last, and there the states of the processes.
 #[tactic(auto, unfolding(crate::specs::History::process_lanes))]
 pub(crate) fn add_process_lanes(
     sheet: &mut Sheet,
@@ -55,8 +234,26 @@ pub(crate) fn add_process_lanes(
     requires { length states.now ≤ MAX_PROCESSES }
     ensures { OnOk result (sheet.new ≡ sheet.old ++ process_lanes grid right states.now) }
 {
+    for row in 0..grid.rows() {
+        add_row_processes(sheet, grid, right, states, row)?;
+    }
+    Ok(())
+}
+
+#[tactic(auto, unfolding(crate::specs::History::row_processes))]
+fn add_row_processes(
+    sheet: &mut Sheet,
+    grid: Grid,
+    right: u64,
+    states: &[ProcessState],
+    row: u64,
+) -> Result<(), AllocError>
+    requires few { length states.now ≤ MAX_PROCESSES }
+    requires row { row ≤ 2 * 65535 }
+    ensures { OnOk result (sheet.new ≡ sheet.old ++ row_processes grid right states.now row) }
+{
     for process in 0..states.len() {
-        add_process_lane(sheet, grid, right, states, process)?;
+        add_process_lane(sheet, grid, right, states, row, process)?;
     }
     Ok(())
 }
@@ -67,34 +264,73 @@ fn add_process_lane(
     grid: Grid,
     right: u64,
     states: &[ProcessState],
+    row: u64,
     process: usize,
 ) -> Result<(), AllocError>
     requires few { length states.now ≤ MAX_PROCESSES }
+    requires row { row ≤ 2 * 65535 }
     requires process { process < length states.now }
-    ensures { OnOk result (sheet.new ≡ sheet.old ++ process_lane grid right states.now process) }
+    ensures { OnOk result (sheet.new ≡ sheet.old ++ process_lane grid right states.now row process) }
 {
     let number = process as u8;
-    let start = grid.process_at(MARGIN, number);
-    let end = grid.process_at(right, number);
-    add_lane(sheet, start, end, number, states[process])
+    let y = grid.process_y(row, number);
+    if row + 1 == grid.rows() {
+        add_last_line(sheet, y, right, number, states[process])
+    } else {
+        let end = grid.row_right(row);
+        add_lane_line(sheet, y, end, number, b"", Colour::Faint, Dashes::Solid)
+    }
 }
 
-#[tactic(auto, unfolding(crate::specs::History::lane_of_process))]
-fn add_lane(
+/// Draws the lane of a process in the last row, with the state of the process.
+fn add_last_line(
     sheet: &mut Sheet,
-    start: Point,
-    end: Point,
+    y: u64,
+    right: u64,
     process: u8,
     state: ProcessState,
 ) -> Result<(), AllocError>
-    ensures { OnOk result (sheet.new ≡ sheet.old ++ lane_of_process start end process state) }
+    ensures { OnOk result (sheet.new ≡ sheet.old ++ last_line y right process state) }
+{
+    let (colour, dashes) = (Colour::Faint, Dashes::Solid);
+    match state {
+        ProcessState::Decided(value) => {
+            let words = decided_words(sheet.alloc(), value)?;
+            add_lane_line(sheet, y, right, process, words.as_bytes(), colour, dashes)
+        }
+        ProcessState::Spent => { add_lane_line(sheet, y, right, process, b"spent", colour, dashes) }
+        ProcessState::Held(simulator) => {
+            let words = held_words(sheet.alloc(), simulator)?;
+            let (colour, dashes) = (Colour::Alarm, Dashes::Long);
+            add_lane_line(sheet, y, right, process, words.as_bytes(), colour, dashes)
+        }
+        ProcessState::Going => {
+            let words = b"may still go on";
+            add_lane_line(sheet, y, right, process, words, colour, Dashes::Long)
+        }
+    }
+}
+
+/// Draws the name of a process and the line of its lane, with these words under the name.
+#[tactic(auto, unfolding(crate::specs::History::lane_line))]
+fn add_lane_line(
+    sheet: &mut Sheet,
+    y: u64,
+    right: u64,
+    process: u8,
+    words: &[u8],
+    colour: Colour,
+    dashes: Dashes,
+) -> Result<(), AllocError>
+    ensures { OnOk result (sheet.new ≡ sheet.old ++ lane_line y right process words.now colour dashes) }
 {
     let name = process_name(sheet.alloc(), process)?;
+    let start = Point { x: MARGIN, y };
     let hue = Colour::Hue(process);
-    sheet.label(start.moved(0, 15), WORDS, hue, name.as_bytes())?;
-    let (from, to) = (start.moved(82, 11), end.moved(0, 11));
-    sheet.line(from, to, 1, Colour::Rule, Dashes::Solid)?;
-    add_state(sheet, end, state)
+    sheet.label(start.moved(0, 11), WORDS, hue, name.as_bytes())?;
+    sheet.label(start.moved(0, 23), SMALL, colour, words)?;
+    let (from, to) = (Point { x: LEFT - 6, y }, Point { x: right, y });
+    sheet.line(from.moved(0, 11), to.moved(0, 11), 1, colour, dashes)
 }
 
 fn process_name(alloc: Global, process: u8) -> Result<Text, AllocError>
@@ -103,24 +339,6 @@ fn process_name(alloc: Global, process: u8) -> Result<Text, AllocError>
     let mut words = Text::new(alloc);
     write_process(&mut words, process)?;
     Ok(words)
-}
-
-/// Says the state of a process.
-fn add_state(sheet: &mut Sheet, end: Point, state: ProcessState) -> Result<(), AllocError>
-    ensures { OnOk result (sheet.new ≡ sheet.old ++ state_shapes end state) }
-{
-    match state {
-        ProcessState::Decided(value) => {
-            let words = decided_words(sheet.alloc(), value)?;
-            sheet.label(end.moved(10, 15), WORDS, Colour::Faint, words.as_bytes())
-        }
-        ProcessState::Spent => sheet.label(end.moved(10, 15), WORDS, Colour::Faint, b"spent"),
-        ProcessState::Held(simulator) => {
-            let words = held_words(sheet.alloc(), simulator)?;
-            add_unended(sheet, end, Colour::Alarm, words.as_bytes())
-        }
-        ProcessState::Going => add_unended(sheet, end, Colour::Faint, b"may still go on"),
-    }
 }
 
 #[tactic(auto, unfolding(crate::specs::History::decided_words))]
@@ -141,86 +359,6 @@ fn held_words(alloc: Global, simulator: u8) -> Result<Text, AllocError>
     words.put(b"held by ")?;
     write_simulator(&mut words, simulator)?;
     Ok(words)
-}
-
-/// Draws a dashed line, for a process that isn't through, and after it these words.
-#[tactic(auto, unfolding(crate::specs::History::unended))]
-fn add_unended(
-    sheet: &mut Sheet,
-    end: Point,
-    colour: Colour,
-    words: &[u8],
-) -> Result<(), AllocError>
-    ensures { OnOk result (sheet.new ≡ sheet.old ++ unended end colour words.now) }
-{
-    let (from, to) = (end.moved(0, 11), end.moved(50, 11));
-    sheet.line(from, to, 1, colour, Dashes::Long)?;
-    sheet.label(end.moved(56, 15), WORDS, colour, words)
-}
-
-#[tactic(auto, unfolding(crate::specs::History::drawn_events))]
-pub(crate) fn drawn_events(events: &[Event]) -> &[Event]
-    ensures value { result.now ≡ drawn_events events.now }
-    ensures few { length result.now ≤ MAX_EVENTS }
-{
-    if events.len() > MAX_EVENTS {
-        &events[..MAX_EVENTS]
-    } else {
-        events
-    }
-}
-
-/// The right end of these events, drawn one after the other.
-#[tactic(auto, unfolding(crate::specs::History::history_right))]
-pub(crate) fn history_right(alloc: Global, events: &[Event]) -> Result<u64, AllocError>
-    ensures value { IfOk result (λ right. right ≡ history_right events.now) }
-    ensures range { IfOk result (λ right. right ≤ WIDE) }
-{
-    events_right(alloc, drawn_events(events))
-}
-
-fn events_right(alloc: Global, events: &[Event]) -> Result<u64, AllocError>
-    requires { length events.now ≤ MAX_EVENTS }
-    ensures value { IfOk result (λ right. right ≡ LEFT + sum_by event_width events.now) }
-    ensures range { IfOk result (λ right. right ≤ WIDE) }
-{
-    let mut x = LEFT;
-    for event in events {
-        x += event_width(alloc, event)?;
-    }
-    Ok(x)
-}
-
-/// How far from an event the next one is drawn.
-fn event_width(alloc: Global, event: &Event) -> Result<u64, AllocError>
-    ensures value { IfOk result (λ width. width ≡ event_width event.now) }
-    ensures range { IfOk result (λ width. width ≤ 1420) }
-{
-    let words = event_words(alloc, event)?;
-    Ok(box_width(words.as_bytes()) + 6)
-}
-
-/// Draws the events, one after the other.
-pub(crate) fn add_events(sheet: &mut Sheet, grid: Grid, events: &[Event]) -> Result<(), AllocError>
-    requires { length events.now ≤ MAX_EVENTS }
-    ensures { OnOk result (sheet.new ≡ sheet.old ++ events_from grid LEFT events.now) }
-{
-    let mut x = LEFT;
-    for event in events {
-        add_event(sheet, grid, x, event)?;
-        x += event_width(sheet.alloc(), event)?;
-    }
-    Ok(())
-}
-
-/// Draws an event at this x, in the lane of its process.
-#[tactic(auto, unfolding(crate::specs::History::event_mark))]
-fn add_event(sheet: &mut Sheet, grid: Grid, x: u64, event: &Event) -> Result<(), AllocError>
-    ensures { OnOk result (sheet.new ≡ sheet.old ++ event_mark grid x event.now) }
-{
-    let words = event_words(sheet.alloc(), event)?;
-    let start = grid.process_at(x, process_of(event));
-    add_event_box(sheet, start, event, words.as_bytes())
 }
 
 /// What an event is, in words.
@@ -281,21 +419,24 @@ fn box_width(words: &[u8]) -> u64
     7 * words.len().min(200) as u64 + 14
 }
 
-/// Draws an event with these words, from this point on.
+/// Draws the box of an event, from this point on.
+fn add_event_box(sheet: &mut Sheet, start: Point, event: &Event) -> Result<(), AllocError>
+    ensures { OnOk result (sheet.new ≡ sheet.old ++ event_box start event.now (event_words event.now)) }
+{
+    let words = event_words(sheet.alloc(), event)?;
+    add_box(sheet, start, event, words.as_bytes())
+}
+
 #[tactic(auto, unfolding(crate::specs::History::event_box))]
-fn add_event_box(
-    sheet: &mut Sheet,
-    start: Point,
-    event: &Event,
-    words: &[u8],
-) -> Result<(), AllocError>
+fn add_box(sheet: &mut Sheet, start: Point, event: &Event, words: &[u8]) -> Result<(), AllocError>
     ensures { OnOk result (sheet.new ≡ sheet.old ++ event_box start event.now words.now) }
 {
     let width = box_width(words);
     let frame = Frame::at(start, width, 22);
     let outline = Colour::Hue(process_of(event));
     let corner = event_corner(event);
-    sheet.area(frame, corner, event_fill(event), outline, Dashes::Solid)?;
+    let dashes = dashes_for(process_of(event));
+    sheet.area(frame, corner, event_fill(event), outline, dashes)?;
     let middle = start.moved(width / 2, 15);
     sheet.label(middle, EVENT, event_ink(event), words)?;
     let hint = event_hint(sheet.alloc(), process_of(event), words)?;

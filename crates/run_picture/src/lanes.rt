@@ -4,7 +4,7 @@ ghost use Rattle.run_picture.specs.Lanes.{change_for, inside, inside_at, insides
 ghost use Rattle.run_picture.specs.Words.{simulator_name};
 
 use crate::fonts::{AXIS, WORDS};
-use crate::layout::{Grid, LANE, MARGIN, across};
+use crate::layout::{Grid, LANE, LEFT, MARGIN, across};
 use crate::words::{simulator_name, write_simulator};
 use io_text::Text;
 use picture_shapes::{Colour, Dashes, Frame, Point, Sheet, write_decimal};
@@ -123,7 +123,7 @@ fn add_lane_at(sheet: &mut Sheet, y: u64, right: u64, simulator: u8) -> Result<(
     let name = simulator_name(sheet.alloc(), simulator)?;
     let start = Point { x: MARGIN, y };
     sheet.label(start.moved(0, 19), WORDS, Colour::Ink, name.as_bytes())?;
-    let from = Point { x: 98, y };
+    let from = Point { x: LEFT - 6, y };
     let to = Point { x: right, y };
     sheet.line(
         from.moved(0, 15),

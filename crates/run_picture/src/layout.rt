@@ -1,15 +1,15 @@
 //! Where the columns and the lanes of a room are.
 ghost use Rattle.std.specs.Prelude.{◌≡◌, ◌+◌, ◌*◌, ◌≤◌, ◌<◌, ◌^◌};
-ghost use Rattle.run_picture.specs.Layout.{across, cell, column_x, columns_in, in_row, lane_y, right_of, row_height, row_of, row_right, row_y, rows};
+ghost use Rattle.run_picture.specs.Layout.{across, cell, column_x, columns_in, dashes_for, in_row, lane_y, process_y, right_of, row_height, row_of, row_right, row_y, rows};
 
-use picture_shapes::Point;
+use picture_shapes::{Dashes, Point};
 use run_columns::Scale;
 
 /// How far to the left all words begin.
 pub(crate) const MARGIN: u64 = 16;
 
 /// Where the first column of a row begins.
-pub(crate) const LEFT: u64 = 104;
+pub(crate) const LEFT: u64 = 120;
 
 /// Where the first row begins.
 pub(crate) const TOP: u64 = 112;
@@ -17,7 +17,10 @@ pub(crate) const TOP: u64 = 112;
 /// How high the lane of a simulator is.
 pub(crate) const LANE: u64 = 46;
 
-/// The columns of a room in rows, one below the other. In each row each simulator has a lane.
+/// How high the lane of a process is.
+pub(crate) const PROCESS: u64 = 36;
+
+/// The columns of a room in rows, one below the other. In each row each simulator and each process has a lane.
 #[derive(Clone, Copy, Debug)]
 pub(crate) struct Grid {
     pub scale: Scale,
@@ -26,6 +29,7 @@ pub(crate) struct Grid {
     /// How many columns there are.
     pub count: u16,
     pub simulators: u8,
+    pub processes: u8,
 }
 
 /// How wide a number of columns is.
@@ -86,9 +90,9 @@ impl Grid {
     #[tactic(auto, unfolding(crate::specs::Layout::row_height))]
     fn row_height(self) -> u64
         ensures value { result ≡ row_height self }
-        ensures range { result ≤ 12000 }
+        ensures range { result ≤ 21000 }
     {
-        LANE * u64::from(self.simulators) + 30
+        LANE * u64::from(self.simulators) + (PROCESS * u64::from(self.processes) + 50)
     }
 
     /// The upper end of a row.
@@ -96,7 +100,7 @@ impl Grid {
     pub(crate) fn row_y(self, row: u64) -> u64
         requires { row ≤ 2 * 65535 }
         ensures value { result ≡ row_y self row }
-        ensures range { result ≤ 112 + 2 * 65535 * 12000 }
+        ensures range { result ≤ 112 + 2 * 65535 * 21000 }
     {
         TOP + row * self.row_height()
     }
@@ -105,7 +109,7 @@ impl Grid {
     #[tactic(auto, unfolding(crate::specs::Layout::row_right))]
     pub(crate) fn row_right(self, row: u64) -> u64
         ensures value { result ≡ row_right self row }
-        ensures range { result ≤ 104 + 40 * 65535 }
+        ensures range { result ≤ 120 + 40 * 65535 }
     {
         LEFT + across(self.scale, self.columns_in(row))
     }
@@ -114,7 +118,7 @@ impl Grid {
     #[tactic(auto, unfolding(crate::specs::Layout::right_of))]
     pub(crate) fn right(self) -> u64
         ensures value { result ≡ right_of self }
-        ensures range { result ≤ 104 + 40 * 65535 }
+        ensures range { result ≤ 120 + 40 * 65535 }
     {
         LEFT + across(self.scale, u64::from(self.count).min(self.in_row()))
     }
@@ -123,7 +127,7 @@ impl Grid {
     #[tactic(auto, unfolding(crate::specs::Layout::column_x))]
     pub(crate) fn column_x(self, place: u64) -> u64
         ensures value { result ≡ column_x self place }
-        ensures range { result ≤ 104 + 40 * 65535 }
+        ensures range { result ≤ 120 + 40 * 65535 }
     {
         LEFT + across(self.scale, place % self.in_row())
     }
@@ -137,6 +141,15 @@ impl Grid {
         self.row_y(row) + LANE * u64::from(simulator)
     }
 
+    /// The upper end of a process's lane in a row.
+    #[tactic(auto, unfolding(crate::specs::Layout::process_y))]
+    pub(crate) fn process_y(self, row: u64, process: u8) -> u64
+        requires { row ≤ 2 * 65535 }
+        ensures { result ≡ process_y self row process }
+    {
+        self.row_y(row) + (LANE * u64::from(self.simulators) + (PROCESS * u64::from(process) + 26))
+    }
+
     /// The left and upper end of a column in a simulator's lane.
     #[tactic(auto, unfolding(crate::specs::Layout::cell))]
     pub(crate) fn cell(self, simulator: u8, place: u16) -> Point
@@ -147,5 +160,16 @@ impl Grid {
             x: self.column_x(place),
             y: self.lane_y(self.row(place), simulator),
         }
+    }
+}
+
+/// How the outlines of a process's squares and events are drawn: two processes with the same hue differ in it.
+pub(crate) fn dashes_for(process: u8) -> Dashes
+    ensures { result ≡ dashes_for process }
+{
+    if process >= 8 {
+        Dashes::Short
+    } else {
+        Dashes::Solid
     }
 }

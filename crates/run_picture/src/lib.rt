@@ -1,6 +1,7 @@
 //! The layout of pictures of rooms: of each room the shapes that show its simulators step by step, and below them what its processes did.
 #![tactic(auto)]
 
+mod effects;
 mod fonts;
 mod head;
 mod history;

@@ -1,15 +1,14 @@
 //! The whole picture.
-ghost use Rattle.std.specs.Prelude.{◌≡◌, ◌++◌, ◌≤◌, ◌<◌, ◌^◌, IfOk, OnOk, length};
+ghost use Rattle.std.specs.Prelude.{◌≡◌, ◌++◌, ◌≤◌, IfOk, OnOk, length};
 ghost use Rattle.picture_shapes.specs.Shapes.{part_text};
 ghost use Rattle.picture_shapes.specs.Svg.{parts_text, svg_of};
 ghost use Rattle.run_columns.specs.Columns.{columns_of};
-ghost use Rattle.run_picture.specs.History.{drawn_events, history_right};
-ghost use Rattle.run_picture.specs.Panels.{events_in};
-ghost use Rattle.run_picture.specs.Picture.{grid_of, head_width, height_with, history_heading, history_shapes, left_out_words, legend_from, note_words, panel_height, panel_shapes, panel_width, parts_from, picture_of, scale_words, shapes_with, size_of, size_to, steps_heading, steps_shapes, steps_title, width_with};
+ghost use Rattle.run_picture.specs.History.{events_right};
+ghost use Rattle.run_picture.specs.Picture.{grid_of, height_with, left_out_words, legend_from, note_words, panel_height, panel_shapes, panel_width, parts_from, picture_of, room_shapes, scale_words, shapes_with, size_of, size_to, steps_heading, steps_shapes, steps_title, width_with, wrap_of};
 
 use crate::fonts::{HEADING, WORDS};
-use crate::head::{add_head, shown_part};
-use crate::history::{add_events, add_process_lanes, drawn_events, history_right};
+use crate::head::{add_head, head_width};
+use crate::history::{add_all_events, add_process_lanes};
 use crate::lanes::{add_insides, add_lanes, add_ticks};
 use crate::layout::{Grid, MARGIN};
 use crate::legend::{add_legend, deeds_in};
@@ -28,11 +27,8 @@ pub(crate) const TITLE: &[u8] = b"Simulated rooms, step by step";
 /// The least width of a picture.
 pub(crate) const MIN_WIDTH: u64 = 640;
 
-/// Greater than each x in a picture.
-const WIDE: u64 = 10000000;
-
 /// Draws these rooms, one below the other, as a whole SVG file: the picture opens in any browser, and needs no script, font or other file.
-/// Of a room it shows at most 400 columns of steps and 500 events; how many are left out is said in the picture.
+/// Of a room it shows at most 400 columns of steps, and the events that take effect in them; how many columns are left out is said in the picture.
 ///
 /// # Errors
 ///
@@ -75,7 +71,7 @@ fn size_to(width: u64, bottom: u64) -> Size
     Size {
         width,
         height: bottom.saturating_add(80),
-        scale: 1,
+        scale: 2,
     }
 }
 
@@ -108,22 +104,38 @@ fn write_panel(
     let right = add_panel(&mut sheet, panel, &columns)?;
     write_part(output, top, sheet.shapes())?;
     Ok(Point {
-        x: panel_width(panel, &columns, right),
+        x: panel_width(alloc, panel, &columns, right)?,
         y: panel_height(panel, &columns),
     })
 }
 
-/// Draws a room with these columns. Gives the right end of its history.
+/// Draws a room with these columns. Gives how far right its columns and events reach.
 #[tactic(auto, unfolding(crate::specs::Picture::shapes_with))]
 fn add_panel(sheet: &mut Sheet, panel: &Panel, columns: &Columns) -> Result<u64, AllocError>
     ensures shapes { OnOk result (sheet.new ≡ sheet.old ++ shapes_with panel.now columns.now) }
-    ensures right { IfOk result (λ right. (right ≡ history_right (events_in panel.now.report)) × (right ≤ WIDE)) }
+    ensures right { IfOk result (λ right. right ≡ events_right panel.now columns.now.columns (grid_of panel.now columns.now)) }
 {
-    let grid = grid_of(panel, columns);
     add_head(sheet, panel.head())?;
     add_steps_heading(sheet, columns)?;
+    add_room(sheet, grid_of(panel, columns), panel, columns)
+}
+
+#[tactic(auto, unfolding(crate::specs::Picture::room_shapes))]
+fn add_room(
+    sheet: &mut Sheet,
+    grid: Grid,
+    panel: &Panel,
+    columns: &Columns,
+) -> Result<u64, AllocError>
+    ensures shapes { OnOk result (sheet.new ≡ sheet.old ++ room_shapes grid panel.now columns.now) }
+    ensures right { IfOk result (λ right. right ≡ events_right panel.now columns.now.columns grid) }
+{
+    let mut boxes = Sheet::new(sheet.alloc());
     add_steps(sheet, grid, columns)?;
-    add_history(sheet, grid, panel)
+    let right = add_all_events(sheet, &mut boxes, panel, columns.columns(), grid)?;
+    add_process_lanes(sheet, grid, right, panel.states())?;
+    sheet.append(boxes)?;
+    Ok(right)
 }
 
 #[tactic(auto, unfolding(crate::specs::Picture::grid_of))]
@@ -132,9 +144,20 @@ fn grid_of(panel: &Panel, columns: &Columns) -> Grid
 {
     Grid {
         scale: columns.scale(),
-        wrap: 65535,
+        wrap: wrap_of(columns.scale()),
         count: columns.columns().len() as u16,
         simulators: panel.head().simulators,
+        processes: panel.states().len() as u8,
+    }
+}
+
+/// How many columns a row has.
+fn wrap_of(scale: Scale) -> u16
+    ensures { result ≡ wrap_of scale }
+{
+    match scale {
+        Scale::Steps => 28,
+        Scale::Turns | Scale::Simulators => 11,
     }
 }
 
@@ -144,7 +167,7 @@ fn add_steps_heading(sheet: &mut Sheet, columns: &Columns) -> Result<(), AllocEr
 {
     add_steps_title(sheet)?;
     let note = note_words(sheet.alloc(), columns)?;
-    let after = Point { x: 180, y: 98 };
+    let after = Point { x: 100, y: 98 };
     sheet.label(after, WORDS, Colour::Faint, note.as_bytes())
 }
 
@@ -153,7 +176,7 @@ fn add_steps_title(sheet: &mut Sheet) -> Result<(), AllocError>
     ensures { OnOk result (sheet.new ≡ sheet.old ++ steps_title) }
 {
     let start = Point { x: MARGIN, y: 98 };
-    sheet.label(start, HEADING, Colour::Ink, b"Simulators, step by step")
+    sheet.label(start, HEADING, Colour::Ink, b"Step by step")
 }
 
 /// What a box is, and how many are left out.
@@ -202,51 +225,26 @@ fn add_steps(sheet: &mut Sheet, grid: Grid, columns: &Columns) -> Result<(), All
     add_squares(sheet, grid, columns.columns())
 }
 
-/// Draws what the processes did. Gives the right end of the events.
-#[tactic(auto, unfolding(crate::specs::Picture::history_shapes))]
-fn add_history(sheet: &mut Sheet, grid: Grid, panel: &Panel) -> Result<u64, AllocError>
-    ensures shapes { OnOk result (sheet.new ≡ sheet.old ++ history_shapes grid panel.now) }
-    ensures right { IfOk result (λ right. (right ≡ history_right (events_in panel.now.report)) × (right ≤ WIDE)) }
-{
-    let right = history_right(sheet.alloc(), panel.events())?;
-    add_history_heading(sheet, grid.history_y())?;
-    add_process_lanes(sheet, grid, right, panel.states())?;
-    add_events(sheet, grid, drawn_events(panel.events()))?;
-    Ok(right)
-}
-
-#[tactic(auto, unfolding(crate::specs::Picture::history_heading))]
-fn add_history_heading(sheet: &mut Sheet, y: u64) -> Result<(), AllocError>
-    ensures { OnOk result (sheet.new ≡ sheet.old ++ history_heading y) }
-{
-    let start = Point { x: MARGIN, y };
-    sheet.label(start, HEADING, Colour::Ink, b"What the processes did")
-}
-
 /// How high the picture of a room is.
 #[tactic(auto, unfolding(crate::specs::Picture::height_with))]
 fn panel_height(panel: &Panel, columns: &Columns) -> u64
     ensures { result ≡ height_with panel.now columns.now }
 {
-    grid_of(panel, columns).history_y() + 40 * panel.states().len() as u64 + 40
+    let grid = grid_of(panel, columns);
+    grid.row_y(grid.rows())
 }
 
-/// How wide the picture of a room is, whose history ends at this x.
+/// How wide the picture of a room is, whose columns and events reach this far right.
 #[tactic(auto, unfolding(crate::specs::Picture::width_with))]
-fn panel_width(panel: &Panel, columns: &Columns, right: u64) -> u64
-    requires right { right ≡ history_right (events_in panel.now.report) }
-    requires range { right ≤ WIDE }
-    ensures { result ≡ width_with panel.now columns.now }
+fn panel_width(
+    alloc: Global,
+    panel: &Panel,
+    columns: &Columns,
+    right: u64,
+) -> Result<u64, AllocError>
+    requires { right ≡ events_right panel.now columns.now.columns (grid_of panel.now columns.now) }
+    ensures { IfOk result (λ width. width ≡ width_with panel.now columns.now) }
 {
-    let columns_right = grid_of(panel, columns).right() + 80;
-    head_width(panel).max(columns_right.max(right + 200))
-}
-
-/// How wide the lines above it are: 7 for each byte of the numbers, if each input has up to 10 digits, and 8 of the protocol.
-#[tactic(auto, unfolding(crate::specs::Picture::head_width))]
-fn head_width(panel: &Panel) -> u64
-    ensures { result ≡ head_width panel.now }
-{
-    let protocol = 8 * shown_part(panel.head().protocol.as_bytes()).len() as u64 + 60;
-    protocol.max(77 * panel.head().inputs.len().min(16) as u64 + 382)
+    let head = head_width(alloc, panel.head())?;
+    Ok(head.max(right.saturating_add(72)))
 }

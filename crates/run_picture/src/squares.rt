@@ -1,10 +1,10 @@
 //! A square for each column, or the cross of a crash.
 ghost use Rattle.std.specs.Prelude.{◌≡◌, ◌++◌, IfOk, OnOk};
-ghost use Rattle.run_picture.specs.Squares.{count_words, crash_words, cross, cross_lines, cross_word, letter_shapes, square, square_by, squares, step_fill, step_ink, step_square, steps_square, stretch, stretch_words};
+ghost use Rattle.run_picture.specs.Squares.{count_words, crash_words, cross, cross_lines, cross_word, letter_shapes, square, square_by, squares, step_fill, step_ink, step_outline, step_square, steps_square, stretch, stretch_words};
 
 use crate::fonts::{DIGIT, LETTER, SMALL_BOLD};
 use crate::lanes::number_text;
-use crate::layout::Grid;
+use crate::layout::{Grid, dashes_for};
 use crate::words::{step_words, write_counted, write_simulator};
 use io_text::Text;
 use picture_shapes::{Colour, Dashes, Frame, Point, Sheet, write_decimal};
@@ -61,8 +61,8 @@ fn add_step(sheet: &mut Sheet, corner: Point, number: u64, step: &Step) -> Resul
     ensures { OnOk result (sheet.new ≡ sheet.old ++ step_square corner number step.now) }
 {
     let frame = Frame::at(corner.moved(1, 7), 14, 16);
-    let outline = Colour::Hue(step.process);
-    sheet.area(frame, 3, step_fill(step), outline, Dashes::Solid)?;
+    let (outline, dashes) = (step_outline(step), dashes_for(step.process));
+    sheet.area(frame, 3, step_fill(step), outline, dashes)?;
     add_letter(sheet, corner, step)?;
     let words = step_words(sheet.alloc(), number, step)?;
     sheet.hint(frame, words.as_bytes())
@@ -84,6 +84,18 @@ fn step_ink(step: &Step) -> Colour
     ensures { result ≡ step_ink step.now }
 {
     if step.deed.is_marked() {
+        Colour::White
+    } else {
+        Colour::Hue(step.process)
+    }
+}
+
+/// A filled square of a process with dashed outlines has white ones.
+#[tactic(auto, unfolding(crate::specs::Squares::step_outline))]
+fn step_outline(step: &Step) -> Colour
+    ensures { result ≡ step_outline step.now }
+{
+    if step.deed.is_marked() && step.process >= 8 {
         Colour::White
     } else {
         Colour::Hue(step.process)

@@ -1,5 +1,5 @@
 -- The places of the panels of open rooms by their names, as rooms are opened, go on and are closed.
-use Rattle.std.proofs.Common.{◌≡◌, ℕ, zero, suc, ◌&&◌, Bool, true, false, cond, List, [], ◌∷◌, ◌++◌, length, map, get_or, set, Result, Ok, Err, Option, Some, None, is_none, is_some, inl, inr, refl, sym, ap, ap₂, ◌∙◌, subst, true≢false}
+use Rattle.std.proofs.Common.{◌≡◌, ℕ, zero, suc, Bool, true, false, cond, List, [], ◌∷◌, ◌++◌, length, get_or, set, Result, Ok, Err, Option, Some, None, is_none, is_some, inl, inr, refl, sym, ap, ap₂, ◌∙◌, subst, true≢false}
 use Rattle.std.specs.Map.{lookup}
 use Rattle.std.specs.Result.{IfErr, IfOk}
 use Rattle.std.specs.Str.{bytes_eq}

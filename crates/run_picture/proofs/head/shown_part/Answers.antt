@@ -4,11 +4,8 @@ use Rattle.run_picture.specs.Heads.{shown_part}
 use Rattle.run_picture.proofs.head.shown_part.Goals as goal
 
 pub slice_bounds-result-end : goal.slice_bounds-result-end
-slice_bounds-result-end c = sym (length-take-le 200 c.args.text.now (omega (arith, c.if-text-gt-MAX_SHOWN.true)))
+slice_bounds-result-end c = sym (length-take-le 84 c.args.text.now (omega (arith, c.if-text-gt-MAX_SHOWN.true)))
 
-pub returns-then-text-gt-MAX_SHOWN-clause-few : goal.returns-then-text-gt-MAX_SHOWN-clause-few
-returns-then-text-gt-MAX_SHOWN-clause-few c = omega (arith, length-take-le 200 c.args.text.now (omega (arith, c.if-text-gt-MAX_SHOWN.true)))
-
-pub returns-else-text-gt-MAX_SHOWN-clause-value : goal.returns-else-text-gt-MAX_SHOWN-clause-value
+pub returns-else-text-gt-MAX_SHOWN : goal.returns-else-text-gt-MAX_SHOWN
 unfolding shown_part
-returns-else-text-gt-MAX_SHOWN-clause-value c = sym (take_all 200 c.args.text.now c.if-text-gt-MAX_SHOWN.false)
+returns-else-text-gt-MAX_SHOWN c = sym (take_all 84 c.args.text.now c.if-text-gt-MAX_SHOWN.false)

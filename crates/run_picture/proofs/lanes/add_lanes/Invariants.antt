@@ -1,4 +1,4 @@
-use Rattle.std.proofs.Common.{◌≡◌, ◌++◌, take}
+use Rattle.std.proofs.Common.{◌≡◌, ◌++◌}
 use Rattle.std.specs.List.{flat_map, range_with_len}
 use Rattle.run_picture.specs.Lanes.{row_lanes}
 use Rattle.run_picture.proofs.lanes.add_lanes.Given as goal

@@ -1,4 +1,4 @@
-use Rattle.std.proofs.Common.{◌≡◌, ◌≤◌, ap, length, min, take, arith}
+use Rattle.std.proofs.Common.{◌≡◌, ap, length, min, take, arith}
 use Rattle.std.specs.List.{list_any}
 use Rattle.std.proofs.lemmas.List.{length-take}
 use Rattle.std.proofs.lemmas.List.Sums.{count_by-le-length, length-filter}

@@ -1,5 +1,5 @@
 use Rattle.std.proofs.Common.{◌≡◌, ◌++◌, take}
-use Rattle.std.specs.List.{flat_map, range_with_len}
+use Rattle.std.specs.List.{flat_map}
 use Rattle.run_picture.specs.Squares.{square}
 use Rattle.run_picture.proofs.squares.add_squares.Given as goal
 

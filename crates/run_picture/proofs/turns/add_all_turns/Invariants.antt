@@ -1,5 +1,5 @@
 use Rattle.std.proofs.Common.{◌≡◌, ◌++◌, take}
-use Rattle.std.specs.List.{flat_map, range_with_len}
+use Rattle.std.specs.List.{flat_map}
 use Rattle.run_picture.specs.Turns.{turn}
 use Rattle.run_picture.proofs.turns.add_all_turns.Given as goal
 

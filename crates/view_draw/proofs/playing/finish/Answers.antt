@@ -1,4 +1,4 @@
-use Rattle.std.proofs.Common.{◌≡◌, arith, Some}
+use Rattle.std.proofs.Common.{arith}
 use Rattle.view_draw.proofs.Finishing.{finished_here}
 use Rattle.view_draw.proofs.playing.finish.Goals as goal
 

@@ -1,5 +1,4 @@
-use Rattle.std.proofs.Common.{◌∙◌, [], ◌∷◌, ◌++◌, ap, refl}
-use Rattle.run_picture.specs.Panels.{Panel}
+use Rattle.std.proofs.Common.{refl}
 use Rattle.service_core.specs.declared.reply.Reply.TheVariants.{Begun}
 use Rattle.view_draw.proofs.drawing.Drawing.begin.Goals as goal
 

@@ -1,5 +1,4 @@
-use Rattle.std.proofs.Common.{◌≡◌, ◌∙◌, ℕ, List, Option, Some, None, set, ap, subst, sym}
-use Rattle.run_picture.specs.Panels.{Panel}
+use Rattle.std.proofs.Common.{◌∙◌, Some, None, set, ap, subst, sym}
 use Rattle.view_draw.specs.Drawn.{AreIndexed, IsPlace, changed, is_of, with_report}
 use Rattle.view_draw.proofs.Changing.{set_changed}
 use Rattle.view_draw.proofs.Indexing.{closed, finished_there}

@@ -1,6 +1,5 @@
-use Rattle.std.proofs.Common.{◌≡◌, ◌∙◌, ℕ, List, Option, Some, None, set, ap, subst, sym}
+use Rattle.std.proofs.Common.{◌∙◌, Some, set, ap, subst, sym}
 use Rattle.std.proofs.lemmas.Result.{IfOk-weaker}
-use Rattle.run_picture.specs.Panels.{Panel}
 use Rattle.view_draw.specs.Drawn.{IsPlace, is_of, noted}
 use Rattle.view_draw.proofs.Changing.{set_changed}
 use Rattle.view_draw.proofs.Indexing.{more_marks, noted_nowhere, noted_there, still_indexed}

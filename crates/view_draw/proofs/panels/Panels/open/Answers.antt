@@ -1,8 +1,8 @@
-use Rattle.std.proofs.Common.{◌≡◌, ◌∙◌, [], ◌∷◌, ◌++◌, ℕ, List, Option, Some, None, length, ap, subst, sym}
+use Rattle.std.proofs.Common.{◌≡◌, ◌∙◌, [], ◌∷◌, ◌++◌, ℕ, List, Some, None, length, ap, subst, sym}
 use Rattle.std.specs.Map.{lookup}
 use Rattle.std.specs.Str.{bytes_eq}
 use Rattle.run_picture.specs.Panels.{Panel}
-use Rattle.view_draw.specs.Drawn.{AreIndexed, fresh}
+use Rattle.view_draw.specs.Drawn.{AreIndexed}
 use Rattle.view_draw.proofs.Indexing.{Changes, none_of, opened}
 use Rattle.view_draw.proofs.panels.Panels.open.Goals as goal
 

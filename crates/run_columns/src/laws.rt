@@ -1,0 +1,18 @@
+//! Laws of columns.
+ghost use Rattle.std.specs.Prelude.{◌≡◌, ◌≤◌, ◌<◌, ◌^◌, List, length, map};
+ghost use Rattle.std.specs.List.{sum_by};
+ghost use Rattle.run_columns.specs.Columns.{AreNumbered, columns_by, columns_of, steps_in};
+ghost use Rattle.run_columns.specs.declared.column.Scale.{Scale as ScaleData};
+ghost use Rattle.run_columns.specs.declared.mark.Mark.{Mark as MarkData};
+
+/// If there are at most 400 steps and crashes, each of them has a column of its own, in their order.
+pub fn each_mark_has_a_column()
+    ensures { (marks : List MarkData) → length marks ≤ 400 → map (λ column. column.first) (columns_of marks).columns ≡ marks }
+{}
+
+/// At each scale the columns show each step once, and each column knows how many steps are before it.
+pub fn each_step_is_counted()
+    ensures numbered { (scale : ScaleData) (marks : List MarkData) → length marks < 2 ^ 63 → AreNumbered 0 (columns_by scale marks) }
+    ensures counted { (scale : ScaleData) (marks : List MarkData) → length marks < 2 ^ 63 →
+        sum_by (λ column. column.count) (columns_by scale marks) ≡ sum_by steps_in marks }
+{}
