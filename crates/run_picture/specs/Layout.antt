@@ -1,5 +1,5 @@
 -- Where the columns and the lanes of a room are.
-use Rattle.std.specs.Prelude.{ℕ, ◌+◌, ◌-◌, ◌*◌, ◌/◌, ◌%◌, ◌==◌, nat_le, nat_lt, max, min, if◌then◌else◌}
+use Rattle.std.specs.Prelude.{◌⊎◌, ◌≤◌, ℕ, ◌+◌, ◌-◌, ◌*◌, ◌/◌, ◌%◌, ◌==◌, nat_le, nat_lt, max, min, if◌then◌else◌}
 use Rattle.run_columns.specs.declared.column.Scale.{Scale}
 use Rattle.run_columns.specs.declared.column.Scale.TheVariants.{Steps, Turns, Simulators}
 use Rattle.picture_shapes.specs.declared.shape.Dashes.{Dashes}
@@ -70,3 +70,10 @@ cell grid simulator place = record { x = column_x grid place; y = lane_y grid (r
 
 abbrev pub dashes_for : ℕ → Dashes
 dashes_for process = if nat_le 8 process then Short else Solid
+
+-- ---- laws
+
+-- areas of these sizes that begin at two points don't overlap: one is next to the other, or below it
+abbrev pub AreApart : Point → Point → ℕ → ℕ → Type 0
+AreApart one other width height =
+    ((one.x + width ≤ other.x) ⊎ (other.x + width ≤ one.x)) ⊎ ((one.y + height ≤ other.y) ⊎ (other.y + height ≤ one.y))

@@ -6,6 +6,7 @@ mod fonts;
 mod head;
 mod history;
 mod lanes;
+pub mod laws;
 mod layout;
 mod legend;
 mod panel;

@@ -1,0 +1,104 @@
+#!/usr/bin/env python3
+"""layout.py PICTURE TRANSCRIPT: checks where the shapes of a picture are, and whether its events have the transcript's order.
+
+Nothing is outside the picture, no two squares and no two events overlap, and the events of each room, from left to right and from
+the first row to the last, are those of the transcript in its order. Prints how many squares and events there are.
+"""
+
+import re
+import sys
+import xml.etree.ElementTree as tree
+
+SVG = "{http://www.w3.org/2000/svg}"
+LEFT, TOP, PITCH = 120, 112, 16  # run_picture/src/layout.rt
+HUES = {"#2f5f9e", "#b85c1a", "#14532d", "#b8407f", "#5c3310", "#1b7f86", "#4a1f7a", "#6b6b14"}
+
+
+def extent(element):
+    """The left, upper, right and lower end of a shape; a letter is taken as 0.6 of its height."""
+    def number(name):
+        return float(element.get(name))
+    if element.tag == SVG + "rect":
+        return number("x"), number("y"), number("x") + number("width"), number("y") + number("height")
+    if element.tag == SVG + "line":
+        return min(number("x1"), number("x2")), min(number("y1"), number("y2")), max(number("x1"), number("x2")), max(number("y1"), number("y2"))
+    width = 0.6 * number("font-size") * len(element.text or "")
+    start = number("x") - (width / 2 if element.get("text-anchor") else 0)
+    return start, number("y") - number("font-size"), start + width, number("y") + 3
+
+
+def overlap(one, other):
+    return one[0] < other[2] and other[0] < one[2] and one[1] < other[3] and other[1] < one[3]
+
+
+def overlapping(frames):
+    """How many pairs overlap, looked for among neighbours from above to below."""
+    frames = sorted(frames, key=lambda frame: frame[1])
+    pairs = 0
+    for index, one in enumerate(frames):
+        for other in frames[index + 1:]:
+            if other[1] >= one[3]:
+                break
+            pairs += overlap(one, other)
+    return pairs
+
+
+def events_in(shapes):
+    """The events of a room in the order of their steps: a process and words each."""
+    numbers = [int(number) for number in re.findall(r"(\d+) (?:process|simulator)", shapes[1].text)]
+    height = 46 * numbers[1] + 36 * numbers[0] + 50
+    ties = [shape for shape in shapes if shape.tag == SVG + "line" and shape.get("stroke-width") == "1" and shape.get("stroke") in HUES][::2]
+    hints = [shape[0].text for shape in shapes if shape.tag == SVG + "rect" and len(shape) and shape.get("height") == "22"]
+    found = []
+    for tie, hint in zip(ties, hints, strict=True):
+        row = (int(tie.get("y1")) - TOP) // height
+        process, words = re.fullmatch(r"process (\d+): (.*)", hint).groups()
+        found.append((row, (int(tie.get("x1")) - 8 - LEFT) // PITCH, f"{process} {words}"))
+    return [words for _, _, words in sorted(found)]
+
+
+def events_of(transcript):
+    """The events of each room: what follows the line `events`."""
+    rooms = {}
+    for line in transcript.split("events\n", 1)[1].splitlines() if "events\n" in transcript else []:
+        name, _, words = line.partition(" ")
+        rooms.setdefault(name, []).append(words)
+    return rooms
+
+
+def main():
+    picture, transcript = (open(name).read() for name in sys.argv[1:3])
+    svg = tree.fromstring(picture)
+    width, height = map(int, svg.get("viewBox").split()[2:])
+    squares, boxes, outside, drawn, folded = [], [], 0, {}, set()
+    for part in svg.iter(SVG + "g"):
+        shapes, top = list(part), int(re.search(r"translate\(0 (\d+)\)", part.get("transform"))[1])
+        for shape in shapes:
+            left, upper, right, lower = extent(shape)
+            outside += left < 0 or right > width or upper < 0 or top + lower > height
+            if shape.tag == SVG + "rect" and len(shape) == 0:
+                frame = (left, top + upper, right, top + lower)
+                if (shape.get("width"), shape.get("height")) in (("14", "16"), ("38", "16")):
+                    squares.append(frame)
+                elif shape.get("height") == "22":
+                    boxes.append(frame)
+        if shapes and shapes[0].get("font-size") == "16":
+            name = shapes[0].text
+            folded.discard(name)
+            if (shapes[4].text or "").startswith("each box"):
+                folded.add(name)
+            else:
+                drawn[name] = events_in(shapes)
+    wanted = events_of(transcript)
+    if outside:
+        print(f"{outside} shapes are outside the picture")
+    for what, frames in ("squares", squares), ("events", boxes):
+        if pairs := overlapping(frames):
+            print(f"{pairs} pairs of {what} overlap")
+    for name, events in drawn.items():
+        if name not in folded and events != wanted.get(name, []):
+            print(f"{name}: drawn {events}, but in the transcript {wanted.get(name)}")
+    print(f"{len(squares)} squares, {len(boxes)} events, {len(drawn)} rooms step by step, {len(folded)} folded")
+
+
+main()
