@@ -85,7 +85,7 @@ def main():
         if shapes and shapes[0].get("font-size") == "16":
             name = shapes[0].text
             folded.discard(name)
-            if (shapes[4].text or "").startswith("each box"):
+            if (shapes[5].text or "").startswith("each box"):
                 folded.add(name)
             else:
                 drawn[name] = events_in(shapes)
