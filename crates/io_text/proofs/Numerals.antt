@@ -22,3 +22,10 @@ numeral_placed text after numeral number at start end long within ends placed ri
     let long_in : end - start ≡ length text + (24 - start) = omega (arith, ends, long, within) in
     sym (take-take (end - start) end after fewer) ∙ ap (λ (l : List ℕ). take (end - start) l) placed
     ∙ ap (λ (n : ℕ). take n (text ++ take 24 shown)) long_in ∙ take-append-add text (take 24 shown) (24 - start) ∙ ap (λ (l : List ℕ). text ++ l) (take-take (24 - start) 24 shown short ∙ right)
+
+-- what the first bytes of a piece leave after a text, once the whole piece was placed
+pub first_placed : (text after piece : List ℕ) (at len end : ℕ) → length text ≡ at → len ≤ 32 → end ≡ at + 32 → take end after ≡ text ++ piece → take (at + len) after ≡ text ++ take len piece
+first_placed text after piece at len end long within ends placed =
+    let fewer : at + len ≤ end = omega (arith, within, ends) in
+    let long_in : at + len ≡ length text + len = omega (arith, long) in
+    sym (take-take (at + len) end after fewer) ∙ ap (λ (l : List ℕ). take (at + len) l) placed ∙ ap (λ (n : ℕ). take n (text ++ piece)) long_in ∙ take-append-add text piece len

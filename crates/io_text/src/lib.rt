@@ -11,4 +11,4 @@ pub use device::{Device, DeviceFailed};
 pub use fault::DeviceFault;
 pub use input::{MAX_INPUT, read_input};
 pub use output::write_output;
-pub use text::{Numeral, Text};
+pub use text::{Numeral, ShortText, Text};

@@ -49,6 +49,38 @@ impl Numeral {
     }
 }
 
+/// The most bytes of a short text.
+const SHORT: usize = 32;
+
+/// At most 32 bytes, to be put often: they are copied faster than as many bytes of a slice.
+#[derive(Drop)]
+pub struct ShortText {
+    bytes: [u8; SHORT],
+    len: usize,
+}
+
+impl Model for ShortText {
+    ghost use Rattle.std.specs.Prelude.{◌≤◌, ℕ, List, take};
+
+    ghost Value = { List ℕ };
+
+    ghost view = { λ short. take short.len short.bytes };
+
+    ghost invariant = { λ short. short.len ≤ 32 };
+}
+
+impl ShortText {
+    /// These bytes.
+    pub fn of(text: &[u8]) -> ShortText
+        requires { length text.now ≤ 32 }
+        ensures { result ≡ text.now }
+    {
+        let mut bytes = [0; SHORT];
+        let len = place(&mut bytes, 0, text);
+        ShortText { bytes, len }
+    }
+}
+
 /// A text, and room after it.
 #[derive(Drop)]
 pub struct Text {
@@ -101,6 +133,17 @@ impl Text {
     {
         make_room(&mut self.bytes, self.len, more.len())?;
         self.len = place(&mut self.bytes, self.len, more);
+        Ok(())
+    }
+
+    /// Appends a short text to the text. An `Err` leaves it as it was.
+    #[inline(always)]
+    pub fn put_short(&mut self, short: &ShortText) -> Result<(), AllocError>
+        ensures text { OnOk result (self.new ≡ self.old ++ short.now) }
+        ensures err { OnErr result (self.new ≡ self.old) }
+    {
+        make_room(&mut self.bytes, self.len, SHORT)?;
+        self.len = place_short(&mut self.bytes, self.len, &short.bytes, short.len);
         Ok(())
     }
 
@@ -234,4 +277,18 @@ fn place_spaced(bytes: &mut [u8], at: usize, number: &[u8; 48], start: usize) ->
     // As many bytes for each number are copied faster; those after it count as room.
     let end = place(bytes, at, &number[start..start + WIDTH]);
     end - start
+}
+
+/// Puts the first `len` of these bytes at this place. Gives the place after them.
+#[inline(always)]
+fn place_short(bytes: &mut [u8], at: usize, short: &[u8; SHORT], len: usize) -> usize
+    requires within { len ≤ 32 }
+    requires room { at + 32 ≤ length bytes.old }
+    ensures end { result ≤ length bytes.new }
+    ensures len { length bytes.new ≡ length bytes.old }
+    ensures text { take result bytes.new ≡ take at bytes.old ++ take len short.now }
+{
+    // As many bytes for each short text are copied faster; those after it count as room.
+    place(bytes, at, short);
+    at + len
 }
