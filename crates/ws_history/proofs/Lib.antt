@@ -26,6 +26,7 @@ mod Searching
 mod Ranges
 mod WordsRead
 mod Ordering
+mod Taken
 mod Walking
 mod Showing
 mod Agreeing
@@ -37,3 +38,4 @@ mod Deciders
 mod Settled
 mod Certified
 mod Spending
+mod TrueReports

@@ -1,5 +1,5 @@
 -- A process is spent exactly where its history leaves it no round, and asks it for a write.
-use Rattle.std.proofs.Common.{◌≡◌, ◌≢◌, ◌↔◌, ◌⊎◌, ℕ, ◌+◌, ◌-◌, ◌<◌, ◌≤◌, ◌&&◌, ◌||◌, Bool, true, false, cond, not, eqb, ltb, List, Contains, Option, Some, None, refl, sym, ap, ◌∙◌, subst, arith, inl, inr}
+use Rattle.std.proofs.Common.{◌≡◌, ◌↔◌, ℕ, ◌-◌, ◌<◌, ◌≤◌, Bool, true, false, not, List, Option, Some, None, refl, sym, ap, ◌∙◌, arith, inl, inr}
 use Rattle.std.specs.List.{count_by}
 use Rattle.std.specs.Option.{option_map, option_map_or}
 use Rattle.std.specs.Prelude.{slice_index}
@@ -13,12 +13,12 @@ use Rattle.transcript.specs.Runs.{IsOutOfRounds, action_due, is_snap_by, is_writ
 use Rattle.room_core.specs.Calls.{RoomState}
 use Rattle.room_core.specs.Fields.{Fields}
 use Rattle.room_core.specs.Reading.{AreFieldsOf}
-use Rattle.room_core.specs.Agreements.{HasAgreed, asks, decided_in, greatest_step, has_out, is_clean, is_out, is_passed, outs_at}
+use Rattle.room_core.specs.Agreements.{HasAgreed, asks, decided_in, greatest_step, is_clean, is_out, is_passed, outs_at}
 use Rattle.room_core.proofs.CallerLemmas.{rooms_agree}
 use Rattle.ws_history.specs.declared.states.ProcessState.TheVariants as states
 use Rattle.ws_history.specs.Histories.{Source, IsSource, history_from, shown_row}
 use Rattle.ws_history.specs.Orders.{all_passed}
-use Rattle.ws_history.specs.Reports.{held_by, held_or_going, is_spent, is_write, state_by, state_of}
+use Rattle.ws_history.specs.Reports.{held_by, is_spent, is_write, state_by, state_of}
 use Rattle.ws_history.specs.Sources.{history_of, source_of}
 use Rattle.ws_history.proofs.Alternation.{history_stands}
 use Rattle.ws_history.proofs.Order.{last_is, last_round, round_most, round_there, snapshot_at}

@@ -5,11 +5,16 @@ use Rattle.protocol_lang.specs.declared.meaning.Action.{Action}
 use Rattle.protocol_lang.specs.declared.meaning.Action.TheVariants as actions
 use Rattle.room_spec.specs.Rooms.{RoomSpec, processes}
 use Rattle.transcript.specs.Runs.{IsRun}
+use Rattle.transcript.specs.declared.event.Event.{Event}
 use Rattle.transcript.specs.declared.event.Event.TheVariants.{Decide}
+use Rattle.room_core.specs.Calls.{RoomState}
 use Rattle.room_core.specs.Fields.{Fields}
+use Rattle.room_core.specs.Reading.{AreFieldsOf}
 use Rattle.room_core.specs.Agreements.{asks, decided_in, has_out, is_clean}
 use Rattle.ws_history.specs.Sources.{history_of}
+use Rattle.ws_history.specs.Taking.{TakesMore}
 use Rattle.ws_history.specs.declared.states.Report.{Report}
+use Rattle.ws_history.specs.declared.states.Standing.{Standing}
 use Rattle.ws_history.specs.declared.states.ProcessState.{ProcessState}
 use Rattle.ws_history.specs.declared.states.ProcessState.TheVariants.{Decided, Spent, Held, Going}
 
@@ -82,3 +87,16 @@ pub record IsTrueReport (spec : RoomSpec) (fields : Fields) (report : Report) : 
   pub decided : (j v : ℕ) → j < processes spec → (slice_index_or report.states.items j Going ≡ Decided v) ↔ Contains report.history (Decide j v)
   pub held : count_by is_held report.states.items ≤ length report.crashed.items
   pub inside : length (held_in spec fields) ≤ length report.crashed.items
+
+-- the report of a room: that of any fields that the room stands for, and a true one
+abbrev pub IsReportIn : RoomState → Report → Type 0
+IsReportIn room report = (fields : Fields) → AreFieldsOf room fields → (report ≡ report_of room.spec fields) × IsTrueReport room.spec fields report
+
+-- The report of a room has these states and crashed simulators, and the events of its history were taken. The predicates say of
+-- a list that it is all that had been taken before, and that it is all that has been taken after.
+pub record IsReportTo (room : RoomState) (standing : Standing) (before after : List Event → Type 0) : Type 0 where
+  pub report : Report
+  pub is_report : IsReportIn room report
+  pub states : standing.states ≡ report.states
+  pub crashed : standing.crashed ≡ report.crashed
+  pub history : TakesMore before report.history after

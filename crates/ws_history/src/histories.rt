@@ -1,5 +1,5 @@
 //! The history of a room.
-ghost use Rattle.std.specs.Prelude.{◌≡◌, ℕ, ◌+◌, ◌<◌, ◌≤◌, [], ◌∷◌, ◌++◌, IfOk, OnOk, length, max, replicate, slice_index};
+ghost use Rattle.std.specs.Prelude.{◌≡◌, ℕ, ◌+◌, ◌<◌, ◌≤◌, [], ◌∷◌, ◌++◌, IfOk, OnOk, length, map, max, replicate, slice_index};
 ghost use Rattle.std.specs.List.{sum};
 ghost use Rattle.protocol_lang.specs.declared.meaning.TheConstants.{MAX_PROCESSES};
 ghost use Rattle.room_spec.specs.Rooms.{processes};
@@ -10,12 +10,14 @@ ghost use Rattle.sim_memory.specs.Steps.{row_of};
 ghost use Rattle.room_core.specs.Agreements.{greatest_step, shown, shown_by};
 ghost use Rattle.transcript.specs.Runs.{IsRun};
 ghost use Rattle.transcript.specs.declared.event.Event.TheVariants.{Snap};
-ghost use Rattle.ws_history.specs.Placing.{shown_with};
+ghost use Rattle.ws_history.specs.Placing.{agreed_at, shown_with};
 ghost use Rattle.ws_history.specs.Readings.{read_of};
 ghost use Rattle.ws_history.specs.Sources.{history_of, source_of};
 ghost use Rattle.ws_history.specs.Running.{IsSnapshotOf, block_on, decision_on, row_on, writes_between};
+ghost use Rattle.ws_history.specs.Taking.{TakesMore};
 
 use crate::agreements::{shown_at, shown_by, written};
+use crate::event_sink::EventSink;
 use crate::reading::{
     Row, decided_in, greatest_steps, number_of, process_count, round_count, shape_of,
 };
@@ -56,26 +58,44 @@ fn read_history(alloc: Global, room: &RoomCore) -> Result<Vec<Event>, AllocError
         alloc,
         most_events(room, order.as_slice(), greatest.as_slice()),
     )?;
+    pass_events(&mut events, room, order.as_slice(), greatest.as_slice())?;
+    Ok(events)
+}
+
+/// Passes the history of the fields that the room's words say to the sink.
+pub(crate) fn pass_history<S: EventSink>(
+    alloc: Global,
+    sink: &mut S,
+    room: &RoomCore,
+) -> Result<(), AllocError>
+    ensures { OnOk result (TakesMore (S.has_taken sink.old) (history_of room.now.spec (read_of room.now)) (S.has_taken sink.new)) }
+{
+    let order = in_order(alloc, room)?;
+    let greatest = greatest_steps(room);
+    pass_events(sink, room, order.as_slice(), greatest.as_slice())
+}
+
+/// Passes the history's events to the sink, by the snapshots that were agreed on, in their order, and by how many writes of each
+/// process have been made.
+fn pass_events<S: EventSink>(
+    sink: &mut S,
+    room: &RoomCore,
+    order: &[Agreed],
+    greatest: &[u8],
+) -> Result<(), AllocError>
+    requires order { order.now ≡ map (agreed_at room.now) (source_of room.now.spec (read_of room.now)).order }
+    requires greatest { greatest.now ≡ row_of room.now.spec.simulators (processes room.now.spec) (read_of room.now).step }
+    requires count { length greatest.now ≡ processes room.now.spec }
+    requires range { (p : ℕ) → slice_index greatest.now p ≤ room.now.spec.rounds }
+    ensures { OnOk result (TakesMore (S.has_taken sink.old) (history_of room.now.spec (read_of room.now)) (S.has_taken sink.new)) }
+{
     let mut shown = nothing(process_count(room));
     let mut view = shown_by(room, shown.as_slice());
-    for snapshot in order.as_slice() {
-        push_block(
-            &mut events,
-            room,
-            &mut shown,
-            &mut view,
-            greatest.as_slice(),
-            snapshot,
-        )?;
+    for snapshot in order {
+        push_block(sink, room, &mut shown, &mut view, greatest, snapshot)?;
     }
-    push_writes(
-        &mut events,
-        room,
-        &mut shown,
-        &mut view,
-        greatest.as_slice(),
-    )?;
-    Ok(events)
+    push_writes(sink, room, &mut shown, &mut view, greatest)?;
+    Ok(())
 }
 
 /// As many events as the history may have: each write, each snapshot, and a decision of each process.
@@ -105,8 +125,8 @@ fn nothing(n: usize) -> Row
 /// The writes that the snapshot is the first to show, the snapshot, and the decision after it if
 /// there is one. `shown` is what the earlier ones show, and then what it shows too; `view` has the
 /// values of these writes, and `greatest` is how many writes of each process have been made.
-fn push_block(
-    events: &mut Vec<Event>,
+fn push_block<S: EventSink>(
+    sink: &mut S,
     room: &RoomCore,
     shown: &mut Row,
     view: &mut View,
@@ -117,16 +137,22 @@ fn push_block(
     requires view { view.old.items ≡ shown_by room.now.spec (read_of room.now) shown.old.items }
     requires greatest { greatest.now ≡ row_of room.now.spec.simulators (processes room.now.spec) (read_of room.now).step }
     requires is { IsSnapshotOf room.now snapshot.now }
-    ensures events { OnOk result (events.new.items ≡ events.old.items ++ block_on room.now shown.old.items snapshot.now) }
+    ensures events { OnOk result (TakesMore (S.has_taken sink.old) (block_on room.now shown.old.items snapshot.now) (S.has_taken sink.new)) }
     ensures shown { OnOk result (shown.new.items ≡ shown_with shown.old.items (row_on room.now snapshot.now)) }
     ensures view { OnOk result (view.new.items ≡ shown_by room.now.spec (read_of room.now) shown.new.items) }
 {
     let row = row_in(room, snapshot);
-    push_writes(events, room, shown, view, row)?;
-    let seen = view_of(room, row, shown.as_slice(), view.as_slice());
-    push_snap(events, snapshot.process, seen)?;
+    push_writes(sink, room, shown, view, row)?;
+    push_snap(
+        sink,
+        room,
+        snapshot.process,
+        row,
+        shown.as_slice(),
+        view.as_slice(),
+    )?;
     push_decision(
-        events,
+        sink,
         room,
         snapshot,
         greatest[usize::from(snapshot.process)],
@@ -144,15 +170,35 @@ fn row_in<'a>(room: &RoomCore, snapshot: &'a Agreed) -> &'a [u8]
     snapshot.row.as_slice()
 }
 
-/// The snapshot of process `p` that shows these values.
-fn push_snap(events: &mut Vec<Event>, p: u8, row: View) -> Result<(), AllocError>
-    ensures { OnOk result (events.new.items ≡ events.old.items ++ Snap p (record { items = row.items }) ∷ []) }
+/// The snapshot of process `p` with this row, by what is shown, and by the values of that. Rows rise, so all that is shown is
+/// what the row shows.
+fn push_snap<S: EventSink>(
+    sink: &mut S,
+    room: &RoomCore,
+    p: u8,
+    row: &[u8],
+    shown: &[u8],
+    view: &[Option<u32>],
+) -> Result<(), AllocError>
+    requires length { length row.now ≡ processes room.now.spec }
+    requires range { (p : ℕ) → slice_index row.now p ≤ room.now.spec.rounds }
+    requires shown { length shown.now ≡ processes room.now.spec }
+    requires fits { length view.now ≤ MAX_PROCESSES }
+    requires view { view.now ≡ shown_by room.now.spec (read_of room.now) shown.now }
+    ensures { OnOk result (TakesMore
+        (S.has_taken sink.old)
+        (Snap p (record { items = shown_by room.now.spec (read_of room.now) row.now }) ∷ [])
+        (S.has_taken sink.new)) }
 {
-    events.push(Event::Snap { p, row })?;
-    Ok(())
+    if row == shown {
+        return sink.snap(p, view);
+    }
+    sink.snap(p, view_of(room, row, shown, view).as_slice())
 }
 
 /// What a row shows of each process, by the row and the values of what was shown before.
+#[cold]
+#[inline(never)]
 fn view_of(room: &RoomCore, row: &[u8], shown: &[u8], view: &[Option<u32>]) -> View
     requires length { length row.now ≡ processes room.now.spec }
     requires range { (p : ℕ) → slice_index row.now p ≤ room.now.spec.rounds }
@@ -183,20 +229,19 @@ fn value_after(room: &RoomCore, p: usize, r: u8, known: u8, value: Option<u32>) 
 
 /// What is decided after the snapshot, if anything is, by how many writes of its process have been
 /// made.
-fn push_decision(
-    events: &mut Vec<Event>,
+fn push_decision<S: EventSink>(
+    sink: &mut S,
     room: &RoomCore,
     snapshot: &Agreed,
     greatest: u8,
 ) -> Result<(), AllocError>
     requires process { snapshot.now.process < processes room.now.spec }
     requires greatest { greatest ≡ greatest_step room.now.spec (read_of room.now) snapshot.now.process }
-    ensures { OnOk result (events.new.items ≡ events.old.items ++ decision_on room.now snapshot.now) }
+    ensures { OnOk result (TakesMore (S.has_taken sink.old) (decision_on room.now snapshot.now) (S.has_taken sink.new)) }
 {
     if greatest == snapshot.round {
         if let Some(v) = decided_in(room, usize::from(snapshot.process)) {
-            let p = snapshot.process;
-            events.push(Event::Decide { p, v })?;
+            return sink.decide(snapshot.process, v);
         }
     }
     Ok(())
@@ -205,8 +250,8 @@ fn push_decision(
 /// The writes of each process after those that are shown, up to `upto`. These are shown then too; `view` has the values of
 /// what is shown.
 #[inline(always)]
-fn push_writes(
-    events: &mut Vec<Event>,
+fn push_writes<S: EventSink>(
+    sink: &mut S,
     room: &RoomCore,
     shown: &mut Row,
     view: &mut View,
@@ -216,21 +261,21 @@ fn push_writes(
     requires view { view.old.items ≡ shown_by room.now.spec (read_of room.now) shown.old.items }
     requires upto { length upto.now ≡ processes room.now.spec }
     requires range { (p : ℕ) → slice_index upto.now p ≤ room.now.spec.rounds }
-    ensures events { OnOk result (events.new.items ≡ events.old.items ++ writes_between room.now shown.old.items upto.now) }
+    ensures events { OnOk result (TakesMore (S.has_taken sink.old) (writes_between room.now shown.old.items upto.now) (S.has_taken sink.new)) }
     ensures shown { OnOk result (shown.new.items ≡ shown_with shown.old.items upto.now) }
     ensures view { OnOk result (view.new.items ≡ shown_by room.now.spec (read_of room.now) shown.new.items) }
 {
     for p in 0..process_count(room) {
         let from = shown[p];
-        view[p] = push_writes_of(events, room, p, from, upto[p], view[p])?;
+        view[p] = push_writes_of(sink, room, p, from, upto[p], view[p])?;
         shown[p] = from.max(upto[p]);
     }
     Ok(())
 }
 
 /// The same of one process, and of its last value.
-fn push_writes_of(
-    events: &mut Vec<Event>,
+fn push_writes_of<S: EventSink>(
+    sink: &mut S,
     room: &RoomCore,
     p: usize,
     from: u8,
@@ -240,16 +285,14 @@ fn push_writes_of(
     requires process { p < processes room.now.spec }
     requires upto { upto ≤ room.now.spec.rounds }
     requires value { value ≡ shown room.now.spec (read_of room.now) p from }
-    ensures events { OnOk result (events.new.items ≡ events.old.items ++ new_writes (source_of room.now.spec (read_of room.now)) p from upto) }
+    ensures events { OnOk result (TakesMore
+        (S.has_taken sink.old) (new_writes (source_of room.now.spec (read_of room.now)) p from upto) (S.has_taken sink.new)) }
     ensures value { IfOk result (λ last. last ≡ shown room.now.spec (read_of room.now) p (max from upto)) }
 {
     let mut last = value;
     for more in 0..upto.saturating_sub(from) {
         let v = written(room, p, usize::from(from + 1 + more));
-        events.push(Event::Write {
-            p: number_of(room, p),
-            v,
-        })?;
+        sink.write(number_of(room, p), v)?;
         last = Some(v);
     }
     Ok(last)

@@ -4,6 +4,7 @@
 
 mod agreements;
 mod effects;
+mod event_sink;
 mod histories;
 pub mod laws;
 mod linearization;
@@ -14,11 +15,12 @@ mod snapshots;
 mod states;
 
 pub use effects::{Effect, StepStart};
+pub use event_sink::EventSink;
 pub use histories::history;
 pub use linearization::linearize;
 pub use points::Points;
-pub use reports::{process_states, report};
-pub use states::{History, ProcessState, Report};
+pub use reports::{process_states, report, report_to};
+pub use states::{History, ProcessState, Report, Standing};
 
 #[cfg(test)]
 mod tests;

@@ -7,14 +7,15 @@ ghost use Rattle.room_core.specs.Reading.{AreFieldsOf};
 ghost use Rattle.room_core.specs.Settled.{IsSettledFor};
 ghost use Rattle.ws_history.specs.declared.states.ProcessState.TheVariants.{Going, Held, Spent};
 ghost use Rattle.ws_history.specs.Readings.{read_of};
-ghost use Rattle.ws_history.specs.Reports.{IsTrueReport, crashed_in, held_by, held_in, is_decided, is_inside, is_over, is_spent, report_of, state_of, states_of};
+ghost use Rattle.ws_history.specs.Reports.{IsReportTo, IsTrueReport, crashed_in, held_by, held_in, is_decided, is_inside, is_over, is_spent, report_of, state_of, states_of};
 
 use crate::agreements::{asks, is_clean};
-use crate::histories::history;
+use crate::event_sink::EventSink;
+use crate::histories::{history, pass_history};
 use crate::reading::{
     decided_in, has_crashed, level, process_count, round_count, shape_of, simulator_count,
 };
-use crate::states::{History, ProcessState, Report};
+use crate::states::{History, ProcessState, Report, Standing};
 use arrayvec::ArrayVec;
 use protocol_lang::Action;
 use room_core::RoomCore;
@@ -60,6 +61,26 @@ pub fn report(alloc: Global, room: &RoomCore) -> Result<Report, AllocError>
         states: states_of(room),
         crashed: crashed_in(room),
         history: History::new(history),
+    })
+}
+
+/// The report of a room, with its history passed to a sink in place of a list. The room is only read.
+///
+/// # Errors
+///
+/// An allocation that fails.
+pub fn report_to<S: EventSink>(
+    alloc: Global,
+    room: &RoomCore,
+    sink: &mut S,
+) -> Result<Standing, AllocError>
+    ensures { IfOk result (λ standing. IsReportTo room.now standing (S.has_taken sink.old) (S.has_taken sink.new)) }
+{
+    let _shape = shape_of(room); // for the proof: the room stands for some fields
+    pass_history(alloc, sink, room)?;
+    Ok(Standing {
+        states: states_of(room),
+        crashed: crashed_in(room),
     })
 }
 

@@ -68,3 +68,11 @@ pub struct Report {
     pub crashed: ArrayVec<u8, MAX_SIMULATORS>,
     pub history: History,
 }
+
+/// What the report of a room says besides its history: the state of each process, in order of their
+/// numbers; and which simulators have crashed, rising.
+#[derive(Drop)]
+pub struct Standing {
+    pub states: ArrayVec<ProcessState, MAX_PROCESSES>,
+    pub crashed: ArrayVec<u8, MAX_SIMULATORS>,
+}

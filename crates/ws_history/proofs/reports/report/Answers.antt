@@ -1,18 +1,16 @@
-use Rattle.std.proofs.Common.{◌≡◌, ◌<◌, List, Contains, length, get_or, ℕ, sym, ap, ◌∙◌, subst, arith}
+use Rattle.std.proofs.Common.{List, length, get_or, ℕ, sym, ap, ◌∙◌, subst, arith}
 use Rattle.std.specs.List.{count_by}
 use Rattle.std.proofs.lemmas.List.FromFn.{get_or-map-range_with_len}
 use Rattle.room_spec.specs.Rooms.{processes}
-use Rattle.transcript.specs.declared.event.Event.{Event}
-use Rattle.transcript.specs.declared.event.Event.TheVariants.{Decide}
-use Rattle.transcript.specs.Runs.{IsRun}
 use Rattle.ws_history.specs.declared.states.ProcessState.{ProcessState}
 use Rattle.ws_history.specs.declared.states.ProcessState.TheVariants.{Going}
-use Rattle.ws_history.specs.Reports.{is_decided, is_held, is_over, state_of}
+use Rattle.ws_history.specs.declared.states.Report.{Report}
+use Rattle.ws_history.specs.Reports.{IsTrueReport, is_decided, is_over, state_of}
 use Rattle.ws_history.proofs.Certified.{most_are_decided, not_spent}
-use Rattle.ws_history.proofs.Deciders.{decided_there}
-use Rattle.ws_history.proofs.Held.{held_among, held_at_most, inside_at_most}
+use Rattle.ws_history.proofs.Held.{held_among}
 use Rattle.ws_history.proofs.RoomFields.{crashed_are, states_in}
 use Rattle.ws_history.proofs.Settled.{most_are_over}
+use Rattle.ws_history.proofs.TrueReports.{true_report}
 use Rattle.ws_history.proofs.reports.report.Goals as goal
 
 pub returns-clause-fields : goal.returns-clause-fields
@@ -27,22 +25,7 @@ returns-clause-fields c = λ fields are.
 pub returns-clause-truth : goal.returns-clause-truth
 returns-clause-truth c = λ fields are.
     let room = c.args.room.now in
-    let limits = c.shape_of-shape.ensures.limits in
-    let states = c.states_of.ensures ∙ states_in room fields limits are in
-    let crashed = ap (λ (l : List ℕ). length l) (c.crashed_in.ensures ∙ crashed_are room fields limits are) in
-    let history = c.new.ensures ∙ c.in_ok-history.ensures.fields fields are in
-    let there : (j : ℕ) → j < processes room.spec → get_or c.states_of.result.items j Going ≡ state_of room.spec fields j = λ j low.
-    ap (λ (l : List ProcessState). get_or l j Going) states ∙ get_or-map-range_with_len (state_of room.spec fields) 0 (processes room.spec) j j Going low (omega arith) in
-    record {
-      run = subst (λ (events : List Event). IsRun room.spec events) (sym c.new.ensures) c.in_ok-history.ensures.run;
-      decided = λ j v low.
-          let both = decided_there room fields limits are j v low in (
-            λ is. subst (λ (events : List Event). Contains events (Decide j v)) (sym history) (both.0 (sym (there j low) ∙ is)),
-            λ has. there j low ∙ both.1 (subst (λ (events : List Event). Contains events (Decide j v)) history has),
-          );
-      held = let count = ap (λ (l : List ProcessState). count_by is_held l) states in let most = held_at_most room fields limits are in omega (arith, count, crashed, most);
-      inside = let most = inside_at_most room fields limits are in omega (arith, crashed, most);
-    }
+    subst (λ (report : Report). IsTrueReport room.spec fields report) (sym (returns-clause-fields c fields are)) (true_report room fields c.shape_of-shape.ensures.limits are)
 
 pub returns-clause-unspent : goal.returns-clause-unspent
 returns-clause-unspent c = λ f certified two j low is.
