@@ -8,7 +8,9 @@ use Rattle.room_core.specs.Observing.{steps_of_steps}
 use Rattle.room_core.specs.Fields.{Fields}
 use Rattle.room_core.specs.Reading.{AreFieldsOf}
 use Rattle.room_core.proofs.CallerLemmas.{opening_in_fields}
+use Rattle.transcript.specs.declared.event.Event.{Event}
 use Rattle.ws_history.specs.declared.states.Report.{Report as ReportData}
+use Rattle.ws_history.specs.declared.states.Standing.{Standing}
 use Rattle.service_core.specs.declared.command.Command.{Command}
 use Rattle.service_core.specs.declared.command.Command.TheVariants as commands
 use Rattle.service_core.specs.declared.reply.Reply.{Reply}
@@ -17,8 +19,9 @@ use Rattle.service_core.specs.declared.reply.Refusal.TheVariants.{OutOfMemory}
 use Rattle.service_core.specs.declared.room.Act.{Act}
 use Rattle.service_core.specs.declared.room.Act.TheVariants as acts
 use Rattle.service_core.specs.Replies.{OpenRoom, name_in, opened, reply_to, room_after, room_after_open, room_in}
-use Rattle.service_core.specs.Rooms.{Answers, Applies, Entries, IsOpenAs, IsRefusal, IsReportOf, IsStateOf, IsWant, command_for, core_after, room_at, room_left, room_stepped, steps_of}
-use Rattle.ws_history.specs.Reports.{IsTrueReport}
+use Rattle.service_core.specs.Rooms.{Answers, Applies, Entries, IsOpenAs, IsRefusal, IsReported, IsReportOf, IsStateOf, IsWant, command_for, core_after, room_at, room_left, room_stepped, steps_of}
+use Rattle.ws_history.specs.Reports.{IsReportTo, IsTrueReport}
+use Rattle.service_core.proofs.Answering.{report_answers}
 use Rattle.service_core.proofs.Lookups.{Changes, changed_here, changed_other, same_name}
 
 opened_state : (spec : RoomSpec) (before after : Entries) → Changes before after spec.name (Some (opening_state spec)) → IsStateOf (room_at after spec.name) (Some (opened spec))
@@ -139,3 +142,21 @@ reports_room name reply entries core there answers reports none =
         by : (b : Bool) → bytes_eq name other ≡ b → room_at entries other ≡ cond (bytes_eq name other) (Some core) (room_at entries other)
         by true is = ap (room_at entries) (sym (same_name name other is)) ∙ there ∙ sym (ap (λ (b : Bool). cond b (Some core) (room_at entries other)) is)
         by false is = sym (ap (λ (b : Bool). cond b (Some core) (room_at entries other)) is)
+
+-- its report is passed on
+pub reported_room : (name : List ℕ) (entries : Entries) (core : RoomState) (standing : Standing) (before after : List Event → Type 0) → room_at entries name ≡ Some core → IsReportTo core standing before after → IsReported entries name standing before after
+reported_room name entries core standing before after there to = record {
+  report = to.report;
+  applies = reports_room name (Report to.report) entries core there (λ granted of room is. report_answers core room of to.report is (λ fields are. (to.is_report fields are).0))
+      (λ report is fields are. subst (λ (r : ReportData). IsTrueReport core.spec fields r) (same_report to.report report is) (to.is_report fields are).1) (λ count last is. absurd cc);
+  states = to.states;
+  crashed = to.crashed;
+  history = to.history;
+}
+  where
+    same_report : (one other : ReportData) → Report one ≡ Report other → one ≡ other
+    same_report one other is = cc
+
+-- an allocation fails for its report
+pub lacks_report : (name : List ℕ) (entries : Entries) (core : RoomState) → room_at entries name ≡ Some core → Applies entries (commands.Report name) (Refused OutOfMemory) entries
+lacks_report name entries core there = reports_room name (Refused OutOfMemory) entries core there (λ granted of room is. absurd (granted refl)) (λ report is fields are. absurd cc) (λ count last is. absurd cc)

@@ -1,5 +1,5 @@
 //! The service: rooms by their names.
-ghost use Rattle.std.specs.Prelude.{◌≡◌, ◌≢◌, ◌≤◌, ℕ, List, [], Option, None, Some, Err, true, false, length, IfOk, MatchOption, OnOk, OnErr, if◌then◌else◌};
+ghost use Rattle.std.specs.Prelude.{◌≡◌, ◌≢◌, ◌≤◌, ℕ, List, [], Option, None, Some, Err, true, false, length, IfErr, IfOk, MatchOption, OnOk, OnErr, if◌then◌else◌};
 ghost use Rattle.std.specs.Vec.{vec_capacity, vec_len};
 ghost use Rattle.std.specs.Str.{bytes_eq};
 ghost use Rattle.indexmap.specs.IndexMap.{get};
@@ -10,7 +10,7 @@ ghost use Rattle.ws_history.specs.declared.states.Report.{Report as ReportData};
 ghost use Rattle.service_core.specs.declared.command.Command.TheVariants.{Begin, Close, Report, Step};
 ghost use Rattle.service_core.specs.declared.reply.Reply.TheVariants.{Report as ReportReply, Steps};
 ghost use Rattle.service_core.specs.Replies.{OpenRoom, name_in, part, replies_from, reply_to, reply_to_steps, room_after};
-ghost use Rattle.service_core.specs.Rooms.{Applies, HasOwnNames, IsRefusal, IsReportOf, IsStateOf, IsWant, command_for, core_after, room_at, steps_of};
+ghost use Rattle.service_core.specs.Rooms.{Applies, HasOwnNames, IsRefusal, IsReported, IsReportOf, IsStateOf, IsWant, command_for, core_after, room_at, steps_of};
 ghost use Rattle.service_core.specs.Runs.{AreTrueReports, AreWants, HasNoWant, granted, replies_of, without_wants};
 ghost use Rattle.service_core.specs.declared.reply.Reply.TheVariants.{Refused};
 ghost use Rattle.service_core.specs.declared.reply.Refusal.TheVariants.{NoRoom, OutOfMemory};
@@ -24,6 +24,7 @@ use room_core::{Observer, RoomCore, StepReply, Unobserved};
 use room_spec::{Name, Spec, Spelled};
 use std::alloc::{AllocError, Global};
 use std::marker::Model;
+use ws_history::{EventSink, Standing, report_to};
 
 /// Rooms, each under its own name. No room's replies rest on another room.
 #[derive(Drop)]
@@ -156,6 +157,29 @@ impl Service {
         ensures { MatchOption result (room_at self.now name.now ≡ None) (λ room. room_at self.now name.now ≡ Some room.now) }
     {
         self.rooms.get(name)
+    }
+
+    /// Does what the command [`Report`](Command::Report) does, with the history passed to a sink in place of a list.
+    ///
+    /// # Errors
+    ///
+    /// [`Refusal::NoRoom`] if no room has this name; [`Refusal::OutOfMemory`] if an allocation fails, also one of the sink's.
+    pub fn report_to<S: EventSink>(
+        &self,
+        alloc: Global,
+        name: &Name,
+        sink: &mut S,
+    ) -> Result<Standing, Refusal>
+        ensures reported { IfOk result (λ standing. IsReported self.now name.now standing (S.has_taken sink.old) (S.has_taken sink.new)) }
+        ensures refused { IfErr result (λ refusal. Applies self.now (Report name.now) (Refused refusal) self.now) }
+    {
+        let Some(room) = self.rooms.get(name) else {
+            return Err(Refusal::NoRoom);
+        };
+        match report_to(alloc, room, sink) {
+            Ok(standing) => Ok(standing),
+            Err(AllocError) => Err(Refusal::OutOfMemory),
+        }
     }
 
     /// The rooms that are open, each under its own name. Their order is left open.
