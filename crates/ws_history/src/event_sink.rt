@@ -9,7 +9,7 @@ use transcript::Event;
 /// Takes the events of a history, one after the other. After an `Err`, which is an allocation that failed, nothing is promised of what it has
 /// taken.
 pub trait EventSink {
-    ghost use Rattle.std.specs.Prelude.{◌≤◌, List, [], ◌∷◌, OnOk, length};
+    ghost use Rattle.std.specs.Prelude.{◌<◌, ◌≤◌, List, [], ◌∷◌, OnOk, length};
     ghost use Rattle.protocol_lang.specs.declared.meaning.TheConstants.{MAX_PROCESSES};
     ghost use Rattle.transcript.specs.declared.event.Event.{Event};
     ghost use Rattle.transcript.specs.declared.event.Event.TheVariants.{Decide, Snap, Write};
@@ -20,6 +20,7 @@ pub trait EventSink {
 
     /// Takes a write of this value by process `p`.
     fn write(&mut self, p: u8, v: u32) -> Result<(), AllocError>
+        requires { p < MAX_PROCESSES }
         ensures { OnOk result (TakesMore (has_taken self.old) (Write p v ∷ []) (has_taken self.new)) };
 
     /// Takes a snapshot of process `p` that shows this row.

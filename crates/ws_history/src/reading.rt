@@ -1,6 +1,7 @@
 //! What the words of a room say.
 ghost use Rattle.std.specs.Prelude.{◌≡◌, ℕ, ◌<◌, ◌≤◌, ◌==◌, length, min, position, slice_index};
 ghost use Rattle.protocol_lang.specs.Numbers.{greatest};
+ghost use Rattle.protocol_lang.specs.declared.meaning.TheConstants.{MAX_PROCESSES};
 ghost use Rattle.room_spec.specs.Rooms.{IsWithinLimits, processes};
 ghost use Rattle.room_spec.specs.Sizes.{memory_words, sizes_in};
 ghost use Rattle.view_table.specs.Places.{IsPlace, IsRound};
@@ -74,7 +75,8 @@ fn small(word: u64) -> u32
 /// The number of a process, as events have it.
 pub(crate) fn number_of(room: &RoomCore, p: usize) -> u8
     requires { p < processes room.now.spec }
-    ensures { result ≡ p }
+    ensures value { result ≡ p }
+    ensures range { result < MAX_PROCESSES }
 {
     let n = process_count(room);
     prove!(p < n);

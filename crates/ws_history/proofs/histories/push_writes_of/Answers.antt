@@ -32,7 +32,7 @@ loop-more-preserved g c =
     let more = map-range_with_len_more f (c.args.from + 1) c.loop-more.more (c.args.from + 1 + c.loop-more.more) (omega arith) in
     let v = c.written-v.ensures ∙ ap (written c.args.room.now.spec (read_of c.args.room.now) c.args.p) c.from.ensures in
     let new = before ++ Write c.number_of.result c.written-v.result ∷ [] in
-    let same = ap (λ (x : ℕ). before ++ Write x c.written-v.result ∷ []) c.number_of.ensures
+    let same = ap (λ (x : ℕ). before ++ Write x c.written-v.result ∷ []) c.number_of.ensures.value
     ∙ ap (λ (x : ℕ). before ++ Write c.args.p x ∷ []) v
     ∙ sym more in
     let has = g.S.EventSink.has_taken in
