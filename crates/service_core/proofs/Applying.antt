@@ -8,7 +8,7 @@ use Rattle.room_core.specs.Observing.{steps_of_steps}
 use Rattle.room_core.specs.Fields.{Fields}
 use Rattle.room_core.specs.Reading.{AreFieldsOf}
 use Rattle.room_core.proofs.CallerLemmas.{opening_in_fields}
-use Rattle.transcript.specs.declared.event.Event.{Event}
+use Rattle.ws_history.specs.Taking.{Keeps}
 use Rattle.ws_history.specs.declared.states.Report.{Report as ReportData}
 use Rattle.ws_history.specs.declared.states.Standing.{Standing}
 use Rattle.service_core.specs.declared.command.Command.{Command}
@@ -144,7 +144,7 @@ reports_room name reply entries core there answers reports none =
         by false is = sym (ap (λ (b : Bool). cond b (Some core) (room_at entries other)) is)
 
 -- its report is passed on
-pub reported_room : (name : List ℕ) (entries : Entries) (core : RoomState) (standing : Standing) (before after : List Event → Type 0) → room_at entries name ≡ Some core → IsReportTo core standing before after → IsReported entries name standing before after
+pub reported_room : (name : List ℕ) (entries : Entries) (core : RoomState) (standing : Standing) (before after : Keeps) → room_at entries name ≡ Some core → IsReportTo core standing before after → IsReported entries name standing before after
 reported_room name entries core standing before after there to = record {
   report = to.report;
   applies = reports_room name (Report to.report) entries core there (λ granted of room is. report_answers core room of to.report is (λ fields are. (to.is_report fields are).0))

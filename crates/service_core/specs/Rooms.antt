@@ -7,10 +7,9 @@ use Rattle.room_core.specs.Calls.{RoomState, has_crashed, opening_state, room_af
 use Rattle.room_core.specs.Reading.{AreFieldsOf}
 use Rattle.room_core.specs.Rooms.{ScheduleEvent, crashes}
 use Rattle.room_core.specs.Observing.{TakenStep, is_stepped, steps_of_settling, steps_of_steps}
-use Rattle.transcript.specs.declared.event.Event.{Event}
 use Rattle.ws_history.specs.Notes.{events_taken}
 use Rattle.ws_history.specs.Reports.{IsTrueReport}
-use Rattle.ws_history.specs.Taking.{TakesMore}
+use Rattle.ws_history.specs.Taking.{Keeps, TakesMore}
 use Rattle.ws_history.specs.declared.states.Report.{Report}
 use Rattle.ws_history.specs.declared.states.Standing.{Standing}
 use Rattle.service_core.specs.declared.command.Command.{Command}
@@ -121,9 +120,8 @@ pub record Applies (before : Entries) (command : Command) (reply : Reply) (after
   -- as many steps were taken as the reply says
   pub taken : (number : ℕ) (last : StepReply) → reply ≡ Steps number last → length (steps_of (room_at before (name_in command)) command) ≡ number
 
--- A report of the room of this name has these states and crashed simulators, and the events of its history were taken. The
--- predicates say of a list that it is all that had been taken before, and that it is all that has been taken after.
-pub record IsReported (rooms : Entries) (name : List ℕ) (standing : Standing) (before after : List Event → Type 0) : Type 0 where
+-- A report of the room of this name has these states and crashed simulators, and the events of its history were taken.
+pub record IsReported (rooms : Entries) (name : List ℕ) (standing : Standing) (before after : Keeps) : Type 0 where
   pub report : Report
   pub applies : Applies rooms (commands.Report name) (ReportReply report) rooms
   pub states : standing.states ≡ report.states

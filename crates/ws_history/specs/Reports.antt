@@ -5,14 +5,13 @@ use Rattle.protocol_lang.specs.declared.meaning.Action.{Action}
 use Rattle.protocol_lang.specs.declared.meaning.Action.TheVariants as actions
 use Rattle.room_spec.specs.Rooms.{RoomSpec, processes}
 use Rattle.transcript.specs.Runs.{IsRun}
-use Rattle.transcript.specs.declared.event.Event.{Event}
 use Rattle.transcript.specs.declared.event.Event.TheVariants.{Decide}
 use Rattle.room_core.specs.Calls.{RoomState}
 use Rattle.room_core.specs.Fields.{Fields}
 use Rattle.room_core.specs.Reading.{AreFieldsOf}
 use Rattle.room_core.specs.Agreements.{asks, decided_in, has_out, is_clean}
 use Rattle.ws_history.specs.Sources.{history_of}
-use Rattle.ws_history.specs.Taking.{TakesMore}
+use Rattle.ws_history.specs.Taking.{Keeps, TakesMore}
 use Rattle.ws_history.specs.declared.states.Report.{Report}
 use Rattle.ws_history.specs.declared.states.Standing.{Standing}
 use Rattle.ws_history.specs.declared.states.ProcessState.{ProcessState}
@@ -92,9 +91,8 @@ pub record IsTrueReport (spec : RoomSpec) (fields : Fields) (report : Report) : 
 abbrev pub IsReportIn : RoomState → Report → Type 0
 IsReportIn room report = (fields : Fields) → AreFieldsOf room fields → (report ≡ report_of room.spec fields) × IsTrueReport room.spec fields report
 
--- The report of a room has these states and crashed simulators, and the events of its history were taken. The predicates say of
--- a list that it is all that had been taken before, and that it is all that has been taken after.
-pub record IsReportTo (room : RoomState) (standing : Standing) (before after : List Event → Type 0) : Type 0 where
+-- The report of a room has these states and crashed simulators, and the events of its history were taken.
+pub record IsReportTo (room : RoomState) (standing : Standing) (before after : Keeps) : Type 0 where
   pub report : Report
   pub is_report : IsReportIn room report
   pub states : standing.states ≡ report.states

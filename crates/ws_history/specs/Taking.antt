@@ -1,7 +1,11 @@
 -- Events that are passed on, one after the other, to something that keeps them.
-use Rattle.std.specs.Prelude.{List, ◌++◌}
+use Rattle.std.specs.Prelude.{ℕ, List, ◌++◌}
 use Rattle.transcript.specs.declared.event.Event.{Event}
 
--- Whatever events had been taken before, these were taken after them. Each predicate says of a list that it is all that was taken.
-abbrev pub TakesMore : (List Event → Type 0) → List Event → (List Event → Type 0) → Type 0
-TakesMore before more after = (taken : List Event) → before taken → after (taken ++ more)
+-- what is known of something that keeps events: under this name it has taken all of these, in order
+abbrev pub Keeps : Type 1
+Keeps = List ℕ → List Event → Type 0
+
+-- Whatever name it has, and whatever events it had taken before, it has taken these after them.
+abbrev pub TakesMore : Keeps → List Event → Keeps → Type 0
+TakesMore before more after = (name : List ℕ) (taken : List Event) → before name taken → after name (taken ++ more)

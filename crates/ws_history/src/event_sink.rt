@@ -9,14 +9,13 @@ use transcript::Event;
 /// Takes the events of a history, one after the other. After an `Err`, which is an allocation that failed, nothing is promised of what it has
 /// taken.
 pub trait EventSink {
-    ghost use Rattle.std.specs.Prelude.{◌<◌, ◌≤◌, List, [], ◌∷◌, OnOk, length};
+    ghost use Rattle.std.specs.Prelude.{◌<◌, ◌≤◌, [], ◌∷◌, OnOk, length};
     ghost use Rattle.protocol_lang.specs.declared.meaning.TheConstants.{MAX_PROCESSES};
-    ghost use Rattle.transcript.specs.declared.event.Event.{Event};
     ghost use Rattle.transcript.specs.declared.event.Event.TheVariants.{Decide, Snap, Write};
-    ghost use Rattle.ws_history.specs.Taking.{TakesMore};
+    ghost use Rattle.ws_history.specs.Taking.{Keeps, TakesMore};
 
-    // These are all events that it has taken, in order.
-    ghost has_taken: { Self → List Event → Type 0 };
+    // Under this name these are all events that it has taken, in order. The name stays as it is.
+    ghost has_taken: { Self → Keeps };
 
     /// Takes a write of this value by process `p`.
     fn write(&mut self, p: u8, v: u32) -> Result<(), AllocError>
@@ -36,7 +35,7 @@ pub trait EventSink {
 impl EventSink for Vec<Event> {
     ghost use Rattle.std.specs.Prelude.{◌≡◌};
 
-    ghost has_taken = { λ events taken. events.items ≡ taken };
+    ghost has_taken = { λ events name taken. events.items ≡ taken };
 
     fn write(&mut self, p: u8, v: u32) -> Result<(), AllocError> {
         self.push(Event::Write { p, v })?;
