@@ -1,9 +1,9 @@
 -- A room whose simulators have all stopped and are at home.
-use Rattle.std.proofs.Common.{◌≡◌, ℕ, zero, suc, ◌+◌, ◌<◌, ◌≤◌, Bool, false, List, [], ◌∷◌, ◌++◌, length, get_or, map, take, drop, reverse, Option, Some, None, inl, inr, refl, sym, ap, ◌∙◌, subst, arith}
+use Rattle.std.proofs.Common.{◌≡◌, ℕ, zero, suc, ◌+◌, ◌<◌, ◌≤◌, Bool, false, List, [], ◌∷◌, ◌++◌, length, get_or, map, take, drop, Option, Some, None, inl, inr, refl, sym, ap, ◌∙◌, subst, arith}
 use Rattle.std.specs.Option.{IsSome}
 use Rattle.std.specs.List.{slice_get}
 use Rattle.std.proofs.lemmas.Bool.{cases_lt}
-use Rattle.std.proofs.lemmas.List.{get_or-drop, get_or-map, get_or-take, length-append, length-drop, length-map, length-take, map-append, reverse-append, take-append-drop}
+use Rattle.std.proofs.lemmas.List.{append_assoc, get_or-drop, get_or-map, get_or-take, length-drop, length-map, length-take, map-append, take-append-drop}
 use Rattle.std.proofs.lemmas.Option.{get_or_from_slice_get, slice_get_read}
 use Rattle.room_spec.specs.Rooms.{RoomSpec, fuse_of}
 use Rattle.simulator.specs.Sweeps.{SweepState, opening_sweep}
@@ -12,9 +12,10 @@ use Rattle.ruled_room.specs.Parts.{GoneFor, KeeperData, RoomName}
 use Rattle.ruled_room.specs.declared.room.Gone.{Gone}
 use Rattle.ruled_room.specs.declared.room.Gone.TheVariants.{StillOut}
 use Rattle.scheduler.specs.declared.rooms.RoomResult.{RoomResult}
-use Rattle.scheduler.specs.Results.{AreRoomRuns, HasEnded, IsRoomRun}
+use Rattle.ws_history.specs.Reports.{IsReportIn}
+use Rattle.ws_history.specs.declared.states.Report.{Report}
+use Rattle.scheduler.specs.Results.{AreRoomRuns, Gathered, GathersMore, HasEnded, HasRoomRuns, IsRoomRun}
 use Rattle.scheduler.specs.Tasks.{AreKept, IsKept, away, away_from}
-use Rattle.scheduler.proofs.Dealing.{away_at_own, away_more, get_or-append_end, get_or-append_left, newest}
 use Rattle.scheduler.proofs.Returning.{away_at, is_home, some_is}
 
 no_some : (o : Option SweepState) → IsSome o → o ≡ None → ⊥
@@ -38,60 +39,35 @@ each_ended room keeper core own kept spec sweeps crashed i below =
     subst (λ (b : Bool). HasEnded (fuse_of room.spec.fuses i) room.spec (sweep_at core i) b) marks
     (subst (λ (r : RoomName). HasEnded (fuse_of r.spec.fuses i) r.spec (sweep_at core i) (get_or keeper.crashed i false)) own ended)
 
--- ---- the last of all rooms
-
-shorter : {X : Type 0} (list : List X) (x : X) (k : ℕ) (y : X) → k < length list → slice_get (list ++ x ∷ []) k ≡ Some y → slice_get list k ≡ Some y
-shorter [] x k y below is = absurd (omega (arith, below))
-shorter (z ∷ list) x zero y below is = is
-shorter (z ∷ list) x (suc k) y below is = shorter list x k y (omega (arith, below)) is
+-- ---- the first of all rooms
 
 -- it can be ended, and the others are as before
-pub record LastRoom (rest : List RoomName) (room : RoomName) (rest_keepers : List KeeperData) (keeper : KeeperData) : Type 0 where
+pub record OneRoom (rest : List RoomName) (room : RoomName) (rest_keepers : List KeeperData) (keeper : KeeperData) : Type 0 where
   pub own : keeper.room ≡ room
   pub kept : IsKept keeper
   pub home : (i : ℕ) → away_from keeper.sweeps i ≡ 0
   pub others : AreKept rest rest_keepers
   pub others_home : (k i : ℕ) → away rest_keepers k i ≡ 0
 
-pub last_room : (rooms rest : List RoomName) (room : RoomName) (keepers rest_keepers : List KeeperData) (keeper : KeeperData) → rooms ≡ rest ++ room ∷ [] → keepers ≡ rest_keepers ++ keeper ∷ [] → AreKept rooms keepers → ((k i : ℕ) → away keepers k i ≡ 0)
-    → LastRoom rest room rest_keepers keeper
-last_room rooms rest room keepers rest_keepers keeper is is_keepers kept home =
-    let all = subst (λ (l : List RoomName). AreKept l (rest_keepers ++ keeper ∷ [])) is (subst (λ (l : List KeeperData). AreKept rooms l) is_keepers kept) in
-    let none : (k i : ℕ) → away (rest_keepers ++ keeper ∷ []) k i ≡ 0 = λ k i. ap (λ (l : List KeeperData). away l k i) (sym is_keepers) ∙ home k i in
-    let count : length rest_keepers ≡ length rest = omega (arith, all.count, length-append rest_keepers (keeper ∷ []), length-append rest (room ∷ [])) in
-    let at = all.each (length rest_keepers) keeper (omega (arith, length-append rest_keepers (keeper ∷ []))) in
-    let end = get_or-append_end rest_keepers keeper keeper in
-    let found : slice_get (rest ++ room ∷ []) (length rest_keepers) ≡ Some room = ap (λ (n : ℕ). slice_get (rest ++ room ∷ []) n) count ∙ newest rest room in
+pub first_room : (rooms rest : List RoomName) (room : RoomName) (keepers rest_keepers : List KeeperData) (keeper : KeeperData) → rooms ≡ room ∷ rest → keepers ≡ keeper ∷ rest_keepers → AreKept rooms keepers → ((k i : ℕ) → away keepers k i ≡ 0)
+    → OneRoom rest room rest_keepers keeper
+first_room rooms rest room keepers rest_keepers keeper is is_keepers kept home =
+    let all = subst (λ (l : List RoomName). AreKept l (keeper ∷ rest_keepers)) is (subst (λ (l : List KeeperData). AreKept rooms l) is_keepers kept) in
+    let none : (k i : ℕ) → away (keeper ∷ rest_keepers) k i ≡ 0 = λ k i. ap (λ (l : List KeeperData). away l k i) (sym is_keepers) ∙ home k i in
+    let at = all.each 0 keeper (omega arith) in
     record {
-      own = some_is keeper.room room (sym (ap (λ (a : KeeperData). Some a.room) end) ∙ sym at.0 ∙ found);
-      kept = subst IsKept end at.1;
-      home = λ i. omega (arith, none (length rest_keepers) i, away_more rest_keepers keeper (length rest_keepers) i, away_at_own (length rest_keepers) i keeper.sweeps);
-      others = record {
-        count = count;
-        each = λ k d below.
-            let more = all.each k d (omega (arith, below, length-append rest_keepers (keeper ∷ []))) in
-            let before = get_or-append_left rest_keepers (keeper ∷ []) k d below in
-            let kept_before = subst (λ (a : KeeperData). (slice_get (rest ++ room ∷ []) k ≡ Some a.room) × IsKept a) before more in
-            (shorter rest room k (get_or rest_keepers k d).room (omega (arith, below, count)) kept_before.0, kept_before.1);
-      };
-      others_home = λ k i. omega (arith, none k i, away_more rest_keepers keeper k i);
+      own = some_is keeper.room room (sym at.0);
+      kept = at.1;
+      home = λ i. none 0 i;
+      others = record { count = omega (arith, all.count); each = λ k d below. all.each (suc k) d (omega (arith, below)) };
+      others_home = λ k i. none (suc k) i;
     }
 
--- ---- results so far, the last first
+-- ---- what was gathered
 
-one_before : {X : Type 0} (f : X → RoomSpec) (rest : List X) (x : X) (more : List RoomSpec) → map f (rest ++ x ∷ []) ++ more ≡ map f rest ++ f x ∷ more
-one_before f [] x more = refl
-one_before f (y ∷ rest) x more = ap (λ (l : List RoomSpec). f y ∷ l) (one_before f rest x more)
-
-abbrev pub EndsAll : List RoomSpec → List RoomSpec → List RoomResult → Type 0
-EndsAll all left results = (specs : List RoomSpec) × (all ≡ left ++ specs) × AreRoomRuns specs (reverse results)
-
-pub ends_one : {X : Type 0} (all : List RoomSpec) (f : X → RoomSpec) (rooms rest : List X) (room : X) (results after : List RoomResult) (result : RoomResult) → rooms ≡ rest ++ room ∷ [] → after ≡ results ++ result ∷ [] → IsRoomRun (f room) result
-    → EndsAll all (map f rooms) results → EndsAll all (map f rest) after
-ends_one all f rooms rest room results after result is last run ends =
-    let specs : all ≡ map f rest ++ f room ∷ ends.0 = ends.1 ∙ ap (λ l. map f l ++ ends.0) is ∙ one_before f rest room ends.0 in
-    let turned : reverse after ≡ result ∷ reverse results = ap reverse last ∙ reverse-append results (result ∷ []) in
-    (f room ∷ ends.0, specs, subst (λ (l : List RoomResult). AreRoomRuns (f room ∷ ends.0) l) (sym turned) (run, ends.2))
+-- the specs of the rooms that were ended, and of those that are left
+pub specs_more : {X : Type 0} (f : X → RoomSpec) (all done : List RoomSpec) (left rest : List X) (x : X) → left ≡ x ∷ rest → all ≡ done ++ map f left → all ≡ (done ++ f x ∷ []) ++ map f rest
+specs_more f all done left rest x is so_far = so_far ∙ ap (λ l. done ++ map f l) is ∙ sym (append_assoc done (f x ∷ []) (map f rest))
 
 -- ---- some of the rooms that follow one another
 
@@ -166,6 +142,15 @@ runs_of_both [] more (result ∷ results) after are are_more = absurd are
 runs_of_both (spec ∷ specs) more [] after are are_more = absurd are
 runs_of_both (spec ∷ specs) more (result ∷ results) after are are_more = (are.0, runs_of_both specs more results after are.1 are_more)
 
-pub runs_of_all : (all specs more : List RoomSpec) (results first rest : List RoomResult) → all ≡ specs ++ more → results ≡ first ++ rest → AreRoomRuns specs first → AreRoomRuns more rest → AreRoomRuns all results
-runs_of_all all specs more results first rest are_specs are_results runs more_runs =
-    subst (λ (l : List RoomSpec). AreRoomRuns l results) (sym are_specs) (subst (λ (l : List RoomResult). AreRoomRuns (specs ++ more) l) (sym are_results) (runs_of_both specs more first rest runs more_runs))
+-- one room more
+pub gathers_one : (specs : List RoomSpec) (spec : RoomSpec) (core : RoomState) (before after : Gathered) → ((report : Report) → IsReportIn core report → IsRoomRun spec (record { core = core; report = report }))
+    → (report : Report) × IsReportIn core report × GathersMore before (record { core = core; report = report } ∷ []) after → HasRoomRuns specs before → HasRoomRuns (specs ++ spec ∷ []) after
+gathers_one specs spec core before after run added has =
+    let result : RoomResult = record { core = core; report = added.0 } in
+    (has.0 ++ result ∷ [], runs_of_both specs (spec ∷ []) has.0 (result ∷ []) has.1 (run added.0 added.1, tt), added.2 has.0 has.2)
+
+-- the rooms of two parts
+pub gathers_both : (all specs more : List RoomSpec) (before others after : Gathered) → all ≡ specs ++ more → HasRoomRuns specs before → HasRoomRuns more others
+    → ((results : List RoomResult) → others results → GathersMore before results after) → HasRoomRuns all after
+gathers_both all specs more before others after is first rest added =
+    (first.0 ++ rest.0, subst (λ (l : List RoomSpec). AreRoomRuns l (first.0 ++ rest.0)) (sym is) (runs_of_both specs more first.0 rest.0 first.1 rest.1), added rest.0 rest.2 first.0 first.2)

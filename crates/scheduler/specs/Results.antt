@@ -1,5 +1,5 @@
 -- What comes of a room whose simulators run until each of them stops.
-use Rattle.std.specs.Prelude.{◌≡◌, ℕ, ◌<◌, ◌⊎◌, Bool, true, false, List, [], ◌∷◌, Option, Some, None, ⊤}
+use Rattle.std.specs.Prelude.{◌≡◌, ℕ, ◌<◌, ◌⊎◌, Bool, true, false, List, [], ◌∷◌, ◌++◌, Option, Some, None, ⊤}
 use Rattle.room_spec.specs.Rooms.{RoomSpec, fuse_of}
 use Rattle.simulator.specs.Minds.{goal_at}
 use Rattle.simulator.specs.Quiet.{HasNoWrite}
@@ -41,6 +41,20 @@ AreRoomRuns [] [] = ⊤
 AreRoomRuns (spec ∷ specs) (result ∷ results) = IsRoomRun spec result × AreRoomRuns specs results
 AreRoomRuns [] (result ∷ results) = ⊥
 AreRoomRuns (spec ∷ specs) [] = ⊥
+
+-- ---- results that are gathered
+
+-- what is known of something that gathers results: these are all that it has, in order
+abbrev pub Gathered : Type 1
+Gathered = List RoomResult → Type 0
+
+-- Whatever results it had before, it has these after them.
+abbrev pub GathersMore : Gathered → List RoomResult → Gathered → Type 0
+GathersMore before more after = (results : List RoomResult) → before results → after (results ++ more)
+
+-- it has a result for each spec, in order, each by its own spec alone
+abbrev pub HasRoomRuns : List RoomSpec → Gathered → Type 0
+HasRoomRuns specs has_gathered = (results : List RoomResult) × AreRoomRuns specs results × has_gathered results
 
 abbrev pub fault_code : RunFault → ℕ
 fault_code Workers = 50

@@ -9,6 +9,7 @@
 mod driving;
 mod fuse;
 mod gate;
+mod gathers;
 mod opening;
 mod rooms;
 mod visiting;
@@ -17,7 +18,8 @@ mod workers;
 pub use driving::{drive, turn};
 pub use fuse::Fuse;
 pub use gate::{FreeGate, Gate};
-pub use rooms::{RoomResult, RunFault, run_rooms};
+pub use gathers::Gathers;
+pub use rooms::{RoomResult, RunFault, run_rooms, run_rooms_by};
 pub use ruled_room::Stop;
 
 #[cfg(test)]

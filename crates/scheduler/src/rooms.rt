@@ -1,11 +1,14 @@
 //! All rooms of a list, run by workers.
 ghost use Rattle.std.specs.Prelude.{◌≡◌, ◌≢◌, ◌↔◌, ◌⊎◌, ◌<◌, ◌≤◌, ◌++◌, ◌/◌, ℕ, Err, IfOk, OnOk, length, map, min};
-ghost use Rattle.scheduler.specs.Results.{AreRoomRuns, IsRoomRun, fault_code};
+ghost use Rattle.ws_history.specs.Reports.{IsReportIn};
+ghost use Rattle.ws_history.specs.declared.states.Report.{Report as ReportData};
+ghost use Rattle.scheduler.specs.Results.{AreRoomRuns, HasRoomRuns, IsRoomRun, fault_code};
 ghost use Rattle.scheduler.specs.Tasks.{AreKept, IsKept, away, away_from};
 ghost use Rattle.scheduler.specs.declared.rooms.RunFault.TheVariants.{Workers};
 ghost use Rattle.scheduler.specs.declared.rooms.TheConstants.{ROOMS_A_THREAD};
 
 use crate::gate::Gate;
+use crate::gathers::Gathers;
 use crate::opening::{Opened, open_all};
 use crate::workers::run_all;
 use room_core::RoomCore;
@@ -16,7 +19,7 @@ use std::sync::Wait;
 use std::thread;
 use std::thread::Threads;
 use thiserror::Error;
-use ws_history::{Report, report};
+use ws_history::Report;
 
 /// Why rooms were not run to their end. They are given up.
 #[derive(Clone, Copy, Debug, PartialEq, Eq, Error)]
@@ -92,6 +95,25 @@ pub fn run_rooms<R: Threads + Wait + Sync, G: Gate + Sync>(
     // A result for each spec, in order, each by its own spec alone.
     ensures rooms { IfOk result (λ results. AreRoomRuns specs.items results.items) }
 {
+    run_rooms_by(rt, alloc, specs, workers, gate)
+}
+
+/// Does what [`run_rooms`] does, with the results gathered in any way, by each thread that ends rooms.
+///
+/// # Errors
+///
+/// Those of [`run_rooms`]; an allocation that failed for what is gathered is one of them.
+pub fn run_rooms_by<R: Threads + Wait + Sync, G: Gate + Sync, A: Gathers + Send>(
+    rt: &R,
+    alloc: Global,
+    specs: Vec<Spec>,
+    workers: u8,
+    gate: &G,
+) -> Result<A, RunFault>
+    ensures workers { (result ≡ Err Workers) ↔ ((workers ≡ 0) ⊎ (16 < workers)) }
+    // A result for each spec, in order, each by its own spec alone.
+    ensures rooms { IfOk result (λ gathered. HasRoomRuns specs.items (A.has_gathered gathered)) }
+{
     if workers == 0 || workers > 16 {
         return Err(RunFault::Workers);
     }
@@ -118,16 +140,16 @@ fn ending_threads(rooms: usize, workers: u8) -> u8
 
 /// Closes and reports all rooms on `threads` threads, an equal part on each.
 #[cycle(parts)]
-fn finish_by<R: Threads>(
+fn finish_by<R: Threads, A: Gathers + Send>(
     rt: &R,
     alloc: Global,
     mut rooms: Vec<RuledRoom>,
     mut keepers: Vec<Keeper>,
     threads: u8,
-) -> Result<Vec<RoomResult>, AllocError>
+) -> Result<A, AllocError>
     requires kept { AreKept rooms.items keepers.items }
     requires home { (k i : ℕ) → away keepers.items k i ≡ 0 }
-    ensures { IfOk result (λ results. AreRoomRuns (map (λ room. room.spec) rooms.items) results.items) }
+    ensures { IfOk result (λ gathered. HasRoomRuns (map (λ room. room.spec) rooms.items) (A.has_gathered gathered)) }
 {
     if threads <= 1 {
         return finish_all(alloc, rooms, keepers);
@@ -135,16 +157,18 @@ fn finish_by<R: Threads>(
     let others = threads - 1;
     let count = rooms.len() / usize::from(threads);
     let (other_rooms, other_keepers) = cut(&mut rooms, &mut keepers, count)?;
-    let first = move || -> Result<Vec<RoomResult>, AllocError>
+    let first = move || -> Result<A, AllocError>
         requires { AreKept rooms.items keepers.items × ((k i : ℕ) → away keepers.items k i ≡ 0) }
-        ensures { IfOk result (λ results. AreRoomRuns (map (λ room. room.spec) rooms.items) results.items) }
+        ensures { IfOk result (λ gathered. HasRoomRuns (map (λ room. room.spec) rooms.items) (A.has_gathered gathered)) }
     { finish_all(alloc, rooms, keepers) };
-    let rest = move || -> Result<Vec<RoomResult>, AllocError>
+    let rest = move || -> Result<A, AllocError>
         requires { AreKept other_rooms.items other_keepers.items × ((k i : ℕ) → away other_keepers.items k i ≡ 0) }
-        ensures { IfOk result (λ results. AreRoomRuns (map (λ room. room.spec) other_rooms.items) results.items) }
+        ensures { IfOk result (λ gathered. HasRoomRuns (map (λ room. room.spec) other_rooms.items) (A.has_gathered gathered)) }
     { finish_by(rt, alloc, other_rooms, other_keepers, others) };
     let (first, rest) = thread::join(rt, first, rest);
-    Ok(both(first?, rest?)?)
+    let mut all = first?;
+    all.add_all(rest?)?;
+    Ok(all)
 }
 
 /// Splits off the rooms from `count` on.
@@ -167,44 +191,35 @@ fn cut(
     Ok((other_rooms, other_keepers))
 }
 
-/// The results of the first rooms, and after them those of the others.
-fn both(
-    mut first: Vec<RoomResult>,
-    mut rest: Vec<RoomResult>,
-) -> Result<Vec<RoomResult>, AllocError>
-    ensures { IfOk result (λ all. all.items ≡ first.items ++ rest.items) }
-{
-    first.append(&mut rest)?;
-    Ok(first)
-}
-
 /// Ends each room, one after the other.
-fn finish_all(
+fn finish_all<A: Gathers>(
     alloc: Global,
-    mut rooms: Vec<RuledRoom>,
-    mut keepers: Vec<Keeper>,
-) -> Result<Vec<RoomResult>, AllocError>
+    rooms: Vec<RuledRoom>,
+    keepers: Vec<Keeper>,
+) -> Result<A, AllocError>
     requires kept { AreKept rooms.items keepers.items }
     requires home { (k i : ℕ) → away keepers.items k i ≡ 0 }
-    ensures { IfOk result (λ results. AreRoomRuns (map (λ room. room.spec) rooms.items) results.items) }
+    ensures { IfOk result (λ gathered. HasRoomRuns (map (λ room. room.spec) rooms.items) (A.has_gathered gathered)) }
 {
-    let mut results = Vec::with_capacity(alloc, rooms.len())?;
-    while let Some(room) = rooms.pop() {
-        let Some(keeper) = keepers.pop() else {
+    let mut gathered = A::none(alloc);
+    let mut rooms = rooms.into_iter();
+    let mut keepers = keepers.into_iter();
+    while let Some(room) = rooms.next() {
+        let Some(keeper) = keepers.next() else {
             unreachable!() // each room has its keeper
         };
-        results.push(finish(alloc, room, keeper)?)?;
+        gathered.add(alloc, finish(alloc, room, keeper)?)?;
     }
-    results.as_mut_slice().reverse();
-    Ok(results)
+    Ok(gathered)
 }
 
-/// Closes a room whose simulators have all stopped, settles it and reports it.
-fn finish(alloc: Global, room: RuledRoom, keeper: Keeper) -> Result<RoomResult, AllocError>
+/// Closes a room whose simulators have all stopped, and settles it.
+fn finish(alloc: Global, room: RuledRoom, keeper: Keeper) -> Result<RoomCore, AllocError>
     requires room { keeper.room ≡ room }
     requires kept { IsKept keeper }
     requires home { (i : ℕ) → away_from keeper.sweeps i ≡ 0 }
-    ensures { IfOk result (λ result. IsRoomRun room.spec result) }
+    // Its report makes it a result of the room's spec.
+    ensures { IfOk result (λ core. (report : ReportData) → IsReportIn core report → IsRoomRun room.spec (record { core = core; report = report })) }
 {
     let mut core = match room.close(alloc, keeper) {
         Ok(core) => core,
@@ -212,6 +227,5 @@ fn finish(alloc: Global, room: RuledRoom, keeper: Keeper) -> Result<RoomResult, 
         Err((_, _, Gone::StillOut(_))) => unreachable!(), // all have come back
     };
     core.settle();
-    let report = report(alloc, &core)?;
-    Ok(RoomResult { core, report })
+    Ok(core)
 }

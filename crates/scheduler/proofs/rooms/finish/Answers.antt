@@ -7,7 +7,7 @@ unreachable-requires c =
     nobody_out c.args.keeper c.in-Err-default-default-StillOut.field-0-2 c.in-Err-default-default-StillOut.field-0-2-0 c.requires.home c.in-Err-default-default-StillOut.field-0-2-is c.in-Err-default-default-StillOut.ensures.gone
 
 pub returns : goal.returns
-returns c =
+returns c = λ report is.
     let core = c.in-Ok.ensures.core in
     record {
       ended = c.in-Ok.core;
@@ -15,5 +15,5 @@ returns c =
       run = c.in-Ok.ensures.run.one;
       each = each_ended c.args.room c.args.keeper c.in-Ok.core c.requires.room c.requires.kept core.0 core.1 core.2;
       settled = search rules;
-      reported = λ fields are. (c.in_ok-report.ensures.fields fields are, c.in_ok-report.ensures.truth fields are);
+      reported = is;
     }

@@ -1,15 +1,16 @@
-use Rattle.std.proofs.Common.{◌≡◌, ℕ, ◌++◌, List, length, map, reverse}
+use Rattle.std.proofs.Common.{◌≡◌, ℕ, ◌++◌, List, map}
+use Rattle.std.specs.Vec.Iter.{into_iter_items, into_iter_len}
 use Rattle.room_spec.specs.Rooms.{RoomSpec}
-use Rattle.scheduler.specs.Results.{AreRoomRuns}
+use Rattle.scheduler.specs.Results.{HasRoomRuns}
 use Rattle.scheduler.specs.Tasks.{AreKept, away}
 use Rattle.scheduler.proofs.rooms.finish_all.Given as goal
 
 abbrev pub invariant-loop-room : goal.invariant-loop-room
-invariant-loop-room l = record {
-  kept : AreKept l.rooms.items l.keepers.items;
-  home : (k i : ℕ) → away l.keepers.items k i ≡ 0;
-  runs : (specs : List RoomSpec) × (map (λ room. room.spec) l.initial.rooms.items ≡ map (λ room. room.spec) l.rooms.items ++ specs) × AreRoomRuns specs (reverse l.results.items);
+invariant-loop-room g l = record {
+  kept : AreKept (into_iter_items l.rooms) (into_iter_items l.keepers);
+  home : (k i : ℕ) → away (into_iter_items l.keepers) k i ≡ 0;
+  runs : (specs : List RoomSpec) × (map (λ room. room.spec) l.fn.rooms.items ≡ specs ++ map (λ room. room.spec) (into_iter_items l.rooms)) × HasRoomRuns specs (g.A.Gathers.has_gathered l.gathered);
 }
 
 abbrev pub decreases-loop-room : goal.decreases-loop-room
-decreases-loop-room l = length l.rooms.items
+decreases-loop-room g l = into_iter_len l.rooms
