@@ -7,14 +7,14 @@ use Rattle.std.specs.List.{flat_map}
 use Rattle.room_core.specs.Calls.{Settle}
 use Rattle.room_core.proofs.CallerLemmas.{same_spec}
 use Rattle.room_spec.specs.Rooms.{RoomSpec}
-use Rattle.scheduler.specs.Results.{AreRoomRuns, IsRoomRun}
+use Rattle.scheduler.specs.Results.{AddsRoomRuns, AreRoomRuns, IsRoomRun}
 use Rattle.scheduler.specs.declared.rooms.RoomResult.{RoomResult}
 use Rattle.scheduler.specs.declared.rooms.RunFault.{RunFault}
 use Rattle.scheduler.specs.declared.rooms.RunFault.TheVariants.{Workers}
 use Rattle.room_files.specs.Blocks.{Setup}
 use Rattle.room_files.specs.Verdicts.{outcome_if}
 use Rattle.room_files.specs.declared.outcome.Outcome.{Outcome}
-use Rattle.script_play.specs.ReplyTexts.{report_text}
+use Rattle.report_text.specs.ReportTexts.{report_text}
 use Rattle.bgsim_console.specs.Run.{AddsReports, AreWorkers, IsRunText, report_texts}
 
 -- what was run is a room of the spec
@@ -53,72 +53,39 @@ runs_append [] more (result ∷ results) others runs later = absurd runs
 runs_append (spec ∷ specs) more [] others runs later = absurd runs
 runs_append (spec ∷ specs) more (result ∷ results) others runs later = (runs.0, runs_append specs more results others runs.1 later)
 
-texts_append : (specs more : List RoomSpec) (results others : List RoomResult) → AreRoomRuns specs results → report_texts (specs ++ more) (results ++ others) ≡ report_texts specs results ++ report_texts more others
-texts_append [] more [] others runs = refl
-texts_append [] more (result ∷ results) others runs = absurd runs
-texts_append (spec ∷ specs) more [] others runs = absurd runs
-texts_append (spec ∷ specs) more (result ∷ results) others runs =
-    let own = report_text spec.name result.report in
-    ap (λ (text : List ℕ). own ++ text) (texts_append specs more results others runs.1) ∙ sym (append_assoc own (report_texts specs results) (report_texts more others))
-
--- what one call of the scheduler gave
-pub adds_part : (specs : List RoomSpec) (results shown : List RoomResult) (before after : List ℕ) → AreRoomRuns specs results → shown ≡ results → after ≡ before ++ flat_map own_text shown → AddsReports specs before after
-adds_part specs results shown before after runs shown_is after_is = record {
-  results = results;
-  each_room = runs;
-  behind = after_is ∙ ap (λ (list : List RoomResult). before ++ flat_map own_text list) shown_is ∙ ap (λ (text : List ℕ). before ++ text) (own_texts specs results runs);
-}
-
-adds_more : (specs more : List RoomSpec) (before middle after : List ℕ) → AddsReports specs before middle → AddsReports more middle after → AddsReports (specs ++ more) before after
-adds_more specs more before middle after first later =
-    let texts = report_texts specs first.results in
-    let others = report_texts more later.results in
-    record {
-      results = first.results ++ later.results;
-      each_room = runs_append specs more first.results later.results first.each_room later.each_room;
-      behind = later.behind ∙ ap (λ (text : List ℕ). text ++ others) first.behind ∙ append_assoc before texts others ∙ ap (λ (text : List ℕ). before ++ text) (sym (texts_append specs more first.results later.results first.each_room));
-    }
-
--- the reports of all but these last specs stand behind the first text
-pub record IsReportedUpTo (all left : List RoomSpec) (before after : List ℕ) : Type 0 where
+-- all but these last specs have been run: these are the reports of the others
+pub record IsRunUpTo (all left : List RoomSpec) (reports : List ℕ) : Type 0 where
   pub done : List RoomSpec
   pub split : all ≡ done ++ left
-  pub added : AddsReports done before after
+  pub results : List RoomResult
+  pub runs : AreRoomRuns done results
+  pub reports_are : reports ≡ flat_map own_text results
 
-pub none_reported : (all : List RoomSpec) (before : List ℕ) → IsReportedUpTo all all before before
-none_reported all before = record { done = []; split = refl; added = record { results = []; each_room = tt; behind = sym (append-nil before) } }
+abbrev none_run : (all : List RoomSpec) → IsRunUpTo all all []
+none_run all = record { done = []; split = refl; results = []; runs = tt; reports_are = refl }
 
-pub part_reported : (all left part rest : List RoomSpec) (before middle after : List ℕ) → IsReportedUpTo all left before middle → left ≡ part ++ rest → AddsReports part middle after → IsReportedUpTo all rest before after
-part_reported all left part rest before middle after so_far split added = record {
+-- what one call of the scheduler added
+pub next_run : (all left part rest : List RoomSpec) (before after : List ℕ) → IsRunUpTo all left before → left ≡ part ++ rest → AddsRoomRuns part (λ results. before ≡ flat_map own_text results) (λ results. after ≡ flat_map own_text results) → IsRunUpTo all rest after
+next_run all left part rest before after so_far split added = record {
   done = so_far.done ++ part;
   split = so_far.split ∙ ap (λ (list : List RoomSpec). so_far.done ++ list) split ∙ sym (append_assoc so_far.done part rest);
-  added = adds_more so_far.done part before middle after so_far.added added;
+  results = so_far.results ++ added.0;
+  runs = runs_append so_far.done part so_far.results added.0 so_far.runs added.1;
+  reports_are = added.2 so_far.results so_far.reports_are;
 }
 
-pub all_reported : (all left : List RoomSpec) (before after : List ℕ) → IsReportedUpTo all left before after → length left ≡ 0 → AddsReports all before after
-all_reported all [] before after so_far none = subst (λ (list : List RoomSpec). AddsReports list before after) (sym (so_far.split ∙ append-nil so_far.done)) so_far.added
-all_reported all (spec ∷ specs) before after so_far none = absurd cc
+pub first_run : (all part rest : List RoomSpec) (before after : List ℕ) → all ≡ part ++ rest → before ≡ [] → AddsRoomRuns part (λ results. before ≡ flat_map own_text results) (λ results. after ≡ flat_map own_text results) → IsRunUpTo all rest after
+first_run all part rest before after split empty added = next_run all all part rest before after (subst (IsRunUpTo all all) (sym empty) (none_run all)) split added
 
--- the same, and these results of the specs just before the last ones are still to be reported
-pub record IsRunUpTo (all left : List RoomSpec) (before text : List ℕ) (done : List RoomResult) : Type 0 where
-  pub part : List RoomSpec
-  pub reported : IsReportedUpTo all (part ++ left) before text
-  pub runs : AreRoomRuns part done
+pub last_run : (all left : List RoomSpec) (reports : List ℕ) → IsRunUpTo all left reports → length left ≡ 0 → AddsReports all [] reports
+last_run all [] reports so_far none =
+    let is : so_far.done ≡ all = sym (so_far.split ∙ append-nil so_far.done) in
+    subst (λ (list : List RoomSpec). AddsReports list [] reports) is (record { results = so_far.results; each_room = so_far.runs; behind = so_far.reports_are ∙ own_texts so_far.done so_far.results so_far.runs })
+last_run all (spec ∷ specs) reports so_far none = absurd cc
 
-pub first_run : (all left part : List RoomSpec) (before : List ℕ) (done : List RoomResult) → all ≡ part ++ left → AreRoomRuns part done → IsRunUpTo all left before before done
-first_run all left part before done split runs = record { part = part; reported = subst (λ (list : List RoomSpec). IsReportedUpTo all list before before) split (none_reported all before); runs = runs }
-
-reports_of_part : (all left : List RoomSpec) (before text longer : List ℕ) (done : List RoomResult) → IsRunUpTo all left before text done → longer ≡ text ++ flat_map own_text done → IsReportedUpTo all left before longer
-reports_of_part all left before text longer done so_far longer_is =
-    part_reported all (so_far.part ++ left) so_far.part left before text longer so_far.reported refl (adds_part so_far.part done done text longer so_far.runs refl longer_is)
-
-pub next_run : (all left part rest : List RoomSpec) (before text longer : List ℕ) (done results : List RoomResult) → IsRunUpTo all left before text done → left ≡ part ++ rest → AreRoomRuns part results → longer ≡ text ++ flat_map own_text done
-    → IsRunUpTo all rest before longer results
-next_run all left part rest before text longer done results so_far split runs longer_is =
-    record { part = part; reported = subst (λ (list : List RoomSpec). IsReportedUpTo all list before longer) split (reports_of_part all left before text longer done so_far longer_is); runs = runs }
-
-pub last_run : (all left : List RoomSpec) (before text longer : List ℕ) (done : List RoomResult) → IsRunUpTo all left before text done → length left ≡ 0 → longer ≡ text ++ flat_map own_text done → AddsReports all before longer
-last_run all left before text longer done so_far none longer_is = all_reported all left before longer (reports_of_part all left before text longer done so_far longer_is) none
+-- reports after a text
+pub adds_after : (specs : List RoomSpec) (before reports after : List ℕ) → AddsReports specs [] reports → after ≡ before ++ reports → AddsReports specs before after
+adds_after specs before reports after are after_is = record { results = are.results; each_room = are.each_room; behind = after_is ∙ ap (λ (text : List ℕ). before ++ text) are.behind }
 
 -- ---- the whole
 

@@ -10,7 +10,7 @@ use Rattle.room_files.specs.Inputs.{all_blocks}
 use Rattle.room_files.specs.Verdicts.{outcome_if}
 use Rattle.io_text.specs.Reading.{most_bytes}
 use Rattle.room_files.specs.declared.outcome.Outcome.{Outcome}
-use Rattle.script_play.specs.ReplyTexts.{report_text}
+use Rattle.report_text.specs.ReportTexts.{report_text}
 use Rattle.bgsim_console.specs.declared.fault.IoFault.{IoFault}
 use Rattle.bgsim_console.specs.declared.fault.IoFault.TheVariants.{Read, Write, TooLong, BadInput, Incomplete, Run, Memory}
 

@@ -1,22 +1,18 @@
 //! Rooms that workers run, and their reports.
-ghost use Rattle.std.specs.Prelude.{◌≡◌, ◌↔◌, ◌⊎◌, ◌<◌, ◌≤◌, ◌++◌, Err, IfErr, IfOk, OnOk, length};
-ghost use Rattle.std.specs.List.{flat_map};
-ghost use Rattle.scheduler.specs.Results.{AreRoomRuns};
-ghost use Rattle.scheduler.specs.declared.rooms.RunFault.TheVariants.{Workers};
+ghost use Rattle.std.specs.Prelude.{◌≡◌, ◌<◌, ◌≤◌, [], ◌++◌, IfErr, IfOk, OnOk, length};
 ghost use Rattle.io_text.specs.Reading.{most_bytes};
-ghost use Rattle.script_play.specs.ReplyTexts.{report_text};
 ghost use Rattle.bgsim_console.specs.Run.{AddsReports, AreWorkers, IsRunFor, MayEndRun};
 
 use crate::fault::IoFault;
 use indexmap::map::IntoValues;
 use io_text::Text;
+use report_text::write_room;
+use room_core::RoomCore;
 use room_files::{Answer, Setup, SpecList, outcome_if, read_all_blocks};
 use room_spec::{Name, Spec};
-use scheduler::{Gate, RoomResult, RunFault, run_rooms};
-use script_play::write_report;
+use scheduler::{Gate, Gathers, run_rooms_by};
 use std::alloc::{AllocError, Global};
 use std::sync::Wait;
-use std::thread;
 use std::thread::Threads;
 
 /// How many rooms run at the same time at least, if there are as many. While it runs a room takes
@@ -44,35 +40,33 @@ pub fn run_blocks<H: Threads + Wait + Sync, G: Gate + Sync>(
     drop(input);
     let specs = rooms.into_values();
     let outcome = outcome_if(refused.is_empty());
-    let output = run_in_parts(rt, alloc, specs, workers, gate, refused)?;
-    Ok(Answer { output, outcome })
+    let reports = run_in_parts(rt, alloc, specs, workers, gate)?;
+    Ok(Answer {
+        output: both(refused, reports)?,
+        outcome,
+    })
 }
 
-/// Runs the rooms of these specs part by part, and appends their reports to the text. Those of one part are written while the
-/// next runs.
+/// Runs the rooms of these specs part by part. Gives their reports.
 fn run_in_parts<H: Threads + Wait + Sync, G: Gate + Sync>(
     rt: &H,
     alloc: Global,
     mut left: IntoValues<Name, Spec>,
     workers: u8,
     gate: &G,
-    text: Text,
 ) -> Result<Text, IoFault>
-    ensures reports { IfOk result (AddsReports left text) }
+    ensures reports { IfOk result (AddsReports left []) }
     ensures workers { OnOk result (AreWorkers workers) }
     ensures err { IfErr result (MayEndRun workers) }
 {
     let rooms = ROOMS_AT_ONCE.max(left.len() / PARTS);
     let part = next_part(alloc, &mut left, rooms)?;
-    let mut done = run_rooms(rt, alloc, part, workers, gate)?;
-    let mut output = text;
+    let mut reports = run_rooms_by(rt, alloc, part, workers, gate, Reports::none(alloc))?;
     while left.len() > 0 {
         let part = next_part(alloc, &mut left, rooms)?;
-        let (results, longer) = run_part(rt, alloc, part, workers, gate, done, output)?;
-        done = results;
-        output = longer;
+        reports = run_rooms_by(rt, alloc, part, workers, gate, reports)?;
     }
-    Ok(with_reports(output, done)?)
+    Ok(reports.text)
 }
 
 /// Takes the specs of the `rooms` rooms that run next off the front: all that are left if they are fewer.
@@ -95,50 +89,44 @@ fn next_part(
     Ok(part)
 }
 
-/// Runs the rooms of these specs all at the same time, and appends the reports of those that ran before to the text: meanwhile,
-/// on a thread of its own, but before if there is one worker alone.
-fn run_part<H: Threads + Wait + Sync, G: Gate + Sync>(
-    rt: &H,
-    alloc: Global,
-    specs: Vec<Spec>,
-    workers: u8,
-    gate: &G,
-    done: Vec<RoomResult>,
+/// The first text with the second after it.
+fn both(first: Text, second: Text) -> Result<Text, AllocError>
+    ensures { IfOk result (λ text. text ≡ first ++ second) }
+{
+    if first.is_empty() {
+        return Ok(second);
+    }
+    let mut text = first;
+    text.put(second.as_bytes())?;
+    Ok(text)
+}
+
+/// The reports of rooms, written as the rooms end.
+#[derive(Drop)]
+struct Reports {
     text: Text,
-) -> Result<(Vec<RoomResult>, Text), IoFault>
-    ensures results { IfOk result (λ ran. AreRoomRuns specs.items ran.0.items) }
-    ensures text { IfOk result (λ ran. ran.1 ≡ text ++ flat_map (λ one. report_text one.core.spec.name one.report) done.items) }
-    ensures err { IfErr result (MayEndRun workers) }
-{
-    if workers == 1 {
-        let longer = with_reports(text, done)?;
-        return Ok((run_rooms(rt, alloc, specs, workers, gate)?, longer));
-    }
-    let write = move || -> Result<Text, AllocError>
-        ensures { IfOk result (λ longer. longer ≡ text ++ flat_map (λ one. report_text one.core.spec.name one.report) done.items) }
-    { with_reports(text, done) };
-    let run = move || -> Result<Vec<RoomResult>, RunFault>
-        ensures { ((result ≡ Err Workers) ↔ ((workers ≡ 0) ⊎ (16 < workers))) × IfOk result (λ results. AreRoomRuns specs.items results.items) }
-    { run_rooms(rt, alloc, specs, workers, gate) };
-    let (longer, results) = thread::join(rt, write, run);
-    Ok((results?, longer?))
 }
 
-/// Appends the reports of these rooms to the text.
-fn with_reports(text: Text, done: Vec<RoomResult>) -> Result<Text, AllocError>
-    ensures { IfOk result (λ longer. longer ≡ text ++ flat_map (λ one. report_text one.core.spec.name one.report) done.items) }
-{
-    let mut output = text;
-    write_reports(&mut output, &done)?;
-    Ok(output)
-}
+impl Gathers for Reports {
+    ghost use Rattle.std.specs.Prelude.{◌≡◌};
+    ghost use Rattle.std.specs.List.{flat_map};
+    ghost use Rattle.report_text.specs.ReportTexts.{report_text};
 
-fn write_reports(output: &mut Text, results: &[RoomResult]) -> Result<(), AllocError>
-    ensures { OnOk result (output.new ≡ output.old ++ flat_map (λ one. report_text one.core.spec.name one.report) results.now) }
-{
-    for one in results {
-        let name = one.core.spec().name().as_str().as_bytes();
-        write_report(output, name, &one.report)?;
+    ghost has_gathered = { λ reports results. reports.text ≡ flat_map (λ one. report_text one.core.spec.name one.report) results };
+
+    fn none(alloc: Global) -> Reports {
+        Reports {
+            text: Text::new(alloc),
+        }
     }
-    Ok(())
+
+    fn add(&mut self, alloc: Global, core: RoomCore) -> Result<(), AllocError> {
+        write_room(alloc, &mut self.text, &core)?;
+        Ok(())
+    }
+
+    fn add_all(&mut self, more: Reports) -> Result<(), AllocError> {
+        self.text.put(more.text.as_bytes())?;
+        Ok(())
+    }
 }

@@ -1,9 +1,10 @@
 -- A room whose simulators have all stopped and are at home.
-use Rattle.std.proofs.Common.{◌≡◌, ℕ, zero, suc, ◌+◌, ◌<◌, ◌≤◌, Bool, false, List, [], ◌∷◌, ◌++◌, length, get_or, map, take, drop, Option, Some, None, inl, inr, refl, sym, ap, ◌∙◌, subst, arith}
+use Rattle.std.proofs.Common.{◌≡◌, ℕ, zero, suc, ◌+◌, ◌<◌, ◌≤◌, Bool, false, List, [], ◌∷◌, ◌++◌, length, get_or, map, take, drop, Option, Some, None, Result, Ok, Err, IfOk, inl, inr, refl, sym, ap, ◌∙◌, subst, arith}
+use Rattle.std.specs.Global.{Vec}
 use Rattle.std.specs.Option.{IsSome}
 use Rattle.std.specs.List.{slice_get}
 use Rattle.std.proofs.lemmas.Bool.{cases_lt}
-use Rattle.std.proofs.lemmas.List.{append_assoc, get_or-drop, get_or-map, get_or-take, length-drop, length-map, length-take, map-append, take-append-drop}
+use Rattle.std.proofs.lemmas.List.{append_assoc, append-nil, get_or-drop, get_or-map, get_or-take, length-drop, length-map, length-take, map-append, take-append-drop}
 use Rattle.std.proofs.lemmas.Option.{get_or_from_slice_get, slice_get_read}
 use Rattle.room_spec.specs.Rooms.{RoomSpec, fuse_of}
 use Rattle.simulator.specs.Sweeps.{SweepState, opening_sweep}
@@ -14,7 +15,7 @@ use Rattle.ruled_room.specs.declared.room.Gone.TheVariants.{StillOut}
 use Rattle.scheduler.specs.declared.rooms.RoomResult.{RoomResult}
 use Rattle.ws_history.specs.Reports.{IsReportIn}
 use Rattle.ws_history.specs.declared.states.Report.{Report}
-use Rattle.scheduler.specs.Results.{AreRoomRuns, Gathered, GathersMore, HasEnded, HasRoomRuns, IsRoomRun}
+use Rattle.scheduler.specs.Results.{AddsRoomRuns, AreRoomRuns, Gathered, GathersMore, HasEnded, IsRoomRun}
 use Rattle.scheduler.specs.Tasks.{AreKept, IsKept, away, away_from}
 use Rattle.scheduler.proofs.Returning.{away_at, is_home, some_is}
 
@@ -142,15 +143,31 @@ runs_of_both [] more (result ∷ results) after are are_more = absurd are
 runs_of_both (spec ∷ specs) more [] after are are_more = absurd are
 runs_of_both (spec ∷ specs) more (result ∷ results) after are are_more = (are.0, runs_of_both specs more results after are.1 are_more)
 
+-- none yet
+pub adds_none : (has : Gathered) → AddsRoomRuns [] has has
+adds_none has = ([], tt, λ before holds. subst has (sym (append-nil before)) holds)
+
 -- one room more
-pub gathers_one : (specs : List RoomSpec) (spec : RoomSpec) (core : RoomState) (before after : Gathered) → ((report : Report) → IsReportIn core report → IsRoomRun spec (record { core = core; report = report }))
-    → (report : Report) × IsReportIn core report × GathersMore before (record { core = core; report = report } ∷ []) after → HasRoomRuns specs before → HasRoomRuns (specs ++ spec ∷ []) after
-gathers_one specs spec core before after run added has =
-    let result : RoomResult = record { core = core; report = added.0 } in
-    (has.0 ++ result ∷ [], runs_of_both specs (spec ∷ []) has.0 (result ∷ []) has.1 (run added.0 added.1, tt), added.2 has.0 has.2)
+pub adds_one : (specs : List RoomSpec) (spec : RoomSpec) (core : RoomState) (start before after : Gathered) → ((report : Report) → IsReportIn core report → IsRoomRun spec (record { core = core; report = report }))
+    → (report : Report) × IsReportIn core report × GathersMore before (record { core = core; report = report } ∷ []) after → AddsRoomRuns specs start before → AddsRoomRuns (specs ++ spec ∷ []) start after
+adds_one specs spec core start before after run added adds =
+    let result : RoomResult = record { core = core; report = added.0 } in (
+      adds.0 ++ result ∷ [],
+      runs_of_both specs (spec ∷ []) adds.0 (result ∷ []) adds.1 (run added.0 added.1, tt),
+      λ earlier holds. subst after (append_assoc earlier adds.0 (result ∷ [])) (added.2 (earlier ++ adds.0) (adds.2 earlier holds)),
+    )
 
 -- the rooms of two parts
-pub gathers_both : (all specs more : List RoomSpec) (before others after : Gathered) → all ≡ specs ++ more → HasRoomRuns specs before → HasRoomRuns more others
-    → ((results : List RoomResult) → others results → GathersMore before results after) → HasRoomRuns all after
-gathers_both all specs more before others after is first rest added =
-    (first.0 ++ rest.0, subst (λ (l : List RoomSpec). AreRoomRuns l (first.0 ++ rest.0)) (sym is) (runs_of_both specs more first.0 rest.0 first.1 rest.1), added rest.0 rest.2 first.0 first.2)
+pub adds_both : (all specs more : List RoomSpec) (start before nothing others after : Gathered) → all ≡ specs ++ more → nothing [] → AddsRoomRuns specs start before → AddsRoomRuns more nothing others
+    → ((results : List RoomResult) → others results → GathersMore before results after) → AddsRoomRuns all start after
+adds_both all specs more start before nothing others after is none first rest added = (
+  first.0 ++ rest.0,
+  subst (λ (l : List RoomSpec). AreRoomRuns l (first.0 ++ rest.0)) (sym is) (runs_of_both specs more first.0 rest.0 first.1 rest.1),
+  λ earlier holds. subst after (append_assoc earlier first.0 rest.0) (added rest.0 (rest.2 [] none) (earlier ++ first.0) (first.2 earlier holds)),
+)
+
+-- what was added to an empty list
+pub runs_from_none : {E : Type 0} (specs : List RoomSpec) (result : Result (Vec RoomResult) E) (none : Vec RoomResult) → none.items ≡ [] → IfOk result (λ all. AddsRoomRuns specs (λ results. none.items ≡ results) (λ results. all.items ≡ results))
+    → IfOk result (λ all. AreRoomRuns specs all.items)
+runs_from_none specs (Ok all) none is adds = subst (AreRoomRuns specs) (sym (adds.2 [] is)) adds.1
+runs_from_none specs (Err fault) none is adds = tt

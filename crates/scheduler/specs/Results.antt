@@ -52,9 +52,9 @@ Gathered = List RoomResult → Type 0
 abbrev pub GathersMore : Gathered → List RoomResult → Gathered → Type 0
 GathersMore before more after = (results : List RoomResult) → before results → after (results ++ more)
 
--- it has a result for each spec, in order, each by its own spec alone
-abbrev pub HasRoomRuns : List RoomSpec → Gathered → Type 0
-HasRoomRuns specs has_gathered = (results : List RoomResult) × AreRoomRuns specs results × has_gathered results
+-- a result for each spec was added, in order, each by its own spec alone
+abbrev pub AddsRoomRuns : List RoomSpec → Gathered → Gathered → Type 0
+AddsRoomRuns specs before after = (results : List RoomResult) × AreRoomRuns specs results × GathersMore before results after
 
 abbrev pub fault_code : RunFault → ℕ
 fault_code Workers = 50

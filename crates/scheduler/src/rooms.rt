@@ -2,7 +2,7 @@
 ghost use Rattle.std.specs.Prelude.{◌≡◌, ◌≢◌, ◌↔◌, ◌⊎◌, ◌<◌, ◌≤◌, ◌++◌, ◌/◌, ℕ, Err, IfOk, OnOk, length, map, min};
 ghost use Rattle.ws_history.specs.Reports.{IsReportIn};
 ghost use Rattle.ws_history.specs.declared.states.Report.{Report as ReportData};
-ghost use Rattle.scheduler.specs.Results.{AreRoomRuns, HasRoomRuns, IsRoomRun, fault_code};
+ghost use Rattle.scheduler.specs.Results.{AddsRoomRuns, AreRoomRuns, IsRoomRun, fault_code};
 ghost use Rattle.scheduler.specs.Tasks.{AreKept, IsKept, away, away_from};
 ghost use Rattle.scheduler.specs.declared.rooms.RunFault.TheVariants.{Workers};
 ghost use Rattle.scheduler.specs.declared.rooms.TheConstants.{ROOMS_A_THREAD};
@@ -95,10 +95,11 @@ pub fn run_rooms<R: Threads + Wait + Sync, G: Gate + Sync>(
     // A result for each spec, in order, each by its own spec alone.
     ensures rooms { IfOk result (λ results. AreRoomRuns specs.items results.items) }
 {
-    run_rooms_by(rt, alloc, specs, workers, gate)
+    run_rooms_by(rt, alloc, specs, workers, gate, Vec::new(alloc))
 }
 
-/// Does what [`run_rooms`] does, with the results gathered in any way, by each thread that ends rooms.
+/// Does what [`run_rooms`] does, and adds the results to those that were gathered before. Each thread that ends rooms gathers
+/// their results.
 ///
 /// # Errors
 ///
@@ -109,10 +110,11 @@ pub fn run_rooms_by<R: Threads + Wait + Sync, G: Gate + Sync, A: Gathers + Send>
     specs: Vec<Spec>,
     workers: u8,
     gate: &G,
+    gathered: A,
 ) -> Result<A, RunFault>
     ensures workers { (result ≡ Err Workers) ↔ ((workers ≡ 0) ⊎ (16 < workers)) }
     // A result for each spec, in order, each by its own spec alone.
-    ensures rooms { IfOk result (λ gathered. HasRoomRuns specs.items (A.has_gathered gathered)) }
+    ensures rooms { IfOk result (λ all. AddsRoomRuns specs.items (A.has_gathered gathered) (A.has_gathered all)) }
 {
     if workers == 0 || workers > 16 {
         return Err(RunFault::Workers);
@@ -124,7 +126,7 @@ pub fn run_rooms_by<R: Threads + Wait + Sync, G: Gate + Sync, A: Gathers + Send>
     } = open_all(alloc, specs, workers)?;
     let keepers = run_all(rt, alloc, rooms.as_slice(), keepers, queues, gate)?;
     let threads = ending_threads(rooms.len(), workers);
-    Ok(finish_by(rt, alloc, rooms, keepers, threads)?)
+    Ok(finish_by(rt, alloc, rooms, keepers, threads, gathered)?)
 }
 
 /// How many rooms a thread ends at least, if more than one does: a thread for a few rooms takes more
@@ -146,25 +148,27 @@ fn finish_by<R: Threads, A: Gathers + Send>(
     mut rooms: Vec<RuledRoom>,
     mut keepers: Vec<Keeper>,
     threads: u8,
+    gathered: A,
 ) -> Result<A, AllocError>
     requires kept { AreKept rooms.items keepers.items }
     requires home { (k i : ℕ) → away keepers.items k i ≡ 0 }
-    ensures { IfOk result (λ gathered. HasRoomRuns (map (λ room. room.spec) rooms.items) (A.has_gathered gathered)) }
+    ensures { IfOk result (λ all. AddsRoomRuns (map (λ room. room.spec) rooms.items) (A.has_gathered gathered) (A.has_gathered all)) }
 {
     if threads <= 1 {
-        return finish_all(alloc, rooms, keepers);
+        return finish_all(alloc, rooms, keepers, gathered);
     }
     let others = threads - 1;
     let count = rooms.len() / usize::from(threads);
     let (other_rooms, other_keepers) = cut(&mut rooms, &mut keepers, count)?;
+    let nothing = A::none(alloc);
     let first = move || -> Result<A, AllocError>
         requires { AreKept rooms.items keepers.items × ((k i : ℕ) → away keepers.items k i ≡ 0) }
-        ensures { IfOk result (λ gathered. HasRoomRuns (map (λ room. room.spec) rooms.items) (A.has_gathered gathered)) }
-    { finish_all(alloc, rooms, keepers) };
+        ensures { IfOk result (λ all. AddsRoomRuns (map (λ room. room.spec) rooms.items) (A.has_gathered gathered) (A.has_gathered all)) }
+    { finish_all(alloc, rooms, keepers, gathered) };
     let rest = move || -> Result<A, AllocError>
         requires { AreKept other_rooms.items other_keepers.items × ((k i : ℕ) → away other_keepers.items k i ≡ 0) }
-        ensures { IfOk result (λ gathered. HasRoomRuns (map (λ room. room.spec) other_rooms.items) (A.has_gathered gathered)) }
-    { finish_by(rt, alloc, other_rooms, other_keepers, others) };
+        ensures { IfOk result (λ all. AddsRoomRuns (map (λ room. room.spec) other_rooms.items) (A.has_gathered nothing) (A.has_gathered all)) }
+    { finish_by(rt, alloc, other_rooms, other_keepers, others, nothing) };
     let (first, rest) = thread::join(rt, first, rest);
     let mut all = first?;
     all.add_all(rest?)?;
@@ -196,21 +200,22 @@ fn finish_all<A: Gathers>(
     alloc: Global,
     rooms: Vec<RuledRoom>,
     keepers: Vec<Keeper>,
+    gathered: A,
 ) -> Result<A, AllocError>
     requires kept { AreKept rooms.items keepers.items }
     requires home { (k i : ℕ) → away keepers.items k i ≡ 0 }
-    ensures { IfOk result (λ gathered. HasRoomRuns (map (λ room. room.spec) rooms.items) (A.has_gathered gathered)) }
+    ensures { IfOk result (λ all. AddsRoomRuns (map (λ room. room.spec) rooms.items) (A.has_gathered gathered) (A.has_gathered all)) }
 {
-    let mut gathered = A::none(alloc);
+    let mut all = gathered;
     let mut rooms = rooms.into_iter();
     let mut keepers = keepers.into_iter();
     while let Some(room) = rooms.next() {
         let Some(keeper) = keepers.next() else {
             unreachable!() // each room has its keeper
         };
-        gathered.add(alloc, finish(alloc, room, keeper)?)?;
+        all.add(alloc, finish(alloc, room, keeper)?)?;
     }
-    Ok(gathered)
+    Ok(all)
 }
 
 /// Closes a room whose simulators have all stopped, and settles it.

@@ -1,4 +1,3 @@
 -- The lemmas that proofs of the crates above may name: this crate promises them, as it does the clauses of
 -- its functions. All others are its own.
 pub use Rattle.script_play.proofs.Commands.{read_again}
-pub use Rattle.script_play.proofs.ReplyTexts.{one_text_more}

@@ -1,5 +1,4 @@
 pub mod CallerLemmas
 mod Commands
 mod Playing
-mod ReplyTexts
 mod Scripts

@@ -17,6 +17,7 @@ use Rattle.service_core.specs.Rooms.{Entries}
 use Rattle.service_core.specs.Runs.{is_want}
 use Rattle.service_core.proofs.CallerLemmas.{Ran, begins, goes_on}
 use Rattle.room_files.specs.Blocks.{refused_line}
+use Rattle.script_play.specs.ReplyTexts.{reply_to_command}
 use Rattle.script_play.specs.Script.{Entry, Ask, asked, steps_for}
 use Rattle.room_files.specs.declared.outcome.Outcome.{Outcome}
 use Rattle.room_files.specs.declared.outcome.Outcome.TheVariants.{AllWell}
@@ -118,6 +119,12 @@ pub lacks_one : (output now : List ℕ) (line code : ℕ) → code ≡ 8 → now
 lacks_one output now line code is text all so_far =
     text ∙ ap₂ (λ (o t : List ℕ). o ++ refused_line line t) so_far (ap decimal is ∙ decimal_digit 8 (omega arith))
     ∙ ap (λ t. flat_map done_text all ++ t) (sym (append-nil (done_text (Unread line)))) ∙ sym (flat_map-append done_text all (Unread line ∷ []))
+
+-- one reply more
+pub replies_one : (command : Command) (reply : Reply) (output now : List ℕ) → now ≡ output ++ reply_to_command command reply → DoesMore (λ all. output ≡ flat_map done_text all) (Replied command reply) (λ all. now ≡ flat_map done_text all)
+replies_one command reply output now text = λ all so_far.
+    text ∙ ap (λ t. t ++ reply_to_command command reply) so_far
+    ∙ ap (λ t. flat_map done_text all ++ t) (sym (append-nil (done_text (Replied command reply)))) ∙ sym (flat_map-append done_text all (Replied command reply ∷ []))
 
 pub none_played : (rooms : Entries) (has_done : List Done → Type 0) → rooms ≡ [] → has_done [] → HasPlayed rooms has_done (Ok AllWell) []
 none_played rooms has_done empty nothing = record { ran = of_ran [] [] rooms (begins rooms empty); done = nothing; ending_is = refl }

@@ -10,7 +10,5 @@ mod steps;
 
 pub use entries::read_command;
 pub use replies::{PlayText, play};
-pub use reply::{
-    refusal_in, sim_in, write_events, write_processes, write_reply, write_report, write_steps,
-};
+pub use reply::{refusal_in, sim_in, write_reply, write_steps};
 pub use script::{Performs, Played, play_script};

@@ -6,13 +6,15 @@ ghost use Rattle.io_text.specs.Reading.{most_bytes};
 ghost use Rattle.std.specs.List.{flat_map};
 ghost use Rattle.script_play.specs.Play.{IsPerformed, IsPlayFor, done_text};
 ghost use Rattle.script_play.specs.ReplyTexts.{reply_text};
+ghost use Rattle.service_core.specs.declared.command.Command.TheVariants.{Report};
 ghost use Rattle.service_core.specs.declared.reply.Reply.TheVariants.{Refused};
 
 use crate::reply::{refusal_in, sim_in, write_reply, write_steps};
 use crate::script::{Performs, Played, play_script};
 use io_text::Text;
+use report_text::{EventLines, write_lines};
 use room_files::{InputFault, Outcome, write_refused, write_refused_code};
-use room_spec::{Spec, SpecFault};
+use room_spec::{Name, Spec, SpecFault};
 use service_core::{Command, Refusal, Reply, Service};
 use std::alloc::{AllocError, Global};
 
@@ -73,7 +75,26 @@ impl Replies {
         Ok(refusal_in(&reply))
     }
 
-    /// Writes that the room of this name refused steps of this simulator.
+    /// Writes the report of the room of this name, or why it was refused.
+    fn report(&mut self, alloc: Global, name: &Name) -> Result<Option<Refusal>, AllocError>
+        ensures { IfOk result (λ refusal. IsPerformed
+            self.old.service (λ all. self.old.output ≡ flat_map done_text all) (Report name.now) refusal
+            self.new.service (λ all. self.new.output ≡ flat_map done_text all)) }
+    {
+        let mut lines = EventLines::new(alloc, name);
+        match self.service.report_to(alloc, name, &mut lines) {
+            Ok(standing) => {
+                write_lines(&mut self.output, name, &standing, &lines)?;
+                Ok(None)
+            }
+            Err(refusal) => {
+                self.write_refusal(name.as_str().as_bytes(), 0, refusal)?;
+                Ok(Some(refusal))
+            }
+        }
+    }
+
+    /// Writes that the room of this name refused a command, for this simulator if it is for one.
     #[cold]
     #[inline(never)]
     fn write_refusal(&mut self, name: &[u8], sim: u8, refusal: Refusal) -> Result<(), AllocError>
@@ -103,7 +124,10 @@ impl Performs for Replies {
     }
 
     fn perform(&mut self, alloc: Global, command: Command) -> Result<Option<Refusal>, AllocError> {
-        self.reply_to(alloc, command)
+        match command {
+            Command::Report(name) => self.report(alloc, &name),
+            other => self.reply_to(alloc, other),
+        }
     }
 
     #[inline]

@@ -5,7 +5,7 @@ use Rattle.std.specs.Global.{Vec}
 use Rattle.room_spec.specs.Rooms.{RoomSpec, processes}
 use Rattle.room_files.specs.BlockLists.{whole_block}
 use Rattle.transcript.specs.declared.event.Event.{Event}
-use Rattle.script_play.specs.ReplyTexts.{event_lines}
+use Rattle.report_text.specs.ReportTexts.{event_lines}
 use Rattle.run_search.specs.declared.ended.Ended.{Ended}
 use Rattle.run_search.specs.declared.ended.Ended.TheVariants.{Decided, Spent, Stopped}
 use Rattle.view_outcomes.specs.declared.listing.AllOutcomes.{AllOutcomes}

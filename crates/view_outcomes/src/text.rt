@@ -6,10 +6,10 @@ ghost use Rattle.view_outcomes.specs.Texts.{breaking_text, complete_line, end_li
 use crate::counts::{can_be_spent, is_any_spent, most_values, values_in};
 use crate::listing::{AllOutcomes, Listed};
 use io_text::Text;
+use report_text::write_events;
 use room_files::write_block;
 use room_spec::Spec;
 use run_search::Ended;
-use script_play::write_events;
 use std::alloc::AllocError;
 use transcript::Event;
 

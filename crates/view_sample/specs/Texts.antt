@@ -2,7 +2,7 @@
 use Rattle.std.specs.Prelude.{ℕ, min, Bool, List, [], ◌∷◌, ◌++◌, ◌-◌, length, take, Option, None, Some, slice_get, if◌then◌else◌, codes, decimal}
 use Rattle.std.specs.List.{flat_map}
 use Rattle.room_files.specs.BlockLists.{whole_block}
-use Rattle.script_play.specs.ReplyTexts.{process_lines}
+use Rattle.report_text.specs.ReportTexts.{process_lines}
 use Rattle.view_sample.specs.Counts.{held_in, most_of, once_in, values_in}
 use Rattle.room_sample.specs.Samples.{Counted}
 use Rattle.room_sample.specs.declared.sampling.Plan.{Plan}

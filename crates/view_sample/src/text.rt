@@ -8,7 +8,7 @@ use crate::counts::{most_of, once_in};
 use io_text::Text;
 use room_files::write_block;
 use room_sample::{Outcome, Plan, States, Stretch, Tally};
-use script_play::write_processes;
+use report_text::write_processes;
 use std::alloc::AllocError;
 
 /// Writes the outcomes of the room of this name, whose block these bytes are: how often each came, and a script for `play` that

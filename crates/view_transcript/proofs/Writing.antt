@@ -6,7 +6,7 @@ use Rattle.std.specs.List.{flat_map}
 use Rattle.std.proofs.lemmas.Grind.{flat_map-append}
 use Rattle.std.proofs.lemmas.List.{append-nil, append_assoc, take_all}
 use Rattle.room_files.specs.BlockLists.{whole_block}
-use Rattle.script_play.specs.ReplyTexts.{event_lines}
+use Rattle.report_text.specs.ReportTexts.{event_lines}
 use Rattle.std.specs.Str.{bytes_eq}
 use Rattle.room_core.specs.Calls.{RoomState}
 use Rattle.service_core.specs.Rooms.{Entries, room_at}

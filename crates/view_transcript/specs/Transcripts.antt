@@ -25,7 +25,7 @@ use Rattle.service_core.specs.Replies.{name_in}
 use Rattle.service_core.specs.Rooms.{Applies, Entries, room_at, steps_of}
 use Rattle.script_play.specs.Play.{AreDone, AreReplies, Done, IsBlockOf, commands_of, ending_of, refusal_in, replies_in}
 use Rattle.room_files.specs.BlockLists.{whole_block}
-use Rattle.script_play.specs.ReplyTexts.{event_lines}
+use Rattle.report_text.specs.ReportTexts.{event_lines}
 use Rattle.script_play.specs.Script.{Entry as Asked, script_says}
 use Rattle.view_transcript.specs.Courses.{Course, course_of, names_by, names_in}
 

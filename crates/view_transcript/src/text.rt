@@ -4,15 +4,15 @@ ghost use Rattle.std.specs.List.{flat_map};
 ghost use Rattle.transcript.specs.declared.event.Event.{Event as EventData};
 ghost use Rattle.service_core.specs.Rooms.{room_at};
 ghost use Rattle.room_files.specs.BlockLists.{whole_block};
-ghost use Rattle.script_play.specs.ReplyTexts.{event_lines};
+ghost use Rattle.report_text.specs.ReportTexts.{event_lines};
 ghost use Rattle.view_transcript.specs.Transcripts.{AreWrittenFrom, HasEvents, WrittenRooms, transcript_text};
 
 use crate::kept::Kept;
 use indexmap::IndexMap;
 use io_text::Text;
+use report_text::write_events;
 use room_files::write_block;
 use room_spec::Name;
-use script_play::write_events;
 use service_core::Service;
 use std::alloc::{AllocError, Global};
 

@@ -274,6 +274,7 @@ fn push_writes<S: EventSink>(
 }
 
 /// The same of one process, and of its last value.
+#[inline(always)]
 fn push_writes_of<S: EventSink>(
     sink: &mut S,
     room: &RoomCore,

@@ -1,7 +1,7 @@
 use Rattle.std.proofs.Common.{ap, slice_index_or}
 use Rattle.std.proofs.lemmas.List.{get_or_default}
 use Rattle.run_search.specs.declared.ended.Ended.TheVariants.{Stopped}
-use Rattle.script_play.proofs.CallerLemmas.{one_text_more}
+use Rattle.report_text.proofs.CallerLemmas.{one_text_more}
 use Rattle.view_outcomes.specs.Texts.{end_line}
 use Rattle.view_outcomes.proofs.text.write_ends.Goals as goal
 

@@ -1,6 +1,6 @@
 use Rattle.std.proofs.Common.{◌≡◌, ◌+◌, ◌-◌, ◌++◌, ℕ, List, map, ap, subst, arith}
 use Rattle.std.specs.List.{concat, range_with_len}
-use Rattle.script_play.proofs.CallerLemmas.{one_text_more}
+use Rattle.report_text.proofs.CallerLemmas.{one_text_more}
 use Rattle.view_outcomes.specs.Counts.{most_values}
 use Rattle.view_outcomes.specs.Texts.{outcomes_with}
 use Rattle.view_outcomes.proofs.text.write_outcomes.Goals as goal

@@ -1,5 +1,5 @@
 use Rattle.std.proofs.Common.{refl}
-use Rattle.script_play.proofs.CallerLemmas.{one_text_more}
+use Rattle.report_text.proofs.CallerLemmas.{one_text_more}
 use Rattle.view_outcomes.specs.Texts.{spent_line_if}
 use Rattle.view_outcomes.proofs.text.write_spent_lines.Goals as goal
 

@@ -1,6 +1,6 @@
 use Rattle.std.proofs.Common.{◌≡◌, ◌++◌, take}
 use Rattle.std.specs.List.{flat_map}
-use Rattle.script_play.specs.ReplyTexts.{event_lines}
+use Rattle.report_text.specs.ReportTexts.{event_lines}
 use Rattle.view_transcript.specs.Transcripts.{AreWrittenFrom, WrittenRooms}
 use Rattle.view_transcript.proofs.text.write_all_events.Given as goal
 

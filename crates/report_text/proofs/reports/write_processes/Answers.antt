@@ -1,9 +1,9 @@
 use Rattle.std.proofs.Common.{ap, slice_index_or}
 use Rattle.std.proofs.lemmas.List.{get_or_default}
 use Rattle.ws_history.specs.declared.states.ProcessState.TheVariants.{Going}
-use Rattle.script_play.specs.ReplyTexts.{process_line}
-use Rattle.script_play.proofs.ReplyTexts.{one_text_more}
-use Rattle.script_play.proofs.reply.write_processes.Goals as goal
+use Rattle.report_text.specs.ReportTexts.{process_line}
+use Rattle.report_text.proofs.Pieces.{one_text_more}
+use Rattle.report_text.proofs.reports.write_processes.Goals as goal
 
 pub loop-process-preserved : goal.loop-process-preserved
 loop-process-preserved c =
