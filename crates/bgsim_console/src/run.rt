@@ -97,7 +97,7 @@ fn both(first: Text, second: Text) -> Result<Text, AllocError>
         return Ok(second);
     }
     let mut text = first;
-    text.put(second.as_bytes())?;
+    text.put_long(second.as_bytes())?;
     Ok(text)
 }
 
@@ -126,7 +126,7 @@ impl Gathers for Reports {
     }
 
     fn add_all(&mut self, more: Reports) -> Result<(), AllocError> {
-        self.text.put(more.text.as_bytes())?;
+        self.text.put_long(more.text.as_bytes())?;
         Ok(())
     }
 }

@@ -136,6 +136,17 @@ impl Text {
         Ok(())
     }
 
+    /// Appends a long piece to the text, whose place isn't filled before. An `Err` leaves the text as it was.
+    pub fn put_long(&mut self, more: &[u8]) -> Result<(), AllocError>
+        ensures text { OnOk result (self.new ≡ self.old ++ more.now) }
+        ensures err { OnErr result (self.new ≡ self.old) }
+    {
+        self.bytes.truncate(self.len);
+        self.bytes.extend_from_slice(more)?;
+        self.len = self.bytes.len();
+        Ok(())
+    }
+
     /// Appends a short text to the text. An `Err` leaves it as it was.
     #[inline(always)]
     pub fn put_short(&mut self, short: &ShortText) -> Result<(), AllocError>

@@ -124,7 +124,7 @@ pub fn write_lines(
         standing.crashed.as_slice(),
         lines.count,
     )?;
-    output.put(lines.text.as_bytes())?;
+    output.put_long(lines.text.as_bytes())?;
     output.put_two(name, b" end\n")
 }
 

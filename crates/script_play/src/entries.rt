@@ -83,6 +83,7 @@ fn step_command(word: &[u8], name: Name, sim: &[u8], count: &[u8]) -> Option<Com
 }
 
 /// The number that a field is, from `least` to `most`.
+#[inline(always)]
 pub(crate) fn read_within(least: u16, most: u16, field: &[u8]) -> Option<u16>
     ensures value { result ≡ number_within least most field.now }
     ensures range { IfSome result (λ number. number ≤ most) }
