@@ -36,10 +36,10 @@ def overlapping(frames):
     frames = sorted(frames, key=lambda frame: frame[1])
     pairs = 0
     for index, one in enumerate(frames):
-        for other in frames[index + 1:]:
-            if other[1] >= one[3]:
-                break
-            pairs += overlap(one, other)
+        after = index + 1
+        while after < len(frames) and frames[after][1] < one[3]:
+            pairs += overlap(one, frames[after])
+            after += 1
     return pairs
 
 
