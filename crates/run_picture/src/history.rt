@@ -1,7 +1,6 @@
 //! The lanes of the processes: each event at the step at which it takes effect, and the state of each process.
 ghost use Rattle.std.specs.Prelude.{◌≡◌, ◌+◌, ◌*◌, ◌++◌, ◌∷◌, ◌≤◌, ◌<◌, IfOk, OnOk, length};
 ghost use Rattle.transcript.specs.Grammar.{entry_text};
-ghost use Rattle.transcript.specs.Runs.{process_of};
 ghost use Rattle.run_picture.specs.History.{all_events, box_width, boxed, column_for, decided_words, entries_text, event_box, event_corner, event_fill, event_hint, event_ink, event_shapes, event_start, event_width, event_words, event_x, events_right, first_pen, held_words, lane_events, lane_line, lane_right, last_line, own_pen, own_shapes, pen_after, process_lane, process_lanes, row_processes, tie, tied};
 ghost use Rattle.run_picture.specs.Words.{process_name};
 
@@ -99,7 +98,7 @@ fn add_own(
     ensures boxes { OnOk result (boxes.new ≡ boxes.old ++ own_shapes boxed panel.now columns.now grid process pen event.now) }
     ensures pen { IfOk result (λ after. after ≡ own_pen panel.now columns.now grid process pen event.now) }
 {
-    if process_of(event) != process {
+    if event.process() != process {
         return Ok(pen);
     }
     let column = column_for(ties.alloc(), panel, columns, pen, event)?;
@@ -172,7 +171,7 @@ fn event_start(grid: Grid, pen: Pen, event: &Event, column: &Column) -> Point
     let row = grid.row(u64::from(column.place));
     Point {
         x: event_x(grid, pen, column),
-        y: grid.process_y(row, process_of(event)),
+        y: grid.process_y(row, event.process()),
     }
 }
 
@@ -207,7 +206,7 @@ fn add_tied(
     ensures { OnOk result (sheet.new ≡ sheet.old ++ tied grid start event.now column.now) }
 {
     let corner = grid.cell(column.first.simulator(), column.place);
-    add_tie(sheet, corner, start, Colour::Hue(process_of(event)))
+    add_tie(sheet, corner, start, Colour::Hue(event.process()))
 }
 
 /// Draws thin lines from a step's square, down and then to the event that takes effect there.
@@ -403,14 +402,6 @@ fn write_entry(output: &mut Text, entry: Option<u32>) -> Result<(), AllocError>
     }
 }
 
-fn process_of(event: &Event) -> u8
-    ensures { result ≡ process_of event.now }
-{
-    match event {
-        Event::Write { p, .. } | Event::Snap { p, .. } | Event::Decide { p, .. } => *p,
-    }
-}
-
 /// How wide the box of these words is.
 fn box_width(words: &[u8]) -> u64
     ensures value { result ≡ box_width words.now }
@@ -433,13 +424,13 @@ fn add_box(sheet: &mut Sheet, start: Point, event: &Event, words: &[u8]) -> Resu
 {
     let width = box_width(words);
     let frame = Frame::at(start, width, 22);
-    let outline = Colour::Hue(process_of(event));
+    let outline = Colour::Hue(event.process());
     let corner = event_corner(event);
-    let dashes = dashes_for(process_of(event));
+    let dashes = dashes_for(event.process());
     sheet.area(frame, corner, event_fill(event), outline, dashes)?;
     let middle = start.moved(width / 2, 15);
     sheet.label(middle, EVENT, event_ink(event), words)?;
-    let hint = event_hint(sheet.alloc(), process_of(event), words)?;
+    let hint = event_hint(sheet.alloc(), event.process(), words)?;
     sheet.hint(frame, hint.as_bytes())
 }
 
