@@ -18,6 +18,7 @@ mod engine;
 mod fault;
 mod inputs;
 mod progress;
+mod refused;
 mod showing;
 mod unread;
 
@@ -29,6 +30,7 @@ use fault::ViewFault;
 use inputs::Inputs;
 use io_text::{Device, DeviceFault, Text};
 use progress::{Counter, has_terminal};
+use refused::note_refused;
 use room_files::Outcome;
 use run_search::Progress;
 use std::alloc::Global;
@@ -131,6 +133,9 @@ fn ending<H: Threads + Sync, I: Inputs, W: Write, P: Progress>(
     };
     if ending == Err(ViewFault::Device(DeviceFault::Read)) {
         note_unread(inputs, &line, notes);
+    }
+    if ending == Ok(Outcome::SomeRefused) {
+        note_refused(line.command, notes);
     }
     ending
 }
