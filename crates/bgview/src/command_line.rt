@@ -598,7 +598,7 @@ fn is_given(matches: &ArgMatches<'_>, name: &str) -> bool
     }
 }
 
-/// The number after an option, or this one where the option isn't there.
+/// The number after an option, or this one if the option isn't there.
 fn number_among(matches: &ArgMatches<'_>, name: &str, default: u32) -> u32
     ensures { IsNumber (first_value (found_of matches.now) name.now) default result }
 {

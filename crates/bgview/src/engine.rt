@@ -1,4 +1,4 @@
-//! From bytes to bytes.
+//! Reads inputs, and writes the answers to them.
 ghost use Rattle.std.specs.Prelude.{◌≡◌, ◌+◌, ◌≤◌, ◌∷◌, [], List, ℕ, false, length, map, IfSome};
 ghost use Rattle.std.specs.Io.KnownBytes.{Appends};
 ghost use Rattle.io_text.specs.Devices.{HasRead, HasWritten, failed_writes};

@@ -1,5 +1,5 @@
-//! Shows what bgsim answers: why a transcript is no run, what each step of a script did, a picture of it, its rooms as a transcript, which outcomes a room may
-//! have by random schedules, all outcomes of its protocol, and what the numbers of faults mean.
+//! The program `bgview`: reads the input that the command line names, has the crate of the mode answer it, and writes the answer. What is said of an
+//! input's faults goes to standard error.
 #![tactic(auto)]
 
 ghost use Rattle.std.specs.Prelude.{◌≡◌, ◌≤◌, Bool, IfSome, List, ℕ, false, map, option_and_then};
@@ -234,7 +234,7 @@ fn ending_status(rt: &HostRuntime, ending: Result<Outcome, ViewFault>, notes: &T
     }
 }
 
-/// The status where this fault ended the answer, once it is printed on standard error with what else is said of it.
+/// The status if this fault ended the answer, once it is printed on standard error with what else is said of it.
 fn fault_status(rt: &HostRuntime, fault: ViewFault, notes: &[u8]) -> u8
     ensures { result ≡ fault_status fault }
 {
@@ -243,7 +243,7 @@ fn fault_status(rt: &HostRuntime, fault: ViewFault, notes: &[u8]) -> u8
     fault.status()
 }
 
-/// The status where the words could not be taken over, once that is printed on standard error.
+/// The status if the words could not be taken over, once that is printed on standard error.
 fn unread_status(rt: &HostRuntime, error: &io::Error) -> u8
     ensures { result ≡ unread_status (error_kind error.now) }
 {
@@ -254,7 +254,7 @@ fn unread_status(rt: &HostRuntime, error: &io::Error) -> u8
     2
 }
 
-/// The status where the words gave no line, once `clap`'s text is printed.
+/// The status if the words gave no line, once `clap`'s text is printed.
 fn words_status(rt: &HostRuntime, error: &clap::Error) -> u8
     ensures { (is_printed : Bool) × (result ≡ words_status (kind_of error.now) is_printed) }
 {

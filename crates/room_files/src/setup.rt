@@ -43,7 +43,7 @@ pub fn read_blocks<R: Opens, T: Refuses>(
     }
 }
 
-/// Takes all blocks of an input that has nothing else: what they say. Where the last has no line `end`
+/// Takes all blocks of an input that has nothing else: what they say. If the last has no line `end`,
 /// it is cut off, and refused. `Err` is an allocation that failed; an empty input needs none.
 #[tactic(auto, unfolding(crate::specs::Inputs::all_blocks_from))]
 pub fn read_all_blocks<R: Opens, T: Refuses>(

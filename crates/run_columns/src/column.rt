@@ -209,6 +209,7 @@ impl Columns {
         self.scale
     }
 
+    /// The columns, from the left; at most `MAX_COLUMNS`.
     pub fn columns(&self) -> &[Column]
         ensures value { result.now ≡ self.now.columns }
         ensures few { length result.now ≤ MAX_COLUMNS }

@@ -10,7 +10,7 @@ pub fn each_mark_has_a_column()
     ensures { (marks : List MarkData) → length marks ≤ 400 → map (λ column. column.first) (columns_of marks).columns ≡ marks }
 {}
 
-/// At each scale the columns show each step once, and each column knows how many steps are before it.
+/// At each scale the numbers of steps in the columns add up to the number of all steps, and each column knows how many steps are before it.
 pub fn each_step_is_counted()
     ensures numbered { (scale : ScaleData) (marks : List MarkData) → length marks < 2 ^ 63 → AreNumbered 0 (columns_by scale marks) }
     ensures counted { (scale : ScaleData) (marks : List MarkData) → length marks < 2 ^ 63 →

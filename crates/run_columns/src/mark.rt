@@ -43,7 +43,7 @@ pub struct Step {
     pub process: u8,
     /// The round of the process, counted from 1.
     pub round: u8,
-    /// Which word of a snapshot it loads or stores, counted from 0, where the snapshot takes several.
+    /// Which word of a snapshot it loads or stores, counted from 0, if the snapshot takes several.
     pub word: Option<u8>,
     pub deed: Deed,
     /// Whether it ends the turn, and how.

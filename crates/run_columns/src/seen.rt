@@ -32,7 +32,7 @@ fn small(number: usize) -> u8
     number.min(255) as u8
 }
 
-/// What a step at this line does. The first step of a turn is an ask where it loads.
+/// What a step at this line does. The first step of a turn is an ask if it loads.
 fn deed_of(line: Line, operation: Move) -> Deed
     ensures { result ≡ deed_of line operation }
 {
@@ -81,7 +81,7 @@ fn word_in(place: Place) -> Option<u8>
     }
 }
 
-/// Whether a step ended its turn, after which this is left to do: an ask for the same snapshot where the turn was quiet.
+/// Whether a step ended its turn, after which this is left to do: an ask for the same snapshot if the turn was quiet.
 fn end_of(left: Option<Goal>) -> Turn
     ensures { result ≡ turn_of left }
 {

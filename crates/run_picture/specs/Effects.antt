@@ -1,4 +1,4 @@
--- At which step each event of a process takes effect, as far as the steps of its room tell.
+-- At which step each event of a process takes effect, as far as the steps of its room show it.
 use Rattle.std.specs.Prelude.{ℕ, ◌+◌, ◌-◌, nat_le, nat_lt, List, [], ◌∷◌, length, min, Option, Some, None, fold, slice_index_or, if◌then◌else◌}
 use Rattle.transcript.specs.declared.event.Event.{Event}
 use Rattle.transcript.specs.declared.event.Event.TheVariants.{Write, Snap, Decide as Decision}

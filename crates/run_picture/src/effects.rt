@@ -1,4 +1,4 @@
-//! At which step each event of a process takes effect, as far as the steps of its room tell.
+//! At which step each event of a process takes effect, as far as the steps of its room show it.
 ghost use Rattle.std.specs.Prelude.{◌≡◌, IfOk, Some};
 ghost use Rattle.run_picture.specs.Effects.{by_any, chosen, column_of, event_step, first_in, first_step, from_end, last_word, least, read_step, reads_by, round_at, with_kept};
 

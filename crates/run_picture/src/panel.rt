@@ -78,7 +78,7 @@ impl Panel {
         self.report = Some(report);
     }
 
-    /// The state of each process; none where that isn't known yet.
+    /// The state of each process; none if that isn't known yet.
     pub(crate) fn states(&self) -> &[ProcessState]
         ensures value { result.now ≡ states_in self.now.report }
         ensures few { length result.now ≤ MAX_PROCESSES }

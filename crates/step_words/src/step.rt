@@ -23,9 +23,9 @@ const TURN_WIDTH: usize = 43;
 /// The width of the column with its operation.
 const OPERATION_WIDTH: usize = 36;
 
-/// Writes the line of an atomic step of a room, after four spaces: its number, which the caller counts; its turn, where this
+/// Writes the line of an atomic step of a room, after four spaces: its number, which the caller counts; its turn, if this
 /// is the first step of the turn that is described (`same_turn` is false); its operation; and what its word shows. A second line says
-/// what takes effect at the step, if something does, and where the step ends its turn a last one says how the turn ended.
+/// what takes effect at the step, if something does, and if the step ends its turn, a last one says how the turn ended.
 ///
 /// # Errors
 ///

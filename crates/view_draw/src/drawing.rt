@@ -1,4 +1,4 @@
-//! Who does a script's commands, and keeps what is drawn of them.
+//! Executes a script's commands, and keeps what is drawn of them.
 ghost use Rattle.std.specs.Prelude.{◌≡◌, [], false, None, Some, IfOk};
 ghost use Rattle.service_core.specs.Replies.{name_in};
 ghost use Rattle.service_core.specs.Rooms.{room_at};

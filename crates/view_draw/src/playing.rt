@@ -42,7 +42,7 @@ fn picture_from(alloc: Global, drawing: Drawing) -> Result<Text, AllocError>
     Ok(output)
 }
 
-/// The picture of these panels, where these rooms are still open.
+/// The picture of these panels, if these rooms are still open.
 fn picture_of(
     alloc: Global,
     rooms: &IndexMap<Name, RoomCore>,

@@ -1,4 +1,4 @@
-//! Who executes a script's commands, and keeps the last report.
+//! Executes a script's commands, and keeps the last report.
 ghost use Rattle.std.specs.Prelude.{◌≡◌, [], None};
 ghost use Rattle.script_play.specs.Play.{IsPerformed, refusal_in};
 ghost use Rattle.view_grade.specs.Grades.{HasKept, report_in};

@@ -1,4 +1,4 @@
-//! Laws of the scripts that a sample shows.
+//! Laws of what a sample says: of its scripts, and of tasks.
 ghost use Rattle.std.specs.Prelude.{◌≡◌, ◌↔◌, ℕ, List, Ok, true, length};
 ghost use Rattle.room_spec.specs.Blocks.{block_in};
 ghost use Rattle.room_spec.specs.Rooms.{IsWithinLimits, RoomSpec};

@@ -1,4 +1,4 @@
-//! The outcomes of a sampled room, as text: how often each came, a script that leads to it, and whether they keep the room's task.
+//! The outcomes of sampled rooms, as text or as JSON: how often each came, a script that leads to it, and whether they keep their room's task.
 #![tactic(auto)]
 
 mod counts;

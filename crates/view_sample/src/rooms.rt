@@ -21,7 +21,8 @@ use std::thread::Threads;
 /// How many times more a room is run at most to make its scripts short than to sample it.
 const MORE_TRIES: u32 = 2000;
 
-/// Samples each room by a plan, and writes its outcomes and whether they keep its task. Gives whether each room's task held.
+/// Samples each room by a plan, and writes what the plan asks for: its outcomes and whether they keep its task, or the script of one outcome.
+/// Gives whether each room's task held, or whether each room has that outcome.
 ///
 /// # Errors
 ///
@@ -53,8 +54,8 @@ fn tries_for(plan: &Plan) -> u32 {
     }
 }
 
-/// Samples the room of a block, and writes its outcomes, those first that came most often, and whether they keep its task. Gives whether
-/// it held.
+/// Samples the room of a block, and writes its outcomes, those first that came most often, and whether they keep its task; or the script of
+/// one outcome. Gives whether the task held, or whether there is that outcome.
 fn write_room<R: Threads + Sync, P: Progress>(
     rt: &R,
     alloc: Global,

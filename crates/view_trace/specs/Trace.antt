@@ -33,7 +33,7 @@ pub record AreLinesOf (steps : List TakenStep) (lines : List ℕ) : Type 0 where
   pub count : telling.number ≡ length steps
   pub lines_are : lines ≡ telling.lines
 
--- What is known of rooms that there are not: the blocks that were refused so far, and the names of commands that no room has.
+-- What is known of rooms that don't exist: the blocks that were refused so far, and the names of commands that no room has.
 pub record MissedRooms : Type 0 where
   pub refused : List RefusedBlock
   pub strangers : MetNames

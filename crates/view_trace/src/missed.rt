@@ -1,4 +1,4 @@
-//! Rooms that there are not: blocks of a script that were refused, and names of commands that no room has.
+//! Rooms that don't exist: blocks of a script that were refused, and names of commands that no room has.
 ghost use Rattle.std.specs.Prelude.{◌≡◌, ◌++◌, [], IfOk, OnOk};
 ghost use Rattle.fault_text.specs.Strangers.{is_met, met};
 ghost use Rattle.script_play.specs.Play.{Faulty};

@@ -63,7 +63,7 @@ impl Tracer {
         }
     }
 
-    /// Does a command, and writes the reply to it and the steps that it took, or why it was refused.
+    /// Executes a command, and writes the reply to it and the steps that it took, or why it was refused.
     fn tell(&mut self, alloc: Global, command: Command) -> Result<Option<Refusal>, AllocError>
         ensures { IfOk result (λ refusal. IsPerformed self.old.service (HasTraced self.old.service self.old.missed self.old.output)
             command refusal self.new.service (HasTraced self.new.service self.new.missed self.new.output)) }

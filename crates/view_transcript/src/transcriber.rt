@@ -1,4 +1,4 @@
-//! Who does a script's commands, and keeps what is known of each room.
+//! Executes a script's commands, and keeps what is known of each room.
 ghost use Rattle.std.specs.Prelude.{◌≡◌, [], List, ℕ, false, IfOk, OnOk, Some, true};
 ghost use Rattle.std.specs.Map.{keys_of};
 ghost use Rattle.std.specs.Str.{bytes_eq};
@@ -57,7 +57,7 @@ impl Transcriber {
         }
     }
 
-    /// Does a command that neither opens a room nor closes one, and notes the steps that it takes.
+    /// Executes a command that neither opens a room nor closes one, and notes the steps that it takes.
     fn lead(&mut self, alloc: Global, command: Command) -> Result<Option<Refusal>, AllocError>
         requires { Sees command }
         ensures { IfOk result (λ refusal. IsNotedOn self.old.service self.old.rooms.entries command refusal self.new.service self.new.rooms.entries) }
