@@ -35,7 +35,7 @@ is_of name panel = is_none panel.report && bytes_eq panel.head.name name
 abbrev pub with_marks : List ℕ → List Mark → Panel → Panel
 with_marks name marks panel = if is_of name panel then record panel { marks = panel.marks ++ marks } else panel
 
--- the panels, where this happened next in the room of this name
+-- the panels after this happened next in the room of this name
 abbrev pub noted : List ℕ → List Mark → List Panel → List Panel
 noted name marks panels = map (with_marks name marks) panels
 
@@ -52,7 +52,7 @@ changed change (Some place) xs = changed_at change place xs
 abbrev pub with_report : ReportData → Panel → Panel
 with_report report panel = record panel { report = Some report }
 
--- the panels, where this is the final state of the room of this name
+-- the panels, if this is the final state of the room of this name
 abbrev pub finished : List ℕ → ReportData → List Panel → List Panel
 finished name report panels = changed (with_report report) (position (is_of name) panels) panels
 
@@ -81,12 +81,12 @@ abbrev pub has_crashed : Reply → Bool
 has_crashed (replies.Crash Crashed) = true
 has_crashed reply = false
 
--- where a command is refused none is
+-- if a command is refused, none is
 abbrev pub DrawsStepsUnless : Option Refusal → Entries → List ℕ → Command → List Panel → List Panel → Type 0
 DrawsStepsUnless None rooms name command before after = DrawsSteps rooms name command before after
 DrawsStepsUnless (Some refusal) rooms name command before after = after ≡ before
 
--- a crash is drawn where the simulator did crash
+-- a crash is drawn if the simulator did crash
 abbrev pub crash_marks : ℕ → Reply → List Mark
 crash_marks simulator reply = if has_crashed reply then Crash simulator ∷ [] else []
 
@@ -189,7 +189,7 @@ pub record IsClosed (rooms : Entries) (panels : List Panel) (name : List ℕ) (r
   pub not_refused : refusal ≡ None
   pub draws : panels_after ≡ finished name report panels
 
--- the picture of these panels, where these rooms are still open
+-- the picture of these panels, if these rooms are still open
 pub record IsPictureOf (rooms : Entries) (panels : List Panel) (output : List ℕ) : Type 0 where
   pub at_end : List Panel
   pub finished_are : AreFinished rooms panels at_end

@@ -51,7 +51,7 @@ impl Drawing {
         }
     }
 
-    /// Does a command that lets the room of this name take steps, and draws these.
+    /// Executes a command that lets the room of this name take steps, and draws these.
     fn step_on(
         &mut self,
         alloc: Global,

@@ -23,7 +23,7 @@ pub record Course : Type 0 where
 abbrev pub begun : RoomSpec → Course
 begun spec = record { room = opening_state spec; schedule = []; is_open = true }
 
--- a course, where a command has left this of the room, or closed it
+-- a course, after a command has left this of the room, or closed it
 abbrev pub left_as : Course → List ScheduleEvent → Option RoomState → Course
 left_as course events None = record { room = course.room; schedule = course.schedule; is_open = false }
 left_as course events (Some room) = record { room = room; schedule = course.schedule ++ events; is_open = true }
