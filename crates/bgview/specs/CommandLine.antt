@@ -56,9 +56,13 @@ json_rule = record (new_rule (codes "json")) { long = Some (codes "json"); actio
 abbrev pub drawing_app : App
 drawing_app = with_rule (with_rule (with_rule (file_app (codes "sample")) schedules_rule) crashes_rule) seed_rule
 
--- the subcommand `sample`, which takes besides three numbers and two flags
+-- and which outcomes are shown
+abbrev pub choosing_app : App
+choosing_app = with_rule (with_rule drawing_app top_rule) outcome_rule
+
+-- the subcommand `sample`, which takes besides a number and two flags
 abbrev pub sample_app : App
-sample_app = with_rule (with_rule (with_rule (with_rule (with_rule drawing_app top_rule) outcome_rule) workers_rule) json_rule) brief_rule
+sample_app = with_rule (with_rule (with_rule choosing_app workers_rule) json_rule) brief_rule
 
 abbrev pub stopped_rule : Rule
 stopped_rule = number_rule (codes "crashes") 0 16

@@ -4,7 +4,7 @@ ghost use Rattle.clap.specs.Kinds.{FailsBy};
 ghost use Rattle.clap.specs.declared.builder.command.Command.TheViews.{out-Command};
 ghost use Rattle.clap.specs.Words.{app_of, fault_of, first_value, found_of, subcommand_of, subcommand_rows_of, with_subcommand};
 ghost use Rattle.clap.specs.Walk.{rule_of};
-ghost use Rattle.bgview.specs.CommandLine.{bgview_app, brief_rule, commands_rule, crashes_rule, drawing_app, fault_app, file_among, file_app, goal_rule, grade_app, is_given, json_rule, mode_among, mode_of, other_among, outcome_rule, outcomes_app, page_app, plain_app, sample_app, schedules_rule, seed_rule, states_rule, stopped_rule, top_rule, workers_rule, IsGradingAmong, IsNumber, IsNumberIfAny, IsPlanAmong, IsRequestAmong, IsSearchAmong};
+ghost use Rattle.bgview.specs.CommandLine.{bgview_app, brief_rule, choosing_app, commands_rule, crashes_rule, drawing_app, fault_app, file_among, file_app, goal_rule, grade_app, is_given, json_rule, mode_among, mode_of, other_among, outcome_rule, outcomes_app, page_app, plain_app, sample_app, schedules_rule, seed_rule, states_rule, stopped_rule, top_rule, workers_rule, IsGradingAmong, IsNumber, IsNumberIfAny, IsPlanAmong, IsRequestAmong, IsSearchAmong};
 
 use clap::{Arg, ArgAction, ArgMatches, Command, Error, value_parser};
 use room_sample::Plan;
@@ -156,17 +156,25 @@ fn transcript_command<'a>(alloc: Global) -> Result<Command<'a>, AllocError>
     )
 }
 
-/// The subcommand `sample`, which takes a file, numbers and a flag.
+/// The subcommand `sample`, which takes a file, numbers and flags.
 fn sample_command<'a>(alloc: Global) -> Result<Command<'a>, AllocError>
     ensures app { IfOk result (λ command. app_of command ≡ sample_app) }
     ensures local { IfOk result (λ command. (out-Command command).has_globals ≡ false) }
 {
-    let sample = drawing_command(alloc)?;
-    let with_top = sample.arg(top_option(alloc))?;
-    let with_outcome = with_top.arg(outcome_option(alloc))?;
-    let with_workers = with_outcome.arg(workers_option(alloc))?;
+    let sample = choosing_command(alloc)?;
+    let with_workers = sample.arg(workers_option(alloc))?;
     let with_json = with_workers.arg(json_option(alloc))?;
     with_json.arg(brief_option(alloc, "Leaves out the scripts"))
+}
+
+/// The subcommand `sample` with the options that say which schedules are drawn and which outcomes are shown.
+fn choosing_command<'a>(alloc: Global) -> Result<Command<'a>, AllocError>
+    ensures app { IfOk result (λ command. app_of command ≡ choosing_app) }
+    ensures local { IfOk result (λ command. (out-Command command).has_globals ≡ false) }
+{
+    let sample = drawing_command(alloc)?;
+    let with_top = sample.arg(top_option(alloc))?;
+    with_top.arg(outcome_option(alloc))
 }
 
 /// The subcommand `sample` with the options that say which schedules are drawn.
