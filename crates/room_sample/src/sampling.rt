@@ -10,7 +10,7 @@ use std::alloc::{AllocError, Global};
 use std::thread::Threads;
 
 /// How many schedules a worker runs before their outcomes are counted.
-const A_ROUND: u32 = 1024;
+const A_ROUND: u32 = 1000;
 
 /// The most threads at the same time.
 const MOST_WORKERS: u32 = 16;
