@@ -8,7 +8,6 @@ mod faults;
 pub mod laws;
 
 pub use faults::say_faults;
-
 use history_checker::{AddFault, NoRoom};
 use protocol_lang::ParseFault;
 use room_files::TextFault;

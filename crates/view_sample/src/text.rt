@@ -6,9 +6,9 @@ ghost use Rattle.view_sample.specs.Texts.{alone_text, count_words, most_lines, n
 
 use crate::counts::{most_of, once_in};
 use io_text::Text;
+use report_text::write_processes;
 use room_files::write_block;
 use room_sample::{Outcome, Plan, States, Stretch, Tally};
-use report_text::write_processes;
 use std::alloc::AllocError;
 
 /// Writes the outcomes of the room of this name, whose block these bytes are: how often each came, and a script for `play` that
