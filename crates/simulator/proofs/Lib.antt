@@ -15,3 +15,4 @@ mod Limits
 mod Onward
 mod Longer
 mod Valued
+mod Proposed

@@ -1,5 +1,5 @@
 -- Runs of many atomic steps.
-use Rattle.std.proofs.Common.{◌≡◌, ℕ, ◌+◌, Bool, true, false, ◌&&◌, ◌||◌, cond, eqb, ltb, List, [], ◌∷◌, ◌++◌, length, Option, Some, None, refl, sym, subst, ap, ◌∙◌, arith, length-append}
+use Rattle.std.proofs.Common.{◌≡◌, ◌≢◌, ◌⊎◌, inl, inr, ℕ, ◌<◌, ◌≤◌, ◌+◌, Bool, true, false, ◌&&◌, ◌||◌, cond, eqb, ltb, List, [], ◌∷◌, ◌++◌, length, Option, Some, None, refl, sym, subst, ap, ◌∙◌, arith, length-append}
 use Rattle.protocol_lang.specs.declared.meaning.Action.{Action}
 use Rattle.protocol_lang.specs.declared.meaning.Action.TheVariants as actions
 use Rattle.room_spec.specs.Rooms.{RoomSpec, processes}
@@ -49,6 +49,15 @@ runs_more does spec memory mind count last after answer next runs done = record 
   asked = asked_more does spec memory mind runs.answers last answer next runs.asked (subst (λ m. does last (move_of spec m) answer next) runs.mind_is done);
   turn_is = rw runs.mind_is (turn_more spec mind runs.answers answer runs.turn_is);
 }
+
+some_answers : (spec : RoomSpec) (mind : MindState) (answers : List ℕ) (turn : Turn) → LeavesTurn spec mind answers turn → turn ≢ Still → 0 < length answers
+some_answers spec mind [] turn leaves ends = absurd (ends leaves)
+some_answers spec mind (x ∷ answers) turn leaves ends = omega arith
+
+-- a run that takes no step more has taken one, if it may take any
+pub some_taken : {M : Type 0} (does : M → Move → ℕ → M → Type 0) (spec : RoomSpec) (memory : M) (mind : MindState) (count most : ℕ) (last : M) (after : MindState) (turn : Turn) → Runs does spec memory mind count last after turn → (most ≤ count) ⊎ (turn ≢ Still) → 0 < most → 0 < count
+some_taken does spec memory mind count most last after turn runs (inl all) some = omega (arith, all, some)
+some_taken does spec memory mind count most last after turn runs (inr ends) some = omega (arith, some_answers spec mind runs.answers turn runs.turn_is ends, runs.as_many)
 
 -- ---- a turn that hasn't ended wants an operation next
 

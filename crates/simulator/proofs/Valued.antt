@@ -11,10 +11,10 @@ use Rattle.simulator.specs.declared.turn.Turn.TheVariants.{Still}
 use Rattle.simulator.specs.Minds.{MindState}
 use Rattle.simulator.specs.Moves.{IsOperation, entry_in, move_at, move_of, taken, taken_at, value_index}
 use Rattle.simulator.specs.Ranges.{IsMind, at_line}
-use Rattle.simulator.specs.Runs.{Continues, Wants}
+use Rattle.simulator.specs.Runs.{Wants}
 use Rattle.simulator.specs.Turns.{TakenOf, counted, counted_by, gathered_all, goes_on, with_value}
 use Rattle.simulator.proofs.Limits.{small}
-use Rattle.simulator.proofs.Longer.{continues_on, wants_on}
+use Rattle.simulator.proofs.Longer.{RunsOn, runs_on}
 
 -- ---- one value more
 
@@ -50,10 +50,6 @@ fits_more spec row self after count answer is_mind is =
 
 -- ---- the run
 
-pub record RunsOn {M C : Type 0} (serves : M → C → RoomSpec → MindState → Type 0) (does : M → Move → ℕ → M → Type 0) (context : C) (spec : RoomSpec) (memory next : M) (before after : MindState) (turn : Turn) : Type 0 where
-  pub wants : Wants serves context spec next after turn
-  pub continues : (count : ℕ) → Continues does spec count memory before Still (count + 1) next after turn
-
 pub value_on : {M C : Type 0} (serves : M → C → RoomSpec → MindState → Type 0) (does : M → Move → ℕ → M → Type 0)
     (serves_on : (memory : M) (context : C) (spec : RoomSpec) (mind : MindState) (answer : ℕ) (next : M) → serves memory context spec mind → IsMind spec mind → IsOperation (move_of spec mind) → does memory (move_of spec mind) answer next → serves next context spec (taken spec mind answer).mind)
     (context : C) (spec : RoomSpec) (memory next : M) (self after end : MindState) (count answer : ℕ) (load : Move) (later : Line) (turn : Turn)
@@ -61,14 +57,11 @@ pub value_on : {M C : Type 0} (serves : M → C → RoomSpec → MindState → T
     → load ≡ Load (value_index spec self (length self.entries)) → does memory load answer next
     → after ≡ with_value (entry_in spec self.snapshot) spec answer self
     → at_line later end ≡ (gathered_all spec (counted_by (count + 1) after)).mind → turn ≡ (gathered_all spec (counted_by (count + 1) after)).turn
-    → RunsOn serves does context spec memory next (at_line Values (counted_by count self)) (at_line later end) turn
+    → RunsOn serves does context spec 1 memory next (at_line Values (counted_by count self)) (at_line later end) turn
 value_on serves does serves_on context spec memory next self after end count answer load later turn wants loads done is mind_is turn_is =
     let before : MindState = counted_by count self in
     let asked : does memory (move_at Values spec before) answer next = subst (λ (move : Move). does memory move answer next) loads done in
     let same = value_taken spec self after count answer is in
     let mind : at_line later end ≡ (taken_at Values spec (counted before) answer).mind = mind_is ∙ ap (λ (t : TakenOf (List ℕ)). t.mind) same in
     let turns : turn ≡ (taken_at Values spec (counted before) answer).turn = turn_is ∙ ap (λ (t : TakenOf (List ℕ)). t.turn) same in
-    record {
-      wants = wants_on serves does serves_on context spec memory next before end Values later answer turn wants asked mind turns;
-      continues = continues_on serves does serves_on context spec memory next before end Values later answer turn wants asked mind turns;
-    }
+    runs_on serves does serves_on context spec memory next before end Values later answer turn wants asked mind turns

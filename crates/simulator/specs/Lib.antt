@@ -8,3 +8,4 @@ pub mod Quiet
 pub mod Bounds
 pub mod Notes
 pub mod Runs
+pub mod Parts

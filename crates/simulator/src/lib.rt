@@ -16,6 +16,8 @@ mod memory;
 mod mind;
 mod next;
 mod operation;
+mod part;
+mod rows;
 mod running;
 mod snapshot;
 mod sweep;

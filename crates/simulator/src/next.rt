@@ -7,8 +7,9 @@ ghost use Rattle.view_table.specs.Places.{words_of};
 ghost use Rattle.view_table.specs.declared.place.Place.TheVariants as places;
 ghost use Rattle.simulator.specs.declared.operation.Move.TheVariants as moves;
 ghost use Rattle.simulator.specs.Minds.{current_goal, current_round, is_unfinished, next_process};
-ghost use Rattle.simulator.specs.Moves.{first_move, first_move_at, index_in, leave_by, level_unit, levels_index, memory_index, move_at, entry_in, step_index, step_unit, value_index, view_index};
+ghost use Rattle.simulator.specs.Moves.{first_move, first_move_at, index_in, move_at, entry_in, value_index, view_index};
 ghost use Rattle.simulator.specs.Notes.{AreLastWrites};
+ghost use Rattle.simulator.specs.Parts.{IsPartOf};
 ghost use Rattle.simulator.specs.Ranges.{IsGoal, IsMind, IsMindSomewhere, at_line};
 ghost use Rattle.simulator.specs.Turns.{words_in};
 
@@ -16,10 +17,10 @@ use crate::goal::{Goal, next_process};
 use crate::line::Line;
 use crate::mind::Mind;
 use crate::operation::Move;
+use crate::part::Part;
 use crate::words::index_in;
-use level_cells::one_at;
 use room_spec::{Shape, Spec};
-use sim_memory::{LastWrites, place};
+use sim_memory::LastWrites;
 use view_table::{Place, index};
 
 impl Mind {
@@ -31,12 +32,12 @@ impl Mind {
     {
         match line {
             Line::Rest => self.first_move(spec),
-            Line::Raise => self.raise_move(spec),
-            Line::Snap => self.snap_move(spec),
+            Line::Raise => self.part(spec).raise(),
+            Line::Snap => self.part(spec).snap(self.word()),
             Line::Show => self.show_move(spec),
-            Line::Enter => self.enter_move(spec),
-            Line::Look | Line::Ask => self.look_move(spec),
-            Line::Leave { saw_two } => self.leave_move(spec, saw_two),
+            Line::Enter => self.part(spec).enter(),
+            Line::Look | Line::Ask => self.part(spec).look(),
+            Line::Leave { saw_two } => self.part(spec).leave(saw_two),
             Line::GetView { chosen } => self.view_move(spec, chosen),
             Line::Values => self.value_move(spec),
             Line::Out { decision } => self.out_move(spec, decision),
@@ -57,60 +58,14 @@ impl Mind {
         first_move_at(spec, self.number(), process, self.goals[process])
     }
 
-    fn raise_move(&self, spec: &Spec) -> Move
-        requires { IsMindSomewhere spec.now self.now }
-        ensures { result ≡ moves.Add (step_index spec.now self.now) (step_unit spec.now self.now) }
-    {
-        let (word, at) = place(&spec.shape(), self.number(), self.process());
-        Move::Add(index_in(spec, Place::Memory { word }), one_at(at))
-    }
-
-    fn snap_move(&self, spec: &Spec) -> Move
-        requires { self.now.word < words_in spec.now }
-        ensures { result ≡ moves.Load (memory_index spec.now self.now.word) }
-    {
-        Move::Load(index_in(spec, Place::Memory { word: self.word() }))
-    }
-
     fn show_move(&self, spec: &Spec) -> Move
         requires is_mind { IsMindSomewhere spec.now self.now }
         requires open { is_unfinished (current_goal self.now) ≡ true }
         requires word { self.now.word < words_in spec.now }
         ensures { result ≡ moves.Store (view_index spec.now self.now.number self.now) (slice_index self.now.snapshot self.now.word) }
     {
-        Move::Store(
-            self.view_index(spec, self.number()),
-            self.snapshot.word(self.word()),
-        )
-    }
-
-    fn enter_move(&self, spec: &Spec) -> Move
-        requires is_mind { IsMindSomewhere spec.now self.now }
-        requires open { is_unfinished (current_goal self.now) ≡ true }
-        ensures { result ≡ moves.Add (levels_index spec.now self.now) (level_unit self.now) }
-    {
-        Move::Add(self.levels_index(spec), one_at(2 * self.number()))
-    }
-
-    fn look_move(&self, spec: &Spec) -> Move
-        requires is_mind { IsMindSomewhere spec.now self.now }
-        requires open { is_unfinished (current_goal self.now) ≡ true }
-        ensures { result ≡ moves.Load (levels_index spec.now self.now) }
-    {
-        Move::Load(self.levels_index(spec))
-    }
-
-    fn leave_move(&self, spec: &Spec, saw_two: bool) -> Move
-        requires is_mind { IsMindSomewhere spec.now self.now }
-        requires open { is_unfinished (current_goal self.now) ≡ true }
-        ensures { result ≡ leave_by saw_two (levels_index spec.now self.now) (level_unit self.now) }
-    {
-        let (index, unit) = (self.levels_index(spec), one_at(2 * self.number()));
-        if saw_two {
-            Move::Sub(index, unit)
-        } else {
-            Move::Add(index, unit)
-        }
+        let word = self.word();
+        self.part(spec).show(word, self.snapshot.word(word))
     }
 
     fn view_move(&self, spec: &Spec, chosen: u16) -> Move
@@ -120,7 +75,7 @@ impl Mind {
         requires word { self.now.word < words_in spec.now }
         ensures { result ≡ moves.Load (view_index spec.now chosen self.now) }
     {
-        Move::Load(self.view_index(spec, usize::from(chosen)))
+        self.part(spec).get_view(usize::from(chosen), self.word())
     }
 
     fn value_move(&self, spec: &Spec) -> Move
@@ -168,34 +123,19 @@ impl Mind {
         Move::Store(index_in(spec, out), u64::from(decision) + 1)
     }
 
-    /// The word of the agreement that its turn works on.
-    fn levels_index(&self, spec: &Spec) -> usize
+    /// Its part in the agreement that its turn works on.
+    #[inline(always)]
+    pub(crate) fn part(&self, spec: &Spec) -> Part
         requires is_mind { IsMindSomewhere spec.now self.now }
         requires open { is_unfinished (current_goal self.now) ≡ true }
-        ensures { result ≡ levels_index spec.now self.now }
+        ensures { IsPartOf spec.now self.now result }
     {
-        let levels = Place::Levels {
+        Part {
+            shape: spec.shape(),
+            simulator: self.number(),
             process: self.process(),
             round: usize::from(self.round()),
-        };
-        index_in(spec, levels)
-    }
-
-    /// The word of a simulator's proposal to that agreement.
-    fn view_index(&self, spec: &Spec, simulator: usize) -> usize
-        requires is_mind { IsMindSomewhere spec.now self.now }
-        requires open { is_unfinished (current_goal self.now) ≡ true }
-        requires simulator { simulator < spec.now.simulators }
-        requires word { self.now.word < words_in spec.now }
-        ensures { result ≡ view_index spec.now simulator self.now }
-    {
-        let view = Place::View {
-            simulator,
-            process: self.process(),
-            round: usize::from(self.round()),
-            word: self.word(),
-        };
-        index_in(spec, view)
+        }
     }
 
     /// The round of the process that its turn works on.
@@ -216,17 +156,22 @@ pub(crate) fn first_move_at(spec: &Spec, simulator: usize, process: usize, goal:
 {
     match goal {
         Goal::Write { round, value } => {
-            let round = usize::from(round);
-            let place = Place::Value {
+            let part = Part {
+                shape: spec.shape(),
                 simulator,
                 process,
-                round,
+                round: usize::from(round),
             };
-            Move::Store(index_in(spec, place), u64::from(value))
+            part.write(value)
         }
         Goal::Ask { round } => {
-            let round = usize::from(round);
-            Move::Load(index_in(spec, Place::Levels { process, round }))
+            let part = Part {
+                shape: spec.shape(),
+                simulator,
+                process,
+                round: usize::from(round),
+            };
+            part.look()
         }
         Goal::Done | Goal::Spent => Move::Finished,
     }

@@ -14,6 +14,7 @@ use crate::line::Line;
 use crate::memory::{Memory, Told};
 use crate::mind::Mind;
 use crate::next::first_move_at;
+use crate::rows::Run;
 use crate::turn::Turn;
 use crate::words::chosen_in;
 use room_spec::Spec;
@@ -25,41 +26,6 @@ struct Taken {
     answer: u64,
     turn: Turn,
     line: Line,
-}
-
-/// The atomic steps of a run so far: how many, what has become of the turn, and the line that comes then.
-#[derive(Drop)]
-struct Run {
-    count: u64,
-    turn: Turn,
-    line: Line,
-}
-
-impl Run {
-    /// Whether it takes another step, of at most this many.
-    #[inline(always)]
-    fn goes_on(&self, most: u64) -> bool
-        ensures on { result ≡ true → (self.now.count < most) × (self.now.turn ≡ Still) }
-        ensures off { result ≡ false → (most ≤ self.now.count) ⊎ (self.now.turn ≢ Still) }
-    {
-        self.count < most && matches!(self.turn, Turn::Still)
-    }
-
-    /// Whether it takes another step, of at most this many, and is at this line, whatever the line carries.
-    #[inline(always)]
-    fn goes_on_at(&self, line: Line, most: u64) -> bool
-        ensures { result ≡ true → (self.now.count < most) × (self.now.turn ≡ Still) }
-    {
-        self.goes_on(most) && self.line.is_like(line)
-    }
-
-    /// Whether it takes another step, of at most this many, and is at the line of values.
-    #[inline(always)]
-    fn is_at_value(&self, most: u64) -> bool
-        ensures { result ≡ true → (self.now.count < most) × (self.now.turn ≡ Still) × (self.now.line ≡ Values) }
-    {
-        self.goes_on(most) && matches!(self.line, Line::Values)
-    }
 }
 
 impl Mind {
@@ -93,148 +59,26 @@ impl Mind {
             turn: Turn::Still,
             line: self.current_line(), // The mind's own is an earlier one until the end.
         };
-        while run.goes_on(most) {
-            self.step(spec, &mut run, context, memory);
+        loop {
             self.in_a_row(spec, most, &mut run, context, memory);
+            if !run.goes_on(most) {
+                break;
+            }
+            self.step(spec, &mut run, context, memory);
         }
         self.stand_at(run.line);
         (run.count, run.turn)
     }
 
-    /// Takes the steps of the lines that follow each other in most turns. Each is named here, so that the compiler
-    /// goes from one to the next without a look-up of the line in `take_step`; any other line is looked up there.
-    #[inline(always)]
-    fn in_a_row<C, M: Memory<C>>(
-        &mut self,
-        spec: &Spec,
-        most: u64,
-        run: &mut Run,
-        context: &C,
-        memory: &mut M,
-    )
-        requires wants { Wants M.serves context.now spec.now memory.old (at_line run.old.line self.old) run.old.turn }
-        ensures wants { Wants M.serves context.now spec.now memory.new (at_line run.new.line self.new) run.new.turn }
-        ensures continues { Continues M.does spec.now run.old.count memory.old (at_line run.old.line self.old) run.old.turn run.new.count memory.new (at_line run.new.line self.new) run.new.turn }
-        ensures more { run.old.count ≤ run.new.count }
-        ensures most { run.old.count ≤ most → run.new.count ≤ most }
-    {
-        self.along(spec, most, Line::Raise, run, context, memory);
-        self.along(spec, most, Line::Snap, run, context, memory);
-        self.along(spec, most, Line::Show, run, context, memory);
-        self.along(spec, most, Line::Enter, run, context, memory);
-        self.along(spec, most, Line::Look, run, context, memory);
-        self.along(
-            spec,
-            most,
-            Line::Leave { saw_two: false },
-            run,
-            context,
-            memory,
-        );
-        self.along(spec, most, Line::Ask, run, context, memory);
-        self.along(
-            spec,
-            most,
-            Line::GetView { chosen: 0 },
-            run,
-            context,
-            memory,
-        );
-        self.along_values(spec, most, run, context, memory);
-    }
-
-    /// Takes steps as long as the run is at this line, whatever the line carries.
-    #[inline(always)]
-    fn along<C, M: Memory<C>>(
-        &mut self,
-        spec: &Spec,
-        most: u64,
-        line: Line,
-        run: &mut Run,
-        context: &C,
-        memory: &mut M,
-    )
-        requires wants { Wants M.serves context.now spec.now memory.old (at_line run.old.line self.old) run.old.turn }
-        ensures wants { Wants M.serves context.now spec.now memory.new (at_line run.new.line self.new) run.new.turn }
-        ensures continues { Continues M.does spec.now run.old.count memory.old (at_line run.old.line self.old) run.old.turn run.new.count memory.new (at_line run.new.line self.new) run.new.turn }
-        ensures more { run.old.count ≤ run.new.count }
-        ensures most { run.old.count ≤ most → run.new.count ≤ most }
-    {
-        while run.goes_on_at(line, most) {
-            self.step(spec, run, context, memory);
-        }
-    }
-
-    /// Takes steps as long as the run is at the line of values.
-    #[inline(always)]
-    fn along_values<C, M: Memory<C>>(
-        &mut self,
-        spec: &Spec,
-        most: u64,
-        run: &mut Run,
-        context: &C,
-        memory: &mut M,
-    )
-        requires wants { Wants M.serves context.now spec.now memory.old (at_line run.old.line self.old) run.old.turn }
-        ensures wants { Wants M.serves context.now spec.now memory.new (at_line run.new.line self.new) run.new.turn }
-        ensures continues { Continues M.does spec.now run.old.count memory.old (at_line run.old.line self.old) run.old.turn run.new.count memory.new (at_line run.new.line self.new) run.new.turn }
-        ensures more { run.old.count ≤ run.new.count }
-        ensures most { run.old.count ≤ most → run.new.count ≤ most }
-    {
-        if !run.is_at_value(most) {
-            return;
-        }
-        let taken = self.take_values(spec, most - run.count, context, memory);
-        run.count += taken.count;
-        run.turn = taken.turn;
-        run.line = taken.line;
-    }
-
-    /// Takes up to `most` steps at the line of values, one at least. What they all ask of the room and of the snapshot
-    /// is looked up once, and they are counted once.
-    #[inline(always)]
-    fn take_values<C, M: Memory<C>>(
-        &mut self,
-        spec: &Spec,
-        most: u64,
-        context: &C,
-        memory: &mut M,
-    ) -> Run
-        requires wants { Wants M.serves context.now spec.now memory.old (at_line Values self.old) Still }
-        requires most { 0 < most }
-        ensures wants { Wants M.serves context.now spec.now memory.new (at_line result.line self.new) result.turn }
-        ensures continues { (count : ℕ) → Continues M.does spec.now count memory.old (at_line Values self.old) Still (count + result.count) memory.new (at_line result.line self.new) result.turn }
-        ensures count { result.count ≤ most }
-    {
-        let shape = spec.shape();
-        let last = self.snapshot.last_writes(spec);
-        let mut count = 0;
-        while count < most {
-            let load = self.value_move_by(spec, &shape, &last);
-            let value = memory.operate(context, load);
-            self.add_value(spec, &last, value);
-            count += 1;
-            if self.entries.len() >= spec.n() {
-                self.count_steps(count);
-                let turn = self.conclude(spec);
-                return Run {
-                    count,
-                    turn,
-                    line: self.current_line(),
-                };
-            }
-        }
-        self.count_steps(count);
-        Run {
-            count,
-            turn: Turn::Still,
-            line: Line::Values,
-        }
-    }
-
     /// Takes one step more.
     #[inline(always)]
-    fn step<C, M: Memory<C>>(&mut self, spec: &Spec, run: &mut Run, context: &C, memory: &mut M)
+    pub(crate) fn step<C, M: Memory<C>>(
+        &mut self,
+        spec: &Spec,
+        run: &mut Run,
+        context: &C,
+        memory: &mut M,
+    )
         requires wants { Wants M.serves context.now spec.now memory.old (at_line run.old.line self.old) run.old.turn }
         requires still { run.old.turn ≡ Still }
         requires room { run.old.count < u64.MAX }
@@ -271,7 +115,7 @@ impl Mind {
     }
 
     #[inline(always)]
-    fn current_line(&self) -> Line
+    pub(crate) fn current_line(&self) -> Line
         ensures { result ≡ self.now.line }
     {
         self.line

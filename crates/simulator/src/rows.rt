@@ -1,0 +1,314 @@
+//! The lines of a turn that follow each other in most turns, taken in a row. What a line does stands in `part` and `taking`;
+//! here the numbers that several lines share are looked up once for all of them, no line is stored between two
+//! steps, and a row of steps is counted once.
+ghost use Rattle.std.specs.Prelude.{ℕ, Some, ◌≡◌, ◌≢◌, ◌⊎◌, ◌+◌, ◌<◌, ◌≤◌, true, false};
+ghost use Rattle.room_spec.specs.Shapes.{sizes_of};
+ghost use Rattle.room_spec.specs.Sizes.{sizes_in};
+ghost use Rattle.simulator.specs.declared.goal.Goal.TheVariants as goals;
+ghost use Rattle.simulator.specs.declared.line.Line.TheVariants.{Enter, Rest, Values};
+ghost use Rattle.simulator.specs.declared.turn.Turn.TheVariants.{Still};
+ghost use Rattle.simulator.specs.Minds.{goal_at, next_process};
+ghost use Rattle.simulator.specs.Parts.{IsPartOf};
+ghost use Rattle.simulator.specs.Ranges.{at_line};
+ghost use Rattle.simulator.specs.Runs.{Continues, Wants};
+ghost use Rattle.simulator.specs.Turns.{words_in};
+
+use crate::goal::Goal;
+use crate::line::Line;
+use crate::memory::Memory;
+use crate::mind::Mind;
+use crate::part::Part;
+use crate::turn::Turn;
+use crate::words::chosen_in;
+use room_spec::Spec;
+use safe_agreement::has_level;
+
+/// The atomic steps of a run so far: how many, what has become of the turn, and the line that comes then.
+#[derive(Drop)]
+pub(crate) struct Run {
+    pub(crate) count: u64,
+    pub(crate) turn: Turn,
+    pub(crate) line: Line,
+}
+
+impl Run {
+    /// Whether it takes another step, of at most this many.
+    #[inline(always)]
+    pub(crate) fn goes_on(&self, most: u64) -> bool
+        ensures on { result ≡ true → (self.now.count < most) × (self.now.turn ≡ Still) }
+        ensures off { result ≡ false → (most ≤ self.now.count) ⊎ (self.now.turn ≢ Still) }
+    {
+        self.count < most && matches!(self.turn, Turn::Still)
+    }
+
+    /// Whether it takes another step, of at most this many, and is at this line, whatever the line carries.
+    #[inline(always)]
+    fn goes_on_at(&self, line: Line, most: u64) -> bool
+        ensures { result ≡ true → (self.now.count < most) × (self.now.turn ≡ Still) }
+    {
+        self.goes_on(most) && self.line.is_like(line)
+    }
+
+    /// Whether it is at this line, and takes at least `few` steps more, of at most `most` in all.
+    #[inline(always)]
+    fn is_at(&self, line: Line, few: u64, most: u64) -> bool
+        ensures { result ≡ true → (self.now.count + few ≤ most) × (self.now.turn ≡ Still) × (self.now.line ≡ line) }
+    {
+        self.goes_on(most) && most - self.count >= few && self.line == line
+    }
+
+    /// With the steps of a row.
+    #[inline(always)]
+    fn add(&mut self, row: Run)
+        requires { self.old.count + row.count ≤ u64.MAX }
+        ensures count { self.new.count ≡ self.old.count + row.count }
+        ensures turn { self.new.turn ≡ row.turn }
+        ensures line { self.new.line ≡ row.line }
+    {
+        self.count += row.count;
+        self.turn = row.turn;
+        self.line = row.line;
+    }
+}
+
+impl Mind {
+    /// Takes the steps of the lines that follow each other in most turns.
+    #[inline(always)]
+    pub(crate) fn in_a_row<C, M: Memory<C>>(
+        &mut self,
+        spec: &Spec,
+        most: u64,
+        run: &mut Run,
+        context: &C,
+        memory: &mut M,
+    )
+        requires wants { Wants M.serves context.now spec.now memory.old (at_line run.old.line self.old) run.old.turn }
+        ensures wants { Wants M.serves context.now spec.now memory.new (at_line run.new.line self.new) run.new.turn }
+        ensures continues { Continues M.does spec.now run.old.count memory.old (at_line run.old.line self.old) run.old.turn run.new.count memory.new (at_line run.new.line self.new) run.new.turn }
+        ensures more { run.old.count ≤ run.new.count }
+        ensures most { run.old.count ≤ most → run.new.count ≤ most }
+    {
+        self.along_proposal(spec, most, run, context, memory);
+        self.along(spec, most, Line::Raise, run, context, memory);
+        self.along(spec, most, Line::Snap, run, context, memory);
+        self.along(spec, most, Line::Show, run, context, memory);
+        self.along_agreement(spec, most, run, context, memory);
+        self.along(
+            spec,
+            most,
+            Line::GetView { chosen: 0 },
+            run,
+            context,
+            memory,
+        );
+        self.along_values(spec, most, run, context, memory);
+    }
+
+    /// Takes the first eight steps of a turn that begins with a write, if as many are left and the memory is one word.
+    #[inline(always)]
+    fn along_proposal<C, M: Memory<C>>(
+        &mut self,
+        spec: &Spec,
+        most: u64,
+        run: &mut Run,
+        context: &C,
+        memory: &mut M,
+    )
+        requires wants { Wants M.serves context.now spec.now memory.old (at_line run.old.line self.old) run.old.turn }
+        ensures wants { Wants M.serves context.now spec.now memory.new (at_line run.new.line self.new) run.new.turn }
+        ensures continues { Continues M.does spec.now run.old.count memory.old (at_line run.old.line self.old) run.old.turn run.new.count memory.new (at_line run.new.line self.new) run.new.turn }
+        ensures more { run.old.count ≤ run.new.count }
+        ensures most { run.old.count ≤ most → run.new.count ≤ most }
+    {
+        if !run.is_at(Line::Rest, 8, most) || spec.shape().memory_words() != 1 {
+            return;
+        }
+        let Some(process) = self.next_process() else {
+            return;
+        };
+        let Goal::Write { round, value } = self.goal(process) else {
+            return;
+        };
+        let part = Part {
+            shape: spec.shape(),
+            simulator: self.number(),
+            process,
+            round: usize::from(round),
+        };
+        self.take_opening(spec, &part, value, context, memory);
+        run.count += 4;
+        let row = self.take_agreement(spec, &part, context, memory);
+        run.add(row);
+    }
+
+    /// Takes the first four steps of a turn that begins with a write, if the memory is one word: stores the write, counts it,
+    /// and proposes a snapshot.
+    #[inline(always)]
+    fn take_opening<C, M: Memory<C>>(
+        &mut self,
+        spec: &Spec,
+        part: &Part,
+        value: u32,
+        context: &C,
+        memory: &mut M,
+    )
+        requires wants { Wants M.serves context.now spec.now memory.old (at_line Rest self.old) Still }
+        requires one { words_in spec.now ≡ 1 }
+        requires process { next_process self.old.goals self.old.process ≡ Some part.now.process }
+        requires goal { goal_at self.old.goals part.now.process ≡ goals.Write part.now.round value }
+        requires simulator { part.now.simulator ≡ self.old.number }
+        requires sizes { sizes_of part.now.shape ≡ sizes_in spec.now }
+        ensures wants { Wants M.serves context.now spec.now memory.new (at_line Enter self.new) Still }
+        ensures continues { (count : ℕ) → Continues M.does spec.now count memory.old (at_line Rest self.old) Still (count + 4) memory.new (at_line Enter self.new) Still }
+        ensures part { IsPartOf spec.now self.new part.now }
+    {
+        memory.operate(context, part.write(value));
+        memory.operate(context, part.raise());
+        let word = memory.operate(context, part.snap(0));
+        memory.operate(context, part.show(0, word));
+        self.snapshot.put(0, word);
+        self.begin_on(part.process);
+        self.count_steps(4);
+    }
+
+    /// Takes the four steps of an agreement: enters it, looks at its levels, leaves it, and asks which proposal was
+    /// chosen.
+    #[inline(always)]
+    fn take_agreement<C, M: Memory<C>>(
+        &mut self,
+        spec: &Spec,
+        part: &Part,
+        context: &C,
+        memory: &mut M,
+    ) -> Run
+        requires wants { Wants M.serves context.now spec.now memory.old (at_line Enter self.old) Still }
+        requires part { IsPartOf spec.now self.old part.now }
+        ensures wants { Wants M.serves context.now spec.now memory.new (at_line result.line self.new) result.turn }
+        ensures continues { (count : ℕ) → Continues M.does spec.now count memory.old (at_line Enter self.old) Still (count + 4) memory.new (at_line result.line self.new) result.turn }
+        ensures count { result.count ≡ 4 }
+    {
+        memory.operate(context, part.enter());
+        let levels = memory.operate(context, part.look());
+        let saw_two = has_level(levels, spec.m(), 2);
+        memory.operate(context, part.leave(saw_two));
+        let answer = memory.operate(context, part.look());
+        self.count_steps(4);
+        let turn = self.ask(chosen_in(spec, answer));
+        Run {
+            count: 4,
+            turn,
+            line: self.current_line(),
+        }
+    }
+
+    /// Takes the four steps of an agreement, if as many are left.
+    #[inline(always)]
+    fn along_agreement<C, M: Memory<C>>(
+        &mut self,
+        spec: &Spec,
+        most: u64,
+        run: &mut Run,
+        context: &C,
+        memory: &mut M,
+    )
+        requires wants { Wants M.serves context.now spec.now memory.old (at_line run.old.line self.old) run.old.turn }
+        ensures wants { Wants M.serves context.now spec.now memory.new (at_line run.new.line self.new) run.new.turn }
+        ensures continues { Continues M.does spec.now run.old.count memory.old (at_line run.old.line self.old) run.old.turn run.new.count memory.new (at_line run.new.line self.new) run.new.turn }
+        ensures more { run.old.count ≤ run.new.count }
+        ensures most { run.old.count ≤ most → run.new.count ≤ most }
+    {
+        if !run.is_at(Line::Enter, 4, most) {
+            return;
+        }
+        let part = self.part(spec);
+        let row = self.take_agreement(spec, &part, context, memory);
+        run.add(row);
+    }
+
+    /// Takes steps as long as the run is at this line, whatever the line carries.
+    #[inline(always)]
+    fn along<C, M: Memory<C>>(
+        &mut self,
+        spec: &Spec,
+        most: u64,
+        line: Line,
+        run: &mut Run,
+        context: &C,
+        memory: &mut M,
+    )
+        requires wants { Wants M.serves context.now spec.now memory.old (at_line run.old.line self.old) run.old.turn }
+        ensures wants { Wants M.serves context.now spec.now memory.new (at_line run.new.line self.new) run.new.turn }
+        ensures continues { Continues M.does spec.now run.old.count memory.old (at_line run.old.line self.old) run.old.turn run.new.count memory.new (at_line run.new.line self.new) run.new.turn }
+        ensures more { run.old.count ≤ run.new.count }
+        ensures most { run.old.count ≤ most → run.new.count ≤ most }
+    {
+        while run.goes_on_at(line, most) {
+            self.step(spec, run, context, memory);
+        }
+    }
+
+    /// Takes steps as long as the run is at the line of values.
+    #[inline(always)]
+    fn along_values<C, M: Memory<C>>(
+        &mut self,
+        spec: &Spec,
+        most: u64,
+        run: &mut Run,
+        context: &C,
+        memory: &mut M,
+    )
+        requires wants { Wants M.serves context.now spec.now memory.old (at_line run.old.line self.old) run.old.turn }
+        ensures wants { Wants M.serves context.now spec.now memory.new (at_line run.new.line self.new) run.new.turn }
+        ensures continues { Continues M.does spec.now run.old.count memory.old (at_line run.old.line self.old) run.old.turn run.new.count memory.new (at_line run.new.line self.new) run.new.turn }
+        ensures more { run.old.count ≤ run.new.count }
+        ensures most { run.old.count ≤ most → run.new.count ≤ most }
+    {
+        if !run.is_at(Line::Values, 1, most) {
+            return;
+        }
+        let row = self.take_values(spec, most - run.count, context, memory);
+        run.add(row);
+    }
+
+    /// Takes up to `most` steps at the line of values, one at least. What they all ask of the room and of the snapshot
+    /// is looked up once, and they are counted once.
+    #[inline(always)]
+    fn take_values<C, M: Memory<C>>(
+        &mut self,
+        spec: &Spec,
+        most: u64,
+        context: &C,
+        memory: &mut M,
+    ) -> Run
+        requires wants { Wants M.serves context.now spec.now memory.old (at_line Values self.old) Still }
+        requires most { 0 < most }
+        ensures wants { Wants M.serves context.now spec.now memory.new (at_line result.line self.new) result.turn }
+        ensures continues { (count : ℕ) → Continues M.does spec.now count memory.old (at_line Values self.old) Still (count + result.count) memory.new (at_line result.line self.new) result.turn }
+        ensures count { result.count ≤ most }
+    {
+        let shape = spec.shape();
+        let last = self.snapshot.last_writes(spec);
+        let mut count = 0;
+        while count < most {
+            let load = self.value_move_by(spec, &shape, &last);
+            let value = memory.operate(context, load);
+            self.add_value(spec, &last, value);
+            count += 1;
+            if self.entries.len() >= spec.n() {
+                self.count_steps(count);
+                let turn = self.conclude(spec);
+                return Run {
+                    count,
+                    turn,
+                    line: self.current_line(),
+                };
+            }
+        }
+        self.count_steps(count);
+        Run {
+            count,
+            turn: Turn::Still,
+            line: Line::Values,
+        }
+    }
+}
