@@ -16,3 +16,4 @@ mod Onward
 mod Longer
 mod Valued
 mod Proposed
+mod Rowed

@@ -18,7 +18,7 @@ use Rattle.simulator.proofs.Longer.{RunsOn, runs_on}
 
 -- ---- one value more
 
-one_more : (count : ℕ) (mind : MindState) → counted_by (count + 1) mind ≡ counted (counted_by count mind)
+pub one_more : (count : ℕ) (mind : MindState) → counted_by (count + 1) mind ≡ counted (counted_by count mind)
 one_more count mind =
     let steps : mind.steps + (count + 1) ≡ mind.steps + count + 1 = omega arith in
     let turn_steps : mind.turn_steps + (count + 1) ≡ mind.turn_steps + count + 1 = omega arith in

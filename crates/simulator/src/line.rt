@@ -28,24 +28,3 @@ pub enum Line {
     /// Store the decision.
     Out { decision: u32 },
 }
-
-impl Line {
-    /// Whether both are the same line, whatever they carry.
-    #[inline(always)]
-    pub(crate) fn is_like(self, other: Line) -> bool {
-        matches!(
-            (self, other),
-            (Line::Rest, Line::Rest)
-                | (Line::Raise, Line::Raise)
-                | (Line::Snap, Line::Snap)
-                | (Line::Show, Line::Show)
-                | (Line::Enter, Line::Enter)
-                | (Line::Look, Line::Look)
-                | (Line::Leave { .. }, Line::Leave { .. })
-                | (Line::Ask, Line::Ask)
-                | (Line::GetView { .. }, Line::GetView { .. })
-                | (Line::Values, Line::Values)
-                | (Line::Out { .. }, Line::Out { .. })
-        )
-    }
-}

@@ -5,7 +5,7 @@ ghost use Rattle.std.specs.Prelude.{ℕ, Some, ◌≡◌, ◌≢◌, ◌⊎◌, 
 ghost use Rattle.room_spec.specs.Shapes.{sizes_of};
 ghost use Rattle.room_spec.specs.Sizes.{sizes_in};
 ghost use Rattle.simulator.specs.declared.goal.Goal.TheVariants as goals;
-ghost use Rattle.simulator.specs.declared.line.Line.TheVariants.{Enter, Rest, Values};
+ghost use Rattle.simulator.specs.declared.line.Line.TheVariants.{Enter, GetView, Rest, Show, Snap, Values};
 ghost use Rattle.simulator.specs.declared.turn.Turn.TheVariants.{Still};
 ghost use Rattle.simulator.specs.Minds.{goal_at, next_process};
 ghost use Rattle.simulator.specs.Parts.{IsPartOf};
@@ -39,14 +39,6 @@ impl Run {
         ensures off { result ≡ false → (most ≤ self.now.count) ⊎ (self.now.turn ≢ Still) }
     {
         self.count < most && matches!(self.turn, Turn::Still)
-    }
-
-    /// Whether it takes another step, of at most this many, and is at this line, whatever the line carries.
-    #[inline(always)]
-    fn goes_on_at(&self, line: Line, most: u64) -> bool
-        ensures { result ≡ true → (self.now.count < most) × (self.now.turn ≡ Still) }
-    {
-        self.goes_on(most) && self.line.is_like(line)
     }
 
     /// Whether it is at this line, and takes at least `few` steps more, of at most `most` in all.
@@ -89,18 +81,11 @@ impl Mind {
         ensures most { run.old.count ≤ most → run.new.count ≤ most }
     {
         self.along_proposal(spec, most, run, context, memory);
-        self.along(spec, most, Line::Raise, run, context, memory);
-        self.along(spec, most, Line::Snap, run, context, memory);
-        self.along(spec, most, Line::Show, run, context, memory);
+        self.along_raise(spec, most, run, context, memory);
+        self.along_collects(spec, most, run, context, memory);
+        self.along_shows(spec, most, run, context, memory);
         self.along_agreement(spec, most, run, context, memory);
-        self.along(
-            spec,
-            most,
-            Line::GetView { chosen: 0 },
-            run,
-            context,
-            memory,
-        );
+        self.along_view(spec, most, run, context, memory);
         self.along_values(spec, most, run, context, memory);
     }
 
@@ -166,7 +151,7 @@ impl Mind {
         memory.operate(context, part.raise());
         let word = memory.operate(context, part.snap(0));
         memory.operate(context, part.show(0, word));
-        self.snapshot.put(0, word);
+        self.put_word(0, word);
         self.begin_on(part.process);
         self.count_steps(4);
     }
@@ -201,6 +186,190 @@ impl Mind {
         }
     }
 
+    /// Counts its write, if it has stored it.
+    #[inline(always)]
+    fn along_raise<C, M: Memory<C>>(
+        &mut self,
+        spec: &Spec,
+        most: u64,
+        run: &mut Run,
+        context: &C,
+        memory: &mut M,
+    )
+        requires wants { Wants M.serves context.now spec.now memory.old (at_line run.old.line self.old) run.old.turn }
+        ensures wants { Wants M.serves context.now spec.now memory.new (at_line run.new.line self.new) run.new.turn }
+        ensures continues { Continues M.does spec.now run.old.count memory.old (at_line run.old.line self.old) run.old.turn run.new.count memory.new (at_line run.new.line self.new) run.new.turn }
+        ensures more { run.old.count ≤ run.new.count }
+        ensures most { run.old.count ≤ most → run.new.count ≤ most }
+    {
+        if run.is_at(Line::Raise, 1, most) {
+            self.step(spec, run, context, memory);
+        }
+    }
+
+    /// Takes whole collects, as long as so many steps are left, until the scan ends.
+    #[inline(always)]
+    fn along_collects<C, M: Memory<C>>(
+        &mut self,
+        spec: &Spec,
+        most: u64,
+        run: &mut Run,
+        context: &C,
+        memory: &mut M,
+    )
+        requires wants { Wants M.serves context.now spec.now memory.old (at_line run.old.line self.old) run.old.turn }
+        ensures wants { Wants M.serves context.now spec.now memory.new (at_line run.new.line self.new) run.new.turn }
+        ensures continues { Continues M.does spec.now run.old.count memory.old (at_line run.old.line self.old) run.old.turn run.new.count memory.new (at_line run.new.line self.new) run.new.turn }
+        ensures more { run.old.count ≤ run.new.count }
+        ensures most { run.old.count ≤ most → run.new.count ≤ most }
+    {
+        let words = spec.shape().memory_words() as u64;
+        while run.is_at(Line::Snap, words, most) && self.word() == 0 {
+            let row = self.take_collect(spec, context, memory);
+            run.add(row);
+        }
+    }
+
+    /// Takes the steps of one collect, which loads each memory word.
+    #[inline(always)]
+    fn take_collect<C, M: Memory<C>>(&mut self, spec: &Spec, context: &C, memory: &mut M) -> Run
+        requires wants { Wants M.serves context.now spec.now memory.old (at_line Snap self.old) Still }
+        requires word { self.old.word ≡ 0 }
+        ensures wants { Wants M.serves context.now spec.now memory.new (at_line result.line self.new) result.turn }
+        ensures continues { (count : ℕ) → Continues M.does spec.now count memory.old (at_line Snap self.old) Still (count + result.count) memory.new (at_line result.line self.new) result.turn }
+        ensures count { result.count ≡ words_in spec.now }
+    {
+        let part = self.part(spec);
+        let words = part.shape.memory_words();
+        let mut word = 0;
+        loop {
+            let content = memory.operate(context, part.snap(word));
+            self.put_word(word, content);
+            word += 1;
+            if word == words {
+                break;
+            }
+        }
+        self.count_steps(words as u64);
+        let turn = self.scan(spec);
+        Run {
+            count: words as u64,
+            turn,
+            line: self.current_line(),
+        }
+    }
+
+    /// Stores its whole proposal, if as many steps are left.
+    #[inline(always)]
+    fn along_shows<C, M: Memory<C>>(
+        &mut self,
+        spec: &Spec,
+        most: u64,
+        run: &mut Run,
+        context: &C,
+        memory: &mut M,
+    )
+        requires wants { Wants M.serves context.now spec.now memory.old (at_line run.old.line self.old) run.old.turn }
+        ensures wants { Wants M.serves context.now spec.now memory.new (at_line run.new.line self.new) run.new.turn }
+        ensures continues { Continues M.does spec.now run.old.count memory.old (at_line run.old.line self.old) run.old.turn run.new.count memory.new (at_line run.new.line self.new) run.new.turn }
+        ensures more { run.old.count ≤ run.new.count }
+        ensures most { run.old.count ≤ most → run.new.count ≤ most }
+    {
+        let words = spec.shape().memory_words() as u64;
+        if run.is_at(Line::Show, words, most) && self.word() == 0 {
+            let row = self.take_shows(spec, context, memory);
+            run.add(row);
+        }
+    }
+
+    /// Takes the steps that store its proposal, one for each of its words.
+    #[inline(always)]
+    fn take_shows<C, M: Memory<C>>(&mut self, spec: &Spec, context: &C, memory: &mut M) -> Run
+        requires wants { Wants M.serves context.now spec.now memory.old (at_line Show self.old) Still }
+        requires word { self.old.word ≡ 0 }
+        ensures wants { Wants M.serves context.now spec.now memory.new (at_line result.line self.new) result.turn }
+        ensures continues { (count : ℕ) → Continues M.does spec.now count memory.old (at_line Show self.old) Still (count + result.count) memory.new (at_line result.line self.new) result.turn }
+        ensures count { result.count ≡ words_in spec.now }
+    {
+        let part = self.part(spec);
+        let words = part.shape.memory_words();
+        let mut word = 0;
+        loop {
+            memory.operate(context, part.show(word, self.snapshot.word(word)));
+            word += 1;
+            if word == words {
+                break;
+            }
+        }
+        self.count_steps(words as u64);
+        Run {
+            count: words as u64,
+            turn: Turn::Still,
+            line: Line::Enter,
+        }
+    }
+
+    /// Loads the whole chosen proposal, if as many steps are left.
+    #[inline(always)]
+    fn along_view<C, M: Memory<C>>(
+        &mut self,
+        spec: &Spec,
+        most: u64,
+        run: &mut Run,
+        context: &C,
+        memory: &mut M,
+    )
+        requires wants { Wants M.serves context.now spec.now memory.old (at_line run.old.line self.old) run.old.turn }
+        ensures wants { Wants M.serves context.now spec.now memory.new (at_line run.new.line self.new) run.new.turn }
+        ensures continues { Continues M.does spec.now run.old.count memory.old (at_line run.old.line self.old) run.old.turn run.new.count memory.new (at_line run.new.line self.new) run.new.turn }
+        ensures more { run.old.count ≤ run.new.count }
+        ensures most { run.old.count ≤ most → run.new.count ≤ most }
+    {
+        let words = spec.shape().memory_words() as u64;
+        let Line::GetView { chosen } = run.line else {
+            return;
+        };
+        if run.is_at(Line::GetView { chosen }, words, most) && self.word() == 0 {
+            let row = self.take_view(spec, chosen, context, memory);
+            run.add(row);
+        }
+    }
+
+    /// Takes the steps that load the chosen proposal, one for each of its words.
+    #[inline(always)]
+    fn take_view<C, M: Memory<C>>(
+        &mut self,
+        spec: &Spec,
+        chosen: u16,
+        context: &C,
+        memory: &mut M,
+    ) -> Run
+        requires wants { Wants M.serves context.now spec.now memory.old (at_line (GetView chosen) self.old) Still }
+        requires word { self.old.word ≡ 0 }
+        ensures wants { Wants M.serves context.now spec.now memory.new (at_line result.line self.new) result.turn }
+        ensures continues { (count : ℕ) → Continues M.does spec.now count memory.old (at_line (GetView chosen) self.old) Still (count + result.count) memory.new (at_line result.line self.new) result.turn }
+        ensures count { result.count ≡ words_in spec.now }
+    {
+        let part = self.part(spec);
+        let words = part.shape.memory_words();
+        let mut word = 0;
+        loop {
+            let content = memory.operate(context, part.get_view(usize::from(chosen), word));
+            self.put_word(word, content);
+            word += 1;
+            if word == words {
+                break;
+            }
+        }
+        self.count_steps(words as u64);
+        let turn = self.open_view(spec);
+        Run {
+            count: words as u64,
+            turn,
+            line: self.current_line(),
+        }
+    }
+
     /// Takes the four steps of an agreement, if as many are left.
     #[inline(always)]
     fn along_agreement<C, M: Memory<C>>(
@@ -223,28 +392,6 @@ impl Mind {
         let part = self.part(spec);
         let row = self.take_agreement(spec, &part, context, memory);
         run.add(row);
-    }
-
-    /// Takes steps as long as the run is at this line, whatever the line carries.
-    #[inline(always)]
-    fn along<C, M: Memory<C>>(
-        &mut self,
-        spec: &Spec,
-        most: u64,
-        line: Line,
-        run: &mut Run,
-        context: &C,
-        memory: &mut M,
-    )
-        requires wants { Wants M.serves context.now spec.now memory.old (at_line run.old.line self.old) run.old.turn }
-        ensures wants { Wants M.serves context.now spec.now memory.new (at_line run.new.line self.new) run.new.turn }
-        ensures continues { Continues M.does spec.now run.old.count memory.old (at_line run.old.line self.old) run.old.turn run.new.count memory.new (at_line run.new.line self.new) run.new.turn }
-        ensures more { run.old.count ≤ run.new.count }
-        ensures most { run.old.count ≤ most → run.new.count ≤ most }
-    {
-        while run.goes_on_at(line, most) {
-            self.step(spec, run, context, memory);
-        }
     }
 
     /// Takes steps as long as the run is at the line of values.

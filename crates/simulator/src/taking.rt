@@ -1,12 +1,12 @@
 //! The lines of a turn: what the answer of each makes of the mind.
-ghost use Rattle.std.specs.Prelude.{List, ℕ, ◌≡◌, ◌+◌, ◌-◌, ◌<◌, ◌≤◌, [], ◌∷◌, ◌++◌, Some, length, min, nat_lt};
+ghost use Rattle.std.specs.Prelude.{List, ℕ, ◌≡◌, ◌+◌, ◌-◌, ◌<◌, ◌≤◌, [], ◌∷◌, ◌++◌, Some, length, min, nat_lt, slice_set};
 ghost use Rattle.protocol_lang.specs.Numbers.{greatest};
 ghost use Rattle.protocol_lang.specs.declared.meaning.TheConstants.{MAX_PROCESSES};
 ghost use Rattle.room_spec.specs.Rooms.{processes};
 ghost use Rattle.room_spec.specs.declared.spec.TheConstants.{MAX_MEMORY_WORDS};
 ghost use Rattle.simulator.specs.Moves.{entry_in, is_again, loaded};
 ghost use Rattle.simulator.specs.Notes.{AreLastWrites};
-ghost use Rattle.simulator.specs.Turns.{acted, after_write, asked, begun, collected, counted, counted_by, ended, gathered_all, goes_on, got_value, got_view, most_collects, padded, scanned, showed, snapped, with_value, words_in};
+ghost use Rattle.simulator.specs.Turns.{acted, after_write, asked, begun, collected, counted, counted_by, ended, gathered, gathered_all, goes_on, got_value, got_view, most_collects, padded, scanned, showed, snapped, with_value, words_in};
 
 use crate::goal::Goal;
 use crate::line::Line;
@@ -75,6 +75,15 @@ impl Mind {
         turn
     }
 
+    /// Puts a memory word that was loaded into its snapshot.
+    #[inline(always)]
+    pub(crate) fn put_word(&mut self, at: usize, word: u64)
+        requires { at < MAX_MEMORY_WORDS }
+        ensures { self.new ≡ record self.old { snapshot = slice_set self.old.snapshot at word } }
+    {
+        self.snapshot.put(at, word);
+    }
+
     /// Takes in a word of a collect.
     pub(crate) fn snap(&mut self, spec: &Spec, word: u64) -> Turn
         requires word { self.old.word < MAX_MEMORY_WORDS }
@@ -83,7 +92,7 @@ impl Mind {
         ensures turn { result ≡ (snapped spec.now (is_again (loaded word self.old)) (loaded word self.old)).turn }
     {
         let at = self.word();
-        self.snapshot.put(at, word);
+        self.put_word(at, word);
         if self.has_next_word(spec) {
             self.next_word();
             return self.go_on(Line::Snap);
@@ -93,7 +102,7 @@ impl Mind {
     }
 
     /// Ends the scan with the collect that is whole, or makes another.
-    fn scan(&mut self, spec: &Spec) -> Turn
+    pub(crate) fn scan(&mut self, spec: &Spec) -> Turn
         requires { self.old.collects < u16.MAX }
         ensures mind { self.new ≡ (scanned spec.now (is_again self.old) self.old).mind }
         ensures turn { result ≡ (scanned spec.now (is_again self.old) self.old).turn }
@@ -182,12 +191,23 @@ impl Mind {
         ensures turn { result ≡ (got_view (entry_in spec.now (loaded word self.old).snapshot) spec.now chosen (loaded word self.old)).turn }
     {
         let at = self.word();
-        self.snapshot.put(at, word);
+        self.put_word(at, word);
         if self.has_next_word(spec) {
             self.next_word();
             return self.go_on(Line::GetView { chosen });
         }
         self.word = 0;
+        self.open_view(spec)
+    }
+
+    /// Opens the chosen proposal, which is whole: begins to gather the values of the writes that it shows.
+    #[inline(always)]
+    pub(crate) fn open_view(&mut self, spec: &Spec) -> Turn
+        requires process { self.old.process < length self.old.goals }
+        requires goals { length self.old.goals ≡ processes spec.now }
+        ensures mind { self.new ≡ (gathered (entry_in spec.now self.old.snapshot) spec.now [] self.old).mind }
+        ensures turn { result ≡ (gathered (entry_in spec.now self.old.snapshot) spec.now [] self.old).turn }
+    {
         self.snapshot.note(spec);
         self.clear_entries(spec);
         self.gather(spec)

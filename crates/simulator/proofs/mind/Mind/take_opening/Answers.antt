@@ -1,4 +1,4 @@
-use Rattle.std.proofs.Common.{◌∙◌, ℕ, List, ap, refl, slice_set, sym}
+use Rattle.std.proofs.Common.{◌∙◌, ap, refl, sym}
 use Rattle.simulator.specs.declared.line.Line.TheVariants.{Raise, Rest, Show, Snap}
 use Rattle.simulator.specs.Minds.{MindState}
 use Rattle.simulator.specs.Ranges.{at_line}
@@ -34,10 +34,8 @@ returns-clause-wants g c =
     let one = stored g.M.Memory.serves g.M.Memory.does g.met.M.Memory.goes_on c.args.context.now c.args.spec.now c.args.self.now c.args.part.now c.args.value c.requires.one c.requires.process c.requires.goal c.requires.simulator c.requires.sizes c.args.memory.now c.requires.wants c.operate.new.self c.write.result c.operate.result c.operate.ensures c.write.ensures in
     let two = raised g.M.Memory.serves g.M.Memory.does g.met.M.Memory.goes_on c.args.context.now c.args.spec.now c.args.self.now c.args.part.now c.args.value c.requires.one c.requires.process c.requires.goal c.requires.simulator c.requires.sizes c.args.memory.now c.requires.wants c.operate.new.self c.operate-2.new.self c.raise.result c.operate-2.result one c.operate-2.ensures c.raise.ensures in
     let three = loads g.M.Memory.serves g.M.Memory.does g.met.M.Memory.goes_on c.args.context.now c.args.spec.now c.args.self.now c.args.part.now c.args.value c.requires.one c.requires.process c.requires.goal c.requires.simulator c.requires.sizes c.args.memory.now c.requires.wants c.operate-2.new.self c.operate-word.new.self c.snap.result c.operate-word.result two c.operate-word.ensures c.snap.ensures in
-    let self = c.args.self.now in
     let at = c.args.part.now.process in
-    let put = c.put.ensures ∙ ap (λ (mind : MindState). slice_set mind.snapshot 0 c.operate-word.result) c.self.view_is in
-    let ended = c.count_steps.ensures ∙ ap (λ (mind : MindState). counted_by 4 mind) c.begin_on.ensures ∙ ap (λ (mind : MindState). counted_by 4 (begun at (record mind { snapshot = c.put.new.self }))) c.self.view_is ∙ ap (λ (words : List ℕ). counted_by 4 (begun at (record self { snapshot = words }))) put in
+    let ended = c.count_steps.ensures ∙ ap (λ (mind : MindState). counted_by 4 mind) c.begin_on.ensures ∙ ap (λ (mind : MindState). counted_by 4 (begun at mind)) c.put_word.ensures in
     let four = shown g.M.Memory.serves g.M.Memory.does g.met.M.Memory.goes_on c.args.context.now c.args.spec.now c.args.self.now c.args.part.now c.args.value c.requires.one c.requires.process c.requires.goal c.requires.simulator c.requires.sizes c.args.memory.now c.requires.wants c.operate-word.new.self c.operate-3.new.self c.show.result c.operate-word.result c.operate-3.result c.count_steps.new.self three c.operate-3.ensures c.show.ensures ended in
     four.wants
 
@@ -46,9 +44,7 @@ returns-clause-continues g c =
     let one = stored g.M.Memory.serves g.M.Memory.does g.met.M.Memory.goes_on c.args.context.now c.args.spec.now c.args.self.now c.args.part.now c.args.value c.requires.one c.requires.process c.requires.goal c.requires.simulator c.requires.sizes c.args.memory.now c.requires.wants c.operate.new.self c.write.result c.operate.result c.operate.ensures c.write.ensures in
     let two = raised g.M.Memory.serves g.M.Memory.does g.met.M.Memory.goes_on c.args.context.now c.args.spec.now c.args.self.now c.args.part.now c.args.value c.requires.one c.requires.process c.requires.goal c.requires.simulator c.requires.sizes c.args.memory.now c.requires.wants c.operate.new.self c.operate-2.new.self c.raise.result c.operate-2.result one c.operate-2.ensures c.raise.ensures in
     let three = loads g.M.Memory.serves g.M.Memory.does g.met.M.Memory.goes_on c.args.context.now c.args.spec.now c.args.self.now c.args.part.now c.args.value c.requires.one c.requires.process c.requires.goal c.requires.simulator c.requires.sizes c.args.memory.now c.requires.wants c.operate-2.new.self c.operate-word.new.self c.snap.result c.operate-word.result two c.operate-word.ensures c.snap.ensures in
-    let self = c.args.self.now in
     let at = c.args.part.now.process in
-    let put = c.put.ensures ∙ ap (λ (mind : MindState). slice_set mind.snapshot 0 c.operate-word.result) c.self.view_is in
-    let ended = c.count_steps.ensures ∙ ap (λ (mind : MindState). counted_by 4 mind) c.begin_on.ensures ∙ ap (λ (mind : MindState). counted_by 4 (begun at (record mind { snapshot = c.put.new.self }))) c.self.view_is ∙ ap (λ (words : List ℕ). counted_by 4 (begun at (record self { snapshot = words }))) put in
+    let ended = c.count_steps.ensures ∙ ap (λ (mind : MindState). counted_by 4 mind) c.begin_on.ensures ∙ ap (λ (mind : MindState). counted_by 4 (begun at mind)) c.put_word.ensures in
     let four = shown g.M.Memory.serves g.M.Memory.does g.met.M.Memory.goes_on c.args.context.now c.args.spec.now c.args.self.now c.args.part.now c.args.value c.requires.one c.requires.process c.requires.goal c.requires.simulator c.requires.sizes c.args.memory.now c.requires.wants c.operate-word.new.self c.operate-3.new.self c.show.result c.operate-word.result c.operate-3.result c.count_steps.new.self three c.operate-3.ensures c.show.ensures ended in
     four.continues
