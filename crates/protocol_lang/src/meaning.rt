@@ -30,10 +30,7 @@ pub fn first(protocol: &Protocol, input: u32, id: u32, n: u32) -> u32
     ensures { result ≡ first_value protocol.now input id n }
 {
     let environment = Environment::new(input, id, n, 0, &[]);
-    protocol
-        .tree
-        .first
-        .value(&environment, &mut [0; MOST_WAITING])
+    protocol.tree.first.value_alone(&environment)
 }
 
 /// What the process number `id` does after its snapshot `view`, before which it made `round`
