@@ -26,6 +26,7 @@ use Rattle.simulator.specs.Ranges.{IsMind, at_line}
 use Rattle.simulator.specs.Runs.{Wants}
 use Rattle.simulator.specs.Turns.{TakenOf, asked, begun, collected, counted, counted_by, goes_on, on_word, opened, opened_at, scanned, showed, snapped, words_in}
 use Rattle.simulator.proofs.Longer.{RunsOn, runs_on, step_then}
+use Rattle.simulator.proofs.Valued.{one_more}
 
 -- ---- the operations, by the part of the mind
 
@@ -113,10 +114,12 @@ only_scan spec same mind one none =
 only_show : (spec : RoomSpec) (mind : MindState) → words_in spec ≡ 1 → mind.word ≡ 0 → showed spec mind ≡ goes_on Enter mind
 only_show spec mind one none = only_word spec Show mind (goes_on Enter (record mind { word = 0 })) one none ∙ ap (λ (w : ℕ). goes_on Enter (record mind { word = w })) (sym none)
 
+-- ---- a write that is stored and counted
+
 module _ {M C : Type 0} (serves : M → C → RoomSpec → MindState → Type 0) (does : M → Move → ℕ → M → Type 0)
     (serves_on : (memory : M) (context : C) (spec : RoomSpec) (mind : MindState) (answer : ℕ) (next : M) → serves memory context spec mind → IsMind spec mind → IsOperation (move_of spec mind) → does memory (move_of spec mind) answer next → serves next context spec (taken spec mind answer).mind)
     (context : C) (spec : RoomSpec) (self : MindState) (part : Part) (value : ℕ)
-    (one : words_in spec ≡ 1) (next_is : next_process self.goals self.process ≡ Some part.process) (goal_is : goal_at self.goals part.process ≡ goals.Write part.round value)
+    (next_is : next_process self.goals self.process ≡ Some part.process) (goal_is : goal_at self.goals part.process ≡ goals.Write part.round value)
     (simulator_is : part.simulator ≡ self.number) (sizes_are : sizes_of part.shape ≡ sizes_in spec)
     (memory : M) (wants : Wants serves context spec memory (at_line Rest self) Still) where
   abbrev pub stored_mind : MindState
@@ -124,12 +127,6 @@ module _ {M C : Type 0} (serves : M → C → RoomSpec → MindState → Type 0)
 
   abbrev pub raised_mind : MindState
   raised_mind = counted stored_mind
-
-  abbrev pub loaded_mind : ℕ → MindState
-  loaded_mind word = record (counted raised_mind) { snapshot = slice_set self.snapshot 0 word }
-
-  no_word : self.word ≡ 0
-  no_word = omega (arith, wants.is_mind.word)
 
   begins : (answer : ℕ) → taken_at Rest spec (counted self) answer ≡ goes_on Raise stored_mind
   begins answer =
@@ -149,19 +146,6 @@ module _ {M C : Type 0} (serves : M → C → RoomSpec → MindState → Type 0)
       ap (λ (sizes : Sizes). moves.Add (index_of sizes (places.Memory (word_of sizes part.simulator part.process))) (2 ^ place_of sizes part.simulator part.process)) sizes_are
       ∙ ap (λ (i : ℕ). moves.Add (index_of (sizes_in spec) (places.Memory (word_of (sizes_in spec) i part.process))) (2 ^ place_of (sizes_in spec) i part.process)) simulator_is
 
-  pub snaps : moves.Load (index_of (sizes_of part.shape) (places.Memory 0)) ≡ move_at Snap spec raised_mind
-  snaps =
-      ap (λ (sizes : Sizes). moves.Load (index_of sizes (places.Memory 0))) sizes_are ∙ ap (λ (w : ℕ). moves.Load (index_of (sizes_in spec) (places.Memory w))) (sym no_word)
-
-  pub shows : (word : ℕ) → moves.Store (index_of (sizes_of part.shape) (places.View part.simulator part.process part.round 0)) word ≡ move_at Show spec (loaded_mind word)
-  shows word =
-      let some : 0 < length self.snapshot = omega (arith, wants.is_mind.snapshot) in
-      ap (λ (sizes : Sizes). moves.Store (index_of sizes (places.View part.simulator part.process part.round 0)) word) sizes_are
-      ∙ ap (λ (i : ℕ). moves.Store (index_of (sizes_in spec) (places.View i part.process part.round 0)) word) simulator_is
-      ∙ ap (λ (k : ℕ). moves.Store (index_of (sizes_in spec) (places.View self.number part.process k 0)) word) (ap (λ (g : Goal). round_of g) (sym goal_is))
-      ∙ ap (λ (w : ℕ). moves.Store (index_of (sizes_in spec) (places.View self.number part.process (round_of (goal_at self.goals part.process)) w)) word) (sym no_word)
-      ∙ ap (λ (content : ℕ). moves.Store (view_index spec self.number (loaded_mind word)) content) (sym (ap (λ (w : ℕ). slice_index (slice_set self.snapshot 0 word) w) no_word ∙ get_or-set_same self.snapshot 0 word 0 some))
-
   pub stored : (next : M) (move : Move) (answer : ℕ) → does memory move answer next
       → move ≡ moves.Store (index_of (sizes_of part.shape) (places.Value part.simulator part.process part.round)) value
       → RunsOn serves does context spec 1 memory next (at_line Rest self) (at_line Raise stored_mind) Still
@@ -177,15 +161,46 @@ module _ {M C : Type 0} (serves : M → C → RoomSpec → MindState → Type 0)
   raised next last move answer on done move_is =
       step_then serves does serves_on context spec 1 memory next last (at_line Rest self) stored_mind raised_mind Raise Snap move answer Still on done (move_is ∙ raises) refl refl
 
+  -- the mind after the two steps, counted at once
+  pub after_two : counted_by 2 (begun part.process self) ≡ raised_mind
+  after_two = one_more 1 (begun part.process self)
+
+-- ---- and a snapshot that is loaded and proposed
+
+module _ {M C : Type 0} (serves : M → C → RoomSpec → MindState → Type 0) (does : M → Move → ℕ → M → Type 0)
+    (serves_on : (memory : M) (context : C) (spec : RoomSpec) (mind : MindState) (answer : ℕ) (next : M) → serves memory context spec mind → IsMind spec mind → IsOperation (move_of spec mind) → does memory (move_of spec mind) answer next → serves next context spec (taken spec mind answer).mind)
+    (context : C) (spec : RoomSpec) (self : MindState) (part : Part) (value : ℕ)
+    (one : words_in spec ≡ 1) (next_is : next_process self.goals self.process ≡ Some part.process) (goal_is : goal_at self.goals part.process ≡ goals.Write part.round value)
+    (simulator_is : part.simulator ≡ self.number) (sizes_are : sizes_of part.shape ≡ sizes_in spec)
+    (memory : M) (wants : Wants serves context spec memory (at_line Rest self) Still) where
+  abbrev pub loaded_mind : ℕ → MindState
+  loaded_mind word = record (counted (counted (begun part.process (counted self)))) { snapshot = slice_set self.snapshot 0 word }
+
+  no_word : self.word ≡ 0
+  no_word = omega (arith, wants.is_mind.word)
+
+  pub snaps : moves.Load (index_of (sizes_of part.shape) (places.Memory 0)) ≡ move_at Snap spec (counted (begun part.process (counted self)))
+  snaps =
+      ap (λ (sizes : Sizes). moves.Load (index_of sizes (places.Memory 0))) sizes_are ∙ ap (λ (w : ℕ). moves.Load (index_of (sizes_in spec) (places.Memory w))) (sym no_word)
+
+  pub shows : (word : ℕ) → moves.Store (index_of (sizes_of part.shape) (places.View part.simulator part.process part.round 0)) word ≡ move_at Show spec (loaded_mind word)
+  shows word =
+      let some : 0 < length self.snapshot = omega (arith, wants.is_mind.snapshot) in
+      ap (λ (sizes : Sizes). moves.Store (index_of sizes (places.View part.simulator part.process part.round 0)) word) sizes_are
+      ∙ ap (λ (i : ℕ). moves.Store (index_of (sizes_in spec) (places.View i part.process part.round 0)) word) simulator_is
+      ∙ ap (λ (k : ℕ). moves.Store (index_of (sizes_in spec) (places.View self.number part.process k 0)) word) (ap (λ (g : Goal). round_of g) (sym goal_is))
+      ∙ ap (λ (w : ℕ). moves.Store (index_of (sizes_in spec) (places.View self.number part.process (round_of (goal_at self.goals part.process)) w)) word) (sym no_word)
+      ∙ ap (λ (content : ℕ). moves.Store (view_index spec self.number (loaded_mind word)) content) (sym (ap (λ (w : ℕ). slice_index (slice_set self.snapshot 0 word) w) no_word ∙ get_or-set_same self.snapshot 0 word 0 some))
+
   pub loads : (next last : M) (move : Move) (word : ℕ)
-      → RunsOn serves does context spec 2 memory next (at_line Rest self) (at_line Snap raised_mind) Still
+      → RunsOn serves does context spec 2 memory next (at_line Rest self) (at_line Snap (counted (begun part.process (counted self)))) Still
       → does next move word last → move ≡ moves.Load (index_of (sizes_of part.shape) (places.Memory 0))
       → RunsOn serves does context spec 3 memory last (at_line Rest self) (at_line Show (loaded_mind word)) Still
   loads next last move word on done move_is =
-      let put = loaded word (counted raised_mind) in
-      let here : goes_on Show (loaded_mind word) ≡ goes_on Show put = ap (λ (w : ℕ). goes_on Show (record (counted raised_mind) { snapshot = slice_set self.snapshot w word })) (sym no_word) in
-      let same : goes_on Show (loaded_mind word) ≡ taken_at Snap spec (counted raised_mind) word = here ∙ sym (only_scan spec (is_again put) put one no_word) in
-      step_then serves does serves_on context spec 2 memory next last (at_line Rest self) raised_mind (loaded_mind word) Snap Show move word Still on done (move_is ∙ snaps)
+      let put = loaded word (counted (counted (begun part.process (counted self)))) in
+      let here : goes_on Show (loaded_mind word) ≡ goes_on Show put = ap (λ (w : ℕ). goes_on Show (record (counted (counted (begun part.process (counted self)))) { snapshot = slice_set self.snapshot w word })) (sym no_word) in
+      let same : goes_on Show (loaded_mind word) ≡ taken_at Snap spec (counted (counted (begun part.process (counted self)))) word = here ∙ sym (only_scan spec (is_again put) put one no_word) in
+      step_then serves does serves_on context spec 2 memory next last (at_line Rest self) (counted (begun part.process (counted self))) (loaded_mind word) Snap Show move word Still on done (move_is ∙ snaps)
       (ap (λ (t : TakenOf (List ℕ)). t.mind) same) (ap (λ (t : TakenOf (List ℕ)). t.turn) same)
 
   -- the mind after the four steps, counted at once

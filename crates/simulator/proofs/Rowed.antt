@@ -20,7 +20,7 @@ use Rattle.simulator.specs.Runs.{Runs, Wants}
 use Rattle.simulator.specs.Turns.{TakenOf, counted, counted_by, gathered, goes_on, on_word, scanned, words_in}
 use Rattle.simulator.proofs.Limits.{small}
 use Rattle.simulator.proofs.Longer.{RunsOn}
-use Rattle.simulator.proofs.Valued.{one_more}
+use Rattle.simulator.proofs.Valued.{counts_none, one_more}
 
 -- a mind that has taken `word` steps of the line, one for each of the words before
 abbrev pub at_word : ℕ → MindState → MindState
@@ -109,11 +109,7 @@ views_at spec self part chosen word is = ap (λ (at : ℕ). moves.Load at) (view
 -- ---- the row
 
 at_none : (mind : MindState) → mind.word ≡ 0 → mind ≡ at_word 0 mind
-at_none mind none =
-    let steps : mind.steps ≡ mind.steps + 0 = omega arith in
-    let turn_steps : mind.turn_steps ≡ mind.turn_steps + 0 = omega arith in
-    ap (λ (w : ℕ). record mind { word = w }) none
-    ∙ ap (λ (k : ℕ). record mind { word = 0; steps = k }) steps ∙ ap (λ (k : ℕ). record mind { word = 0; steps = mind.steps + 0; turn_steps = k }) turn_steps
+at_none mind none = ap (λ (w : ℕ). record mind { word = w }) none ∙ counts_none (record mind { word = 0 })
 
 -- before the first word
 pub none_yet : {M C : Type 0} (serves : M → C → RoomSpec → MindState → Type 0) (does : M → Move → ℕ → M → Type 0) (context : C) (spec : RoomSpec) (memory : M) (line : Line) (self : MindState)

@@ -18,6 +18,12 @@ use Rattle.simulator.proofs.Longer.{RunsOn, runs_on}
 
 -- ---- one value more
 
+pub counts_none : (mind : MindState) → mind ≡ counted_by 0 mind
+counts_none mind =
+    let steps : mind.steps ≡ mind.steps + 0 = omega arith in
+    let turn_steps : mind.turn_steps ≡ mind.turn_steps + 0 = omega arith in
+    ap (λ (k : ℕ). record mind { steps = k }) steps ∙ ap (λ (k : ℕ). record mind { steps = mind.steps + 0; turn_steps = k }) turn_steps
+
 pub one_more : (count : ℕ) (mind : MindState) → counted_by (count + 1) mind ≡ counted (counted_by count mind)
 one_more count mind =
     let steps : mind.steps + (count + 1) ≡ mind.steps + count + 1 = omega arith in

@@ -112,7 +112,8 @@ impl Mind {
         Move::Load(index(shape, value))
     }
 
-    fn out_move(&self, spec: &Spec, decision: u32) -> Move
+    #[inline(always)]
+    pub(crate) fn out_move(&self, spec: &Spec, decision: u32) -> Move
         requires { IsMindSomewhere spec.now self.now }
         ensures { result ≡ moves.Store (index_in spec.now (places.Out self.now.number self.now.process)) (decision + 1) }
     {

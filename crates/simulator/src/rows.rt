@@ -5,7 +5,7 @@ ghost use Rattle.std.specs.Prelude.{ℕ, Some, ◌≡◌, ◌≢◌, ◌⊎◌, 
 ghost use Rattle.room_spec.specs.Shapes.{sizes_of};
 ghost use Rattle.room_spec.specs.Sizes.{sizes_in};
 ghost use Rattle.simulator.specs.declared.goal.Goal.TheVariants as goals;
-ghost use Rattle.simulator.specs.declared.line.Line.TheVariants.{Enter, GetView, Rest, Show, Snap, Values};
+ghost use Rattle.simulator.specs.declared.line.Line.TheVariants.{Enter, GetView, Out, Rest, Show, Snap, Values};
 ghost use Rattle.simulator.specs.declared.turn.Turn.TheVariants.{Still};
 ghost use Rattle.simulator.specs.Minds.{goal_at, next_process};
 ghost use Rattle.simulator.specs.Parts.{IsPartOf};
@@ -51,11 +51,11 @@ impl Run {
 
     /// With the steps of a row.
     #[inline(always)]
-    fn add(&mut self, row: Run)
-        requires { self.old.count + row.count ≤ u64.MAX }
-        ensures count { self.new.count ≡ self.old.count + row.count }
-        ensures turn { self.new.turn ≡ row.turn }
-        ensures line { self.new.line ≡ row.line }
+    fn add(&mut self, row: &Run)
+        requires { self.old.count + row.now.count ≤ u64.MAX }
+        ensures count { self.new.count ≡ self.old.count + row.now.count }
+        ensures turn { self.new.turn ≡ row.now.turn }
+        ensures line { self.new.line ≡ row.now.line }
     {
         self.count += row.count;
         self.turn = row.turn;
@@ -80,18 +80,17 @@ impl Mind {
         ensures more { run.old.count ≤ run.new.count }
         ensures most { run.old.count ≤ most → run.new.count ≤ most }
     {
+        self.along_write(spec, most, run, context, memory);
         self.along_proposal(spec, most, run, context, memory);
-        self.along_raise(spec, most, run, context, memory);
-        self.along_collects(spec, most, run, context, memory);
-        self.along_shows(spec, most, run, context, memory);
-        self.along_agreement(spec, most, run, context, memory);
         self.along_view(spec, most, run, context, memory);
         self.along_values(spec, most, run, context, memory);
+        self.along_out(spec, most, run, context, memory);
     }
 
-    /// Takes the first eight steps of a turn that begins with a write, if as many are left and the memory is one word.
+    /// Takes the first steps of a turn that begins with a write, if eight are left: all eight of its proposal if the memory
+    /// is one word, and else the two before its scan.
     #[inline(always)]
-    fn along_proposal<C, M: Memory<C>>(
+    fn along_write<C, M: Memory<C>>(
         &mut self,
         spec: &Spec,
         most: u64,
@@ -105,7 +104,7 @@ impl Mind {
         ensures more { run.old.count ≤ run.new.count }
         ensures most { run.old.count ≤ most → run.new.count ≤ most }
     {
-        if !run.is_at(Line::Rest, 8, most) || spec.shape().memory_words() != 1 {
+        if !run.is_at(Line::Rest, 8, most) {
             return;
         }
         let Some(process) = self.next_process() else {
@@ -120,10 +119,40 @@ impl Mind {
             process,
             round: usize::from(round),
         };
-        self.take_opening(spec, &part, value, context, memory);
-        run.count += 4;
-        let row = self.take_agreement(spec, &part, context, memory);
-        run.add(row);
+        if part.shape.memory_words() == 1 {
+            self.take_opening(spec, &part, value, context, memory);
+            run.count += 4;
+            let row = self.take_agreement(spec, &part, context, memory);
+            run.add(&row);
+        } else {
+            self.take_write(spec, &part, value, context, memory);
+            run.count += 2;
+            run.line = Line::Snap;
+        }
+    }
+
+    /// Takes the first two steps of a turn that begins with a write: stores it, and counts it.
+    #[inline(always)]
+    fn take_write<C, M: Memory<C>>(
+        &mut self,
+        spec: &Spec,
+        part: &Part,
+        value: u32,
+        context: &C,
+        memory: &mut M,
+    )
+        requires wants { Wants M.serves context.now spec.now memory.old (at_line Rest self.old) Still }
+        requires process { next_process self.old.goals self.old.process ≡ Some part.now.process }
+        requires goal { goal_at self.old.goals part.now.process ≡ goals.Write part.now.round value }
+        requires simulator { part.now.simulator ≡ self.old.number }
+        requires sizes { sizes_of part.now.shape ≡ sizes_in spec.now }
+        ensures wants { Wants M.serves context.now spec.now memory.new (at_line Snap self.new) Still }
+        ensures continues { (count : ℕ) → Continues M.does spec.now count memory.old (at_line Rest self.old) Still (count + 2) memory.new (at_line Snap self.new) Still }
+    {
+        memory.operate(context, part.write(value));
+        memory.operate(context, part.raise());
+        self.begin_on(part.process);
+        self.count_steps(2);
     }
 
     /// Takes the first four steps of a turn that begins with a write, if the memory is one word: stores the write, counts it,
@@ -186,9 +215,9 @@ impl Mind {
         }
     }
 
-    /// Counts its write, if it has stored it.
+    /// Takes the steps from the scan up to the end of the agreement, if it is at the beginning of one of their lines.
     #[inline(always)]
-    fn along_raise<C, M: Memory<C>>(
+    fn along_proposal<C, M: Memory<C>>(
         &mut self,
         spec: &Spec,
         most: u64,
@@ -202,9 +231,12 @@ impl Mind {
         ensures more { run.old.count ≤ run.new.count }
         ensures most { run.old.count ≤ most → run.new.count ≤ most }
     {
-        if run.is_at(Line::Raise, 1, most) {
-            self.step(spec, run, context, memory);
+        if !matches!(run.line, Line::Snap | Line::Show | Line::Enter) {
+            return;
         }
+        self.along_collects(spec, most, run, context, memory);
+        self.along_shows(spec, most, run, context, memory);
+        self.along_agreement(spec, most, run, context, memory);
     }
 
     /// Takes whole collects, as long as so many steps are left, until the scan ends.
@@ -226,7 +258,7 @@ impl Mind {
         let words = spec.shape().memory_words() as u64;
         while run.is_at(Line::Snap, words, most) && self.word() == 0 {
             let row = self.take_collect(spec, context, memory);
-            run.add(row);
+            run.add(&row);
         }
     }
 
@@ -278,7 +310,7 @@ impl Mind {
         let words = spec.shape().memory_words() as u64;
         if run.is_at(Line::Show, words, most) && self.word() == 0 {
             let row = self.take_shows(spec, context, memory);
-            run.add(row);
+            run.add(&row);
         }
     }
 
@@ -331,7 +363,7 @@ impl Mind {
         };
         if run.is_at(Line::GetView { chosen }, words, most) && self.word() == 0 {
             let row = self.take_view(spec, chosen, context, memory);
-            run.add(row);
+            run.add(&row);
         }
     }
 
@@ -391,7 +423,7 @@ impl Mind {
         }
         let part = self.part(spec);
         let row = self.take_agreement(spec, &part, context, memory);
-        run.add(row);
+        run.add(&row);
     }
 
     /// Takes steps as long as the run is at the line of values.
@@ -414,7 +446,7 @@ impl Mind {
             return;
         }
         let row = self.take_values(spec, most - run.count, context, memory);
-        run.add(row);
+        run.add(&row);
     }
 
     /// Takes up to `most` steps at the line of values, one at least. What they all ask of the room and of the snapshot
@@ -439,9 +471,9 @@ impl Mind {
         while count < most {
             let load = self.value_move_by(spec, &shape, &last);
             let value = memory.operate(context, load);
-            self.add_value(spec, &last, value);
+            self.add_value(&shape, &last, value);
             count += 1;
-            if self.entries.len() >= spec.n() {
+            if self.entries.len() >= shape.n {
                 self.count_steps(count);
                 let turn = self.conclude(spec);
                 return Run {
@@ -456,6 +488,57 @@ impl Mind {
             count,
             turn: Turn::Still,
             line: Line::Values,
+        }
+    }
+
+    /// Ends the turn with the store of a decision, if that comes next.
+    #[inline(always)]
+    fn along_out<C, M: Memory<C>>(
+        &mut self,
+        spec: &Spec,
+        most: u64,
+        run: &mut Run,
+        context: &C,
+        memory: &mut M,
+    )
+        requires wants { Wants M.serves context.now spec.now memory.old (at_line run.old.line self.old) run.old.turn }
+        ensures wants { Wants M.serves context.now spec.now memory.new (at_line run.new.line self.new) run.new.turn }
+        ensures continues { Continues M.does spec.now run.old.count memory.old (at_line run.old.line self.old) run.old.turn run.new.count memory.new (at_line run.new.line self.new) run.new.turn }
+        ensures more { run.old.count ≤ run.new.count }
+        ensures most { run.old.count ≤ most → run.new.count ≤ most }
+    {
+        let Line::Out { decision } = run.line else {
+            return;
+        };
+        if !run.is_at(Line::Out { decision }, 1, most) {
+            return;
+        }
+        let row = self.take_out(spec, decision, context, memory);
+        run.add(&row);
+    }
+
+    /// Takes the last step of a turn whose process has decided.
+    #[inline(always)]
+    fn take_out<C, M: Memory<C>>(
+        &mut self,
+        spec: &Spec,
+        decision: u32,
+        context: &C,
+        memory: &mut M,
+    ) -> Run
+        requires wants { Wants M.serves context.now spec.now memory.old (at_line (Out decision) self.old) Still }
+        ensures wants { Wants M.serves context.now spec.now memory.new (at_line result.line self.new) result.turn }
+        ensures continues { (count : ℕ) → Continues M.does spec.now count memory.old (at_line (Out decision) self.old) Still (count + 1) memory.new (at_line result.line self.new) result.turn }
+        ensures count { result.count ≡ 1 }
+    {
+        let store = self.out_move(spec, decision);
+        memory.operate(context, store);
+        self.count_step();
+        let turn = self.end(Turn::Useful, Goal::Done);
+        Run {
+            count: 1,
+            turn,
+            line: self.current_line(),
         }
     }
 }

@@ -2,7 +2,9 @@
 ghost use Rattle.std.specs.Prelude.{List, ℕ, ◌≡◌, ◌+◌, ◌-◌, ◌<◌, ◌≤◌, [], ◌∷◌, ◌++◌, Some, length, min, nat_lt, slice_set};
 ghost use Rattle.protocol_lang.specs.Numbers.{greatest};
 ghost use Rattle.protocol_lang.specs.declared.meaning.TheConstants.{MAX_PROCESSES};
-ghost use Rattle.room_spec.specs.Rooms.{processes};
+ghost use Rattle.room_spec.specs.Rooms.{RoomSpec, processes};
+ghost use Rattle.room_spec.specs.Shapes.{sizes_of};
+ghost use Rattle.room_spec.specs.Sizes.{sizes_in};
 ghost use Rattle.room_spec.specs.declared.spec.TheConstants.{MAX_MEMORY_WORDS};
 ghost use Rattle.simulator.specs.Moves.{entry_in, is_again, loaded};
 ghost use Rattle.simulator.specs.Notes.{AreLastWrites};
@@ -14,7 +16,7 @@ use crate::mind::Mind;
 use crate::turn::Turn;
 use crate::words::chosen_in;
 use protocol_lang::{Action, View, next};
-use room_spec::Spec;
+use room_spec::{Shape, Spec};
 use sim_memory::LastWrites;
 
 impl Mind {
@@ -218,9 +220,9 @@ impl Mind {
     fn clear_entries(&mut self, spec: &Spec)
         ensures { self.new ≡ record self.old { entries = padded (entry_in spec.now self.old.snapshot) (processes spec.now) [] } }
     {
-        self.entries.clear();
+        self.entries = View::new(); // Clearing it would write to each entry.
         let last = self.snapshot.last_writes(spec);
-        pad(&mut self.entries, &last, spec);
+        pad(&mut self.entries, &last, &spec.shape());
     }
 
     /// Takes in the value of the next process.
@@ -234,21 +236,22 @@ impl Mind {
         ensures mind { self.new ≡ (got_value (entry_in spec.now self.old.snapshot) spec.now value self.old).mind }
         ensures turn { result ≡ (got_value (entry_in spec.now self.old.snapshot) spec.now value self.old).turn }
     {
-        self.add_value(spec, last, value);
+        self.add_value(&spec.shape(), last, value);
         self.gather(spec)
     }
 
-    /// Adds the value of the next process to the entries, and nothing for each of the silent ones that follow it.
+    /// Adds the value of the next process to the entries, and nothing for each of the silent ones that follow it. The room is
+    /// of this shape, and these are the last writes that its snapshot shows.
     #[inline(always)]
-    pub(crate) fn add_value(&mut self, spec: &Spec, last: &LastWrites, value: u64)
-        requires entries { length self.old.entries < processes spec.now }
-        requires few { processes spec.now ≤ MAX_PROCESSES }
-        requires last { AreLastWrites spec.now self.old.snapshot last.now.holders last.now.rounds }
-        ensures { self.new ≡ with_value (entry_in spec.now self.old.snapshot) spec.now value self.old }
+    pub(crate) fn add_value(&mut self, shape: &Shape, last: &LastWrites, value: u64)
+        requires entries { length self.old.entries < shape.now.n }
+        ensures { (spec : RoomSpec) → sizes_of shape.now ≡ sizes_in spec →
+            AreLastWrites spec self.old.snapshot last.now.holders last.now.rounds →
+            self.new ≡ with_value (entry_in spec self.old.snapshot) spec value self.old }
     {
         let value = value.min(u64::from(u32::MAX)) as u32;
         self.entries.push(Some(value));
-        pad(&mut self.entries, last, spec);
+        pad(&mut self.entries, last, shape);
     }
 
     /// Goes on to the next value that the snapshot shows, or after the last to what the process does.
@@ -314,14 +317,15 @@ fn after_write(spec: &Spec, round: u8, value: u32) -> Goal
     }
 }
 
-/// Adds nothing for each next process of which no write is shown.
+/// Adds nothing for each next process of which no write is shown, in a room of this shape.
 #[inline(always)]
-fn pad(entries: &mut View, last: &LastWrites, spec: &Spec)
-    requires few { length entries.old.items ≤ processes spec.now }
-    ensures { (words : List ℕ) → AreLastWrites spec.now words last.now.holders last.now.rounds →
-        entries.new.items ≡ padded (entry_in spec.now words) (processes spec.now) entries.old.items }
+fn pad(entries: &mut View, last: &LastWrites, shape: &Shape)
+    requires few { length entries.old.items ≤ shape.now.n }
+    ensures { (spec : RoomSpec) (words : List ℕ) → sizes_of shape.now ≡ sizes_in spec →
+        AreLastWrites spec words last.now.holders last.now.rounds →
+        entries.new.items ≡ padded (entry_in spec words) (processes spec) entries.old.items }
 {
-    while entries.len() < spec.n() && last.rounds[entries.len()] == 0 {
+    while entries.len() < shape.n && last.rounds[entries.len()] == 0 {
         entries.push(None);
     }
 }

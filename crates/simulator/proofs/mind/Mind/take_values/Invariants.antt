@@ -1,6 +1,7 @@
-use Rattle.std.proofs.Common.{◌≡◌, ℕ, ◌+◌, ◌-◌, ◌≤◌}
+use Rattle.std.proofs.Common.{ℕ, ◌+◌, ◌-◌, ◌≤◌}
 use Rattle.simulator.specs.declared.line.Line.TheVariants.{Values}
 use Rattle.simulator.specs.declared.turn.Turn.TheVariants.{Still}
+use Rattle.simulator.specs.Notes.{AreLastWrites}
 use Rattle.simulator.specs.Ranges.{at_line}
 use Rattle.simulator.specs.Runs.{Continues, Wants}
 use Rattle.simulator.specs.Turns.{counted_by}
@@ -11,7 +12,7 @@ invariant-loop-count g l = record {
   wants : Wants g.M.Memory.serves l.context l.spec l.memory (at_line Values (counted_by l.count l.self)) Still;
   most : l.count ≤ l.most;
   continues : (before : ℕ) → Continues g.M.Memory.does l.spec before l.fn.memory (at_line Values l.fn.self) Still (before + l.count) l.memory (at_line Values (counted_by l.count l.self)) Still;
-  snapshot : l.self.snapshot ≡ l.fn.self.snapshot;
+  last : AreLastWrites l.spec l.self.snapshot l.last.holders l.last.rounds;
 }
 
 abbrev pub decreases-loop-count : goal.decreases-loop-count
