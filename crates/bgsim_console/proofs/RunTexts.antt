@@ -65,7 +65,7 @@ abbrev none_run : (all : List RoomSpec) → IsRunUpTo all all []
 none_run all = record { done = []; split = refl; results = []; runs = tt; reports_are = refl }
 
 -- what one call of the scheduler added
-pub next_run : (all left part rest : List RoomSpec) (before after : List ℕ) → IsRunUpTo all left before → left ≡ part ++ rest → AddsRoomRuns part (λ results. before ≡ flat_map own_text results) (λ results. after ≡ flat_map own_text results) → IsRunUpTo all rest after
+next_run : (all left part rest : List RoomSpec) (before after : List ℕ) → IsRunUpTo all left before → left ≡ part ++ rest → AddsRoomRuns part (λ results. before ≡ flat_map own_text results) (λ results. after ≡ flat_map own_text results) → IsRunUpTo all rest after
 next_run all left part rest before after so_far split added = record {
   done = so_far.done ++ part;
   split = so_far.split ∙ ap (λ (list : List RoomSpec). so_far.done ++ list) split ∙ sym (append_assoc so_far.done part rest);
@@ -74,14 +74,25 @@ next_run all left part rest before after so_far split added = record {
   reports_are = added.2 so_far.results so_far.reports_are;
 }
 
-pub first_run : (all part rest : List RoomSpec) (before after : List ℕ) → all ≡ part ++ rest → before ≡ [] → AddsRoomRuns part (λ results. before ≡ flat_map own_text results) (λ results. after ≡ flat_map own_text results) → IsRunUpTo all rest after
-first_run all part rest before after split empty added = next_run all all part rest before after (subst (IsRunUpTo all all) (sym empty) (none_run all)) split added
-
-pub last_run : (all left : List RoomSpec) (reports : List ℕ) → IsRunUpTo all left reports → length left ≡ 0 → AddsReports all [] reports
+last_run : (all left : List RoomSpec) (reports : List ℕ) → IsRunUpTo all left reports → length left ≡ 0 → AddsReports all [] reports
 last_run all [] reports so_far none =
     let is : so_far.done ≡ all = sym (so_far.split ∙ append-nil so_far.done) in
     subst (λ (list : List RoomSpec). AddsReports list [] reports) is (record { results = so_far.results; each_room = so_far.runs; behind = so_far.reports_are ∙ own_texts so_far.done so_far.results so_far.runs })
 last_run all (spec ∷ specs) reports so_far none = absurd cc
+
+-- the rooms of the first part are open, and none has run
+pub first_open : (all part rest opened : List RoomSpec) (before : List ℕ) → all ≡ part ++ rest → opened ≡ part → before ≡ [] → IsRunUpTo all (opened ++ rest) before
+first_open all part rest opened before split are empty =
+    subst (IsRunUpTo all (opened ++ rest)) (sym empty) (subst (λ (list : List RoomSpec). IsRunUpTo all list []) (split ∙ ap (λ (list : List RoomSpec). list ++ rest) (sym are)) (none_run all))
+
+-- the rooms that were open have run, and those of the next part are open
+pub next_open : (all left part rest opened next : List RoomSpec) (before after : List ℕ) → IsRunUpTo all (opened ++ left) before → left ≡ part ++ rest → next ≡ part → AddsRoomRuns opened (λ results. before ≡ flat_map own_text results) (λ results. after ≡ flat_map own_text results) → IsRunUpTo all (next ++ rest) after
+next_open all left part rest opened next before after so_far split are added =
+    subst (λ (list : List RoomSpec). IsRunUpTo all list after) (split ∙ ap (λ (list : List RoomSpec). list ++ rest) (sym are)) (next_run all (opened ++ left) opened left before after so_far refl added)
+
+-- the rooms of the last part have run
+pub last_open : (all left opened : List RoomSpec) (before after : List ℕ) → IsRunUpTo all (opened ++ left) before → length left ≡ 0 → AddsRoomRuns opened (λ results. before ≡ flat_map own_text results) (λ results. after ≡ flat_map own_text results) → AddsReports all [] after
+last_open all left opened before after so_far none added = last_run all left after (next_run all (opened ++ left) opened left before after so_far refl added) none
 
 -- reports after a text
 pub adds_after : (specs : List RoomSpec) (before reports after : List ℕ) → AddsReports specs [] reports → after ≡ before ++ reports → AddsReports specs before after

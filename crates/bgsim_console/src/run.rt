@@ -1,5 +1,7 @@
 //! Rooms that workers run, and their reports.
-ghost use Rattle.std.specs.Prelude.{◌≡◌, ◌<◌, ◌≤◌, [], ◌++◌, IfErr, IfOk, OnOk, length};
+ghost use Rattle.std.specs.Prelude.{◌≡◌, ◌≢◌, ◌↔◌, ◌⊎◌, ◌<◌, ◌≤◌, [], ◌++◌, Err, IfErr, IfOk, OnOk, length};
+ghost use Rattle.scheduler.specs.Results.{AddsRoomRuns};
+ghost use Rattle.scheduler.specs.declared.rooms.RunFault.TheVariants.{Workers};
 ghost use Rattle.io_text.specs.Reading.{most_bytes};
 ghost use Rattle.bgsim_console.specs.Run.{AddsReports, AreWorkers, IsRunFor, MayEndRun};
 
@@ -10,9 +12,10 @@ use report_text::write_room;
 use room_core::RoomCore;
 use room_files::{Answer, Setup, SpecList, outcome_if, read_all_blocks};
 use room_spec::{Name, Spec};
-use scheduler::{Gate, Gathers, run_rooms_by};
+use scheduler::{Gate, Gathers, OpenRooms, RunFault, open_rooms, run_opened};
 use std::alloc::{AllocError, Global};
 use std::sync::Wait;
+use std::thread;
 use std::thread::Threads;
 
 /// How many rooms run at the same time at least, if there are as many. While it runs a room takes
@@ -61,12 +64,43 @@ fn run_in_parts<H: Threads + Wait + Sync, G: Gate + Sync>(
 {
     let rooms = ROOMS_AT_ONCE.max(left.len() / PARTS);
     let part = next_part(alloc, &mut left, rooms)?;
-    let mut reports = run_rooms_by(rt, alloc, part, workers, gate, Reports::none(alloc))?;
+    let mut opened = open_rooms(alloc, part, workers)?;
+    let mut reports = Reports::none(alloc);
     while left.len() > 0 {
         let part = next_part(alloc, &mut left, rooms)?;
-        reports = run_rooms_by(rt, alloc, part, workers, gate, reports)?;
+        (reports, opened) = run_and_open(rt, alloc, opened, reports, part, workers, gate)?;
     }
+    let reports = run_opened(rt, alloc, opened, gate, reports)?;
     Ok(reports.text)
+}
+
+/// Runs open rooms, gathers their results, and opens the rooms of the next part: at the same time, if there are several workers.
+fn run_and_open<H: Threads + Wait + Sync, G: Gate + Sync, A: Gathers + Send>(
+    rt: &H,
+    alloc: Global,
+    opened: OpenRooms,
+    gathered: A,
+    part: Vec<Spec>,
+    workers: u8,
+    gate: &G,
+) -> Result<(A, OpenRooms), RunFault>
+    requires { AreWorkers workers }
+    ensures gathered { IfOk result (λ both. AddsRoomRuns opened (A.has_gathered gathered) (A.has_gathered both.0)) }
+    ensures next { IfOk result (λ both. both.1 ≡ part.items) }
+    ensures fault { IfErr result (λ fault. fault ≢ Workers) }
+{
+    if workers == 1 {
+        let all = run_opened(rt, alloc, opened, gate, gathered)?;
+        return Ok((all, open_rooms(alloc, part, workers)?));
+    }
+    let open_next = move || -> Result<OpenRooms, RunFault>
+        ensures { ((result ≡ Err Workers) ↔ ((workers ≡ 0) ⊎ (16 < workers))) × IfOk result (λ next. next ≡ part.items) }
+    { open_rooms(alloc, part, workers) };
+    let run = move || -> Result<A, RunFault>
+        ensures { IfErr result (λ fault. fault ≢ Workers) × IfOk result (λ all. AddsRoomRuns opened (A.has_gathered gathered) (A.has_gathered all)) }
+    { run_opened(rt, alloc, opened, gate, gathered) };
+    let (next, all) = thread::join(rt, open_next, run);
+    Ok((all?, next?))
 }
 
 /// Takes the specs of the `rooms` rooms that run next off the front: all that are left if they are fewer.

@@ -19,7 +19,8 @@ pub use driving::{drive, turn};
 pub use fuse::Fuse;
 pub use gate::{FreeGate, Gate};
 pub use gathers::Gathers;
-pub use rooms::{RoomResult, RunFault, run_rooms, run_rooms_by};
+pub use opening::OpenRooms;
+pub use rooms::{RoomResult, RunFault, open_rooms, run_opened, run_rooms};
 pub use ruled_room::Stop;
 
 #[cfg(test)]

@@ -12,6 +12,7 @@ use room_spec::Spec;
 use ruled_room::{Keeper, RuledRoom};
 use std::alloc::{AllocError, Global};
 use std::collections::VecDeque;
+use std::marker::Model;
 
 /// Rooms, each with its keeper at the same place, and a queue of tasks for each worker.
 #[derive(Drop)]
@@ -19,6 +20,31 @@ pub(crate) struct Opened {
     pub(crate) rooms: Vec<RuledRoom>,
     pub(crate) keepers: Vec<Keeper>,
     pub(crate) queues: Vec<VecDeque<Task>>,
+}
+
+/// Rooms that are open, whose simulators are dealt out to workers and have not taken a step.
+#[derive(Drop)]
+pub struct OpenRooms {
+    pub(crate) dealt: Opened,
+}
+
+impl Model for OpenRooms {
+    ghost use Rattle.std.specs.Prelude.{◌≤◌, List, length, map};
+    ghost use Rattle.std.specs.Coded.{codes};
+    ghost use Rattle.protocol_lang.specs.Codes.{expression_code};
+    ghost use Rattle.room_spec.specs.Rooms.{RoomSpec};
+    ghost use Rattle.scheduler.specs.Tasks.{IsOpened};
+
+    // The specs of the rooms, in order.
+    ghost Value = { List RoomSpec };
+
+    ghost coded = { Prim.hlevel (codes, expression_code) };
+
+    ghost view = { λ opened. map (λ room. room.spec) opened.dealt.rooms.items };
+
+    ghost invariant = { λ opened.
+        IsOpened opened.dealt.rooms.items opened.dealt.keepers.items (map (λ queue. queue.items) opened.dealt.queues.items)
+        × (length opened.dealt.queues.items ≤ 16) };
 }
 
 /// Opens all rooms, and gives all their simulators away as tasks: in the order of the rooms and then

@@ -1,5 +1,5 @@
 //! All rooms of a list, run by workers.
-ghost use Rattle.std.specs.Prelude.{◌≡◌, ◌≢◌, ◌↔◌, ◌⊎◌, ◌<◌, ◌≤◌, ◌++◌, ◌/◌, ℕ, Err, IfOk, OnOk, length, map, min};
+ghost use Rattle.std.specs.Prelude.{◌≡◌, ◌≢◌, ◌↔◌, ◌⊎◌, ◌<◌, ◌≤◌, ◌++◌, ◌/◌, ℕ, Err, IfErr, IfOk, OnOk, length, map, min};
 ghost use Rattle.ws_history.specs.Reports.{IsReportIn};
 ghost use Rattle.ws_history.specs.declared.states.Report.{Report as ReportData};
 ghost use Rattle.scheduler.specs.Results.{AddsRoomRuns, AreRoomRuns, IsRoomRun, fault_code};
@@ -9,7 +9,7 @@ ghost use Rattle.scheduler.specs.declared.rooms.TheConstants.{ROOMS_A_THREAD};
 
 use crate::gate::Gate;
 use crate::gathers::Gathers;
-use crate::opening::{Opened, open_all};
+use crate::opening::{OpenRooms, Opened, open_all};
 use crate::workers::run_all;
 use room_core::RoomCore;
 use room_spec::Spec;
@@ -95,35 +95,50 @@ pub fn run_rooms<R: Threads + Wait + Sync, G: Gate + Sync>(
     // A result for each spec, in order, each by its own spec alone.
     ensures rooms { IfOk result (λ results. AreRoomRuns specs.items results.items) }
 {
-    run_rooms_by(rt, alloc, specs, workers, gate, Vec::new(alloc))
+    let opened = open_rooms(alloc, specs, workers)?;
+    run_opened(rt, alloc, opened, gate, Vec::new(alloc))
 }
 
-/// Does what [`run_rooms`] does, and adds the results to those that were gathered before. Each thread that ends rooms gathers
-/// their results.
+/// Opens a room of each spec, and deals out their simulators to the workers. [`run_opened`] runs them; the rooms of another list can be
+/// opened while these run.
 ///
 /// # Errors
 ///
-/// Those of [`run_rooms`]; an allocation that failed for what is gathered is one of them.
-pub fn run_rooms_by<R: Threads + Wait + Sync, G: Gate + Sync, A: Gathers + Send>(
-    rt: &R,
-    alloc: Global,
-    specs: Vec<Spec>,
-    workers: u8,
-    gate: &G,
-    gathered: A,
-) -> Result<A, RunFault>
+/// If there are not 1 to 16 workers, which is decided first; an allocation that failed.
+pub fn open_rooms(alloc: Global, specs: Vec<Spec>, workers: u8) -> Result<OpenRooms, RunFault>
     ensures workers { (result ≡ Err Workers) ↔ ((workers ≡ 0) ⊎ (16 < workers)) }
-    // A result for each spec, in order, each by its own spec alone.
-    ensures rooms { IfOk result (λ all. AddsRoomRuns specs.items (A.has_gathered gathered) (A.has_gathered all)) }
+    ensures rooms { IfOk result (λ opened. opened ≡ specs.items) }
 {
     if workers == 0 || workers > 16 {
         return Err(RunFault::Workers);
     }
+    let dealt = open_all(alloc, specs, workers)?;
+    Ok(OpenRooms { dealt })
+}
+
+/// Runs rooms that are open, as [`run_rooms`] says, and adds the results to those that were gathered before. Each thread that ends
+/// rooms gathers their results.
+///
+/// # Errors
+///
+/// Where a thread could not be started; an allocation that failed. All rooms are then given up.
+pub fn run_opened<R: Threads + Wait + Sync, G: Gate + Sync, A: Gathers + Send>(
+    rt: &R,
+    alloc: Global,
+    opened: OpenRooms,
+    gate: &G,
+    gathered: A,
+) -> Result<A, RunFault>
+    ensures fault { IfErr result (λ fault. fault ≢ Workers) }
+    // A result for each room, in order, each by its own spec alone.
+    ensures rooms { IfOk result (λ all. AddsRoomRuns opened (A.has_gathered gathered) (A.has_gathered all)) }
+{
     let Opened {
         rooms,
         keepers,
         queues,
-    } = open_all(alloc, specs, workers)?;
+    } = opened.dealt;
+    let workers = queues.len() as u8;
     let keepers = run_all(rt, alloc, rooms.as_slice(), keepers, queues, gate)?;
     let threads = ending_threads(rooms.len(), workers);
     Ok(finish_by(rt, alloc, rooms, keepers, threads, gathered)?)
