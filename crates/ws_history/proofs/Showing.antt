@@ -78,6 +78,20 @@ module _ (room : RoomState) (from upto now : List ℕ) (view : List (Option ℕ)
     view_is = ap (λ (l : List (Option ℕ)). set l p value) is.view_is ∙ values;
   }
 
+-- a process of which there is nothing more to show
+pub shows_same : (room : RoomState) (from upto now : List ℕ) (view : List (Option ℕ)) (p : ℕ) → IsShownTo room from upto now view p → get_or upto p 0 ≤ get_or now p 0 → IsShownTo room from upto now view (p + 1)
+shows_same room from upto now view p is none = record {
+  long = is.long;
+  done = λ q early. elim (cases_eq q p) [
+    | inl at ↦
+        let own : get_or now p 0 ≡ max (get_or from p 0) (get_or upto p 0) = omega (arith, is.left p (omega arith), none) in
+        ap (λ (k : ℕ). get_or now k 0) at ∙ own ∙ ap (λ (k : ℕ). max (get_or from k 0) (get_or upto k 0)) (sym at)
+    | inr other ↦ is.done q (omega (arith, early, other))
+  ];
+  left = λ q late. is.left q (omega (arith, late));
+  view_is = is.view_is;
+}
+
 pub shows_all : (room : RoomState) (from upto now : List ℕ) (view : List (Option ℕ)) (p : ℕ) → IsShownTo room from upto now view p → processes room.spec ≤ p → length upto ≡ processes room.spec → now ≡ shown_with from upto
 shows_all room from upto now view p is whole long =
     let most : ℕ → ℕ = λ q. max (get_or from q 0) (get_or upto q 0) in

@@ -266,9 +266,10 @@ fn push_writes<S: EventSink>(
     ensures view { OnOk result (view.new.items ≡ shown_by room.now.spec (read_of room.now) shown.new.items) }
 {
     for p in 0..process_count(room) {
-        let from = shown[p];
-        view[p] = push_writes_of(sink, room, p, from, upto[p], view[p])?;
-        shown[p] = from.max(upto[p]);
+        if shown[p] < upto[p] {
+            view[p] = push_writes_of(sink, room, p, shown[p], upto[p], view[p])?;
+            shown[p] = upto[p];
+        }
     }
     Ok(())
 }
