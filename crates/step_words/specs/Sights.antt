@@ -30,9 +30,13 @@ shown_in spec words process = merged_of spec.simulators (step_in (sizes_in spec)
 abbrev pub entry_text : ℕ → List ℕ
 entry_text number = if number == 0 then codes " ." else 32 ∷ decimal number
 
--- for each process the greatest step number that the word has for it, or `.` for none
+-- for each process the greatest step number that the words have for it, or `.` for none
+abbrev pub counts_text : RoomSpec → List ℕ → List ℕ
+counts_text spec words = concat (map (λ process. entry_text (shown_in spec words process)) (range_with_len 0 (processes spec)))
+
+-- the same of one word
 abbrev pub row_text : RoomSpec → ℕ → ℕ → List ℕ
-row_text spec at word = concat (map (λ process. entry_text (shown_in spec (memory_with at word) process)) (range_with_len 0 (processes spec)))
+row_text spec at word = counts_text spec (memory_with at word)
 
 -- a number, and one more
 abbrev pub raised_text : ℕ → List ℕ

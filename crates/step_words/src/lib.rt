@@ -7,5 +7,6 @@ mod sight;
 mod step;
 mod texts;
 
+pub use sight::write_counts;
 pub use step::write_step;
 pub use texts::StepTexts;

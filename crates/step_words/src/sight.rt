@@ -1,5 +1,5 @@
 //! What there is to see at an atomic step.
-ghost use Rattle.std.specs.Prelude.{◌≡◌, ◌<◌, ◌^◌, ◌++◌, OnOk, codes, length, if◌then◌else◌};
+ghost use Rattle.std.specs.Prelude.{◌≡◌, ◌<◌, ◌≤◌, ◌^◌, ◌++◌, OnOk, codes, length, if◌then◌else◌};
 ghost use Rattle.std.specs.List.{range_with_len};
 ghost use Rattle.room_spec.specs.Rooms.{processes};
 ghost use Rattle.room_spec.specs.Sizes.{memory_words, sizes_in};
@@ -8,7 +8,7 @@ ghost use Rattle.room_spec.specs.declared.spec.TheConstants.{MAX_MEMORY_WORDS};
 ghost use Rattle.level_cells.specs.Fields.{level_of, levels_of};
 ghost use Rattle.sim_memory.specs.Steps.{step_in};
 ghost use Rattle.step_words.specs.Lines.{IsStepIn};
-ghost use Rattle.step_words.specs.Sights.{added_text, chosen_text, entered_text, entry_text, levels_say, levels_text, loaded_text, memory_with, raised_text};
+ghost use Rattle.step_words.specs.Sights.{added_text, chosen_text, counts_text, entered_text, entry_text, levels_say, levels_text, loaded_text, memory_with, raised_text};
 ghost use Rattle.step_words.specs.Sights.{row_text, shown_in, sight_text, withdrawn_text, written_text};
 
 use crate::pieces::{write_between, write_number};
@@ -194,11 +194,22 @@ fn write_row(output: &mut Text, spec: &Spec, at: usize, word: u64) -> Result<(),
     requires { at < memory_words (sizes_in spec.now) }
     ensures { OnOk result (output.new ≡ output.old ++ row_text spec.now at word) }
 {
+    let _words = spec.shape().memory_words(); // for the proof: at most four
+    write_counts(output, spec, &memory_with(at, word))
+}
+
+/// Writes a snapshot as these memory words of a room have it: for each process the number of its writes, or `.` for none, after a space.
+///
+/// # Errors
+///
+/// An allocation that fails.
+pub fn write_counts(output: &mut Text, spec: &Spec, words: &[u64]) -> Result<(), AllocError>
+    requires { memory_words (sizes_in spec.now) ≤ length words.now }
+    ensures { OnOk result (output.new ≡ output.old ++ counts_text spec.now words.now) }
+{
     let shape = spec.shape();
-    let _words = shape.memory_words(); // for the proof: at most four
-    let words = memory_with(at, word);
     for process in 0..spec.n() {
-        write_entry(output, merged(&shape, &words, process))?;
+        write_entry(output, merged(&shape, words, process))?;
     }
     Ok(())
 }
