@@ -45,7 +45,7 @@ abbrev pub IsShownIn : Mode → Request → List ℕ → Result Outcome AllocErr
 IsShownIn Why request input ending output = IsWhole (IsExplanationFor input) ending output
 IsShownIn Fault request input ending output = IsWhole (IsExplanationFor input) ending output
 IsShownIn Trace request input ending output = IsTraceFor input ending output
-IsShownIn Draw request input ending output = IsDrawn input ending output
+IsShownIn Draw request input ending output = IsDrawn request.style input ending output
 IsShownIn Page request input ending output = IsPageFor (input ∷ []) ending output
 IsShownIn Transcript request input ending output = IsTranscribed input ending output
 IsShownIn Grade request input ending output = IsGradeFor request.grading input ending output

@@ -9,6 +9,7 @@ use Rattle.clap.specs.declared.builder.action.ArgAction.TheVariants.{SetTrue}
 use Rattle.clap.specs.declared.builder.value_parser.ValueParser.TheVariants.{Signed}
 use Rattle.room_sample.specs.declared.sampling.Plan.{Plan}
 use Rattle.view_outcomes.specs.declared.rooms.Search.{Search}
+use Rattle.run_picture.specs.declared.picture.Style.{Style}
 use Rattle.bgview.specs.declared.command_line.Grading.{Grading}
 use Rattle.bgview.specs.declared.command_line.Mode.{Mode}
 use Rattle.bgview.specs.declared.command_line.Mode.TheVariants.{Why, Trace, Draw, Page, Transcript, Fault, Grade, Sample, Outcomes, Lint}
@@ -25,6 +26,17 @@ number_rule name least most = record (new_rule name) { long = Some name; value_n
 -- the subcommand `page`, which takes one file or two
 abbrev pub page_app : App
 page_app = with_rule (file_app (codes "page")) (new_rule (codes "OTHER"))
+
+abbrev pub scale_rule : Rule
+scale_rule = number_rule (codes "scale") 10 1000
+
+-- an option that takes no value
+abbrev pub turns_rule : Rule
+turns_rule = record (new_rule (codes "turns")) { long = Some (codes "turns"); action = Some SetTrue }
+
+-- the subcommand `draw`, which takes a file, a number and a flag
+abbrev pub draw_app : App
+draw_app = with_rule (with_rule (file_app (codes "draw")) scale_rule) turns_rule
 
 abbrev pub schedules_rule : Rule
 schedules_rule = number_rule (codes "schedules") 1 1000000
@@ -101,7 +113,7 @@ plain_app = record { top = plain_shape; subs = [] }
 
 abbrev pub bgview_app : App
 bgview_app =
-    let showing = with_subcommand (with_subcommand (with_subcommand (with_subcommand plain_app (file_app (codes "why")).top) (file_app (codes "trace")).top) (file_app (codes "draw")).top) page_app.top in
+    let showing = with_subcommand (with_subcommand (with_subcommand (with_subcommand plain_app (file_app (codes "why")).top) (file_app (codes "trace")).top) draw_app.top) page_app.top in
     let finding = with_subcommand (with_subcommand (with_subcommand (with_subcommand showing (file_app (codes "transcript")).top) fault_app.top) sample_app.top) outcomes_app.top in
     with_subcommand (with_subcommand finding (file_app (codes "lint")).top) grade_app.top
 
@@ -167,9 +179,15 @@ pub record IsGradingAmong (found : Option (List ℕ × List Row)) (grading : Gra
   pub goal : grading.goal.now ≡ unwrap_or (value_among (codes "goal") found) []
   pub most : IsNumberIfAny (value_among (codes "commands") found) grading.most
 
+-- how rooms are drawn, as the values of `draw` say
+pub record IsStyleAmong (found : Option (List ℕ × List Row)) (style : Style) : Type 0 where
+  pub percent : IsNumber (value_among (codes "scale") found) 100 style.percent
+  pub by_turns : style.by_turns ≡ is_given (value_among (codes "turns") found)
+
 -- what the words request
 pub record IsRequestAmong (found : Option (List ℕ × List Row)) (request : Request) : Type 0 where
   pub mode : request.mode ≡ mode_among found
   pub plan : IsPlanAmong found request.plan
   pub search : IsSearchAmong found request.search
   pub grading : IsGradingAmong found request.grading
+  pub style : IsStyleAmong found request.style

@@ -4,10 +4,11 @@ ghost use Rattle.clap.specs.Kinds.{FailsBy};
 ghost use Rattle.clap.specs.declared.builder.command.Command.TheViews.{out-Command};
 ghost use Rattle.clap.specs.Words.{app_of, fault_of, first_value, found_of, subcommand_of, subcommand_rows_of, with_subcommand};
 ghost use Rattle.clap.specs.Walk.{rule_of};
-ghost use Rattle.bgview.specs.CommandLine.{bgview_app, brief_rule, choosing_app, commands_rule, crashes_rule, drawing_app, fault_app, file_among, file_app, goal_rule, grade_app, is_given, json_rule, mode_among, mode_of, other_among, outcome_rule, outcomes_app, page_app, plain_app, sample_app, schedules_rule, seed_rule, states_rule, stopped_rule, top_rule, workers_rule, IsGradingAmong, IsNumber, IsNumberIfAny, IsPlanAmong, IsRequestAmong, IsSearchAmong};
+ghost use Rattle.bgview.specs.CommandLine.{bgview_app, brief_rule, choosing_app, commands_rule, crashes_rule, draw_app, drawing_app, fault_app, file_among, file_app, goal_rule, grade_app, is_given, json_rule, mode_among, mode_of, other_among, outcome_rule, outcomes_app, page_app, plain_app, sample_app, scale_rule, schedules_rule, seed_rule, states_rule, stopped_rule, top_rule, turns_rule, workers_rule, IsGradingAmong, IsNumber, IsNumberIfAny, IsPlanAmong, IsRequestAmong, IsSearchAmong, IsStyleAmong};
 
 use clap::{Arg, ArgAction, ArgMatches, Command, Error, value_parser};
 use room_sample::Plan;
+use run_picture::Style;
 use std::alloc::{AllocError, Global};
 use std::convert::AsStr;
 use view_outcomes::Search;
@@ -112,18 +113,45 @@ fn trace_command<'a>(alloc: Global) -> Result<Command<'a>, AllocError>
     )
 }
 
-/// The subcommand `draw`.
+/// The subcommand `draw`, which takes a file, a number and a flag.
 fn draw_command<'a>(alloc: Global) -> Result<Command<'a>, AllocError>
-    ensures app { IfOk result (λ command. app_of command ≡ file_app (codes "draw")) }
+    ensures app { IfOk result (λ command. app_of command ≡ draw_app) }
     ensures local { IfOk result (λ command. (out-Command command).has_globals ≡ false) }
 {
-    file_command(
+    let draw = file_command(
         alloc,
         "draw",
         "Plays a script, and draws each of its rooms, as SVG",
-        "bgview draw [FILE]",
+        "bgview draw [--scale PERCENT] [--turns] [FILE]",
         "The script; without it, standard input is read",
-    )
+    )?;
+    let with_scale = draw.arg(scale_option(alloc))?;
+    with_scale.arg(turns_option(alloc))
+}
+
+/// The option `--scale PERCENT`.
+fn scale_option<'a>(alloc: Global) -> Arg<'a>
+    ensures rule { rule_of result ≡ scale_rule }
+    ensures local { result.global ≡ false }
+{
+    Arg::new(alloc, "scale")
+        .long("scale")
+        .value_name("PERCENT")
+        .value_parser(value_parser!(u32).range(10..=1000))
+        .help(
+            "How large the picture is, in percent, 10 to 1000; without it, 100, for a window of 1280 pixels",
+        )
+}
+
+/// The option `--turns`.
+fn turns_option<'a>(alloc: Global) -> Arg<'a>
+    ensures rule { rule_of result ≡ turns_rule }
+    ensures local { result.global ≡ false }
+{
+    Arg::new(alloc, "turns")
+        .long("turns")
+        .action(ArgAction::SetTrue)
+        .help("Draws a box for each stretch of a turn, not for each step")
 }
 
 /// The subcommand `page`, which takes one file or two.
@@ -500,6 +528,7 @@ pub struct Request<'a> {
     pub plan: Plan,
     pub search: Search,
     pub grading: Grading<'a>,
+    pub style: Style,
 }
 
 /// What the words request of an input.
@@ -511,6 +540,23 @@ pub fn request_in<'a>(matches: &ArgMatches<'a>) -> Request<'a>
         plan: plan_in(matches),
         search: search_in(matches),
         grading: grading_in(matches),
+        style: style_in(matches),
+    }
+}
+
+/// How rooms are drawn by what the words ask for.
+fn style_in(matches: &ArgMatches<'_>) -> Style
+    ensures { IsStyleAmong (subcommand_rows_of matches.now) result }
+{
+    match matches.subcommand() {
+        Some((_, inner)) => Style {
+            percent: number_among(inner, "scale", 100),
+            by_turns: is_given(inner, "turns"),
+        },
+        None => Style {
+            percent: 100,
+            by_turns: false,
+        },
     }
 }
 

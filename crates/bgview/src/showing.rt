@@ -49,7 +49,7 @@ pub fn show<H: Threads + Sync, P: Progress>(
         }
         Mode::Draw => {
             *notes = script_faults(alloc, input)?;
-            Ok(draw(alloc, input)?)
+            Ok(draw(alloc, request.style, input)?)
         }
         Mode::Page => {
             *notes = faults_of(alloc, input)?;

@@ -127,8 +127,12 @@ has_face : (face : Face) → Adds (face_of face)
 unfolding face_of attribute
 has_face Plain = nothing_more
 has_face Bold = one (codes "font-weight") (codes "600") refl refl
-has_face Code = one (codes "font-family") (codes "monospace") refl refl
-has_face Struck = one (codes "text-decoration") (codes "line-through") refl refl
+has_face Code =
+    two (codes " font-family=\"monospace\"") (codes " style=\"white-space:pre\"") (one (codes "font-family") (codes "monospace") refl refl)
+    (one (codes "style") (codes "white-space:pre") refl refl)
+has_face Struck =
+    two (codes " font-family=\"monospace\"") (codes " text-decoration=\"line-through\"") (one (codes "font-family") (codes "monospace") refl refl)
+    (one (codes "text-decoration") (codes "line-through") refl refl)
 
 has_anchor : (anchor : Anchor) → Adds (anchor_of anchor)
 unfolding anchor_of attribute

@@ -58,8 +58,8 @@ dashes_of Long = codes " stroke-dasharray=\"4 4\""
 unfoldable pub face_of : Face → List ℕ
 face_of Plain = []
 face_of Bold = codes " font-weight=\"600\""
-face_of Code = codes " font-family=\"monospace\""
-face_of Struck = codes " text-decoration=\"line-through\""
+face_of Code = codes " font-family=\"monospace\" style=\"white-space:pre\""
+face_of Struck = codes " font-family=\"monospace\" text-decoration=\"line-through\""
 
 unfoldable pub anchor_of : Anchor → List ℕ
 anchor_of Start = []

@@ -1,5 +1,5 @@
 -- A whole picture, as it is written.
-use Rattle.std.specs.Prelude.{ℕ, ◌*◌, ◌-◌, ◌^◌, List, ◌∷◌, ◌++◌, codes, decimal, min}
+use Rattle.std.specs.Prelude.{ℕ, ◌*◌, ◌/◌, ◌-◌, ◌^◌, List, ◌∷◌, ◌++◌, codes, decimal, min}
 use Rattle.std.specs.List.{flat_map}
 use Rattle.picture_shapes.specs.declared.shape.Shape.{Shape}
 use Rattle.picture_shapes.specs.declared.svg.Size.{Size}
@@ -28,9 +28,9 @@ view_start = codes " viewBox" ++ codes "=\"0 0"
 unfoldable pub view_box : Size → List ℕ
 view_box size = view_start ++ (32 ∷ decimal size.width ++ (32 ∷ decimal size.height ++ codes "\""))
 
--- a number of units in pixels
+-- a number of units in pixels: two a unit at 100 percent
 abbrev pub pixels : Size → ℕ → ℕ
-pixels size units = min (units * size.scale) (2 ^ 64 - 1)
+pixels size units = min (units * size.percent) (2 ^ 64 - 1) / 50
 
 unfoldable pub svg_start : Size → List ℕ
 svg_start size = svg_open ++ (view_box size ++ (sized (pixels size size.width) (pixels size size.height) ++ codes ">\n"))

@@ -101,8 +101,8 @@ impl Face {
         match self {
             Face::Plain => b"",
             Face::Bold => b" font-weight=\"600\"",
-            Face::Code => b" font-family=\"monospace\"",
-            Face::Struck => b" text-decoration=\"line-through\"",
+            Face::Code => b" font-family=\"monospace\" style=\"white-space:pre\"",
+            Face::Struck => b" font-family=\"monospace\" text-decoration=\"line-through\"",
         }
     }
 }

@@ -60,9 +60,9 @@ pub enum Dashes {
 pub enum Face {
     Plain,
     Bold,
-    /// All letters are equally wide.
+    /// All letters are equally wide, and each space is shown.
     Code,
-    /// The same, struck through.
+    /// Letters that are equally wide, struck through.
     Struck,
 }
 

@@ -1,7 +1,7 @@
 //! Shapes as SVG.
 ghost use Rattle.std.specs.Prelude.{◌≡◌, ◌++◌, ◌*◌, ◌-◌, ◌^◌, OnOk, min};
 ghost use Rattle.picture_shapes.specs.Shapes.{all_shapes, area, hint, hint_start, hint_start_end, label, label_start, line, line_ends, line_width, part_start, part_text, shape_text, stroked, title_text};
-ghost use Rattle.picture_shapes.specs.Svg.{ground, paper, pattern, pattern_end, pattern_start, stripe, svg_open, svg_start, svg_text, tile, view_box, view_start};
+ghost use Rattle.picture_shapes.specs.Svg.{ground, paper, pattern, pattern_end, pattern_start, pixels, stripe, svg_open, svg_start, svg_text, tile, view_box, view_start};
 
 use crate::attributes::{
     write_decimal, write_escaped, write_font, write_framed, write_number, write_paint, write_sized,
@@ -18,8 +18,17 @@ pub struct Size {
     /// Its sizes in the units of its shapes,
     pub width: u64,
     pub height: u64,
-    /// of which each is this many pixels.
-    pub scale: u8,
+    /// of which 50 are this many pixels: 100 percent are two pixels a unit.
+    pub percent: u32,
+}
+
+impl Size {
+    /// A number of units in whole pixels.
+    fn pixels(self, units: u64) -> u64
+        ensures { result ≡ pixels self units }
+    {
+        units.saturating_mul(u64::from(self.percent)) / 50
+    }
 }
 
 /// Writes a whole SVG file: its title, and the parts that [`write_part`] wrote. It has no script, style sheet, font or link.
@@ -231,12 +240,8 @@ fn start_svg(output: &mut Text, size: Size) -> Result<(), AllocError>
 {
     open_svg(output)?;
     write_view_box(output, size)?;
-    let scale = u64::from(size.scale);
-    write_sized(
-        output,
-        size.width.saturating_mul(scale),
-        size.height.saturating_mul(scale),
-    )?;
+    let (width, height) = (size.pixels(size.width), size.pixels(size.height));
+    write_sized(output, width, height)?;
     output.put(b">\n")
 }
 

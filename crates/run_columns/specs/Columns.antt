@@ -1,5 +1,5 @@
 -- The columns of a run's picture: its marks one by one, or stretches of them.
-use Rattle.std.specs.Prelude.{◌≡◌, ⊤, ℕ, ◌+◌, ◌-◌, ◌^◌, Bool, false, ◌&&◌, ◌==◌, nat_le, List, [], ◌∷◌, length, min, take, if◌then◌else◌}
+use Rattle.std.specs.Prelude.{◌≡◌, ⊤, ℕ, ◌+◌, ◌-◌, ◌^◌, Bool, false, not, ◌&&◌, ◌==◌, nat_le, List, [], ◌∷◌, length, min, take, if◌then◌else◌}
 use Rattle.simulator.specs.declared.turn.Turn.{Turn}
 use Rattle.simulator.specs.declared.turn.Turn.TheVariants.{Still}
 use Rattle.run_columns.specs.declared.mark.Deed.{Deed}
@@ -96,11 +96,13 @@ columns_by scale (mark ∷ marks) = columns_from scale (column_of 0 0 mark) mark
 abbrev pub most_columns : ℕ
 most_columns = 400
 
--- A column shows a step if there are at most 400 marks; else a stretch of one turn; and if there are more of these, of one simulator.
-abbrev pub scale_of : List Mark → Scale
-scale_of marks =
-    if nat_le (length marks) most_columns then Steps
-    else (if nat_le (length (columns_by Turns marks)) most_columns then Turns else Simulators)
+-- a column shows a stretch of one turn; or if there are too many of these, of one simulator
+abbrev pub folded_scale : List Mark → Scale
+folded_scale marks = if nat_le (length (columns_by Turns marks)) most_columns then Turns else Simulators
+
+-- A column shows a step if there are at most 400 marks, and stretches aren't wanted.
+abbrev pub scale_by : Bool → List Mark → Scale
+scale_by by_turns marks = if not by_turns && nat_le (length marks) most_columns then Steps else folded_scale marks
 
 -- what is drawn of a run: the first 400 columns, and how many there would be after them
 pub record Columns : Type 0 where
@@ -111,8 +113,12 @@ pub record Columns : Type 0 where
 abbrev pub columns_at : Scale → List Column → Columns
 columns_at scale columns = record { scale = scale; columns = take most_columns columns; left_out = length columns - most_columns }
 
+-- with stretches if they are wanted
+abbrev pub columns_as : Bool → List Mark → Columns
+columns_as by_turns marks = columns_at (scale_by by_turns marks) (columns_by (scale_by by_turns marks) marks)
+
 abbrev pub columns_of : List Mark → Columns
-columns_of marks = columns_at (scale_of marks) (columns_by (scale_of marks) marks)
+columns_of marks = columns_as false marks
 
 -- ---- laws
 

@@ -3,7 +3,7 @@ use Rattle.std.specs.Prelude.{ℕ, Bool, true, false, Option, Some, None, ◌&&�
 use Rattle.simulator.specs.declared.line.Line.{Line}
 use Rattle.simulator.specs.declared.line.Line.TheVariants as lines
 use Rattle.simulator.specs.declared.operation.Move.{Move}
-use Rattle.simulator.specs.declared.operation.Move.TheVariants.{Load}
+use Rattle.simulator.specs.declared.operation.Move.TheVariants.{Load, Store}
 use Rattle.view_table.specs.declared.place.Place.{Place}
 use Rattle.view_table.specs.declared.place.Place.TheVariants.{Memory, View}
 use Rattle.room_steps.specs.Steps.{turn_of}
@@ -31,6 +31,11 @@ deed_of (lines.GetView chosen) operation = LoadView
 deed_of lines.Values operation = LoadValue
 deed_of (lines.Out decision) operation = Decide
 
+-- the number that an operation stores, or 0
+abbrev pub stored_by : Move → ℕ
+stored_by (Store index number) = number
+stored_by operation = 0
+
 abbrev pub word_in : Place → Option ℕ
 word_in (Memory word) = Some (min word 255)
 word_in (View simulator process round word) = Some (min word 255)
@@ -55,6 +60,7 @@ step_mark words step = record {
   process = min step.process 255;
   round = step.round;
   word = word_of words step.line step.place;
+  stored = stored_by step.operation;
   deed = deed_of step.line step.operation;
   end = turn_of step.end;
 }

@@ -1,6 +1,6 @@
 //! The columns of a run's picture.
 ghost use Rattle.std.specs.Prelude.{◌≡◌, ◌+◌, ◌-◌, ◌^◌, ◌≤◌, IfOk, length, min};
-ghost use Rattle.run_columns.specs.Columns.{change_by, change_by_deed, column_of, columns_by, columns_from, end_by, joins, belongs, next_column, columns_of, scale_of, steps_in, changed, widened};
+ghost use Rattle.run_columns.specs.Columns.{change_by, change_by_deed, column_of, columns_by, columns_from, end_by, joins, belongs, next_column, columns_as, folded_scale, scale_by, steps_in, changed, widened};
 
 use crate::mark::{Deed, Mark, Step};
 use simulator::Turn;
@@ -183,15 +183,15 @@ impl Model for Columns {
 }
 
 impl Columns {
-    /// The columns of these marks, in order: one a mark if there are few enough, and else one a stretch.
+    /// The columns of these marks, in order: one a mark if there are few enough and `by_turns` is false, and else one a stretch.
     ///
     /// # Errors
     ///
     /// If an allocation fails.
-    pub fn of(alloc: Global, marks: &[Mark]) -> Result<Columns, AllocError>
-        ensures { IfOk result (λ columns. columns ≡ columns_of marks.now) }
+    pub fn of(alloc: Global, by_turns: bool, marks: &[Mark]) -> Result<Columns, AllocError>
+        ensures { IfOk result (λ columns. columns ≡ columns_as by_turns marks.now) }
     {
-        let scale = scale_of(alloc, marks)?;
+        let scale = scale_by(alloc, by_turns, marks)?;
         let mut columns = columns_by(alloc, scale, marks)?;
         let left_out = columns.len().saturating_sub(MAX_COLUMNS);
         columns.truncate(MAX_COLUMNS);
@@ -226,12 +226,19 @@ impl Columns {
 }
 
 /// How much a column shows in the picture of these marks.
-fn scale_of(alloc: Global, marks: &[Mark]) -> Result<Scale, AllocError>
-    ensures { IfOk result (λ scale. scale ≡ scale_of marks.now) }
+fn scale_by(alloc: Global, by_turns: bool, marks: &[Mark]) -> Result<Scale, AllocError>
+    ensures { IfOk result (λ scale. scale ≡ scale_by by_turns marks.now) }
 {
-    if marks.len() <= MAX_COLUMNS {
+    if !by_turns && marks.len() <= MAX_COLUMNS {
         return Ok(Scale::Steps);
     }
+    folded_scale(alloc, marks)
+}
+
+/// How much a column shows if it may show several steps.
+fn folded_scale(alloc: Global, marks: &[Mark]) -> Result<Scale, AllocError>
+    ensures { IfOk result (λ scale. scale ≡ folded_scale marks.now) }
+{
     let turns = columns_by(alloc, Scale::Turns, marks)?;
     if turns.len() <= MAX_COLUMNS {
         return Ok(Scale::Turns);

@@ -45,6 +45,8 @@ pub struct Step {
     pub round: u8,
     /// Which word of a snapshot it loads or stores, counted from 0, if the snapshot takes several.
     pub word: Option<u8>,
+    /// The number that it stores in its word of the shared memory; 0 if it stores none. Of a proposal it is a word of step numbers.
+    pub stored: u64,
     pub deed: Deed,
     /// Whether it ends the turn, and how.
     pub end: Turn,

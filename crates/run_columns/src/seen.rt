@@ -1,7 +1,7 @@
 //! Atomic steps as they are drawn.
 ghost use Rattle.std.specs.Prelude.{◌≡◌, min};
 ghost use Rattle.room_steps.specs.Steps.{turn_of};
-ghost use Rattle.run_columns.specs.Seen.{deed_of, is_on_snapshot, step_mark, word_in, word_of};
+ghost use Rattle.run_columns.specs.Seen.{deed_of, is_on_snapshot, step_mark, stored_by, word_in, word_of};
 
 use crate::mark::{Deed, Step};
 use room_steps::AtomicStep;
@@ -19,6 +19,7 @@ impl Step {
             process: small(step.process),
             round: step.round,
             word: word_of(words, step.line, step.place),
+            stored: stored_by(step.operation),
             deed: deed_of(step.line, step.operation),
             end: end_of(step.end),
         }
@@ -30,6 +31,16 @@ fn small(number: usize) -> u8
     ensures { result ≡ min number 255 }
 {
     number.min(255) as u8
+}
+
+/// The number that an operation stores, or 0 if it stores none.
+fn stored_by(operation: Move) -> u64
+    ensures { result ≡ stored_by operation }
+{
+    match operation {
+        Move::Store(_, number) => number,
+        _ => 0,
+    }
 }
 
 /// What a step at this line does. The first step of a turn is an ask if it loads.

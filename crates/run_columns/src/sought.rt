@@ -48,7 +48,7 @@ impl Sought {
         }
     }
 
-    fn is_step(self, step: Step) -> bool
+    pub(crate) fn is_step(self, step: Step) -> bool
         ensures { result ≡ is_sought_step self step }
     {
         (step.deed.is_same(self.deed) && (step.process == self.process && step.round == self.round))

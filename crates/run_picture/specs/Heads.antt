@@ -1,26 +1,18 @@
--- What is above the picture of a room.
-use Rattle.std.specs.Prelude.{◌≡◌, ℕ, ◌+◌, ◌*◌, ◌==◌, ◌&&◌, ◌||◌, Bool, nat_le, List, [], ◌∷◌, ◌++◌, codes, decimal, length, min, take, string_bytes, if◌then◌else◌}
+-- What is above the lanes of a room: its name, its numbers, and its protocol as the author wrote it.
+use Rattle.std.specs.Prelude.{◌≡◌, ℕ, ◌+◌, ◌*◌, ◌==◌, Bool, List, [], ◌∷◌, ◌++◌, codes, decimal, length, min, if◌then◌else◌}
 use Rattle.std.specs.List.{flat_map}
-use Rattle.protocol_lang.specs.Printing.{printed}
+use Rattle.std.specs.Str.{bytes_eq}
 use Rattle.room_spec.specs.Rooms.{RoomSpec}
-use Rattle.room_spec.specs.Sizes.{memory_words, sizes_in}
+use Rattle.room_files.specs.Lines.{text_lines}
 use Rattle.picture_shapes.specs.declared.colour.Colour.TheVariants.{Faint, Ink}
 use Rattle.picture_shapes.specs.declared.shape.Shape.{Shape}
 use Rattle.picture_shapes.specs.declared.shape.Shape.TheVariants.{Hint, Label}
 use Rattle.picture_shapes.specs.Places.{frame_at}
-use Rattle.run_picture.specs.declared.head.Head.{Head}
-use Rattle.run_picture.specs.declared.layout.TheConstants.{MARGIN}
-use Rattle.run_picture.specs.declared.fonts.TheConstants.{CODE, TITLE, WORDS}
-use Rattle.run_picture.specs.Words.{counted}
-
--- what is known of a room's spec: its name, its numbers, of how many words a snapshot of it is read, and its protocol's shortest text
-pub record IsHeadOf (spec : RoomSpec) (head : Head) : Type 0 where
-  pub name : head.name ≡ spec.name
-  pub inputs : head.inputs.items ≡ spec.inputs
-  pub simulators : head.simulators ≡ spec.simulators
-  pub rounds : head.rounds ≡ spec.rounds
-  pub words : head.words ≡ min (memory_words (sizes_in spec)) 255
-  pub protocol : string_bytes head.protocol ≡ printed spec.protocol
+use Rattle.simulator_lanes.specs.declared.fonts.TheConstants.{CODE, TITLE, WORDS}
+use Rattle.simulator_lanes.specs.declared.layout.TheConstants.{MARGIN}
+use Rattle.simulator_lanes.specs.declared.panel.Head.{Head}
+use Rattle.simulator_lanes.specs.Words.{clipped, counted}
+use Rattle.run_picture.specs.declared.head.TheConstants.{MAX_LINES}
 
 -- 2 processes with inputs 7 3, 2 simulators, 1 round
 unfoldable pub inputs_words : List ℕ → List ℕ
@@ -36,48 +28,61 @@ unfoldable pub numbers_words : ℕ → ℕ → List ℕ
 numbers_words simulators rounds =
     codes ", " ++ (counted simulators (codes " simulator") (codes " simulators") ++ (codes ", " ++ counted rounds (codes " round") (codes " rounds")))
 
-unfoldable pub room_words : Head → List ℕ
-room_words head = processes_words head.inputs.items ++ numbers_words head.simulators head.rounds
+unfoldable pub room_words : RoomSpec → List ℕ
+room_words spec = processes_words spec.inputs ++ numbers_words spec.simulators spec.rounds
 
 -- ---- the protocol
 
-abbrev pub is_letter : ℕ → Bool
-is_letter byte = nat_le 97 byte && nat_le byte 122
+abbrev pub is_protocol : List ℕ → Bool
+is_protocol line = bytes_eq line (codes "protocol")
 
-abbrev pub is_digit : ℕ → Bool
-is_digit byte = nat_le 48 byte && nat_le byte 57
+abbrev pub is_end : List ℕ → Bool
+is_end line = bytes_eq line (codes "end")
 
--- The shortest text has a space only where two words meet. Others make it easier to read: after each rule, and between a number or `)` and a word.
-abbrev pub is_parted : ℕ → ℕ → Bool
-is_parted last byte = (last == 59) || (((is_digit last || (last == 41)) && is_letter byte) || (is_letter last && is_digit byte))
+-- the lines after the first line `protocol`
+abbrev pub after_protocol : List (List ℕ) → List (List ℕ)
+after_protocol [] = []
+after_protocol (line ∷ lines) = if is_protocol line then lines else after_protocol lines
 
-abbrev pub spaced_from : ℕ → List ℕ → List ℕ
-spaced_from last [] = []
-spaced_from last (byte ∷ bytes) = (if is_parted last byte then 32 ∷ byte ∷ [] else byte ∷ []) ++ spaced_from byte bytes
+-- the lines before the first line `end`
+abbrev pub before_end : List (List ℕ) → List (List ℕ)
+before_end [] = []
+before_end (line ∷ lines) = if is_end line then [] else line ∷ before_end lines
 
-abbrev pub spaced : List ℕ → List ℕ
-spaced text = spaced_from 32 text
+-- the lines of a block's protocol, as its author wrote them
+abbrev pub protocol_lines : List ℕ → List (List ℕ)
+protocol_lines block = before_end (after_protocol (text_lines block))
 
--- of a long text only the beginning is shown; a hint has the whole
-unfoldable pub shown_part : List ℕ → List ℕ
-shown_part text = take 84 text
+-- of a long line the beginning is shown; a hint has the whole
+unfoldable pub line_shapes : ℕ → List ℕ → List Shape
+line_shapes index line =
+    Label (record { x = MARGIN; y = 61 + 13 * index }) CODE Faint (clipped 84 line)
+    ∷ Hint (frame_at (record { x = MARGIN; y = 51 + 13 * index }) 600 13) line
+    ∷ []
 
-unfoldable pub rest_words : List ℕ → List ℕ
-rest_words text = if nat_le (length text) 84 then [] else codes " .."
+unfoldable pub more_shapes : ℕ → List Shape
+more_shapes index = Label (record { x = MARGIN; y = 61 + 13 * index }) CODE Faint (codes "..") ∷ []
 
-unfoldable pub protocol_words : List ℕ → List ℕ
-protocol_words text = shown_part text ++ rest_words text
+-- the lines one below the other, of which this many come before; at most as many as there is space for
+abbrev pub lines_from : ℕ → List (List ℕ) → List Shape
+lines_from index [] = []
+lines_from index (line ∷ lines) = if index == MAX_LINES then more_shapes index else line_shapes index line ++ lines_from (index + 1) lines
 
-unfoldable pub protocol_shapes : List ℕ → List Shape
-protocol_shapes text =
-    Label (record { x = MARGIN; y = 61 }) CODE Faint (protocol_words text) ∷ Hint (frame_at (record { x = MARGIN; y = 50 }) 600 16) text ∷ []
+-- ---- the whole
 
-unfoldable pub head_shapes : Head → List Shape
-head_shapes head =
-    Label (record { x = MARGIN; y = 26 }) TITLE Ink head.name
-    ∷ Label (record { x = MARGIN; y = 44 }) WORDS Faint (room_words head)
-    ∷ protocol_shapes (spaced (string_bytes head.protocol))
+unfoldable pub title_shapes : RoomSpec → List Shape
+title_shapes spec = Label (record { x = MARGIN; y = 26 }) TITLE Ink spec.name ∷ Label (record { x = MARGIN; y = 44 }) WORDS Faint (room_words spec) ∷ []
+
+abbrev pub head_shapes : Head → List Shape
+head_shapes head = title_shapes head.spec ++ lines_from 0 (protocol_lines head.block.items)
+
+-- as many lines as are drawn
+abbrev pub shown_lines : List (List ℕ) → ℕ
+shown_lines lines = min (length lines) (MAX_LINES + 1)
+
+abbrev pub head_height : Head → ℕ
+head_height head = 67 + 13 * shown_lines (protocol_lines head.block.items)
 
 -- about 7 for each byte of the numbers
 unfoldable pub head_width : Head → ℕ
-head_width head = 7 * min (length (room_words head)) 1000 + 32
+head_width head = 7 * min (length (room_words head.spec)) 1000 + 32

@@ -1,5 +1,5 @@
 -- The lanes of the processes: each event at the step at which it takes effect, and the state of each process.
-use Rattle.std.specs.Prelude.{ℕ, ◌+◌, ◌-◌, ◌*◌, ◌/◌, ◌==◌, Option, Some, None, List, [], ◌∷◌, ◌++◌, codes, decimal, fold, length, max, min, slice_index_or, if◌then◌else◌}
+use Rattle.std.specs.Prelude.{ℕ, ◌+◌, ◌-◌, ◌*◌, ◌/◌, ◌==◌, Bool, true, false, Option, Some, None, List, [], ◌∷◌, ◌++◌, codes, decimal, fold, length, max, min, slice_index_or, if◌then◌else◌}
 use Rattle.std.specs.List.{flat_map, range_with_len}
 use Rattle.transcript.specs.declared.event.Event.{Event}
 use Rattle.transcript.specs.declared.event.Event.TheVariants.{Write, Snap, Decide}
@@ -17,14 +17,16 @@ use Rattle.picture_shapes.specs.declared.shape.Shape.TheVariants.{Area, Hint, La
 use Rattle.picture_shapes.specs.Places.{frame_at, moved, plus}
 use Rattle.run_columns.specs.declared.column.Column.{Column}
 use Rattle.run_columns.specs.Columns.{simulator_of}
-use Rattle.run_picture.specs.declared.fonts.TheConstants.{EVENT, SMALL, WORDS}
+use Rattle.run_columns.specs.Effects.{column_of, event_step, round_at}
+use Rattle.simulator_lanes.specs.declared.fonts.TheConstants.{EVENT, SMALL, WORDS}
+use Rattle.simulator_lanes.specs.declared.layout.Grid.{Grid}
+use Rattle.simulator_lanes.specs.declared.layout.TheConstants.{LEFT, MARGIN}
+use Rattle.simulator_lanes.specs.Layout.{cell, column_x, dashes_for, process_y, right_of, row_of, row_right, rows}
+use Rattle.simulator_lanes.specs.Panels.{Panel, events_in, states_in, words_in}
+use Rattle.simulator_lanes.specs.Words.{process_name, simulator_name}
 use Rattle.run_picture.specs.declared.history.Pen.{Pen}
-use Rattle.run_picture.specs.declared.layout.Grid.{Grid}
-use Rattle.run_picture.specs.declared.layout.TheConstants.{LEFT, MARGIN}
-use Rattle.run_picture.specs.Effects.{column_of, event_step, round_at}
-use Rattle.run_picture.specs.Layout.{cell, column_x, dashes_for, process_y, right_of, row_of, row_right, rows}
-use Rattle.run_picture.specs.Panels.{Panel, events_in}
-use Rattle.run_picture.specs.Words.{process_name, simulator_name}
+use Rattle.run_picture.specs.Opens.{open_shapes}
+use Rattle.run_picture.specs.Stopped.{is_one_left}
 
 -- ---- events
 
@@ -115,7 +117,7 @@ pen_after grid pen event (Some column) = record {
 
 -- the column of an event, after what is drawn so far
 abbrev pub column_for : Panel → List Column → Pen → Event → Option Column
-column_for panel columns pen event = column_of columns (event_step panel.head.words panel.marks (round_at pen.round event) event)
+column_for panel columns pen event = column_of columns (event_step (words_in panel) panel.marks (round_at pen.round event) event)
 
 -- an event of any process, for the lane of this one
 abbrev pub own_shapes : Drawing → Panel → List Column → Grid → ℕ → Pen → Event → List Shape
@@ -166,20 +168,26 @@ lane_line y right process words colour dashes =
     ∷ Line (moved (record { x = LEFT - 6; y = y }) 0 11) (moved (record { x = right; y = y }) 0 11) 1 colour dashes
     ∷ []
 
--- in the last row is the state of the process, and the line is dashed if the process isn't through
-abbrev pub last_line : ℕ → ℕ → ℕ → ProcessState → List Shape
-last_line y right process (Decided value) = lane_line y right process (decided_words value) Faint Solid
-last_line y right process Spent = lane_line y right process (codes "spent") Faint Solid
-last_line y right process (Held simulator) = lane_line y right process (held_words simulator) Alarm Long
-last_line y right process Going = lane_line y right process (codes "may still go on") Faint Long
+-- a process that isn't through may go on if some simulator can
+abbrev pub going_words : Bool → List ℕ
+going_words true = codes "may still go on"
+going_words false = codes "no simulator left"
 
-abbrev pub process_lane : Grid → ℕ → List ProcessState → ℕ → ℕ → List Shape
-process_lane grid right states row process =
-    if row + 1 == rows grid then last_line (process_y grid row process) right process (slice_index_or states process Going)
+-- in the last row is the state of the process, and the line is dashed if the process isn't through
+abbrev pub last_line : ℕ → ℕ → Panel → ℕ → ProcessState → List Shape
+last_line y right panel process (Decided value) = lane_line y right process (decided_words value) Faint Solid
+last_line y right panel process Spent = lane_line y right process (codes "spent") Faint Solid
+last_line y right panel process (Held simulator) = lane_line y right process (held_words simulator) Alarm Long
+last_line y right panel process Going = lane_line y right process (going_words (is_one_left panel)) Faint Long
+
+-- in the last row, also the proposals that may still be chosen
+abbrev pub process_lane : Grid → ℕ → Panel → ℕ → ℕ → List Shape
+process_lane grid right panel row process =
+    if row + 1 == rows grid then last_line (process_y grid row process) right panel process (slice_index_or (states_in panel.report) process Going) ++ open_shapes (process_y grid row process) panel process
     else lane_line (process_y grid row process) (row_right grid row) process [] Faint Solid
 
-unfoldable pub row_processes : Grid → ℕ → List ProcessState → ℕ → List Shape
-row_processes grid right states row = flat_map (process_lane grid right states row) (range_with_len 0 (length states))
+unfoldable pub row_processes : Grid → ℕ → Panel → ℕ → List Shape
+row_processes grid right panel row = flat_map (process_lane grid right panel row) (range_with_len 0 (length (states_in panel.report)))
 
-unfoldable pub process_lanes : Grid → ℕ → List ProcessState → List Shape
-process_lanes grid right states = flat_map (row_processes grid right states) (range_with_len 0 (rows grid))
+unfoldable pub process_lanes : Grid → ℕ → Panel → List Shape
+process_lanes grid right panel = flat_map (row_processes grid right panel) (range_with_len 0 (rows grid))

@@ -1,10 +1,6 @@
-pub mod Layout
-pub mod Words
 pub mod Heads
-pub mod Lanes
-pub mod Turns
-pub mod Squares
-pub mod Effects
+pub mod Opens
+pub mod Stopped
 pub mod History
-pub mod Panels
+pub mod Legends
 pub mod Picture

@@ -1,6 +1,5 @@
 -- The whole picture.
-use Rattle.std.specs.Prelude.{ℕ, ◌+◌, ◌*◌, ◌/◌, ◌%◌, ◌==◌, ◌&&◌, nat_le, Bool, false, List, [], ◌∷◌, ◌++◌, codes, length, max, if◌then◌else◌}
-use Rattle.std.specs.List.{filter, list_any}
+use Rattle.std.specs.Prelude.{ℕ, ◌+◌, ◌*◌, ◌/◌, ◌%◌, ◌==◌, List, [], ◌∷◌, ◌++◌, codes, length, max, if◌then◌else◌}
 use Rattle.picture_shapes.specs.declared.colour.Colour.TheVariants.{Faint, Ink}
 use Rattle.picture_shapes.specs.declared.shape.Shape.{Shape}
 use Rattle.picture_shapes.specs.declared.shape.Shape.TheVariants.{Label}
@@ -9,23 +8,22 @@ use Rattle.picture_shapes.specs.Places.{plus}
 use Rattle.picture_shapes.specs.Svg.{Part, Picture}
 use Rattle.run_columns.specs.declared.column.Scale.{Scale}
 use Rattle.run_columns.specs.declared.column.Scale.TheVariants.{Steps, Turns, Simulators}
-use Rattle.run_columns.specs.declared.mark.Deed.{Deed}
-use Rattle.run_columns.specs.declared.mark.Mark.{Mark}
-use Rattle.run_columns.specs.declared.mark.Mark.TheVariants.{Step, Crash}
-use Rattle.run_columns.specs.Columns.{Columns, columns_of, most_columns}
-use Rattle.run_columns.specs.Deeds.{all_deeds, is_same, letter_of, meaning_of}
-use Rattle.run_picture.specs.declared.fonts.TheConstants.{HEADING, LEGEND, WORDS}
-use Rattle.run_picture.specs.declared.layout.Grid.{Grid}
-use Rattle.run_picture.specs.declared.layout.TheConstants.{MARGIN}
+use Rattle.run_columns.specs.Columns.{Columns, columns_as}
+use Rattle.simulator_lanes.specs.declared.fonts.TheConstants.{HEADING, WORDS}
+use Rattle.simulator_lanes.specs.declared.layout.Grid.{Grid}
+use Rattle.simulator_lanes.specs.declared.layout.TheConstants.{MARGIN}
+use Rattle.simulator_lanes.specs.Lanes.{insides, lanes, ticks}
+use Rattle.simulator_lanes.specs.Layout.{row_y, rows}
+use Rattle.simulator_lanes.specs.Panels.{Panel, states_in}
+use Rattle.simulator_lanes.specs.Proposals.{proposals}
+use Rattle.simulator_lanes.specs.Squares.{squares}
+use Rattle.simulator_lanes.specs.Turns.{turns}
+use Rattle.simulator_lanes.specs.Words.{counted}
+use Rattle.run_picture.specs.declared.picture.Style.{Style}
 use Rattle.run_picture.specs.declared.picture.TheConstants.{MIN_WIDTH, TITLE}
-use Rattle.run_picture.specs.Heads.{head_shapes, head_width}
+use Rattle.run_picture.specs.Heads.{head_height, head_shapes, head_width}
 use Rattle.run_picture.specs.History.{all_events, boxed, events_right, process_lanes, tied}
-use Rattle.run_picture.specs.Lanes.{insides, lanes, ticks}
-use Rattle.run_picture.specs.Layout.{row_y, rows}
-use Rattle.run_picture.specs.Panels.{Panel, states_in}
-use Rattle.run_picture.specs.Squares.{squares}
-use Rattle.run_picture.specs.Turns.{turns}
-use Rattle.run_picture.specs.Words.{counted}
+use Rattle.run_picture.specs.Legends.{legend_shapes}
 
 -- ---- the simulators
 
@@ -42,19 +40,19 @@ unfoldable pub note_words : Columns → List ℕ
 note_words columns = scale_words columns.scale ++ left_out_words columns.left_out
 
 unfoldable pub steps_title : List Shape
-steps_title = Label (record { x = MARGIN; y = 98 }) HEADING Ink (codes "Step by step") ∷ []
+steps_title = Label (record { x = MARGIN; y = 18 }) HEADING Ink (codes "Step by step") ∷ []
 
 unfoldable pub steps_heading : Columns → List Shape
-steps_heading columns = steps_title ++ Label (record { x = 100; y = 98 }) WORDS Faint (note_words columns) ∷ []
+steps_heading columns = steps_title ++ Label (record { x = 100; y = 18 }) WORDS Faint (note_words columns) ∷ []
 
 -- the squares are drawn over the turns, these over what is inside an agreement, and all over the lanes
-unfoldable pub steps_shapes : Grid → Columns → List Shape
-steps_shapes grid columns =
-    ticks grid columns.columns ++ (lanes grid ++ (insides grid columns.columns ++ (turns grid columns.columns ++ squares grid columns.columns)))
+unfoldable pub steps_shapes : Grid → Panel → Columns → List Shape
+steps_shapes grid panel columns =
+    ticks grid columns.columns ++ (lanes grid ++ (insides grid columns.columns ++ (turns grid columns.columns ++ squares grid panel.head.spec columns.columns)))
 
 -- ---- a room
 
--- how many columns a row has, so that a picture is 640 wide
+-- how many columns a row has, so that a picture is 632 wide: in a window of 1280 pixels there is space for it and a scroll bar
 abbrev pub wrap_of : Scale → ℕ
 wrap_of Steps = 28
 wrap_of Turns = 11
@@ -65,82 +63,70 @@ grid_of panel columns = record {
   scale = columns.scale;
   wrap = wrap_of columns.scale;
   count = length columns.columns;
-  simulators = panel.head.simulators;
+  simulators = panel.head.spec.simulators;
   processes = length (states_in panel.report);
 }
 
--- the ties of events are drawn over the steps, then the lanes of the processes, and then the events
-unfoldable pub room_shapes : Grid → Panel → Columns → List Shape
-room_shapes grid panel columns =
-    steps_shapes grid columns
+-- The ties of events are drawn over the steps, the proposals over these, then the lanes of the processes, and then the events.
+unfoldable pub lanes_shapes : Grid → Panel → Columns → List Shape
+lanes_shapes grid panel columns =
+    steps_shapes grid panel columns
     ++ (all_events tied panel columns.columns grid
-    ++ (process_lanes grid (events_right panel columns.columns grid) (states_in panel.report) ++ all_events boxed panel columns.columns grid))
+    ++ (proposals grid panel columns.columns
+    ++ (process_lanes grid (events_right panel columns.columns grid) panel ++ all_events boxed panel columns.columns grid)))
 
-unfoldable pub shapes_with : Panel → Columns → List Shape
-shapes_with panel columns = head_shapes panel.head ++ (steps_heading columns ++ room_shapes (grid_of panel columns) panel columns)
+abbrev pub room_shapes : Panel → Columns → List Shape
+room_shapes panel columns = steps_heading columns ++ lanes_shapes (grid_of panel columns) panel columns
 
-abbrev pub panel_shapes : Panel → List Shape
-panel_shapes panel = shapes_with panel (columns_of panel.marks)
-
--- how high and how wide the picture of a room is
+-- how high and how wide the lanes of a room are
 unfoldable pub height_with : Panel → Columns → ℕ
 height_with panel columns = row_y (grid_of panel columns) (rows (grid_of panel columns))
 
 unfoldable pub width_with : Panel → Columns → ℕ
-width_with panel columns = max (head_width panel.head) (plus (events_right panel columns.columns (grid_of panel columns)) 72)
+width_with panel columns = max (head_width panel.head) (plus (events_right panel columns.columns (grid_of panel columns)) 64)
 
-abbrev pub panel_height : Panel → ℕ
-panel_height panel = height_with panel (columns_of panel.marks)
+-- what is known of a room, and under it its lanes
+abbrev pub parts_with : ℕ → Panel → Columns → List Part
+parts_with top panel columns =
+    record { top = top; shapes = head_shapes panel.head } ∷ record { top = plus top (head_height panel.head); shapes = room_shapes panel columns } ∷ []
 
-abbrev pub panel_width : Panel → ℕ
-panel_width panel = width_with panel (columns_of panel.marks)
+abbrev pub panel_columns : Style → Panel → Columns
+panel_columns style panel = columns_as style.by_turns panel.marks
 
--- ---- the letters
+abbrev pub panel_parts : Style → ℕ → Panel → List Part
+panel_parts style top panel = parts_with top panel (panel_columns style panel)
 
-abbrev pub shows_deed : Deed → Mark → Bool
-shows_deed deed (Step step) = is_same step.deed deed
-shows_deed deed (Crash simulator) = false
+abbrev pub panel_height : Style → Panel → ℕ
+panel_height style panel = plus (head_height panel.head) (height_with panel (panel_columns style panel))
 
--- whether a letter is in the picture of a room, in which there are letters if each column is a step
-abbrev pub has_letter : Deed → Panel → Bool
-has_letter deed panel = nat_le (length panel.marks) most_columns && list_any (shows_deed deed) panel.marks
-
-abbrev pub deeds_in : List Panel → List Deed
-deeds_in panels = filter (λ deed. list_any (has_letter deed) panels) all_deeds
-
-unfoldable pub legend_entry : ℕ → Deed → List Shape
-legend_entry index deed =
-    Label (record { x = MARGIN + 150 * (index % 4); y = 16 + 18 * (index / 4) }) LEGEND Faint (letter_of deed)
-    ∷ Label (record { x = MARGIN + 150 * (index % 4) + 16; y = 16 + 18 * (index / 4) }) WORDS Faint (meaning_of deed)
-    ∷ []
-
--- four in a row
-abbrev pub legend_from : ℕ → List Deed → List Shape
-legend_from index [] = []
-legend_from index (deed ∷ deeds) = legend_entry index deed ++ legend_from (index + 1) deeds
+abbrev pub panel_width : Style → Panel → ℕ
+panel_width style panel = width_with panel (panel_columns style panel)
 
 -- ---- the whole
 
--- the rooms one below the other from here on, and the letters below all of them
-abbrev pub parts_from : List Deed → ℕ → List Panel → List Part
-parts_from deeds top [] = record { top = top; shapes = legend_from 0 deeds } ∷ []
-parts_from deeds top (panel ∷ panels) = record { top = top; shapes = panel_shapes panel } ∷ parts_from deeds (plus top (panel_height panel)) panels
+-- the rooms one below the other from here on
+abbrev pub parts_from : Style → ℕ → List Panel → List Part
+parts_from style top [] = []
+parts_from style top (panel ∷ panels) = panel_parts style top panel ++ parts_from style (plus top (panel_height style panel)) panels
 
-abbrev pub bottom_from : ℕ → List Panel → ℕ
-bottom_from top [] = top
-bottom_from top (panel ∷ panels) = bottom_from (plus top (panel_height panel)) panels
+abbrev pub bottom_from : Style → ℕ → List Panel → ℕ
+bottom_from style top [] = top
+bottom_from style top (panel ∷ panels) = bottom_from style (plus top (panel_height style panel)) panels
 
-abbrev pub width_from : ℕ → List Panel → ℕ
-width_from width [] = width
-width_from width (panel ∷ panels) = width_from (max width (panel_width panel)) panels
+abbrev pub width_from : Style → ℕ → List Panel → ℕ
+width_from style width [] = width
+width_from style width (panel ∷ panels) = width_from style (max width (panel_width style panel)) panels
 
--- the letters have 80 below the rooms
-abbrev pub size_to : ℕ → ℕ → Size
-size_to width bottom = record { width = width; height = plus bottom 80; scale = 2 }
+-- what there is to explain is below them, and 112 high
+abbrev pub all_parts : Style → List Panel → List Part
+all_parts style panels = parts_from style 0 panels ++ record { top = bottom_from style 0 panels; shapes = legend_shapes style panels } ∷ []
 
-abbrev pub size_of : List Panel → Size
-size_of panels = size_to (width_from MIN_WIDTH panels) (bottom_from 0 panels)
+abbrev pub size_to : Style → ℕ → ℕ → Size
+size_to style width bottom = record { width = width; height = plus bottom 112; percent = style.percent }
+
+abbrev pub size_of : Style → List Panel → Size
+size_of style panels = size_to style (width_from style MIN_WIDTH panels) (bottom_from style 0 panels)
 
 -- the picture of these rooms
-abbrev pub picture_of : List Panel → Picture
-picture_of panels = record { size = size_of panels; title = TITLE.now; parts = parts_from (deeds_in panels) 0 panels }
+abbrev pub picture_of : Style → List Panel → Picture
+picture_of style panels = record { size = size_of style panels; title = TITLE.now; parts = all_parts style panels }

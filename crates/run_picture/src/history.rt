@@ -1,18 +1,19 @@
 //! The lanes of the processes: each event at the step at which it takes effect, and the state of each process.
 ghost use Rattle.std.specs.Prelude.{◌≡◌, ◌+◌, ◌*◌, ◌++◌, ◌∷◌, ◌≤◌, ◌<◌, IfOk, OnOk, length};
 ghost use Rattle.transcript.specs.Grammar.{entry_text};
-ghost use Rattle.run_picture.specs.History.{all_events, box_width, boxed, column_for, decided_words, entries_text, event_box, event_corner, event_fill, event_hint, event_ink, event_shapes, event_start, event_width, event_words, event_x, events_right, first_pen, held_words, lane_events, lane_line, lane_right, last_line, own_pen, own_shapes, pen_after, process_lane, process_lanes, row_processes, tie, tied};
-ghost use Rattle.run_picture.specs.Words.{process_name};
+ghost use Rattle.run_picture.specs.History.{all_events, box_width, boxed, column_for, decided_words, entries_text, event_box, event_corner, event_fill, event_hint, event_ink, event_shapes, event_start, event_width, event_words, event_x, events_right, first_pen, going_words, held_words, lane_events, lane_line, lane_right, last_line, own_pen, own_shapes, pen_after, process_lane, process_lanes, row_processes, tie, tied};
+ghost use Rattle.run_picture.specs.Opens.{open_shapes};
+ghost use Rattle.simulator_lanes.specs.Panels.{states_in};
+ghost use Rattle.simulator_lanes.specs.Words.{process_name};
 
-use crate::effects::{event_column, round_at};
-use crate::fonts::{EVENT, SMALL, WORDS};
-use crate::layout::{Grid, LEFT, MARGIN, dashes_for};
-use crate::panel::Panel;
-use crate::words::{write_process, write_simulator};
+use crate::open::add_open;
+use crate::stopped::is_one_left;
 use io_text::Text;
 use picture_shapes::{Colour, Dashes, Frame, Point, Sheet, write_decimal};
-use room_spec::MAX_PROCESSES;
-use run_columns::Column;
+use run_columns::{Column, event_column, round_at};
+use simulator_lanes::{
+    EVENT, Grid, LEFT, MARGIN, Panel, SMALL, WORDS, dashes_for, write_process, write_simulator,
+};
 use std::alloc::{AllocError, Global};
 use transcript::Event;
 use ws_history::ProcessState;
@@ -117,7 +118,7 @@ fn column_for(
     ensures { IfOk result (λ column. column ≡ column_for panel.now columns.now pen event.now) }
 {
     let round = round_at(pen.round, event);
-    let words = panel.head().words;
+    let words = panel.words() as u8;
     event_column(alloc, words, panel.marks(), columns, round, event)
 }
 
@@ -228,13 +229,12 @@ pub(crate) fn add_process_lanes(
     sheet: &mut Sheet,
     grid: Grid,
     right: u64,
-    states: &[ProcessState],
+    panel: &Panel,
 ) -> Result<(), AllocError>
-    requires { length states.now ≤ MAX_PROCESSES }
-    ensures { OnOk result (sheet.new ≡ sheet.old ++ process_lanes grid right states.now) }
+    ensures { OnOk result (sheet.new ≡ sheet.old ++ process_lanes grid right panel.now) }
 {
     for row in 0..grid.rows() {
-        add_row_processes(sheet, grid, right, states, row)?;
+        add_row_processes(sheet, grid, right, panel, row)?;
     }
     Ok(())
 }
@@ -244,15 +244,14 @@ fn add_row_processes(
     sheet: &mut Sheet,
     grid: Grid,
     right: u64,
-    states: &[ProcessState],
+    panel: &Panel,
     row: u64,
 ) -> Result<(), AllocError>
-    requires few { length states.now ≤ MAX_PROCESSES }
-    requires row { row ≤ 2 * 65535 }
-    ensures { OnOk result (sheet.new ≡ sheet.old ++ row_processes grid right states.now row) }
+    requires { row ≤ 2 * 65535 }
+    ensures { OnOk result (sheet.new ≡ sheet.old ++ row_processes grid right panel.now row) }
 {
-    for process in 0..states.len() {
-        add_process_lane(sheet, grid, right, states, row, process)?;
+    for process in 0..panel.states().len() {
+        add_process_lane(sheet, grid, right, panel, row, process)?;
     }
     Ok(())
 }
@@ -262,34 +261,50 @@ fn add_process_lane(
     sheet: &mut Sheet,
     grid: Grid,
     right: u64,
-    states: &[ProcessState],
+    panel: &Panel,
     row: u64,
     process: usize,
 ) -> Result<(), AllocError>
-    requires few { length states.now ≤ MAX_PROCESSES }
     requires row { row ≤ 2 * 65535 }
-    requires process { process < length states.now }
-    ensures { OnOk result (sheet.new ≡ sheet.old ++ process_lane grid right states.now row process) }
+    requires process { process < length (states_in panel.now.report) }
+    ensures { OnOk result (sheet.new ≡ sheet.old ++ process_lane grid right panel.now row process) }
 {
+    let state = panel.states()[process];
     let number = process as u8;
     let y = grid.process_y(row, number);
     if row + 1 == grid.rows() {
-        add_last_line(sheet, y, right, number, states[process])
+        add_last_lane(sheet, y, right, panel, number, state)
     } else {
         let end = grid.row_right(row);
         add_lane_line(sheet, y, end, number, b"", Colour::Faint, Dashes::Solid)
     }
 }
 
-/// Draws the lane of a process in the last row, with the state of the process.
+/// Draws the lane of a process in the last row, with the state of the process and the proposals that may still be chosen.
+fn add_last_lane(
+    sheet: &mut Sheet,
+    y: u64,
+    right: u64,
+    panel: &Panel,
+    process: u8,
+    state: ProcessState,
+) -> Result<(), AllocError>
+    ensures { OnOk result (sheet.new ≡ sheet.old ++ (last_line y right panel.now process state ++ open_shapes y panel.now process)) }
+{
+    add_last_line(sheet, y, right, panel, process, state)?;
+    add_open(sheet, y, panel, process)
+}
+
+/// Draws the name and the line of a process in the last row, with the state of the process.
 fn add_last_line(
     sheet: &mut Sheet,
     y: u64,
     right: u64,
+    panel: &Panel,
     process: u8,
     state: ProcessState,
 ) -> Result<(), AllocError>
-    ensures { OnOk result (sheet.new ≡ sheet.old ++ last_line y right process state) }
+    ensures { OnOk result (sheet.new ≡ sheet.old ++ last_line y right panel.now process state) }
 {
     let (colour, dashes) = (Colour::Faint, Dashes::Solid);
     match state {
@@ -304,9 +319,20 @@ fn add_last_line(
             add_lane_line(sheet, y, right, process, words.as_bytes(), colour, dashes)
         }
         ProcessState::Going => {
-            let words = b"may still go on";
+            let words = going_words(is_one_left(panel));
             add_lane_line(sheet, y, right, process, words, colour, Dashes::Long)
         }
+    }
+}
+
+/// What is said of a process that isn't through, if this says whether some simulator can go on.
+fn going_words(left: bool) -> &'static [u8]
+    ensures { result.now ≡ going_words left }
+{
+    if left {
+        b"may still go on"
+    } else {
+        b"no simulator left"
     }
 }
 

@@ -1,40 +1,60 @@
 //! What the letters stand for.
-ghost use Rattle.std.specs.Prelude.{◌≡◌, ◌++◌, ◌*◌, ◌+◌, ◌≤◌, IfOk, OnOk, length};
+ghost use Rattle.std.specs.Prelude.{◌≡◌, ◌++◌, ◌*◌, ◌+◌, ◌≤◌, [], IfOk, OnOk, codes, length, if◌then◌else◌};
 ghost use Rattle.std.specs.List.{list_any};
-ghost use Rattle.run_picture.specs.Picture.{deeds_in, has_letter, legend_entry, legend_from, shows_deed};
+ghost use Rattle.run_columns.specs.declared.mark.Deed.TheVariants.{Propose};
+ghost use Rattle.run_picture.specs.Legends.{deeds_in, dropped_note, has_letter, has_letters, has_word, has_words, legend_entry, legend_from, legend_shapes, note, notes, proposals_note, shows_deed, words_note};
 
-use crate::fonts::{LEGEND, WORDS};
-use crate::layout::MARGIN;
-use crate::panel::Panel;
+use crate::picture::Style;
 use picture_shapes::{Colour, Point, Sheet};
 use run_columns::{Deed, MAX_COLUMNS, Mark};
+use simulator_lanes::{LEGEND, MARGIN, Panel, WORDS};
 use std::alloc::{AllocError, Global};
 
+/// Writes what there is to explain in the pictures of these rooms.
+pub(crate) fn add_legend(
+    sheet: &mut Sheet,
+    style: Style,
+    panels: &[Panel],
+) -> Result<(), AllocError>
+    ensures { OnOk result (sheet.new ≡ sheet.old ++ legend_shapes style panels.now) }
+{
+    let deeds = deeds_in(sheet.alloc(), style, panels)?;
+    add_entries(sheet, &deeds)?;
+    add_notes(sheet, style, panels)
+}
+
 /// The letters that are in the pictures of these rooms.
-pub(crate) fn deeds_in(alloc: Global, panels: &[Panel]) -> Result<Vec<Deed>, AllocError>
-    ensures value { IfOk result (λ deeds. deeds.items ≡ deeds_in panels.now) }
+fn deeds_in(alloc: Global, style: Style, panels: &[Panel]) -> Result<Vec<Deed>, AllocError>
+    ensures value { IfOk result (λ deeds. deeds.items ≡ deeds_in style panels.now) }
     ensures few { IfOk result (λ deeds. length deeds.items ≤ 12) }
 {
     let mut deeds = Vec::new(alloc);
     for deed in &Deed::all() {
-        if is_in(*deed, panels) {
+        if is_in(style, *deed, panels) {
             deeds.push(*deed)?;
         }
     }
     Ok(deeds)
 }
 
-fn is_in(deed: Deed, panels: &[Panel]) -> bool
-    ensures { result ≡ list_any (has_letter deed) panels.now }
+fn is_in(style: Style, deed: Deed, panels: &[Panel]) -> bool
+    ensures { result ≡ list_any (has_letter style deed) panels.now }
 {
-    panels.iter().any(|panel| has_letter(deed, panel))
+    panels.iter().any(|panel| has_letter(style, deed, panel))
 }
 
-/// Whether a letter is in the picture of a room. It has letters if each column is a step.
-fn has_letter(deed: Deed, panel: &Panel) -> bool
-    ensures { result ≡ has_letter deed panel.now }
+/// Whether a letter is in the picture of a room.
+fn has_letter(style: Style, deed: Deed, panel: &Panel) -> bool
+    ensures { result ≡ has_letter style deed panel.now }
 {
-    panel.marks().len() <= MAX_COLUMNS && is_among(deed, panel.marks())
+    has_letters(style, panel) && is_among(deed, panel.marks())
+}
+
+/// Whether there are letters in the picture of a room: if each column is a step.
+fn has_letters(style: Style, panel: &Panel) -> bool
+    ensures { result ≡ has_letters style panel.now }
+{
+    !style.by_turns && panel.marks().len() <= MAX_COLUMNS
 }
 
 fn is_among(deed: Deed, marks: &[Mark]) -> bool
@@ -53,7 +73,7 @@ fn shows_deed(deed: Deed, mark: Mark) -> bool
 }
 
 /// Writes what each of these letters stands for, four in a row.
-pub(crate) fn add_legend(sheet: &mut Sheet, deeds: &[Deed]) -> Result<(), AllocError>
+fn add_entries(sheet: &mut Sheet, deeds: &[Deed]) -> Result<(), AllocError>
     requires { length deeds.now ≤ 12 }
     ensures { OnOk result (sheet.new ≡ sheet.old ++ legend_from 0 deeds.now) }
 {
@@ -65,7 +85,7 @@ pub(crate) fn add_legend(sheet: &mut Sheet, deeds: &[Deed]) -> Result<(), AllocE
     Ok(())
 }
 
-#[tactic(auto, unfolding(crate::specs::Picture::legend_entry))]
+#[tactic(auto, unfolding(crate::specs::Legends::legend_entry))]
 fn add_entry(sheet: &mut Sheet, index: u64, deed: Deed) -> Result<(), AllocError>
     requires { index ≤ 12 }
     ensures { OnOk result (sheet.new ≡ sheet.old ++ legend_entry index deed) }
@@ -80,4 +100,70 @@ fn add_entry(sheet: &mut Sheet, index: u64, deed: Deed) -> Result<(), AllocError
         y: at.y,
     };
     sheet.label(after, WORDS, Colour::Faint, deed.meaning())
+}
+
+/// Explains proposals and the numbers of words, if there are some.
+fn add_notes(sheet: &mut Sheet, style: Style, panels: &[Panel]) -> Result<(), AllocError>
+    ensures { OnOk result (sheet.new ≡ sheet.old ++ notes style panels.now) }
+{
+    add_proposals_note(sheet, is_in(style, Deed::Propose, panels))?;
+    add_words_note(sheet, have_words(style, panels))
+}
+
+fn add_proposals_note(sheet: &mut Sheet, is_wanted: bool) -> Result<(), AllocError>
+    ensures { OnOk result (sheet.new ≡ sheet.old ++ (if is_wanted then note 72 proposals_note ++ note 88 dropped_note else [])) }
+{
+    if !is_wanted {
+        return Ok(());
+    }
+    let chosen = b"below V: how many writes of each process it proposes; framed: chosen";
+    add_note(sheet, 72, chosen)?;
+    let dropped = b"struck through: withdrawn, or another was chosen";
+    add_note(sheet, 88, dropped)
+}
+
+fn add_words_note(sheet: &mut Sheet, is_wanted: bool) -> Result<(), AllocError>
+    ensures { OnOk result (sheet.new ≡ sheet.old ++ (if is_wanted then note 104 words_note else [])) }
+{
+    if !is_wanted {
+        return Ok(());
+    }
+    let words = b"S0, V1, ..: the number of the word, of several that a snapshot takes";
+    add_note(sheet, 104, words)
+}
+
+#[tactic(auto, unfolding(crate::specs::Legends::note))]
+fn add_note(sheet: &mut Sheet, y: u64, words: &[u8]) -> Result<(), AllocError>
+    ensures { OnOk result (sheet.new ≡ sheet.old ++ note y words.now) }
+{
+    let at = Point { x: MARGIN, y };
+    sheet.label(at, WORDS, Colour::Faint, words)
+}
+
+/// Whether a letter in the pictures of these rooms has the number of a word.
+fn have_words(style: Style, panels: &[Panel]) -> bool
+    ensures { result ≡ list_any (has_words style) panels.now }
+{
+    panels.iter().any(|panel| has_words(style, panel))
+}
+
+fn has_words(style: Style, panel: &Panel) -> bool
+    ensures { result ≡ has_words style panel.now }
+{
+    has_letters(style, panel) && has_word_among(panel.marks())
+}
+
+fn has_word_among(marks: &[Mark]) -> bool
+    ensures { result ≡ list_any has_word marks.now }
+{
+    marks.iter().any(|mark| has_word(*mark))
+}
+
+fn has_word(mark: Mark) -> bool
+    ensures { result ≡ has_word mark }
+{
+    match mark {
+        Mark::Step(step) => step.word.is_some(),
+        Mark::Crash { .. } => false,
+    }
 }

@@ -1,20 +1,11 @@
-//! The layout of pictures of rooms: of each room the shapes that show its simulators step by step, and below them what its processes did.
+//! Pictures of rooms: of each room its name, numbers and protocol, the lanes of its simulators step by step, and below them what its processes did; and what the letters stand for.
 #![tactic(auto)]
 
-mod effects;
-mod fonts;
 mod head;
 mod history;
-mod lanes;
-pub mod laws;
-mod layout;
 mod legend;
-mod panel;
+mod open;
 mod picture;
-mod squares;
-mod turns;
-mod words;
+mod stopped;
 
-pub use head::Head;
-pub use panel::Panel;
-pub use picture::write_picture;
+pub use picture::{Style, write_picture};

@@ -1,31 +1,39 @@
 //! The whole picture.
-ghost use Rattle.std.specs.Prelude.{◌≡◌, ◌++◌, ◌≤◌, IfOk, OnOk, length};
+ghost use Rattle.std.specs.Prelude.{◌≡◌, ◌++◌, ◌∷◌, [], IfOk, OnOk, length};
 ghost use Rattle.picture_shapes.specs.Shapes.{part_text};
 ghost use Rattle.picture_shapes.specs.Svg.{parts_text, svg_of};
-ghost use Rattle.run_columns.specs.Columns.{columns_of};
+ghost use Rattle.run_columns.specs.Columns.{columns_as};
+ghost use Rattle.run_picture.specs.Heads.{head_height, head_shapes};
 ghost use Rattle.run_picture.specs.History.{events_right};
-ghost use Rattle.run_picture.specs.Picture.{grid_of, height_with, left_out_words, legend_from, note_words, panel_height, panel_shapes, panel_width, parts_from, picture_of, room_shapes, scale_words, shapes_with, size_of, size_to, steps_heading, steps_shapes, steps_title, width_with, wrap_of};
+ghost use Rattle.run_picture.specs.Legends.{legend_shapes};
+ghost use Rattle.run_picture.specs.Picture.{all_parts, bottom_from, grid_of, height_with, lanes_shapes, left_out_words, note_words, panel_height, panel_parts, panel_width, parts_from, parts_with, picture_of, room_shapes, scale_words, size_of, size_to, steps_heading, steps_shapes, steps_title, width_from, width_with, wrap_of};
 
-use crate::fonts::{HEADING, WORDS};
 use crate::head::{add_head, head_width};
 use crate::history::{add_all_events, add_process_lanes};
-use crate::lanes::{add_insides, add_lanes, add_ticks};
-use crate::layout::{Grid, MARGIN};
-use crate::legend::{add_legend, deeds_in};
-use crate::panel::Panel;
-use crate::squares::add_squares;
-use crate::turns::add_turns;
-use crate::words::write_counted;
+use crate::legend::add_legend;
 use io_text::Text;
 use picture_shapes::{Colour, Point, Sheet, Size, write_part, write_svg};
-use run_columns::{Columns, Deed, Scale};
+use run_columns::{Columns, Scale};
+use simulator_lanes::{
+    Grid, HEADING, Head, MARGIN, Panel, WORDS, add_insides, add_lanes, add_proposals, add_squares,
+    add_ticks, add_turns, write_counted,
+};
 use std::alloc::{AllocError, Global};
+
+/// How rooms are drawn.
+#[derive(Clone, Copy, Debug, PartialEq, Eq)]
+pub struct Style {
+    /// How large the picture is: at 100 it is 1264 pixels wide, unless events or inputs are long.
+    pub percent: u32,
+    /// Whether a column shows a stretch of a turn, also if there is space for each step.
+    pub by_turns: bool,
+}
 
 /// The title of a picture.
 pub(crate) const TITLE: &[u8] = b"Simulated rooms, step by step";
 
 /// The least width of a picture.
-pub(crate) const MIN_WIDTH: u64 = 640;
+pub(crate) const MIN_WIDTH: u64 = 632;
 
 /// Draws these rooms, one below the other, as a whole SVG file: the picture opens in any browser, and needs no script, font or other file.
 /// Of a room it shows at most 400 columns of steps, and the events that take effect in them; how many columns are left out is said in the picture.
@@ -33,45 +41,64 @@ pub(crate) const MIN_WIDTH: u64 = 640;
 /// # Errors
 ///
 /// An allocation that fails.
-pub fn write_picture(alloc: Global, output: &mut Text, panels: &[Panel]) -> Result<(), AllocError>
-    ensures { OnOk result (output.new ≡ output.old ++ svg_of (picture_of panels.now)) }
+pub fn write_picture(
+    alloc: Global,
+    output: &mut Text,
+    style: Style,
+    panels: &[Panel],
+) -> Result<(), AllocError>
+    ensures { OnOk result (output.new ≡ output.old ++ svg_of (picture_of style panels.now)) }
 {
-    let deeds = deeds_in(alloc, panels)?;
     let mut parts = Text::new(alloc);
-    let size = write_parts(alloc, &mut parts, panels, &deeds)?;
+    let size = write_parts(alloc, &mut parts, style, panels)?;
     write_svg(output, size, TITLE, parts.as_bytes())
 }
 
-/// Draws each room below the one before, and the letters below all of them.
+/// Draws each room below the one before, and what there is to explain below all of them.
 fn write_parts(
     alloc: Global,
     output: &mut Text,
+    style: Style,
     panels: &[Panel],
-    deeds: &[Deed],
 ) -> Result<Size, AllocError>
     requires start { length output.old ≡ 0 }
-    requires few { length deeds.now ≤ 12 }
-    ensures text { IfOk result (λ size. output.new ≡ parts_text (parts_from deeds.now 0 panels.now)) }
-    ensures size { IfOk result (λ size. size ≡ size_of panels.now) }
+    ensures text { IfOk result (λ size. output.new ≡ parts_text (all_parts style panels.now)) }
+    ensures size { IfOk result (λ size. size ≡ size_of style panels.now) }
+{
+    let (width, bottom) = write_panels(alloc, output, style, panels)?;
+    write_legend(alloc, output, bottom, style, panels)?;
+    Ok(size_to(style, width, bottom))
+}
+
+/// Draws each room below the one before. Gives how wide the rooms are, and where the last one ends.
+fn write_panels(
+    alloc: Global,
+    output: &mut Text,
+    style: Style,
+    panels: &[Panel],
+) -> Result<(u64, u64), AllocError>
+    requires start { length output.old ≡ 0 }
+    ensures text { OnOk result (output.new ≡ parts_text (parts_from style 0 panels.now)) }
+    ensures width { IfOk result (λ ends. ends.0 ≡ width_from style MIN_WIDTH panels.now) }
+    ensures bottom { IfOk result (λ ends. ends.1 ≡ bottom_from style 0 panels.now) }
 {
     let (mut width, mut bottom) = (MIN_WIDTH, 0);
     for panel in panels {
-        let extent = write_panel(alloc, output, bottom, panel)?;
+        let extent = write_panel(alloc, output, bottom, style, panel)?;
         width = width.max(extent.x);
         bottom = bottom.saturating_add(extent.y);
     }
-    write_legend(alloc, output, bottom, deeds)?;
-    Ok(size_to(width, bottom))
+    Ok((width, bottom))
 }
 
 /// The size of a picture whose rooms end here.
-fn size_to(width: u64, bottom: u64) -> Size
-    ensures { result ≡ size_to width bottom }
+fn size_to(style: Style, width: u64, bottom: u64) -> Size
+    ensures { result ≡ size_to style width bottom }
 {
     Size {
         width,
-        height: bottom.saturating_add(80),
-        scale: 2,
+        height: bottom.saturating_add(112),
+        percent: style.percent,
     }
 }
 
@@ -79,13 +106,13 @@ fn write_legend(
     alloc: Global,
     output: &mut Text,
     top: u64,
-    deeds: &[Deed],
+    style: Style,
+    panels: &[Panel],
 ) -> Result<(), AllocError>
-    requires { length deeds.now ≤ 12 }
-    ensures { OnOk result (output.new ≡ output.old ++ part_text top (legend_from 0 deeds.now)) }
+    ensures { OnOk result (output.new ≡ output.old ++ part_text top (legend_shapes style panels.now)) }
 {
     let mut sheet = Sheet::new(alloc);
-    add_legend(&mut sheet, deeds)?;
+    add_legend(&mut sheet, style, panels)?;
     write_part(output, top, sheet.shapes())
 }
 
@@ -94,46 +121,65 @@ fn write_panel(
     alloc: Global,
     output: &mut Text,
     top: u64,
+    style: Style,
     panel: &Panel,
 ) -> Result<Point, AllocError>
-    ensures text { OnOk result (output.new ≡ output.old ++ part_text top (panel_shapes panel.now)) }
-    ensures extent { IfOk result (λ extent. (extent.x ≡ panel_width panel.now) × (extent.y ≡ panel_height panel.now)) }
+    ensures text { OnOk result (output.new ≡ output.old ++ parts_text (panel_parts style top panel.now)) }
+    ensures extent { IfOk result (λ extent. (extent.x ≡ panel_width style panel.now) × (extent.y ≡ panel_height style panel.now)) }
 {
-    let columns = Columns::of(alloc, panel.marks())?;
-    let mut sheet = Sheet::new(alloc);
-    let right = add_panel(&mut sheet, panel, &columns)?;
-    write_part(output, top, sheet.shapes())?;
+    let columns = Columns::of(alloc, style.by_turns, panel.marks())?;
+    let height = write_head(alloc, output, top, panel.head())?;
+    let right = write_room(alloc, output, top.saturating_add(height), panel, &columns)?;
     Ok(Point {
-        x: panel_width(alloc, panel, &columns, right)?,
-        y: panel_height(panel, &columns),
+        x: room_width(alloc, panel, &columns, right)?,
+        y: height.saturating_add(room_height(panel, &columns)),
     })
 }
 
-/// Draws a room with these columns. Gives how far right its columns and events reach.
-#[tactic(auto, unfolding(crate::specs::Picture::shapes_with))]
-fn add_panel(sheet: &mut Sheet, panel: &Panel, columns: &Columns) -> Result<u64, AllocError>
-    ensures shapes { OnOk result (sheet.new ≡ sheet.old ++ shapes_with panel.now columns.now) }
-    ensures right { IfOk result (λ right. right ≡ events_right panel.now columns.now.columns (grid_of panel.now columns.now)) }
+/// Writes what is above the lanes of a room. Gives how high it is.
+fn write_head(alloc: Global, output: &mut Text, top: u64, head: &Head) -> Result<u64, AllocError>
+    ensures text { OnOk result (output.new ≡ output.old ++ part_text top (head_shapes head.now)) }
+    ensures height { IfOk result (λ height. height ≡ head_height head.now) }
 {
-    add_head(sheet, panel.head())?;
-    add_steps_heading(sheet, columns)?;
-    add_room(sheet, grid_of(panel, columns), panel, columns)
+    let mut sheet = Sheet::new(alloc);
+    let height = add_head(&mut sheet, head)?;
+    write_part(output, top, sheet.shapes())?;
+    Ok(height)
 }
 
-#[tactic(auto, unfolding(crate::specs::Picture::room_shapes))]
+/// Draws the lanes of a room with these columns. Gives how far right its columns and events reach.
+fn write_room(
+    alloc: Global,
+    output: &mut Text,
+    top: u64,
+    panel: &Panel,
+    columns: &Columns,
+) -> Result<u64, AllocError>
+    ensures text { OnOk result (output.new ≡ output.old ++ part_text top (room_shapes panel.now columns.now)) }
+    ensures right { IfOk result (λ right. right ≡ events_right panel.now columns.now.columns (grid_of panel.now columns.now)) }
+{
+    let mut sheet = Sheet::new(alloc);
+    add_steps_heading(&mut sheet, columns)?;
+    let right = add_room(&mut sheet, grid_of(panel, columns), panel, columns)?;
+    write_part(output, top, sheet.shapes())?;
+    Ok(right)
+}
+
+#[tactic(auto, unfolding(crate::specs::Picture::lanes_shapes))]
 fn add_room(
     sheet: &mut Sheet,
     grid: Grid,
     panel: &Panel,
     columns: &Columns,
 ) -> Result<u64, AllocError>
-    ensures shapes { OnOk result (sheet.new ≡ sheet.old ++ room_shapes grid panel.now columns.now) }
+    ensures shapes { OnOk result (sheet.new ≡ sheet.old ++ lanes_shapes grid panel.now columns.now) }
     ensures right { IfOk result (λ right. right ≡ events_right panel.now columns.now.columns grid) }
 {
     let mut boxes = Sheet::new(sheet.alloc());
-    add_steps(sheet, grid, columns)?;
+    add_steps(sheet, grid, panel, columns)?;
     let right = add_all_events(sheet, &mut boxes, panel, columns.columns(), grid)?;
-    add_process_lanes(sheet, grid, right, panel.states())?;
+    add_proposals(sheet, grid, panel, columns.columns())?;
+    add_process_lanes(sheet, grid, right, panel)?;
     sheet.append(boxes)?;
     Ok(right)
 }
@@ -146,7 +192,7 @@ fn grid_of(panel: &Panel, columns: &Columns) -> Grid
         scale: columns.scale(),
         wrap: wrap_of(columns.scale()),
         count: columns.columns().len() as u16,
-        simulators: panel.head().simulators,
+        simulators: panel.simulators(),
         processes: panel.states().len() as u8,
     }
 }
@@ -167,7 +213,7 @@ fn add_steps_heading(sheet: &mut Sheet, columns: &Columns) -> Result<(), AllocEr
 {
     add_steps_title(sheet)?;
     let note = note_words(sheet.alloc(), columns)?;
-    let after = Point { x: 100, y: 98 };
+    let after = Point { x: 100, y: 18 };
     sheet.label(after, WORDS, Colour::Faint, note.as_bytes())
 }
 
@@ -175,7 +221,7 @@ fn add_steps_heading(sheet: &mut Sheet, columns: &Columns) -> Result<(), AllocEr
 fn add_steps_title(sheet: &mut Sheet) -> Result<(), AllocError>
     ensures { OnOk result (sheet.new ≡ sheet.old ++ steps_title) }
 {
-    let start = Point { x: MARGIN, y: 98 };
+    let start = Point { x: MARGIN, y: 18 };
     sheet.label(start, HEADING, Colour::Ink, b"Step by step")
 }
 
@@ -215,28 +261,33 @@ fn write_left_out(output: &mut Text, count: usize) -> Result<(), AllocError>
 }
 
 #[tactic(auto, unfolding(crate::specs::Picture::steps_shapes))]
-fn add_steps(sheet: &mut Sheet, grid: Grid, columns: &Columns) -> Result<(), AllocError>
-    ensures { OnOk result (sheet.new ≡ sheet.old ++ steps_shapes grid columns.now) }
+fn add_steps(
+    sheet: &mut Sheet,
+    grid: Grid,
+    panel: &Panel,
+    columns: &Columns,
+) -> Result<(), AllocError>
+    ensures { OnOk result (sheet.new ≡ sheet.old ++ steps_shapes grid panel.now columns.now) }
 {
     add_ticks(sheet, grid, columns.columns())?;
     add_lanes(sheet, grid)?;
     add_insides(sheet, grid, columns.columns())?;
     add_turns(sheet, grid, columns.columns())?;
-    add_squares(sheet, grid, columns.columns())
+    add_squares(sheet, grid, &panel.head().spec, columns.columns())
 }
 
-/// How high the picture of a room is.
+/// How high the lanes of a room are.
 #[tactic(auto, unfolding(crate::specs::Picture::height_with))]
-fn panel_height(panel: &Panel, columns: &Columns) -> u64
+fn room_height(panel: &Panel, columns: &Columns) -> u64
     ensures { result ≡ height_with panel.now columns.now }
 {
     let grid = grid_of(panel, columns);
     grid.row_y(grid.rows())
 }
 
-/// How wide the picture of a room is, whose columns and events reach this far right.
+/// How wide the picture of a room is whose columns and events reach this far right.
 #[tactic(auto, unfolding(crate::specs::Picture::width_with))]
-fn panel_width(
+fn room_width(
     alloc: Global,
     panel: &Panel,
     columns: &Columns,
@@ -246,5 +297,5 @@ fn panel_width(
     ensures { IfOk result (λ width. width ≡ width_with panel.now columns.now) }
 {
     let head = head_width(alloc, panel.head())?;
-    Ok(head.max(right.saturating_add(72)))
+    Ok(head.max(right.saturating_add(64)))
 }

@@ -13,7 +13,7 @@ use Rattle.service_core.specs.declared.reply.Refusal.{Refusal}
 use Rattle.service_core.specs.declared.reply.Refusal.TheVariants.{NoRoom, OutOfMemory}
 use Rattle.service_core.specs.Rooms.{Applies, Entries, IsStateOf, IsWant, room_at}
 use Rattle.script_play.specs.Play.{refusal_in}
-use Rattle.run_picture.specs.Panels.{Panel}
+use Rattle.simulator_lanes.specs.Panels.{Panel}
 use Rattle.view_draw.specs.Drawn.{DrawsClosing, IsClosed, IsDrawnOn, IsReportAt}
 
 -- a room that has this report is closed

@@ -9,7 +9,7 @@ use Rattle.service_core.specs.Replies.{OpenRoom, reply_to}
 use Rattle.service_core.specs.declared.reply.Reply.TheVariants.{Report}
 use Rattle.service_core.specs.declared.command.Command.TheVariants as commands
 use Rattle.service_core.specs.Rooms.{Entries, IsReportOf, IsStateOf, room_at}
-use Rattle.run_picture.specs.Panels.{Panel}
+use Rattle.simulator_lanes.specs.Panels.{Panel}
 use Rattle.view_draw.specs.Drawn.{AreFinished, HasComeTo, IsFinished, IsReportAt}
 
 -- the first of a list are finished, and those behind them are as they were
@@ -70,14 +70,14 @@ none_is None is = refl
 none_is (Some x) is = absurd (grind (arith, is))
 
 pub finished_here : (rooms : Entries) (before after : Panel) (core : RoomState) (report : ReportData) → is_none before.report ≡ true
-    → room_at rooms before.head.name ≡ Some core → ((fields : Fields) → AreFieldsOf core fields → report ≡ report_of core.spec fields)
+    → room_at rooms before.head.spec.name ≡ Some core → ((fields : Fields) → AreFieldsOf core fields → report ≡ report_of core.spec fields)
     → ((fields : Fields) → AreFieldsOf core fields → IsTrueReport core.spec fields report)
     → after ≡ record before { report = Some report } → IsFinished rooms before after
 finished_here rooms before after core report opened there same truth is = record {
   head = ap (λ (p : Panel). p.head) is;
   marks = ap (λ (p : Panel). p.marks) is;
   report =
-      let told : HasComeTo rooms before.head.name None (Some report) = report_at rooms before.head.name core report there same truth in
-      subst (λ (r : Option ReportData). HasComeTo rooms before.head.name r after.report) (sym (none_is before.report opened))
-      (subst (λ (r : Option ReportData). HasComeTo rooms before.head.name None r) (sym (ap (λ (p : Panel). p.report) is)) told);
+      let told : HasComeTo rooms before.head.spec.name None (Some report) = report_at rooms before.head.spec.name core report there same truth in
+      subst (λ (r : Option ReportData). HasComeTo rooms before.head.spec.name r after.report) (sym (none_is before.report opened))
+      (subst (λ (r : Option ReportData). HasComeTo rooms before.head.spec.name None r) (sym (ap (λ (p : Panel). p.report) is)) told);
 }

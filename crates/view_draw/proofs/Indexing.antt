@@ -6,8 +6,8 @@ use Rattle.std.specs.Str.{bytes_eq}
 use Rattle.std.proofs.lemmas.Bool.{and_parts, cases_Bool, false_from_ne_true}
 use Rattle.std.proofs.lemmas.Slice.Eq.{bytes_eq-Decides}
 use Rattle.ws_history.specs.declared.states.Report.{Report as ReportData}
-use Rattle.run_picture.specs.Panels.{Panel}
-use Rattle.run_picture.specs.declared.head.Head.{Head}
+use Rattle.simulator_lanes.specs.Panels.{Panel}
+use Rattle.simulator_lanes.specs.declared.panel.Head.{Head}
 use Rattle.run_columns.specs.declared.mark.Mark.{Mark}
 use Rattle.view_draw.specs.Drawn.{AreIndexed, IsPlace, Places, changed, changed_at, finished, fresh, is_of, noted, with_marks, with_report}
 use Rattle.view_draw.proofs.Changing.{set_changed}
@@ -22,11 +22,11 @@ same_name a b is = (bytes_eq-Decides a b).0 is
 
 -- ---- opened
 
-pub opened : (before after : Places) (panels : List Panel) (head : Head) → AreIndexed before panels → lookup (bytes_eq head.name) before ≡ None → Changes before after head.name (Some (length panels)) → AreIndexed after (panels ++ fresh head ∷ [])
-opened before after panels head are free changes other = elim (cases_Bool (bytes_eq head.name other)) [
+pub opened : (before after : Places) (panels : List Panel) (head : Head) → AreIndexed before panels → lookup (bytes_eq head.spec.name) before ≡ None → Changes before after head.spec.name (Some (length panels)) → AreIndexed after (panels ++ fresh head ∷ [])
+opened before after panels head are free changes other = elim (cases_Bool (bytes_eq head.spec.name other)) [
   | inl is ↦
       let here : lookup (bytes_eq other) after ≡ Some (length panels) = changes other ∙ ap (λ (b : Bool). cond b (Some (length panels)) (lookup (bytes_eq other) before)) is in
-      let none : IsPlace None (is_of other) panels = subst (λ (p : Option ℕ). IsPlace p (is_of other) panels) (ap (λ (n : List ℕ). lookup (bytes_eq n) before) (sym (same_name head.name other is)) ∙ free) (are other) in
+      let none : IsPlace None (is_of other) panels = subst (λ (p : Option ℕ). IsPlace p (is_of other) panels) (ap (λ (n : List ℕ). lookup (bytes_eq n) before) (sym (same_name head.spec.name other is)) ∙ free) (are other) in
       subst (λ (p : Option ℕ). IsPlace p (is_of other) (panels ++ fresh head ∷ [])) (sym here) (first_pushed (is_of other) panels (fresh head) is none)
   | inr differs ↦
       let there : lookup (bytes_eq other) after ≡ lookup (bytes_eq other) before = changes other ∙ ap (λ (b : Bool). cond b (Some (length panels)) (lookup (bytes_eq other) before)) differs in
@@ -58,8 +58,8 @@ noted_there name marks (panel ∷ panels) (suc place) is = ap₂ (λ (p : Panel)
 
 apart : (name other : List ℕ) → bytes_eq name other ≡ false → (panel : Panel) → is_of name panel ≡ true → is_of other panel ≡ false
 apart name other differs panel is = false_from_ne_true (is_of other panel) (λ of_other.
-    let own = same_name panel.head.name name (and_parts (is_none panel.report) (bytes_eq panel.head.name name) is).1 in
-    let others = same_name panel.head.name other (and_parts (is_none panel.report) (bytes_eq panel.head.name other) of_other).1 in
+    let own = same_name panel.head.spec.name name (and_parts (is_none panel.report) (bytes_eq panel.head.spec.name name) is).1 in
+    let others = same_name panel.head.spec.name other (and_parts (is_none panel.report) (bytes_eq panel.head.spec.name other) of_other).1 in
     true≢false (sym ((bytes_eq-Decides name other).1 (sym own ∙ others)) ∙ differs))
 
 pub closed : (before after : Places) (panels : List Panel) (name : List ℕ) (report : ReportData) (place : ℕ) → AreIndexed before panels → IsPlace (Some place) (is_of name) panels → Changes before after name None

@@ -9,7 +9,7 @@ use Rattle.service_core.specs.declared.command.Command.TheVariants as commands
 use Rattle.service_core.specs.declared.reply.Refusal.{Refusal}
 use Rattle.service_core.specs.Rooms.{Entries}
 use Rattle.script_play.specs.Play.{IsPerformed, Replied}
-use Rattle.run_picture.specs.Panels.{Panel}
+use Rattle.simulator_lanes.specs.Panels.{Panel}
 use Rattle.view_draw.specs.Drawn.{DrawsStepsUnless, HasDrawn, IsDrawnOn, IsSteppedOn, more}
 
 one_performed : (rooms : Entries) (panels : List Panel) (command : Command) (after : Entries) (panels_after : List Panel) (refusal : Option Refusal)

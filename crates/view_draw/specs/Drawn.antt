@@ -16,12 +16,12 @@ use Rattle.service_core.specs.Rooms.{Applies, Entries, IsReportOf, IsStateOf, ro
 use Rattle.script_play.specs.Script.{script_says}
 use Rattle.script_play.specs.Script.{Entry as Asked}
 use Rattle.room_files.specs.declared.outcome.Outcome.{Outcome}
-use Rattle.script_play.specs.Play.{AreDone, Done, Replied, Faulty, Unread, ending_of, refusal_in}
-use Rattle.run_picture.specs.Heads.{IsHeadOf}
-use Rattle.run_picture.specs.Panels.{Panel}
+use Rattle.script_play.specs.Play.{AreDone, Done, IsBlockOf, Replied, Faulty, Unread, ending_of, refusal_in}
+use Rattle.simulator_lanes.specs.Panels.{IsHeadOf, Panel}
 use Rattle.picture_shapes.specs.Svg.{svg_of}
 use Rattle.run_picture.specs.Picture.{picture_of}
-use Rattle.run_picture.specs.declared.head.Head.{Head}
+use Rattle.run_picture.specs.declared.picture.Style.{Style}
+use Rattle.simulator_lanes.specs.declared.panel.Head.{Head}
 use Rattle.run_columns.specs.declared.mark.Mark.{Mark}
 use Rattle.run_columns.specs.declared.mark.Mark.TheVariants.{Crash}
 use Rattle.view_draw.specs.Seen.{AreMarks}
@@ -30,7 +30,7 @@ use Rattle.view_draw.specs.Seen.{AreMarks}
 
 -- whether a panel is of the room of this name that is open now
 abbrev pub is_of : List ℕ → Panel → Bool
-is_of name panel = is_none panel.report && bytes_eq panel.head.name name
+is_of name panel = is_none panel.report && bytes_eq panel.head.spec.name name
 
 abbrev pub with_marks : List ℕ → List Mark → Panel → Panel
 with_marks name marks panel = if is_of name panel then record panel { marks = panel.marks ++ marks } else panel
@@ -66,9 +66,9 @@ abbrev pub IsReportAt : Entries → List ℕ → ReportData → Type 0
 IsReportAt rooms name report = (room : Option OpenRoom) → IsStateOf (room_at rooms name) room
     → (replies.Report report ≡ reply_to room (commands.Report name)) × IsReportOf room report
 
--- a room that is opened has a panel of its own
+-- a room that is opened has a panel of its own, with a block that says it
 abbrev pub DrawsOpening : RoomSpec → Reply → List Panel → List Panel → Type 0
-DrawsOpening spec replies.Begun before after = (head : Head) × IsHeadOf spec head × (after ≡ before ++ fresh head ∷ [])
+DrawsOpening spec replies.Begun before after = (block : List ℕ) × (head : Head) × IsBlockOf spec block × IsHeadOf spec block head × (after ≡ before ++ fresh head ∷ [])
 DrawsOpening spec reply before after = after ≡ before
 
 -- the steps that a command takes are drawn, and no others, in their order
@@ -126,7 +126,7 @@ HasComeTo rooms name None None = room_at rooms name ≡ None
 pub record IsFinished (rooms : Entries) (before after : Panel) : Type 0 where
   pub head : after.head ≡ before.head
   pub marks : after.marks ≡ before.marks
-  pub report : HasComeTo rooms before.head.name before.report after.report
+  pub report : HasComeTo rooms before.head.spec.name before.report after.report
 
 abbrev pub AreFinished : Entries → List Panel → List Panel → Type 0
 AreFinished rooms [] [] = ⊤
@@ -134,8 +134,8 @@ AreFinished rooms (before ∷ befores) (after ∷ afters) = IsFinished rooms bef
 AreFinished rooms [] (after ∷ afters) = ⊥
 AreFinished rooms (before ∷ befores) [] = ⊥
 
--- the picture of a script's rooms, and the end that goes with it
-pub record IsDrawn (input : List ℕ) (ending : Result Outcome AllocError) (output : List ℕ) : Type 0 where
+-- the picture of a script's rooms in a style, and the end that goes with it
+pub record IsDrawn (style : Style) (input : List ℕ) (ending : Result Outcome AllocError) (output : List ℕ) : Type 0 where
   pub entries : List Asked
   pub asked : script_says input ≡ Ok entries
   pub all : List Done
@@ -148,7 +148,7 @@ pub record IsDrawn (input : List ℕ) (ending : Result Outcome AllocError) (outp
   pub same_rooms : (name : List ℕ) → room_at left name ≡ room_at rooms name
   pub at_end : List Panel
   pub finished_are : AreFinished left panels at_end
-  pub output_is : output ≡ svg_of (picture_of at_end)
+  pub output_is : output ≡ svg_of (picture_of style at_end)
   pub ending_is : ending ≡ ending_of all
 
 -- ---- inside the crate
@@ -190,15 +190,15 @@ pub record IsClosed (rooms : Entries) (panels : List Panel) (name : List ℕ) (r
   pub draws : panels_after ≡ finished name report panels
 
 -- the picture of these panels, if these rooms are still open
-pub record IsPictureOf (rooms : Entries) (panels : List Panel) (output : List ℕ) : Type 0 where
+pub record IsPictureOf (style : Style) (rooms : Entries) (panels : List Panel) (output : List ℕ) : Type 0 where
   pub at_end : List Panel
   pub finished_are : AreFinished rooms panels at_end
-  pub output_is : output ≡ svg_of (picture_of at_end)
+  pub output_is : output ≡ svg_of (picture_of style at_end)
 
 abbrev pub HaveSameRooms : Entries → Entries → Type 0
 HaveSameRooms left rooms = (name : List ℕ) → room_at left name ≡ room_at rooms name
 
-pub record IsPictureFrom (rooms : Entries) (panels : List Panel) (output : List ℕ) : Type 0 where
+pub record IsPictureFrom (style : Style) (rooms : Entries) (panels : List Panel) (output : List ℕ) : Type 0 where
   pub left : Entries
   pub same_rooms : HaveSameRooms left rooms
-  pub picture : IsPictureOf left panels output
+  pub picture : IsPictureOf style left panels output

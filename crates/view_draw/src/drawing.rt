@@ -5,6 +5,7 @@ ghost use Rattle.service_core.specs.Rooms.{room_at};
 ghost use Rattle.service_core.specs.declared.command.Command.TheVariants.{Begin, Close, Crash as CrashCommand, Report as ReportCommand, Step as StepCommand};
 ghost use Rattle.service_core.specs.declared.reply.Refusal.TheVariants.{NoRoom};
 ghost use Rattle.room_spec.specs.Names.{is_name};
+ghost use Rattle.script_play.specs.Play.{IsBlockOf};
 ghost use Rattle.view_draw.specs.Drawn.{IsClosed, IsDrawnOn, IsSteppedOn, has_crashed};
 
 use crate::panels::Panels;
@@ -12,9 +13,9 @@ use crate::recorder::Recorder;
 use room_core::CrashReply;
 use room_spec::{Name, Spec, SpecFault};
 use run_columns::Mark;
-use run_picture::Head;
 use script_play::{Performs, refusal_in};
 use service_core::{Command, Refusal, Reply, Service};
+use simulator_lanes::Head;
 use std::alloc::{AllocError, Global};
 use ws_history::{Report, report};
 
@@ -36,11 +37,17 @@ impl Drawing {
         }
     }
 
-    /// Opens a room, which has a panel of its own.
-    fn begin(&mut self, alloc: Global, spec: Spec) -> Result<Option<Refusal>, AllocError>
+    /// Opens the room of a block, which has a panel of its own.
+    fn begin(
+        &mut self,
+        alloc: Global,
+        block: &[u8],
+        spec: Spec,
+    ) -> Result<Option<Refusal>, AllocError>
+        requires { IsBlockOf spec block.now }
         ensures { IfOk result (λ refusal. IsDrawnOn self.old.service self.old.panels (Begin spec) refusal self.new.service self.new.panels) }
     {
-        let head = Head::of(alloc, &spec)?;
+        let head = Head::of(alloc, &spec, block)?;
         let reply = self.service.apply(alloc, Command::Begin(spec));
         match &reply {
             Reply::Begun => {
@@ -167,10 +174,10 @@ impl Performs for Drawing {
     fn open(
         &mut self,
         alloc: Global,
-        _block: &[u8],
+        block: &[u8],
         spec: Spec,
     ) -> Result<Option<Refusal>, AllocError> {
-        self.begin(alloc, spec)
+        self.begin(alloc, block, spec)
     }
 
     fn perform(&mut self, alloc: Global, command: Command) -> Result<Option<Refusal>, AllocError> {

@@ -5,7 +5,7 @@ ghost use Rattle.view_draw.specs.Drawn.{IsPlace, finished, fresh, is_of, noted};
 use indexmap::IndexMap;
 use room_spec::Name;
 use run_columns::Mark;
-use run_picture::{Head, Panel};
+use simulator_lanes::{Head, Panel};
 use std::alloc::{AllocError, Global};
 use std::marker::Model;
 use ws_history::Report;
@@ -21,10 +21,13 @@ pub(crate) struct Panels {
 impl Model for Panels {
     ghost use Rattle.std.specs.Coded.{codes};
     ghost use Rattle.std.specs.Prelude.{List};
-    ghost use Rattle.run_picture.specs.Panels.{Panel as PanelData};
+    ghost use Rattle.protocol_lang.specs.Codes.{expression_code};
+    ghost use Rattle.simulator_lanes.specs.Panels.{Panel as PanelData};
     ghost use Rattle.view_draw.specs.Drawn.{AreIndexed};
 
     ghost Value = { List PanelData };
+
+    ghost coded = { Prim.hlevel (codes, expression_code) };
 
     ghost view = { λ p. p.panels.items };
 
@@ -51,7 +54,7 @@ impl Panels {
         ensures added { OnOk result (self.new ≡ self.old ++ fresh head ∷ []) }
         ensures err { OnErr result (self.new ≡ self.old) }
     {
-        let name = head.name.clone()?;
+        let name = head.spec.name().clone()?;
         if self.places.contains_key(&name) {
             return Err(AllocError);
         }

@@ -11,49 +11,51 @@ use io_text::Text;
 use room_core::RoomCore;
 use room_files::InputFault;
 use room_spec::Name;
-use run_picture::{Panel, write_picture};
+use run_picture::{Style, write_picture};
 use script_play::{PlayText, Played, play_script};
+use simulator_lanes::Panel;
 use std::alloc::{AllocError, Global};
 use ws_history::report;
 
-/// Judges a script, does what it asks for if it has no fault, and draws each room that it opens: its steps and crashes in
+/// Judges a script, does what it asks for if it has no fault, and draws in this style each room that it opens: its steps and crashes in
 /// their order, and its final state when it is closed, or when the script ends.
 ///
 /// # Errors
 ///
 /// The script's first malformed line; or an allocation that failed for the picture.
-pub fn draw(alloc: Global, script: &[u8]) -> Result<PlayText, InputFault>
+pub fn draw(alloc: Global, style: Style, script: &[u8]) -> Result<PlayText, InputFault>
     requires { length script.now ≤ most_bytes }
-    ensures drawn { IfOk result (λ drawn. IsDrawn script.now drawn.ending drawn.output) }
+    ensures drawn { IfOk result (λ drawn. IsDrawn style script.now drawn.ending drawn.output) }
     // An allocation that fails hides no malformed line.
     ensures err { IfErr result (IsFaultOr (IsOk (script_says script.now)) (script_says script.now)) }
 {
     let Played { performer, ending } = play_script(alloc, Drawing::new(alloc), script)?;
-    let output = picture_from(alloc, performer)?;
+    let output = picture_from(alloc, style, performer)?;
     Ok(PlayText { output, ending })
 }
 
 /// The picture of what was drawn, if nothing more happens in the rooms that are open.
-fn picture_from(alloc: Global, drawing: Drawing) -> Result<Text, AllocError>
-    ensures { IfOk result (IsPictureFrom drawing.service drawing.panels) }
+fn picture_from(alloc: Global, style: Style, drawing: Drawing) -> Result<Text, AllocError>
+    ensures { IfOk result (IsPictureFrom style drawing.service drawing.panels) }
 {
     let rooms = drawing.service.into_rooms();
-    let output = picture_of(alloc, &rooms, drawing.panels.into_vec())?;
+    let output = picture_of(alloc, style, &rooms, drawing.panels.into_vec())?;
     Ok(output)
 }
 
 /// The picture of these panels, if these rooms are still open.
 fn picture_of(
     alloc: Global,
+    style: Style,
     rooms: &IndexMap<Name, RoomCore>,
     panels: Vec<Panel>,
 ) -> Result<Text, AllocError>
-    ensures { IfOk result (IsPictureOf rooms.now.entries panels.items) }
+    ensures { IfOk result (IsPictureOf style rooms.now.entries panels.items) }
 {
     let mut panels = panels;
     finish_all(alloc, rooms, &mut panels)?;
     let mut output = Text::new(alloc);
-    write_picture(alloc, &mut output, &panels)?;
+    write_picture(alloc, &mut output, style, &panels)?;
     Ok(output)
 }
 
@@ -81,7 +83,7 @@ fn finish(
     if !panel.is_open() {
         return Ok(());
     }
-    let Some(room) = rooms.get(&panel.head().name) else {
+    let Some(room) = rooms.get(panel.head().spec.name()) else {
         return Ok(());
     };
     panel.finish(report(alloc, room)?);

@@ -1,8 +1,9 @@
 #!/usr/bin/env python3
 """layout.py PICTURE TRANSCRIPT: checks where the shapes of a picture are, and whether its events have the transcript's order.
 
-Nothing is outside the picture, no two squares and no two events overlap, and the events of each room, from left to right and from
-the first row to the last, are those of the transcript in its order. Prints how many squares and events there are.
+Nothing is outside the picture, no two squares, events or proposals overlap, and the events of each room, from left to right and from
+the first row to the last, are those of the transcript in its order. For each snapshot one proposal is framed, and shows the same
+processes. Prints how many squares, events and proposals there are.
 """
 
 import re
@@ -10,7 +11,7 @@ import sys
 import xml.etree.ElementTree as tree
 
 SVG = "{http://www.w3.org/2000/svg}"
-LEFT, TOP, PITCH = 120, 112, 16  # run_picture/src/layout.rt
+LEFT, TOP, PITCH, LANE, PROCESS = 120, 32, 16, 58, 36  # simulator_lanes/src/layout.rt
 HUES = {"#2f5f9e", "#b85c1a", "#14532d", "#b8407f", "#5c3310", "#1b7f86", "#4a1f7a", "#6b6b14"}
 
 
@@ -43,10 +44,9 @@ def overlapping(frames):
     return pairs
 
 
-def events_in(shapes):
-    """The events of a room in the order of their steps: a process and words each."""
-    numbers = [int(number) for number in re.findall(r"(\d+) (?:process|simulator)", shapes[1].text)]
-    height = 46 * numbers[1] + 36 * numbers[0] + 50
+def events_in(numbers, shapes):
+    """The events of a room with these numbers of processes and simulators, in the order of their steps: a process and words each."""
+    height = LANE * numbers[1] + PROCESS * numbers[0] + 50
     ties = [shape for shape in shapes if shape.tag == SVG + "line" and shape.get("stroke-width") == "1" and shape.get("stroke") in HUES][::2]
     hints = [shape[0].text for shape in shapes if shape.tag == SVG + "rect" and len(shape) and shape.get("height") == "22"]
     found = []
@@ -55,6 +55,31 @@ def events_in(shapes):
         process, words = re.fullmatch(r"process (\d+): (.*)", hint).groups()
         found.append((row, (int(tie.get("x1")) - 8 - LEFT) // PITCH, f"{process} {words}"))
     return [words for _, _, words in sorted(found)]
+
+
+def proposals_in(name, shapes, events):
+    """How many proposals of a room are framed. Each snapshot of a process is what its framed proposal says: a value where that shows writes. No other one is framed."""
+    rows = {}
+    for event in events:
+        process, verb, *row = event.split(" ")
+        if verb == "snap":
+            rows.setdefault(process, []).append(row)
+    framed = 0
+    for area, label, hint in zip(shapes, shapes[1:], shapes[2:]):
+        if area.tag != SVG + "rect" or area.get("height") != "11" or len(area):
+            continue
+        proposed, process, round_, fate = re.fullmatch(r"simulator \d+ proposed((?: \S+)+) for process (\d+), round (\d+), (.*)", hint[0].text).groups()
+        is_framed, is_struck = area.get("stroke") != "none", label.get("text-decoration") is not None
+        if (is_framed, is_struck) != (fate == "chosen", fate == "not chosen"):
+            print(f"{name}: {hint[0].text}: framed {is_framed}, struck through {is_struck}")
+        seen = rows.get(process, [])[int(round_) - 1:int(round_)]
+        if is_framed:
+            framed += 1
+            if not seen or [count != "." for count in proposed.split()] != [value != "." for value in seen[0]]:
+                print(f"{name}: {hint[0].text}, but the snapshot is {seen}")
+    if framed != sum(map(len, rows.values())):
+        print(f"{name}: {framed} proposals are framed, but there are {sum(map(len, rows.values()))} snapshots")
+    return framed
 
 
 def events_of(transcript):
@@ -70,7 +95,8 @@ def main():
     picture, transcript = (open(name).read() for name in sys.argv[1:3])
     svg = tree.fromstring(picture)
     width, height = map(int, svg.get("viewBox").split()[2:])
-    squares, boxes, outside, drawn, folded = [], [], 0, {}, set()
+    wanted = events_of(transcript)
+    squares, boxes, proposals, outside, drawn, folded, chosen = [], [], [], 0, {}, set(), 0
     for part in svg.iter(SVG + "g"):
         shapes, top = list(part), int(re.search(r"translate\(0 (\d+)\)", part.get("transform"))[1])
         for shape in shapes:
@@ -82,23 +108,29 @@ def main():
                     squares.append(frame)
                 elif shape.get("height") == "22":
                     boxes.append(frame)
-        if shapes and shapes[0].get("font-size") == "16":
+                elif shape.get("height") == "11":
+                    proposals.append(frame)
+        if shapes and shapes[0].get("font-size") == "16":  # what is above the lanes of a room
             name = shapes[0].text
+            numbers = [int(number) for number in re.findall(r"(\d+) (?:process|simulator)", shapes[1].text)]
+        elif shapes and shapes[0].text == "Step by step":
             folded.discard(name)
-            if (shapes[5].text or "").startswith("each box"):
+            if (shapes[1].text or "").startswith("each box"):
                 folded.add(name)
             else:
-                drawn[name] = events_in(shapes)
-    wanted = events_of(transcript)
+                drawn[name] = numbers, shapes
     if outside:
         print(f"{outside} shapes are outside the picture")
-    for what, frames in ("squares", squares), ("events", boxes):
+    for what, frames in ("squares", squares), ("events", boxes), ("proposals", proposals):
         if pairs := overlapping(frames):
             print(f"{pairs} pairs of {what} overlap")
-    for name, events in drawn.items():
-        if name not in folded and events != wanted.get(name, []):
+    for name, (numbers, shapes) in drawn.items():
+        if name in folded:
+            continue
+        if (events := events_in(numbers, shapes)) != wanted.get(name, []):
             print(f"{name}: drawn {events}, but in the transcript {wanted.get(name)}")
-    print(f"{len(squares)} squares, {len(boxes)} events, {len(drawn)} rooms step by step, {len(folded)} folded")
+        chosen += proposals_in(name, shapes, wanted.get(name, []))
+    print(f"{len(squares)} squares, {len(boxes)} events, {chosen} of {len(proposals)} proposals chosen, {len(drawn)} rooms step by step, {len(folded)} folded")
 
 
 main()

@@ -1,6 +1,6 @@
 use Rattle.std.proofs.Common.{◌∙◌, ℕ, ap, max}
 use Rattle.run_picture.specs.History.{boxed, lane_events, lane_right, tied}
-use Rattle.run_picture.proofs.Texts.{folded_more, piece_more}
+use Rattle.simulator_lanes.proofs.CallerLemmas.{folded_more, piece_more}
 use Rattle.run_picture.proofs.history.add_all_events.Goals as goal
 
 pub loop-process-preserved : goal.loop-process-preserved

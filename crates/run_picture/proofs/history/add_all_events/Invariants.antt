@@ -1,7 +1,7 @@
 use Rattle.std.proofs.Common.{◌≡◌, ◌++◌, fold, max}
 use Rattle.std.specs.List.{flat_map, range_with_len}
 use Rattle.run_picture.specs.History.{boxed, lane_events, lane_right, tied}
-use Rattle.run_picture.specs.Layout.{right_of}
+use Rattle.simulator_lanes.specs.Layout.{right_of}
 use Rattle.run_picture.proofs.history.add_all_events.Given as goal
 
 abbrev pub invariant-loop-process : goal.invariant-loop-process

@@ -1,5 +1,5 @@
 use Rattle.std.proofs.Common.{List, subst}
-use Rattle.run_picture.specs.Panels.{Panel}
+use Rattle.simulator_lanes.specs.Panels.{Panel}
 use Rattle.view_draw.specs.Drawn.{IsPictureOf}
 use Rattle.view_draw.proofs.playing.picture_from.Goals as goal
 
@@ -9,5 +9,5 @@ returns c =
     record {
       left = c.into_rooms-rooms.result.entries;
       same_rooms = same;
-      picture = subst (λ (panels : List Panel). IsPictureOf c.into_rooms-rooms.result.entries panels c.in_ok-output.output) c.into_vec.ensures c.in_ok-output.ensures;
+      picture = subst (λ (panels : List Panel). IsPictureOf c.args.style c.into_rooms-rooms.result.entries panels c.in_ok-output.output) c.into_vec.ensures c.in_ok-output.ensures;
     }

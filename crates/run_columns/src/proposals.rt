@@ -1,0 +1,197 @@
+//! What simulators propose in an agreement, and which proposal is chosen.
+ghost use Rattle.std.specs.Prelude.{◌≡◌, ◌<◌, IfSome, length};
+ghost use Rattle.run_columns.specs.Proposals.{by_one, fate_of, has_done, is_open, is_resolved, is_snapshot_of, is_still_open, is_that, next_agreement, proposal, snapshots_of, stored_in, word_number, word_stored, words_of};
+
+use crate::effects::chosen;
+use crate::mark::{Deed, Mark, Step};
+use crate::sought::Sought;
+use room_spec::MAX_MEMORY_WORDS;
+use transcript::Event;
+
+/// The agreement on a snapshot of a process.
+#[derive(Clone, Copy, Debug, PartialEq, Eq)]
+pub struct Agreement {
+    pub process: u8,
+    /// Which of the process's snapshots it is, counted from 1.
+    pub round: u8,
+}
+
+/// What becomes of a proposal.
+#[derive(Clone, Copy, Debug, PartialEq, Eq)]
+pub enum Fate {
+    /// The agreement isn't resolved, and may still choose it.
+    Open,
+    Chosen,
+    /// It was withdrawn, or another one was chosen.
+    Dropped,
+}
+
+impl Agreement {
+    /// The agreement on the first snapshot of a process that isn't among these events.
+    pub fn next(process: u8, events: &[Event]) -> Agreement
+        ensures { result ≡ next_agreement process events.now }
+    {
+        let round = snapshots_of(process, events).saturating_add(1).min(255);
+        Agreement {
+            process,
+            round: round as u8,
+        }
+    }
+
+    fn by_one(self, deed: Deed, simulator: u8) -> Sought
+        ensures { result ≡ by_one self deed simulator }
+    {
+        Sought {
+            deed,
+            process: self.process,
+            round: self.round,
+            simulator: Some(simulator),
+            word: None,
+        }
+    }
+
+    /// Whether a simulator takes a step in the agreement that does this.
+    pub fn has_done(self, deed: Deed, simulator: u8, marks: &[Mark]) -> bool
+        ensures { result ≡ has_done self deed simulator marks.now }
+    {
+        let sought = self.by_one(deed, simulator);
+        marks.iter().any(|mark| sought.is_at(*mark))
+    }
+
+    /// The words of step numbers that a simulator proposes; 0 for each that it doesn't store.
+    pub fn proposal(self, simulator: u8, marks: &[Mark]) -> [u64; MAX_MEMORY_WORDS]
+        ensures value { result ≡ proposal self simulator marks.now }
+        ensures count { length result ≡ MAX_MEMORY_WORDS }
+    {
+        let proposes = self.by_one(Deed::Propose, simulator);
+        let mut words = [0; MAX_MEMORY_WORDS];
+        for mark in marks {
+            if let Some((at, stored)) = stored_in(proposes, *mark) {
+                words[at] = stored;
+            }
+        }
+        words
+    }
+
+    /// Whether the agreement is resolved, if these are the events of the room's history.
+    pub fn is_resolved(self, events: &[Event]) -> bool
+        ensures { result ≡ is_resolved self events.now }
+    {
+        usize::from(self.round) <= snapshots_of(self.process, events)
+    }
+
+    /// What becomes of a simulator's proposal, if these are the events of the room's history.
+    pub fn fate(self, simulator: u8, marks: &[Mark], events: &[Event]) -> Fate
+        ensures { result ≡ fate_of self simulator marks.now events.now }
+    {
+        if self.is_resolved(events) {
+            if is_that(chosen(self.process, self.round, marks), simulator) {
+                Fate::Chosen
+            } else {
+                Fate::Dropped
+            }
+        } else if self.has_done(Deed::Withdraw, simulator, marks) {
+            Fate::Dropped
+        } else {
+            Fate::Open
+        }
+    }
+
+    /// Whether a simulator has a proposal in the agreement that may still be chosen, if these are the events of the room's history.
+    pub fn is_open(self, simulator: u8, marks: &[Mark], events: &[Event]) -> bool
+        ensures { result ≡ is_open self simulator marks.now events.now }
+    {
+        self.has_done(Deed::Propose, simulator, marks)
+            && self.fate(simulator, marks, events).is_still_open()
+    }
+}
+
+impl Fate {
+    fn is_still_open(self) -> bool
+        ensures { result ≡ is_still_open self }
+    {
+        matches!(self, Fate::Open)
+    }
+}
+
+impl Step {
+    /// The memory words of its room, which have what it stores and are 0 else.
+    pub fn words(self) -> [u64; MAX_MEMORY_WORDS]
+        ensures value { result ≡ words_of self }
+        ensures count { length result ≡ MAX_MEMORY_WORDS }
+    {
+        let mut words = [0; MAX_MEMORY_WORDS];
+        let Some((at, stored)) = self.word_stored() else {
+            return words;
+        };
+        words[at] = stored;
+        words
+    }
+
+    /// The number of a word, and what it stores in it.
+    fn word_stored(self) -> Option<(usize, u64)>
+        ensures value { result ≡ word_stored self }
+        ensures within { IfSome result (λ stored. stored.0 < MAX_MEMORY_WORDS) }
+    {
+        let at = word_number(self.word);
+        if at >= MAX_MEMORY_WORDS {
+            return None;
+        }
+        Some((at, self.stored))
+    }
+}
+
+/// The number of a word, and what a step stores in it that does what is asked for.
+fn stored_in(sought: Sought, mark: Mark) -> Option<(usize, u64)>
+    ensures value { result ≡ stored_in sought mark }
+    ensures within { IfSome result (λ stored. stored.0 < MAX_MEMORY_WORDS) }
+{
+    match mark {
+        Mark::Step(step) => {
+            if sought.is_step(step) {
+                step.word_stored()
+            } else {
+                None
+            }
+        }
+        Mark::Crash { .. } => None,
+    }
+}
+
+fn word_number(word: Option<u8>) -> usize
+    ensures { result ≡ word_number word }
+{
+    match word {
+        None => 0,
+        Some(word) => usize::from(word),
+    }
+}
+
+/// Whether this is the simulator that was chosen.
+fn is_that(chosen: Option<u8>, simulator: u8) -> bool
+    ensures { result ≡ is_that chosen simulator }
+{
+    match chosen {
+        None => false,
+        Some(other) => other == simulator,
+    }
+}
+
+/// How many snapshots of a process are among these events.
+pub fn snapshots_of(process: u8, events: &[Event]) -> usize
+    ensures { result ≡ snapshots_of process events.now }
+{
+    events
+        .iter()
+        .filter(|event| is_snapshot_of(process, event))
+        .count()
+}
+
+fn is_snapshot_of(process: u8, event: &Event) -> bool
+    ensures { result ≡ is_snapshot_of process event.now }
+{
+    match event {
+        Event::Snap { p, .. } => *p == process,
+        Event::Write { .. } | Event::Decide { .. } => false,
+    }
+}

@@ -1,7 +1,0 @@
-use Rattle.std.proofs.Common.{◌≡◌, ◌++◌, take}
-use Rattle.std.specs.List.{flat_map}
-use Rattle.run_picture.specs.Lanes.{tick}
-use Rattle.run_picture.proofs.lanes.add_ticks.Given as goal
-
-abbrev pub invariant-loop-column : goal.invariant-loop-column
-invariant-loop-column l = l.sheet ≡ l.initial.sheet ++ flat_map (tick l.grid) (take l.column-index l.columns)

@@ -1,7 +1,0 @@
-use Rattle.std.proofs.Common.{◌≡◌, ◌++◌}
-use Rattle.std.specs.List.{flat_map, range_with_len}
-use Rattle.run_picture.specs.Turns.{bar_part}
-use Rattle.run_picture.proofs.turns.add_bar_parts.Given as goal
-
-abbrev pub invariant-loop-row : goal.invariant-loop-row
-invariant-loop-row l = l.sheet ≡ l.initial.sheet ++ flat_map (bar_part l.grid l.first l.last l.step) (range_with_len 0 l.row)

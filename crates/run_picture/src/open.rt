@@ -1,0 +1,105 @@
+//! The proposals that may still be chosen, in the lane of the process whose snapshot they are.
+ghost use Rattle.std.specs.Prelude.{◌≡◌, ◌++◌, IfOk, OnOk};
+ghost use Rattle.simulator_lanes.specs.Panels.{events_in};
+ghost use Rattle.run_picture.specs.Opens.{open_label, open_proposal, open_proposals, open_shapes, open_words, proposal_if, shapes_of};
+
+use io_text::Text;
+use picture_shapes::{Colour, Frame, Point, Sheet, write_decimal};
+use run_columns::Agreement;
+use simulator_lanes::{LEFT, Panel, SMALL, clipped, counts_of, write_proposer};
+use std::alloc::{AllocError, Global};
+
+/// Writes which proposals may still be chosen for the next snapshot of a process, if some may.
+pub(crate) fn add_open(
+    sheet: &mut Sheet,
+    y: u64,
+    panel: &Panel,
+    process: u8,
+) -> Result<(), AllocError>
+    ensures { OnOk result (sheet.new ≡ sheet.old ++ open_shapes y panel.now process) }
+{
+    let agreement = Agreement::next(process, panel.events());
+    let proposals = open_proposals(sheet.alloc(), panel, agreement)?;
+    add_open_words(sheet, y, agreement, proposals.as_bytes())
+}
+
+fn add_open_words(
+    sheet: &mut Sheet,
+    y: u64,
+    agreement: Agreement,
+    proposals: &[u8],
+) -> Result<(), AllocError>
+    ensures { OnOk result (sheet.new ≡ sheet.old ++ shapes_of y agreement proposals.now) }
+{
+    if proposals.is_empty() {
+        return Ok(());
+    }
+    let words = open_words(sheet.alloc(), agreement, proposals)?;
+    add_open_label(sheet, y, words.as_bytes())
+}
+
+#[tactic(auto, unfolding(crate::specs::Opens::open_label))]
+fn add_open_label(sheet: &mut Sheet, y: u64, words: &[u8]) -> Result<(), AllocError>
+    ensures { OnOk result (sheet.new ≡ sheet.old ++ open_label y words.now) }
+{
+    let shown = clipped(sheet.alloc(), 80, words)?;
+    let start = Point { x: LEFT, y };
+    let at = start.moved(0, 33);
+    sheet.label(at, SMALL, Colour::Faint, shown.as_bytes())?;
+    sheet.hint(Frame::at(start.moved(0, 24), 500, 12), words)
+}
+
+#[tactic(auto, unfolding(crate::specs::Opens::open_words))]
+fn open_words(alloc: Global, agreement: Agreement, proposals: &[u8]) -> Result<Text, AllocError>
+    ensures { IfOk result (λ words. words ≡ open_words agreement proposals.now) }
+{
+    let mut words = Text::new(alloc);
+    words.put(b"round ")?;
+    write_decimal(&mut words, u64::from(agreement.round))?;
+    words.put(b" is not resolved")?;
+    words.put(proposals)?;
+    Ok(words)
+}
+
+#[tactic(auto, unfolding(crate::specs::Opens::open_proposals))]
+fn open_proposals(alloc: Global, panel: &Panel, agreement: Agreement) -> Result<Text, AllocError>
+    ensures { IfOk result (λ words. words ≡ open_proposals panel.now agreement) }
+{
+    let mut words = Text::new(alloc);
+    for simulator in 0..panel.simulators() {
+        write_if_open(alloc, &mut words, panel, agreement, simulator)?;
+    }
+    Ok(words)
+}
+
+fn write_if_open(
+    alloc: Global,
+    output: &mut Text,
+    panel: &Panel,
+    agreement: Agreement,
+    simulator: u8,
+) -> Result<(), AllocError>
+    ensures { OnOk result (output.new ≡ output.old ++ proposal_if panel.now agreement simulator) }
+{
+    if agreement.is_open(simulator, panel.marks(), panel.events()) {
+        write_open(alloc, output, panel, agreement, simulator)
+    } else {
+        Ok(())
+    }
+}
+
+#[tactic(auto, unfolding(crate::specs::Opens::open_proposal))]
+fn write_open(
+    alloc: Global,
+    output: &mut Text,
+    panel: &Panel,
+    agreement: Agreement,
+    simulator: u8,
+) -> Result<(), AllocError>
+    ensures { OnOk result (output.new ≡ output.old ++ open_proposal panel.now agreement simulator) }
+{
+    let counts = counts_of(alloc, panel, agreement, simulator)?;
+    output.put(b"; ")?;
+    write_proposer(output, simulator)?;
+    output.put(counts.as_bytes())
+}

@@ -1,0 +1,3 @@
+pub mod CallerLemmas
+mod Apart
+mod Texts

@@ -1,0 +1,7 @@
+use Rattle.std.proofs.Common.{◌≡◌, ◌++◌}
+use Rattle.std.specs.List.{flat_map, range_with_len}
+use Rattle.simulator_lanes.specs.Lanes.{lane}
+use Rattle.simulator_lanes.proofs.lanes.add_row_lanes.Given as goal
+
+abbrev pub invariant-loop-simulator : goal.invariant-loop-simulator
+invariant-loop-simulator l = l.sheet ≡ l.initial.sheet ++ flat_map (lane l.grid l.row) (range_with_len 0 l.simulator)

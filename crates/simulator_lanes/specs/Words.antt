@@ -1,0 +1,45 @@
+-- What steps do, in words.
+use Rattle.std.specs.Prelude.{ℕ, ◌+◌, ◌==◌, nat_le, List, [], ◌++◌, Option, Some, None, codes, decimal, length, take, if◌then◌else◌}
+use Rattle.room_spec.specs.Rooms.{RoomSpec}
+use Rattle.run_columns.specs.declared.mark.Deed.TheVariants.{Propose}
+use Rattle.run_columns.specs.declared.mark.Step.{Step as StepMark}
+use Rattle.run_columns.specs.Deeds.{is_same, verb_of}
+use Rattle.run_columns.specs.Proposals.{words_of}
+use Rattle.step_words.specs.Sights.{counts_text}
+
+unfoldable pub process_name : ℕ → List ℕ
+process_name process = codes "process " ++ decimal process
+
+unfoldable pub process_round : ℕ → ℕ → List ℕ
+process_round process round = process_name process ++ (codes ", round " ++ decimal round)
+
+-- which word of a snapshot a step is on, if it takes several
+unfoldable pub word_words : Option ℕ → List ℕ
+word_words None = []
+word_words (Some word) = codes ", word " ++ decimal word
+
+unfoldable pub simulator_name : ℕ → List ℕ
+simulator_name simulator = codes "simulator " ++ decimal simulator
+
+unfoldable pub actor_words : StepMark → List ℕ
+actor_words step = codes ": " ++ (simulator_name step.simulator ++ verb_of step.deed)
+
+-- : simulator 0 enters the agreement on process 0, round 1
+unfoldable pub deed_words : StepMark → List ℕ
+deed_words step = actor_words step ++ (process_round step.process step.round ++ word_words step.word)
+
+-- what a step stores, if it proposes, in the words of `trace`: for each process how many writes of it the word shows
+abbrev pub stored_words : RoomSpec → StepMark → List ℕ
+stored_words spec step = if is_same step.deed Propose then codes ":" ++ counts_text spec (words_of step) else []
+
+-- step 4: simulator 0 proposes its snapshot for process 0, round 1: 1 .
+unfoldable pub step_words : RoomSpec → ℕ → StepMark → List ℕ
+step_words spec number step = codes "step " ++ (decimal number ++ (deed_words step ++ stored_words spec step))
+
+-- as much of a text as there is space for
+unfoldable pub clipped : ℕ → List ℕ → List ℕ
+clipped most text = if nat_le (length text) (most + 2) then text else take most text ++ codes ".."
+
+-- a number of things: the word for one, or for several
+unfoldable pub counted : ℕ → List ℕ → List ℕ → List ℕ
+counted count one several = decimal count ++ (if count == 1 then one else several)
