@@ -35,6 +35,11 @@ unfolding columns_by
 as_many [] = refl
 as_many (mark ∷ marks) = as_many_from (column_of 0 0 mark) marks
 
+pub one_each : (marks : List Mark) → length marks ≤ 400 → (columns_of marks).columns ≡ columns_by Steps marks
+one_each marks few =
+    let is_few : nat_le (length marks) most_columns ≡ true = search arith in
+    rw is_few (take_all 400 (columns_by Steps marks) (omega (arith, as_many marks, few)))
+
 pub each_has_one : (marks : List Mark) → length marks ≤ 400 → map (λ (c : Column). c.first) (columns_of marks).columns ≡ marks
 each_has_one marks few =
     let is_few : nat_le (length marks) most_columns ≡ true = search arith in

@@ -1,3 +1,4 @@
 pub mod CallerLemmas
 mod Apart
+mod Hatching
 mod Texts

@@ -5,3 +5,4 @@ pub mod Turns
 pub mod Squares
 pub mod Panels
 pub mod Proposals
+pub mod Unsafe
