@@ -4,6 +4,7 @@ mod Counting
 mod Drawing
 mod Entering
 mod OneMore
+mod Parts
 mod Ordering
 mod Ranking
 mod Schedules

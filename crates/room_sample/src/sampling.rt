@@ -3,13 +3,13 @@ ghost use Rattle.std.specs.Prelude.{IfOk};
 ghost use Rattle.room_sample.specs.Samples.{AreAmongAll, IsSample};
 
 use crate::tally::Tally;
-use crate::workers::{count_all, run_by_workers};
+use crate::workers::count_by_workers;
 use room_spec::Spec;
 use run_search::Progress;
 use std::alloc::{AllocError, Global};
 use std::thread::Threads;
 
-/// How many schedules a worker runs before their outcomes are counted.
+/// How many schedules a worker runs and counts before its outcomes are added to those of all.
 const A_ROUND: u32 = 1000;
 
 /// The most threads at the same time.
@@ -43,7 +43,7 @@ pub struct Plan {
 /// # Errors
 ///
 /// An allocation that fails.
-#[tactic(auto, using(crate::proofs::OneMore::no_sample, crate::proofs::OneMore::many_more))]
+#[tactic(auto, using(crate::proofs::OneMore::no_sample, crate::proofs::Parts::part_more))]
 pub fn sample<R: Threads + Sync, P: Progress>(
     rt: &R,
     alloc: Global,
@@ -61,8 +61,8 @@ pub fn sample<R: Threads + Sync, P: Progress>(
     while done < plan.schedules {
         progress.reached(u64::from(done));
         let count = (plan.schedules - done).min(A_ROUND * workers);
-        let runs = run_by_workers(rt, alloc, spec, plan, done, count, workers)?;
-        count_all(&mut tally, runs)?;
+        let later = count_by_workers(rt, alloc, spec, plan, done, count, workers)?;
+        tally.add_all(later)?;
         done += count;
     }
     Ok(tally)

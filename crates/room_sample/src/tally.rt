@@ -1,6 +1,7 @@
 //! Outcomes, and how often each came.
 ghost use Rattle.std.specs.Prelude.{◌≡◌, ◌<◌, [], IsPermutation, OnOk, length, option_map, slice_get};
 ghost use Rattle.room_sample.specs.Samples.{AreMostFirst, counted, counted_of};
+ghost use Rattle.room_sample.specs.Parts.{added, added_all};
 ghost use Rattle.room_sample.specs.Shown.{AreKept, with_schedule_at};
 ghost use Rattle.room_sample.specs.Ways.{sampled_of};
 
@@ -53,21 +54,39 @@ impl Tally {
     }
 
     /// Counts one run more.
+    #[tactic(auto, using(crate::proofs::Parts::added_first))]
     pub(crate) fn count(&mut self, run: Run) -> Result<(), AllocError>
         ensures { OnOk result (self.new ≡ counted (sampled_of run) self.old) }
     {
-        let Some(index) = self.outcomes.get_index_of(&run.states) else {
-            let outcome = Outcome {
-                times: 1,
-                schedule: run.schedule,
-            };
-            self.outcomes.insert(run.states, outcome)?;
+        let outcome = Outcome {
+            times: 1,
+            schedule: run.schedule,
+        };
+        self.add(run.states, outcome)
+    }
+
+    /// Adds the outcomes of later schedules, which were counted on their own.
+    pub(crate) fn add_all(&mut self, later: Tally) -> Result<(), AllocError>
+        ensures { OnOk result (self.new ≡ added_all self.old later) }
+    {
+        for (states, outcome) in later.outcomes {
+            self.add(states, outcome)?;
+        }
+        Ok(())
+    }
+
+    /// Adds an outcome, as often as it came. If it has come before, its first schedule stays.
+    fn add(&mut self, states: States, outcome: Outcome) -> Result<(), AllocError>
+        ensures { OnOk result (self.new ≡ added (counted_of (states, outcome)) self.old) }
+    {
+        let Some(index) = self.outcomes.get_index_of(&states) else {
+            self.outcomes.insert(states, outcome)?;
             return Ok(());
         };
-        let Some(outcome) = self.outcomes.get_index_mut(index) else {
+        let Some(known) = self.outcomes.get_index_mut(index) else {
             unreachable!() // the index was found just now
         };
-        outcome.times = outcome.times.saturating_add(1);
+        known.times = known.times.saturating_add(outcome.times);
         Ok(())
     }
 
