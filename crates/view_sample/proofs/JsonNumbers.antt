@@ -1,35 +1,19 @@
 -- No number in the JSON of an outcome has a fraction.
-use Rattle.std.proofs.Common.{◌≡◌, ◌∙◌, Bool, true, false, ◌||◌, List, [], ◌∷◌, ℕ, map, refl, ap}
-use Rattle.serde_json.specs.Data.{Data}
-use Rattle.serde_json.specs.View.{items_of}
-use Rattle.serde_json.specs.Written.{has_float, items_have_float}
-use Rattle.ws_history.specs.declared.states.ProcessState.{ProcessState}
-use Rattle.ws_history.specs.declared.states.ProcessState.TheVariants.{Decided, Spent, Held, Going}
+use Rattle.std.proofs.Common.{◌≡◌, Bool, true, false, ◌||◌, List, ℕ, refl}
+use Rattle.serde_json.specs.Written.{has_float}
+use Rattle.json_lines.specs.Values.{processes_data}
+use Rattle.json_lines.proofs.CallerLemmas.{both, items_are, processes_are}
 use Rattle.room_sample.specs.Samples.{Counted}
 use Rattle.room_sample.specs.declared.stretch.Stretch.{Stretch}
 use Rattle.room_sample.specs.declared.stretch.Stretch.TheVariants.{Steps, Crash}
-use Rattle.view_sample.specs.Json.{outcome_data, process_data, processes_data, schedule_data, schedule_unless, stretch_data}
-
-both : (a b : Bool) → a ≡ false → b ≡ false → (a || b) ≡ false
-both a b first rest = ap (λ (x : Bool). x || b) first ∙ rest
-
-process_is : (state : ProcessState) → has_float (process_data state) ≡ false
-process_is (Decided v) = refl
-process_is (Held i) = refl
-process_is Spent = refl
-process_is Going = refl
-
-processes_are : (states : List ProcessState) → items_have_float (items_of (map process_data states)) ≡ false
-processes_are [] = refl
-processes_are (state ∷ states) = both (has_float (process_data state)) (items_have_float (items_of (map process_data states))) (process_is state) (processes_are states)
+use Rattle.view_sample.specs.Json.{outcome_data, schedule_data, schedule_unless, stretch_data}
 
 stretch_is : (stretch : Stretch) → has_float (stretch_data stretch) ≡ false
 stretch_is (Steps simulator count) = refl
 stretch_is (Crash simulator) = refl
 
-schedule_is : (schedule : List Stretch) → items_have_float (items_of (map stretch_data schedule)) ≡ false
-schedule_is [] = refl
-schedule_is (stretch ∷ schedule) = both (has_float (stretch_data stretch)) (items_have_float (items_of (map stretch_data schedule))) (stretch_is stretch) (schedule_is schedule)
+schedule_is : (schedule : List Stretch) → has_float (schedule_data schedule) ≡ false
+schedule_is schedule = items_are stretch_data stretch_is schedule
 
 unless_is : (brief : Bool) (schedule : List Stretch) → has_float (schedule_unless brief schedule) ≡ false
 unless_is true schedule = refl

@@ -7,11 +7,11 @@ use Rattle.std.proofs.lemmas.List.Folds.{concat-append}
 use Rattle.room_spec.specs.Blocks.{block_in}
 use Rattle.room_spec.specs.Rooms.{IsWithinLimits, RoomSpec}
 use Rattle.room_files.specs.BlockLists.{IsBlockAt}
-use Rattle.view_sample.specs.Rooms.{AddsSamples, AreSampleTexts, IsSampleText, is_well, room_text, end_text, shown_text}
+use Rattle.view_sample.specs.Rooms.{AddsSamples, AreSampleTexts, IsSampleText, alone_shown, is_well, room_text, end_text, shown_text}
 use Rattle.room_sample.specs.Shown.{AreKept}
 use Rattle.room_sample.specs.Samples.{AreAmongAll, AreMostFirst, Counted, IsSample}
 use Rattle.view_sample.specs.TaskTexts.{has_held, task_text}
-use Rattle.view_sample.specs.Texts.{alone_text, sample_text}
+use Rattle.view_sample.specs.Texts.{sample_text}
 use Rattle.room_sample.specs.declared.sampling.Plan.{Plan}
 use Rattle.view_sample.proofs.Coming.{breaking_leads, scripts_lead}
 use Rattle.view_sample.proofs.Taking.{took}
@@ -91,7 +91,7 @@ sample_told plan block spec len outcomes short shown held task before middle aft
 
 -- the script of one outcome
 pub script_told : (plan : Plan) (block : List ℕ) (spec : RoomSpec) (len : ℕ) (outcomes short shown : List Counted) (there : Bool) (number : ℕ) (before after : List ℕ) → plan.outcome ≡ Some number → IsWithinLimits spec → block_in block ≡ Ok (spec, len) → IsSample spec plan outcomes → AreAmongAll spec outcomes
-    → AreKept spec plan.crashes outcomes short → IsPermutation short shown → AreMostFirst shown → there ≡ is_some (slice_get shown (number - 1)) → after ≡ before ++ alone_text spec.name block shown number
+    → AreKept spec plan.crashes outcomes short → IsPermutation short shown → AreMostFirst shown → there ≡ is_some (slice_get shown (number - 1)) → after ≡ before ++ alone_shown plan.json plan spec.name block shown number
     → (said : RoomSpec) → block_in block ≡ Ok (said, length block) → (text : List ℕ) × IsSampleText plan said there text × (after ≡ before ++ text)
 script_told plan block spec len outcomes short shown there number before after some limits read sample among kept permuted first there_is after_is =
     sample_shown plan block spec len outcomes short shown there before after limits read sample among kept permuted first

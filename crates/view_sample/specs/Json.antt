@@ -1,12 +1,11 @@
 -- A sample as JSON: an object a line.
-use Rattle.std.specs.Prelude.{ℕ, ◌+◌, Bool, true, false, List, [], ◌∷◌, ◌++◌, length, map, take, Option, Some, None, if◌then◌else◌, codes}
+use Rattle.std.specs.Prelude.{ℕ, ◌+◌, ◌-◌, Bool, true, false, List, [], ◌∷◌, ◌++◌, length, map, take, Option, Some, None, slice_get, if◌then◌else◌, codes}
 use Rattle.std.specs.List.{flat_map}
 use Rattle.serde_json.specs.Data.{Data, array, boolean, member, no_members, null, number, object, string, unsigned}
 use Rattle.serde_json.specs.View.{items_of}
-use Rattle.serde_json.specs.Written.{compact_text}
+use Rattle.json_lines.specs.Lines.{json_line}
+use Rattle.json_lines.specs.Values.{processes_data}
 use Rattle.room_spec.specs.Rooms.{RoomSpec}
-use Rattle.ws_history.specs.declared.states.ProcessState.{ProcessState}
-use Rattle.ws_history.specs.declared.states.ProcessState.TheVariants.{Decided, Spent, Held, Going}
 use Rattle.room_sample.specs.Samples.{Counted}
 use Rattle.room_sample.specs.declared.sampling.Plan.{Plan}
 use Rattle.room_sample.specs.declared.stretch.Stretch.{Stretch}
@@ -14,18 +13,6 @@ use Rattle.room_sample.specs.declared.stretch.Stretch.TheVariants.{Steps, Crash}
 use Rattle.view_sample.specs.Counts.{held_in, most_of, once_in, values_in}
 use Rattle.view_sample.specs.Tasks.{times_broken}
 use Rattle.view_sample.specs.Texts.{shown_count}
-
-abbrev pub json_line : Data → List ℕ
-json_line it = compact_text it ++ codes "\n"
-
-abbrev pub process_data : ProcessState → Data
-process_data (Decided v) = object (member (codes "state") (string (codes "decided")) (member (codes "value") (number (unsigned v)) no_members))
-process_data (Held i) = object (member (codes "by") (number (unsigned i)) (member (codes "state") (string (codes "held")) no_members))
-process_data Spent = object (member (codes "state") (string (codes "spent")) no_members)
-process_data Going = object (member (codes "state") (string (codes "going")) no_members)
-
-abbrev pub processes_data : List ProcessState → Data
-processes_data states = array (items_of (map process_data states))
 
 abbrev pub stretch_data : Stretch → Data
 stretch_data (Steps simulator count) = object (member (codes "simulator") (number (unsigned simulator)) (member (codes "steps") (number (unsigned count)) no_members))
@@ -65,3 +52,17 @@ room_data spec plan outcomes =
 
 abbrev pub room_line : RoomSpec → Plan → List Counted → List ℕ
 room_line spec plan outcomes = json_line (room_data spec plan outcomes)
+
+-- ---- one outcome alone
+
+-- how many outcomes there are, none of which has this number
+abbrev pub none_data : List ℕ → ℕ → ℕ → Data
+none_data name count n = object (member (codes "number") (number (unsigned n)) (member (codes "outcomes") (number (unsigned count)) (member (codes "room") (string name) no_members)))
+
+abbrev pub alone_data : List ℕ → Bool → ℕ → ℕ → Option Counted → Data
+alone_data name brief count n None = none_data name count n
+alone_data name brief count n (Some one) = outcome_data name brief one
+
+-- the outcome of this number, from 1; or, if there is none, how many outcomes there are
+abbrev pub alone_line : List ℕ → Bool → List Counted → ℕ → List ℕ
+alone_line name brief shown n = json_line (alone_data name brief (length shown) n (slice_get shown (n - 1)))

@@ -6,7 +6,7 @@ use Rattle.room_spec.specs.Rooms.{RoomSpec}
 use Rattle.view_sample.specs.Leads.{HasScript}
 use Rattle.room_sample.specs.Samples.{AreAmongAll, AreMostFirst, Counted, IsSample}
 use Rattle.room_sample.specs.Shown.{AreKept}
-use Rattle.view_sample.specs.Json.{outcome_lines, room_line}
+use Rattle.view_sample.specs.Json.{alone_line, outcome_lines, room_line}
 use Rattle.view_sample.specs.Tasks.{first_broken}
 use Rattle.view_sample.specs.TaskTexts.{has_held, task_text}
 use Rattle.view_sample.specs.Texts.{alone_text, sample_text}
@@ -22,10 +22,15 @@ abbrev pub end_text : Bool → Plan → RoomSpec → List ℕ → List Counted �
 end_text false plan spec block short = task_text spec block plan short
 end_text true plan spec block short = room_line spec plan short
 
--- what is written of a room: its outcomes, and its task; or the script of one outcome alone
+-- the script of the outcome of this number; in JSON, that outcome
+abbrev pub alone_shown : Bool → Plan → List ℕ → List ℕ → List Counted → ℕ → List ℕ
+alone_shown false plan name block shown number = alone_text name block shown number
+alone_shown true plan name block shown number = alone_line name plan.brief shown number
+
+-- what is written of a room: its outcomes, and its task; or one outcome alone
 abbrev pub room_text : Option ℕ → Plan → RoomSpec → List ℕ → List Counted → List Counted → List ℕ
 room_text None plan spec block short shown = shown_text plan.json plan spec.name block shown ++ end_text plan.json plan spec block short
-room_text (Some number) plan spec block short shown = alone_text spec.name block shown number
+room_text (Some number) plan spec block short shown = alone_shown plan.json plan spec.name block shown number
 
 -- no schedule broke the task; or there is that outcome
 abbrev pub is_well : Option ℕ → RoomSpec → List Counted → List Counted → Bool

@@ -1,20 +1,20 @@
 //! A sample as JSON: an object a line.
-ghost use Rattle.std.specs.Prelude.{◌≡◌, ◌≤◌, ◌++◌, false, IfOk, OnOk};
+ghost use Rattle.std.specs.Prelude.{◌≡◌, ◌-◌, ◌≤◌, ◌++◌, IfOk, OnOk, is_some, slice_get};
 ghost use Rattle.std.specs.List.{sum_by};
 ghost use Rattle.serde_json.specs.View.{view};
-ghost use Rattle.serde_json.specs.Written.{has_float};
 ghost use Rattle.room_sample.specs.Samples.{counted_of};
-ghost use Rattle.view_sample.specs.Json.{broken_data, json_line, outcome_data, outcome_lines, process_data, processes_data, room_data, room_line, schedule_data, schedule_unless, stretch_data};
+ghost use Rattle.json_lines.specs.Lines.{json_line};
+ghost use Rattle.view_sample.specs.Json.{alone_line, broken_data, none_data, outcome_data, outcome_lines, room_data, room_line, schedule_data, schedule_unless, stretch_data};
 
 use crate::counts::{most_of, once_in};
 use crate::task::times_broken;
 use crate::text::shown_count;
 use io_text::Text;
+use json_lines::{processes_value, write_line};
 use room_sample::{Outcome, Plan, States, Stretch, Tally};
 use room_spec::Spec;
 use serde_json::{Value, json};
 use std::alloc::{AllocError, Global};
-use ws_history::ProcessState;
 
 /// Writes the outcomes of the room of this name, an object a line.
 pub(crate) fn write_outcome_lines(
@@ -49,6 +49,46 @@ fn write_outcome_line(
     write_line(alloc, output, &value)
 }
 
+/// Writes the outcome of this number, from 1, and nothing else; or, if there is none, how many outcomes there are. Gives whether there is one.
+pub(crate) fn write_alone_line(
+    alloc: Global,
+    output: &mut Text,
+    name: &str,
+    brief: bool,
+    outcomes: &Tally,
+    number: u32,
+) -> Result<bool, AllocError>
+    ensures text { OnOk result (output.new ≡ output.old ++ alone_line name.now brief outcomes.now number) }
+    ensures there { IfOk result (λ there. there ≡ is_some (slice_get outcomes.now (number - 1))) }
+{
+    let Some((states, outcome)) = outcomes.get(number.saturating_sub(1) as usize) else {
+        write_none_line(alloc, output, name, outcomes.len(), number)?;
+        return Ok(false);
+    };
+    write_outcome_line(alloc, output, name, brief, states, outcome)?;
+    Ok(true)
+}
+
+/// Writes how many outcomes there are, none of which has this number.
+fn write_none_line(
+    alloc: Global,
+    output: &mut Text,
+    name: &str,
+    count: usize,
+    number: u32,
+) -> Result<(), AllocError>
+    ensures { OnOk result (output.new ≡ output.old ++ json_line (none_data name.now count number)) }
+{
+    let value = none_value(alloc, name, count, number)?;
+    write_line(alloc, output, &value)
+}
+
+fn none_value(alloc: Global, name: &str, count: usize, number: u32) -> Result<Value, AllocError>
+    ensures { IfOk result (λ value. view value ≡ none_data name.now count number) }
+{
+    json!(in alloc; {"number": number, "outcomes": count, "room": name})
+}
+
 /// Writes what is said of a room and its sample as a whole, on one line.
 pub(crate) fn write_room_line(
     alloc: Global,
@@ -62,15 +102,6 @@ pub(crate) fn write_room_line(
 {
     let value = room_value(alloc, spec, plan, outcomes)?;
     write_line(alloc, output, &value)
-}
-
-/// Writes a value on a line of its own.
-fn write_line(alloc: Global, output: &mut Text, value: &Value) -> Result<(), AllocError>
-    requires { has_float (view value.now) ≡ false }
-    ensures { OnOk result (output.new ≡ output.old ++ json_line (view value.now)) }
-{
-    let bytes = value.to_vec(alloc)?;
-    output.put_two(bytes.as_slice(), b"\n")
 }
 
 /// An outcome: how often it came, the states of the processes, and a schedule that leads to it, unless that is left out.
@@ -136,29 +167,6 @@ fn broken_value(spec: &Spec, plan: &Plan, outcomes: &Tally) -> Value
         None => Value::Null,
         Some(_) => Value::from(times_broken(spec, outcomes, plan.schedules)),
     }
-}
-
-/// The state of a process.
-fn process_value(alloc: Global, state: ProcessState) -> Result<Value, AllocError>
-    ensures { IfOk result (λ value. view value ≡ process_data state) }
-{
-    match state {
-        ProcessState::Decided(v) => json!(in alloc; {"state": "decided", "value": v}),
-        ProcessState::Held(i) => json!(in alloc; {"by": i, "state": "held"}),
-        ProcessState::Spent => json!(in alloc; {"state": "spent"}),
-        ProcessState::Going => json!(in alloc; {"state": "going"}),
-    }
-}
-
-/// The states of processes, in order.
-fn processes_value(alloc: Global, states: &[ProcessState]) -> Result<Value, AllocError>
-    ensures { IfOk result (λ value. view value ≡ processes_data states.now) }
-{
-    let mut values = Vec::new(alloc);
-    for state in states {
-        values.push(process_value(alloc, *state)?)?;
-    }
-    Ok(Value::Array(values))
 }
 
 /// What happens in a stretch of a schedule.

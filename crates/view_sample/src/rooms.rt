@@ -1,13 +1,13 @@
 //! The samples of the rooms of a file.
-ghost use Rattle.std.specs.Prelude.{◌≡◌, ◌≤◌, ◌++◌, ℕ, IfOk, List, Ok, OnOk, length};
+ghost use Rattle.std.specs.Prelude.{◌≡◌, ◌-◌, ◌≤◌, ◌++◌, ℕ, IfOk, List, Ok, OnOk, is_some, length, slice_get};
 ghost use Rattle.std.specs.List.{sum_by};
 ghost use Rattle.room_files.specs.BlockLists.{IsBlockAt};
 ghost use Rattle.room_spec.specs.Blocks.{block_in};
 ghost use Rattle.room_spec.specs.Rooms.{RoomSpec};
-ghost use Rattle.view_sample.specs.Rooms.{AddsSamples, IsSampleText, end_text, shown_text};
+ghost use Rattle.view_sample.specs.Rooms.{AddsSamples, IsSampleText, alone_shown, end_text, shown_text};
 ghost use Rattle.view_sample.specs.TaskTexts.{has_held};
 
-use crate::json::{write_outcome_lines, write_room_line};
+use crate::json::{write_alone_line, write_outcome_lines, write_room_line};
 use crate::task_text::{has_held, write_task};
 use crate::text::{write_alone, write_sample};
 use io_text::Text;
@@ -77,14 +77,33 @@ fn write_room<R: Threads + Sync, P: Progress>(
     let mut end = Text::new(alloc);
     let held = write_end(alloc, &mut end, &spec, block, plan, &outcomes)?;
     outcomes.sort_by_times()?;
-    let name = spec.name().as_str().as_bytes();
     if let Some(number) = plan.outcome {
-        let is_there = write_alone(output, name, block, &outcomes, number)?;
+        let is_there = write_chosen(alloc, output, &spec, block, plan, &outcomes, number)?;
         return Ok(is_there);
     }
     write_shown(alloc, output, &spec, block, plan, &outcomes)?;
     output.put(end.as_bytes())?;
     Ok(held)
+}
+
+/// Writes the script of the outcome of this number, or as JSON that outcome. Gives whether there is one.
+fn write_chosen(
+    alloc: Global,
+    output: &mut Text,
+    spec: &Spec,
+    block: &[u8],
+    plan: &Plan,
+    outcomes: &Tally,
+    number: u32,
+) -> Result<bool, AllocError>
+    ensures text { OnOk result (output.new ≡ output.old ++ alone_shown plan.now.json plan.now spec.now.name block.now outcomes.now number) }
+    ensures there { IfOk result (λ there. there ≡ is_some (slice_get outcomes.now (number - 1))) }
+{
+    let name = spec.name().as_str();
+    if plan.json {
+        return write_alone_line(alloc, output, name, plan.brief, outcomes, number);
+    }
+    write_alone(output, name.as_bytes(), block, outcomes, number)
 }
 
 /// Writes the outcomes of a room, as text or as JSON.

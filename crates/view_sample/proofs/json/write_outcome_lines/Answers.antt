@@ -1,6 +1,7 @@
 use Rattle.std.proofs.Common.{sym}
 use Rattle.room_sample.specs.Samples.{Counted, counted_of}
-use Rattle.view_sample.specs.Json.{json_line, outcome_data}
+use Rattle.json_lines.specs.Lines.{json_line}
+use Rattle.view_sample.specs.Json.{outcome_data}
 use Rattle.view_sample.proofs.Taking.{written_more}
 use Rattle.view_sample.proofs.json.write_outcome_lines.Goals as goal
 

@@ -1,6 +1,7 @@
 use Rattle.std.proofs.Common.{◌≡◌, ◌++◌, take}
 use Rattle.std.specs.List.{flat_map}
-use Rattle.view_sample.specs.Json.{json_line, outcome_data}
+use Rattle.json_lines.specs.Lines.{json_line}
+use Rattle.view_sample.specs.Json.{outcome_data}
 use Rattle.view_sample.proofs.json.write_outcome_lines.Given as goal
 
 abbrev pub invariant-loop-index : goal.invariant-loop-index

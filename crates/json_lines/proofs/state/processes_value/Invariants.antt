@@ -1,7 +1,7 @@
 use Rattle.std.proofs.Common.{◌≡◌, map, take}
 use Rattle.serde_json.specs.View.{view}
-use Rattle.view_sample.specs.Json.{process_data}
-use Rattle.view_sample.proofs.json.processes_value.Given as goal
+use Rattle.json_lines.specs.Values.{process_data}
+use Rattle.json_lines.proofs.state.processes_value.Given as goal
 
 -- the states so far
 abbrev pub invariant-loop-state : goal.invariant-loop-state

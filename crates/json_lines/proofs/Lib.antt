@@ -1,0 +1,3 @@
+pub mod CallerLemmas
+mod Floats
+mod Texts
