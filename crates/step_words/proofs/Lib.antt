@@ -1,2 +1,4 @@
 mod Behind
+mod Floats
+mod Numbers
 mod Within

@@ -1,5 +1,6 @@
 pub mod Pieces
 pub mod Names
 pub mod Sights
+pub mod Json
 pub mod Lines
 pub mod Told

@@ -1,38 +1,51 @@
 -- What is said of steps, one after the other.
-use Rattle.std.specs.Prelude.{◌≡◌, ℕ, ◌+◌, Bool, false, List, [], ◌++◌, Option, Some, None, ◌==◌, ◌&&◌}
+use Rattle.std.specs.Prelude.{◌≡◌, ℕ, suc, Bool, true, false, List, [], ◌∷◌, ◌++◌, Option, Some, None, ◌==◌, ◌&&◌}
+use Rattle.json_lines.specs.Lines.{json_line}
 use Rattle.room_spec.specs.Rooms.{RoomSpec}
 use Rattle.room_core.specs.Calls.{RoomState, configuration_of}
-use Rattle.room_core.specs.Rooms.{IsOneInterleaving}
+use Rattle.room_core.specs.Rooms.{IsOneInterleaving, ScheduleEvent, crashes, steps}
 use Rattle.room_steps.specs.Steps.{IsStepOf}
 use Rattle.room_steps.specs.declared.step.AtomicStep.{AtomicStep}
 use Rattle.ws_history.specs.Effects.{IsEffectOf}
 use Rattle.ws_history.specs.declared.effects.Effect.{Effect}
+use Rattle.step_words.specs.Json.{step_data}
 use Rattle.step_words.specs.Lines.{step_lines}
 
--- The lines so far, how many steps they describe, and whose turn the last of them was, by its number. lacks: an allocation failed, and
--- nothing more is written.
+-- Whether steps are written as JSON, the lines so far, and whose turn the last step was, by its number. lacks: an allocation failed, and nothing
+-- more is written.
 pub record Telling : Type 0 where
+  pub json : Bool
   pub lines : List ℕ
-  pub number : ℕ
   pub last : Option (ℕ × ℕ)
   pub lacks : Bool
 
-abbrev pub nothing_told : Telling
-nothing_told = record { lines = []; number = 0; last = None; lacks = false }
+abbrev pub nothing_told : Bool → Telling
+nothing_told json = record { json = json; lines = []; last = None; lacks = false }
 
 -- it is the same turn as before
 abbrev pub is_turn : Option (ℕ × ℕ) → ℕ → ℕ → Bool
 is_turn None simulator turn = false
 is_turn (Some (of, number)) simulator turn = (of == simulator) && (number == turn)
 
+-- the step of a number, as text or as JSON
+abbrev pub step_text : Bool → RoomSpec → ℕ → AtomicStep → Bool → Option Effect → List ℕ
+step_text false spec number step same_turn effect = step_lines spec number step same_turn effect
+step_text true spec number step same_turn effect = json_line (step_data spec number step effect)
+
 -- one step more
-abbrev pub with_step : Telling → RoomSpec → AtomicStep → Option Effect → Telling
-with_step telling spec step effect = record {
-  lines = telling.lines ++ step_lines spec (telling.number + 1) step (is_turn telling.last step.simulator step.turn) effect;
-  number = telling.number + 1;
+abbrev pub with_step : Telling → RoomSpec → ℕ → AtomicStep → Option Effect → Telling
+with_step telling spec number step effect = record {
+  json = telling.json;
+  lines = telling.lines ++ step_text telling.json spec number step (is_turn telling.last step.simulator step.turn) effect;
   last = Some (step.simulator, step.turn);
   lacks = telling.lacks;
 }
+
+-- how many steps a schedule has; a crash is none
+abbrev pub steps_in : List ScheduleEvent → ℕ
+steps_in [] = 0
+steps_in (steps i ∷ schedule) = suc (steps_in schedule)
+steps_in (crashes i ∷ schedule) = steps_in schedule
 
 -- A step that simulator i took in a room was described, with what takes effect at it, unless an allocation failed by then.
 pub record IsTold (old : Telling) (room : RoomState) (i : ℕ) (new : Telling) : Type 0 where
@@ -41,4 +54,7 @@ pub record IsTold (old : Telling) (room : RoomState) (i : ℕ) (new : Telling) :
   pub effect : Option Effect
   -- whatever interleaving leads to the room
   pub is_effect : (one : IsOneInterleaving (configuration_of room)) → IsEffectOf room.spec one.schedule i effect
-  pub told : new.lacks ≡ false → new ≡ with_step old room.spec step effect
+  pub number : ℕ
+  -- one more than there are steps in it
+  pub numbered : (one : IsOneInterleaving (configuration_of room)) → number ≡ suc (steps_in one.schedule)
+  pub told : new.lacks ≡ false → new ≡ with_step old room.spec number step effect

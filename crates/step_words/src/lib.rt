@@ -1,6 +1,8 @@
-//! Single atomic steps of a room in words: a line for each, for people.
+//! Single atomic steps of a room in words: a line for each, for people, or an object of JSON.
 #![tactic(auto)]
 
+mod json;
+mod number;
 mod operation;
 mod pieces;
 mod sight;

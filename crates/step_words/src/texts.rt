@@ -3,6 +3,8 @@ ghost use Rattle.std.specs.Prelude.{◌≡◌, ◌≢◌, false, true, IfOk, IfE
 ghost use Rattle.step_words.specs.Lines.{IsStepIn};
 ghost use Rattle.step_words.specs.Told.{is_turn, nothing_told, with_step};
 
+use crate::json::write_step_object;
+use crate::number::next_number;
 use crate::step::write_step;
 use io_text::Text;
 use room_core::{Observer, RoomCore, StepReply};
@@ -12,12 +14,14 @@ use std::alloc::{AllocError, Global};
 use std::marker::Model;
 use ws_history::{Effect, StepStart};
 
-/// An observer of the steps of a room, which writes the lines of each, numbered from 1, with what takes effect at it. After an allocation that fails it writes no
-/// more, and the room goes on.
+/// An observer of the steps of a room, which writes the lines of each, or an object of JSON on a line, with what takes effect at it. Steps are
+/// numbered from 1 over the whole life of the room. After an allocation that fails it writes no more, and the room goes on.
 #[derive(Drop)]
 pub struct StepTexts {
+    alloc: Global,
+    /// Whether a step is written as JSON.
+    json: bool,
     lines: Text,
-    number: u64,
     /// The last step's simulator, and the number of its turn.
     last: Option<(usize, u64)>,
     lacks: bool,
@@ -28,17 +32,18 @@ impl Model for StepTexts {
 
     ghost Value = { Telling };
 
-    ghost view = { λ texts. record { lines = texts.lines; number = texts.number; last = texts.last; lacks = texts.lacks } };
+    ghost view = { λ texts. record { json = texts.json; lines = texts.lines; last = texts.last; lacks = texts.lacks } };
 }
 
 impl StepTexts {
-    /// No lines.
-    pub fn new(alloc: Global) -> StepTexts
-        ensures { result ≡ nothing_told }
+    /// No lines. Steps will be written as text, or as JSON.
+    pub fn new(alloc: Global, json: bool) -> StepTexts
+        ensures { result ≡ nothing_told json }
     {
         StepTexts {
+            alloc,
+            json,
             lines: Text::new(alloc),
-            number: 0,
             last: None,
             lacks: false,
         }
@@ -59,31 +64,32 @@ impl StepTexts {
         Ok(self.lines)
     }
 
-    fn note(&mut self, spec: &Spec, step: &AtomicStep, effect: Option<Effect>)
+    fn note(&mut self, spec: &Spec, number: u64, step: &AtomicStep, effect: Option<Effect>)
         requires { IsStepIn spec.now step.now }
-        ensures { self.new.lacks ≡ false → self.new ≡ with_step self.old spec.now step.now effect }
+        ensures { self.new.lacks ≡ false → self.new ≡ with_step self.old spec.now number step.now effect }
     {
-        if !self.lacks && self.write(spec, step, effect).is_err() {
+        if !self.lacks && self.write(spec, number, step, effect).is_err() {
             self.lacks = true;
         }
     }
 
-    /// Writes the lines of a step.
+    /// Writes the step of this number.
     fn write(
         &mut self,
         spec: &Spec,
+        number: u64,
         step: &AtomicStep,
         effect: Option<Effect>,
     ) -> Result<(), AllocError>
         requires { IsStepIn spec.now step.now }
-        ensures { OnOk result (self.new ≡ with_step self.old spec.now step.now effect) }
+        ensures { OnOk result (self.new ≡ with_step self.old spec.now number step.now effect) }
     {
-        let same_turn = self.is_turn(step.simulator, step.turn);
-        let Some(number) = self.number.checked_add(1) else {
-            return Err(AllocError); // this many lines take more memory than there is
-        };
-        write_step(&mut self.lines, spec, number, step, same_turn, effect)?;
-        self.number = number;
+        if self.json {
+            write_step_object(self.alloc, &mut self.lines, spec, number, step, effect)?;
+        } else {
+            let same_turn = self.is_turn(step.simulator, step.turn);
+            write_step(&mut self.lines, spec, number, step, same_turn, effect)?;
+        }
         self.last = Some((step.simulator, step.turn));
         Ok(())
     }
@@ -106,11 +112,12 @@ impl Observer for StepTexts {
 
     fn step(&mut self, room: &mut RoomCore, i: usize) -> StepReply {
         let _shape = room.spec().shape(); // for the proof: the room is one that its simulators lead to
+        let number = next_number(room);
         let start = StepStart::of(room, i);
         let (reply, taken) = take_step(room, i);
         if let Some(step) = taken {
             let effect = start.effect(room, i);
-            self.note(room.spec(), &step, effect);
+            self.note(room.spec(), number, &step, effect);
         }
         reply
     }

@@ -1,8 +1,9 @@
 -- What is said of a script: what `play` answers, and notes under each reply.
-use Rattle.std.specs.Prelude.{◌≡◌, ℕ, ◌<◌, ◌≤◌, false, List, [], ◌∷◌, ◌++◌, length, map, Option, Result, Ok, Err, alloc_error, if◌then◌else◌}
+use Rattle.std.specs.Prelude.{◌≡◌, ℕ, ◌<◌, ◌≤◌, Bool, true, false, List, [], ◌∷◌, ◌++◌, length, map, Option, Result, Ok, Err, alloc_error, if◌then◌else◌}
 use Rattle.std.specs.declared.alloc.AllocError.{AllocError}
 use Rattle.std.specs.List.{flat_map}
 use Rattle.room_spec.specs.Faults.{sentence_of}
+use Rattle.room_spec.specs.declared.fault.SpecFault.{SpecFault}
 use Rattle.room_core.specs.Calls.{RoomState}
 use Rattle.room_core.specs.Observing.{AreSeen, TakenStep}
 use Rattle.service_core.specs.declared.command.Command.{Command}
@@ -16,21 +17,22 @@ use Rattle.service_core.specs.Rooms.{Applies, Entries, room_at, steps_of}
 use Rattle.script_play.specs.Script.{Entry, script_says}
 use Rattle.room_files.specs.declared.outcome.Outcome.{Outcome}
 use Rattle.script_play.specs.Play.{AreDone, AreReplies, Done, Faulty, IsPlayText, Replied, Unread, commands_of, done_text, ending_of, replies_in}
+use Rattle.script_play.specs.ReplyTexts.{reply_text}
+use Rattle.json_lines.specs.Lines.{json_line}
 use Rattle.step_words.specs.Told.{IsTold, Telling, nothing_told}
 use Rattle.fault_text.specs.Lines.{indented}
 use Rattle.fault_text.specs.Strangers.{MetNames, is_met, met, more_note, refused_strangers}
 use Rattle.fault_text.specs.declared.refusals.RefusedBlock.{RefusedBlock}
+use Rattle.view_trace.specs.Json.{done_data, reply_data}
 use Rattle.view_trace.specs.declared.missed.TheConstants.{MORE_COMMANDS}
 
 -- ---- notes
 
--- the lines of these steps, one after the other
-pub record AreLinesOf (steps : List TakenStep) (lines : List ℕ) : Type 0 where
+-- these steps, one after the other, as text or as JSON
+pub record AreLinesOf (json : Bool) (steps : List TakenStep) (lines : List ℕ) : Type 0 where
   pub telling : Telling
-  pub told : AreSeen IsTold nothing_told steps telling
+  pub told : AreSeen IsTold (nothing_told json) steps telling
   pub whole : telling.lacks ≡ false
-  -- as many as were taken, so as many as a reply to `step` says
-  pub count : telling.number ≡ length steps
   pub lines_are : lines ≡ telling.lines
 
 -- What is known of rooms that don't exist: the blocks that were refused so far, and the names of commands that no room has.
@@ -75,16 +77,26 @@ refusal_notes missed name NameTaken = indented (refusal_sentence NameTaken)
 refusal_notes missed name NoSimulator = indented (refusal_sentence NoSimulator)
 refusal_notes missed name OutOfMemory = indented (refusal_sentence OutOfMemory)
 
+-- under the reply to a command that was refused: why, in text. As JSON the reply has it.
+abbrev pub refusal_shown : Bool → MissedRooms → List ℕ → Reason → List ℕ
+refusal_shown false missed name reason = refusal_notes missed name reason
+refusal_shown true missed name reason = []
+
+-- and under a block that was refused
+abbrev pub block_shown : Bool → List ℕ → List ℕ
+block_shown false why = indented why
+block_shown true why = []
+
 -- under a reply: why the command was refused, or the steps that it took in the room of its name as it was then
-abbrev pub AreNotesOn : MissedRooms → Option RoomState → Command → Reply → List ℕ → Type 0
-AreNotesOn missed room command (Refused refusal) notes = notes ≡ refusal_notes missed (name_in command) refusal
-AreNotesOn missed room command reply notes = AreLinesOf (steps_of room command) notes
+abbrev pub AreNotesOn : Bool → MissedRooms → Option RoomState → Command → Reply → List ℕ → Type 0
+AreNotesOn json missed room command (Refused refusal) notes = notes ≡ refusal_shown json missed (name_in command) refusal
+AreNotesOn json missed room command reply notes = AreLinesOf json (steps_of room command) notes
 
 -- What was done to these rooms has such notes, and leads to those.
-abbrev pub IsNoted : MissedRooms → Done → List ℕ → Entries → Entries → Type 0
-IsNoted missed (Replied command reply) notes rooms after = Applies rooms command reply after × AreNotesOn missed (room_at rooms (name_in command)) command reply notes
-IsNoted missed (Faulty line fault) notes rooms after = (after ≡ rooms) × (notes ≡ indented (sentence_of fault))
-IsNoted missed (Unread line) notes rooms after = (after ≡ rooms) × (notes ≡ indented (refusal_sentence OutOfMemory))
+abbrev pub IsNoted : Bool → MissedRooms → Done → List ℕ → Entries → Entries → Type 0
+IsNoted json missed (Replied command reply) notes rooms after = Applies rooms command reply after × AreNotesOn json missed (room_at rooms (name_in command)) command reply notes
+IsNoted json missed (Faulty line fault) notes rooms after = (after ≡ rooms) × (notes ≡ block_shown json (sentence_of fault))
+IsNoted json missed (Unread line) notes rooms after = (after ≡ rooms) × (notes ≡ block_shown json (refusal_sentence OutOfMemory))
 
 -- ---- a whole script
 
@@ -92,24 +104,34 @@ pub record Noted : Type 0 where
   pub done : Done
   pub notes : List ℕ
 
-abbrev pub noted_text : Noted → List ℕ
-noted_text one = done_text one.done ++ one.notes
+-- what `play` writes of what was done, or an object of JSON
+abbrev pub done_shown : Bool → Done → List ℕ
+done_shown false done = done_text done
+done_shown true done = json_line (done_data done)
+
+abbrev pub noted_text : Bool → Noted → List ℕ
+noted_text json one = done_shown json one.done ++ one.notes
 
 -- each has its notes, and is done to the rooms to which all before it lead, with what is known from these
-abbrev pub AreNoted : MissedRooms → Entries → List Noted → Entries → MissedRooms → Type 0
-AreNoted missed rooms [] after end = (rooms ≡ after) × (missed ≡ end)
-AreNoted missed rooms (one ∷ rest) after end =
-    (next : Entries) × IsNoted missed one.done one.notes rooms next × AreNoted (missed_after missed one.done) next rest after end
+abbrev pub AreNoted : Bool → MissedRooms → Entries → List Noted → Entries → MissedRooms → Type 0
+AreNoted json missed rooms [] after end = (rooms ≡ after) × (missed ≡ end)
+AreNoted json missed rooms (one ∷ rest) after end =
+    (next : Entries) × IsNoted json missed one.done one.notes rooms next × AreNoted json (missed_after missed one.done) next rest after end
 
 -- this was done from no rooms on, and the output is what is said of it
-pub record HasTraced (rooms : Entries) (missed : MissedRooms) (output : List ℕ) (all : List Done) : Type 0 where
+pub record HasTraced (json : Bool) (rooms : Entries) (missed : MissedRooms) (output : List ℕ) (all : List Done) : Type 0 where
   pub noted : List Noted
   pub each : map (λ one. one.done) noted ≡ all
-  pub output_is : output ≡ flat_map noted_text noted
-  pub are_noted : AreNoted (record { refused = []; strangers = record { names = []; more = 0 } }) [] noted rooms missed
+  pub output_is : output ≡ flat_map (noted_text json) noted
+  pub are_noted : AreNoted json (record { refused = []; strangers = record { names = []; more = 0 } }) [] noted rooms missed
 
--- What is said of a script's entries, and the end that goes with it.
-pub record IsTrace (script : List ℕ) (entries : List Entry) (ending : Result Outcome AllocError) (output : List ℕ) : Type 0 where
+-- what is said at the end of a script, in text
+abbrev pub end_shown : Bool → List ℕ → MissedRooms → List ℕ
+end_shown false script missed = end_notes script missed
+end_shown true script missed = []
+
+-- What is said of a script's entries, as text or as JSON, and the end that goes with it.
+pub record IsTrace (json : Bool) (script : List ℕ) (entries : List Entry) (ending : Result Outcome AllocError) (output : List ℕ) : Type 0 where
   pub all : List Done
   pub each_entry : AreDone entries all
   pub replies : AreReplies (commands_of all) (replies_in all)
@@ -117,17 +139,37 @@ pub record IsTrace (script : List ℕ) (entries : List Entry) (ending : Result O
   pub rooms : Entries
   pub missed : MissedRooms
   pub text : List ℕ
-  pub traced : HasTraced rooms missed text all
-  pub output_is : output ≡ text ++ end_notes script missed
-  -- without the notes it is what `play` writes, with its ending
+  pub traced : HasTraced json rooms missed text all
+  pub output_is : output ≡ text ++ end_shown json script missed
+  -- this was done, and in text it is, without the notes, what `play` writes, with its ending
   pub played : IsPlayText entries ending (flat_map done_text all)
 
+abbrev pub IsTraceIn : Bool → List ℕ → Result Outcome AllocError → List ℕ → Type 0
+IsTraceIn json input ending output = (entries : List Entry) × (script_says input ≡ Ok entries) × IsTrace json input entries ending output
+
+-- as text
 abbrev pub IsTraceFor : List ℕ → Result Outcome AllocError → List ℕ → Type 0
-IsTraceFor input ending output = (entries : List Entry) × (script_says input ≡ Ok entries) × IsTrace input entries ending output
+IsTraceFor input ending output = IsTraceIn false input ending output
+
+-- as JSON, an object a line
+abbrev pub IsJsonTraceFor : List ℕ → Result Outcome AllocError → List ℕ → Type 0
+IsJsonTraceFor input ending output = IsTraceIn true input ending output
 
 -- ---- inside the crate
 
 -- what is noted under a reply by an observer of the steps
-abbrev pub notes_after : MissedRooms → List ℕ → Reply → Telling → List ℕ
-notes_after missed name (Refused refusal) telling = refusal_notes missed name refusal
-notes_after missed name reply telling = telling.lines
+abbrev pub notes_after : Bool → MissedRooms → List ℕ → Reply → Telling → List ℕ
+notes_after json missed name (Refused refusal) telling = refusal_shown json missed name refusal
+notes_after json missed name reply telling = telling.lines
+
+-- what is written of a reply
+abbrev pub answer_text : Bool → List ℕ → ℕ → Reply → List ℕ
+answer_text false name sim reply = reply_text name sim reply
+answer_text true name sim reply = json_line (reply_data name sim reply)
+
+-- what is written of a block that was refused, and of one that was not read
+abbrev pub fault_written : Bool → ℕ → SpecFault → List ℕ
+fault_written json line fault = done_shown json (Faulty line fault) ++ block_shown json (sentence_of fault)
+
+abbrev pub lack_written : Bool → ℕ → List ℕ
+lack_written json line = done_shown json (Unread line) ++ block_shown json (refusal_sentence OutOfMemory)

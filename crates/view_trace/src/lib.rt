@@ -1,7 +1,9 @@
 //! A script's replies, and under each the atomic steps that its command took.
 #![tactic(auto)]
 
+mod json;
 mod missed;
+mod playing;
 mod tracer;
 
-pub use tracer::trace;
+pub use playing::{trace, trace_json};

@@ -2,7 +2,7 @@
 ghost use Rattle.std.specs.Prelude.{◌≡◌, ◌++◌, [], IfOk, OnOk};
 ghost use Rattle.fault_text.specs.Strangers.{is_met, met};
 ghost use Rattle.script_play.specs.Play.{Faulty};
-ghost use Rattle.view_trace.specs.Trace.{end_notes, missed_after, stranger_notes};
+ghost use Rattle.view_trace.specs.Trace.{end_notes, missed_after, missed_refused, stranger_notes};
 
 use fault_text::{Refusals, RefusedBlock, Strangers, write_indented};
 use io_text::Text;
@@ -48,6 +48,24 @@ impl Missed {
             line,
             fault: BlockFault::Spec(fault),
         })
+    }
+
+    /// Keeps that a command with this name was refused.
+    pub(crate) fn keep(
+        &mut self,
+        alloc: Global,
+        name: &[u8],
+        refusal: Refusal,
+    ) -> Result<(), AllocError>
+        ensures { OnOk result (self.new ≡ missed_refused self.old name.now refusal) }
+    {
+        match refusal {
+            Refusal::NoRoom => {
+                self.meet(alloc, name)?;
+                Ok(())
+            }
+            Refusal::NameTaken | Refusal::NoSimulator | Refusal::OutOfMemory => Ok(()),
+        }
     }
 
     /// Writes under a command with a name that no room has, unless an earlier command has the same name, that there is none.

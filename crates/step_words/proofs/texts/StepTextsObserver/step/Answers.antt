@@ -27,5 +27,7 @@ returns-in-Some-clause-seen c = λ stepped.
       is = was.1;
       effect = c.effect-effect.result;
       is_effect = λ one. c.effect-effect.ensures room one c.of-start.ensures was.0 c.take_step-reply.ensures.room;
-      told = subst (λ (spec : RoomSpec). c.note.new.self.lacks ≡ false → c.note.new.self ≡ with_step c.args.self.now spec c.in-Some.step c.effect-effect.result) same c.note.ensures;
+      number = c.next_number-number.result;
+      numbered = c.next_number-number.ensures;
+      told = subst (λ (spec : RoomSpec). c.note.new.self.lacks ≡ false → c.note.new.self ≡ with_step c.args.self.now spec c.next_number-number.result c.in-Some.step c.effect-effect.result) same c.note.ensures;
     }

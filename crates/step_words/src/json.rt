@@ -1,0 +1,130 @@
+//! An atomic step as JSON.
+ghost use Rattle.std.specs.Prelude.{◌≡◌, ◌++◌, IfOk, OnOk, drop};
+ghost use Rattle.serde_json.specs.View.{view};
+ghost use Rattle.json_lines.specs.Lines.{json_line};
+ghost use Rattle.json_lines.specs.Values.{text_data};
+ghost use Rattle.step_words.specs.Json.{effect_data, end_data, shows_data, step_data};
+ghost use Rattle.step_words.specs.Lines.{IsStepIn};
+ghost use Rattle.step_words.specs.Names.{operation_text};
+
+use crate::operation::write_operation;
+use crate::sight::write_sight;
+use io_text::Text;
+use json_lines::{text_value, write_line};
+use room_spec::Spec;
+use room_steps::AtomicStep;
+use serde_json::{Value, json};
+use simulator::Goal;
+use std::alloc::{AllocError, Global};
+use ws_history::Effect;
+
+/// Writes the step of this number as an object, on a line of its own.
+pub(crate) fn write_step_object(
+    alloc: Global,
+    output: &mut Text,
+    spec: &Spec,
+    number: u64,
+    step: &AtomicStep,
+    effect: Option<Effect>,
+) -> Result<(), AllocError>
+    requires { IsStepIn spec.now step.now }
+    ensures { OnOk result (output.new ≡ output.old ++ json_line (step_data spec.now number step.now effect)) }
+{
+    let value = step_value(alloc, spec, number, step, effect)?;
+    write_line(alloc, output, &value)
+}
+
+fn step_value(
+    alloc: Global,
+    spec: &Spec,
+    number: u64,
+    step: &AtomicStep,
+    effect: Option<Effect>,
+) -> Result<Value, AllocError>
+    requires { IsStepIn spec.now step.now }
+    ensures { IfOk result (λ value. view value ≡ step_data spec.now number step.now effect) }
+{
+    let effect = effect_value(alloc, effect)?;
+    let end = end_value(alloc, step.end)?;
+    let operation = operation_value(alloc, spec, step)?;
+    let shows = shows_value(alloc, spec, step)?;
+    let room = spec.name().as_str();
+    let (simulator, process) = (step.simulator, step.process);
+    let (turn, round) = (step.turn, step.round);
+    json!(in alloc; {
+        "effect": effect,
+        "end": end,
+        "operation": operation,
+        "process": process,
+        "room": room,
+        "round": round,
+        "shows": shows,
+        "simulator": simulator,
+        "step": number,
+        "turn": turn
+    })
+}
+
+/// What takes effect at the step, if something does.
+fn effect_value(alloc: Global, effect: Option<Effect>) -> Result<Value, AllocError>
+    ensures { IfOk result (λ value. view value ≡ effect_data effect) }
+{
+    match effect {
+        None => Ok(Value::Null),
+        Some(Effect::Write { process, value }) => {
+            json!(in alloc; {"event": "write", "process": process, "value": value})
+        }
+        Some(Effect::Snapshot { process }) => {
+            json!(in alloc; {"event": "snap", "process": process})
+        }
+        Some(Effect::Decision { process, value }) => {
+            json!(in alloc; {"event": "decide", "process": process, "value": value})
+        }
+    }
+}
+
+/// How the turn ended, if it has ended.
+fn end_value(alloc: Global, end: Option<Goal>) -> Result<Value, AllocError>
+    ensures { IfOk result (λ value. view value ≡ end_data end) }
+{
+    match end {
+        None => Ok(Value::Null),
+        Some(Goal::Write { value, .. }) => {
+            json!(in alloc; {"state": "writes", "turn": "useful", "value": value})
+        }
+        Some(Goal::Ask { round }) => {
+            json!(in alloc; {"round": round, "state": "unresolved", "turn": "quiet"})
+        }
+        Some(Goal::Done) => json!(in alloc; {"state": "decided", "turn": "useful"}),
+        Some(Goal::Spent) => json!(in alloc; {"state": "spent", "turn": "useful"}),
+    }
+}
+
+/// The operation in words.
+fn operation_value(alloc: Global, spec: &Spec, step: &AtomicStep) -> Result<Value, AllocError>
+    ensures { IfOk result (λ value. view value ≡ text_data (operation_text spec.now step.now)) }
+{
+    let mut words = Text::new(alloc);
+    write_operation(&mut words, spec, step)?;
+    text_value(alloc, words.as_bytes())
+}
+
+/// What the word of the step shows, in words.
+fn shows_value(alloc: Global, spec: &Spec, step: &AtomicStep) -> Result<Value, AllocError>
+    requires { IsStepIn spec.now step.now }
+    ensures { IfOk result (λ value. view value ≡ shows_data spec.now step.now) }
+{
+    let mut words = Text::new(alloc);
+    write_sight(&mut words, spec, step)?;
+    text_value(alloc, without_first(words.as_bytes()))
+}
+
+/// These bytes without the first, if there is one.
+fn without_first(bytes: &[u8]) -> &[u8]
+    ensures { result.now ≡ drop 1 bytes.now }
+{
+    match bytes.split_first() {
+        Some((_, rest)) => rest,
+        None => bytes,
+    }
+}
