@@ -18,9 +18,9 @@ use Rattle.room_files.specs.Inputs.{events_behind, fed_from}
 use Rattle.room_files.specs.Lines.{text_lines}
 use Rattle.room_files.specs.Verdicts.{IsJustified, Judged, is_well, outcome_if}
 use Rattle.room_files.specs.declared.outcome.Outcome.{Outcome}
-use Rattle.fault_text.specs.Refusals.{refusal_line, said_refusals}
+use Rattle.fault_text.specs.Refusals.{refusal_line}
 use Rattle.view_why.specs.Told.{IsLineBreak, IsTold, ToldRoom, lines_of}
-use Rattle.view_why.specs.Why.{Explained, IsExplained, IsExplanation, IsReasonFor, IsRoomSaid, explained_lines, told_of, verdict_of}
+use Rattle.view_why.specs.Why.{Explained, IsExplained, IsExplanation, IsReasonIn, IsRoomSaid, explained_lines, refusals_shown, told_of, verdict_of}
 use Rattle.fault_text.specs.declared.refusals.RefusedBlock.{RefusedBlock}
 use Rattle.view_why.specs.declared.told.LineBreak.{LineBreak}
 use Rattle.view_why.proofs.Telling.{fed_at}
@@ -43,12 +43,12 @@ told_is told fed is =
 -- ---- one room behind the other
 
 -- what is said of the first rooms stands behind what is said of the refused blocks
-abbrev pub SoFar : List RoomSpec → List ℕ → List ℕ → List FedEvent → ℕ → List ℕ → Bool → Type 0
-SoFar rooms start refused fed count output well =
+abbrev pub SoFar : Bool → List RoomSpec → List ℕ → List ℕ → List FedEvent → ℕ → List ℕ → Bool → Type 0
+SoFar json rooms start refused fed count output well =
     (all : List Explained)
     × (map (λ one. one.judged.room) all ≡ take count rooms)
-    × All (IsExplained fed) all
-    × (output ≡ start ++ flat_map explained_lines all)
+    × All (IsExplained json fed) all
+    × (output ≡ start ++ flat_map (explained_lines json) all)
     × (well ≡ ((length refused == 0) && list_all (λ one. is_well one.verdict one.task) (map (λ one. one.judged) all)))
 
 and_true : (b : Bool) → b ≡ (b && true)
@@ -59,8 +59,8 @@ and_assoc : (a b c : Bool) → ((a && b) && c) ≡ (a && (b && c))
 and_assoc true b c = refl
 and_assoc false b c = refl
 
-pub none_yet : (rooms : List RoomSpec) (start refused : List ℕ) (fed : List FedEvent) (well : Bool) → well ≡ (length refused == 0) → SoFar rooms start refused fed 0 start well
-none_yet rooms start refused fed well is = ([], refl, All-nil (IsExplained fed), sym (append-nil start), is ∙ and_true (length refused == 0))
+pub none_yet : (json : Bool) (rooms : List RoomSpec) (start refused : List ℕ) (fed : List FedEvent) (well : Bool) → well ≡ (length refused == 0) → SoFar json rooms start refused fed 0 start well
+none_yet json rooms start refused fed well is = ([], refl, All-nil (IsExplained json fed), sym (append-nil start), is ∙ and_true (length refused == 0))
 
 well_more : (all : List Explained) (one : Explained) → (list_all (λ (o : Judged). is_well o.verdict o.task) (map (λ (o : Explained). o.judged) all) && is_well one.judged.verdict one.judged.task)
     ≡ list_all (λ (o : Judged). is_well o.verdict o.task) (map (λ (o : Explained). o.judged) (all ++ one ∷ []))
@@ -69,21 +69,21 @@ well_more all one =
     let judged = map (λ (o : Explained). o.judged) all in
     ap (λ w. list_all test judged && w) (and_true (test one.judged)) ∙ sym (list_all-append test judged (one.judged ∷ [])) ∙ ap (list_all test) (sym (map_push (λ (o : Explained). o.judged) all one))
 
-pub one_more : (rooms : List RoomSpec) (start refused : List ℕ) (fed : List FedEvent) (count : ℕ) (output : List ℕ) (well : Bool) (room : RoomSpec) (output_now : List ℕ) (well_now : Bool)
-    → SoFar rooms start refused fed count output well → slice_get rooms count ≡ Some room → IsRoomSaid room (fed_to room.name fed) output output_now well_now → SoFar rooms start refused fed (count + 1) output_now (well && well_now)
-one_more rooms start refused fed count output well room output_now well_now so_far there said =
+pub one_more : (json : Bool) (rooms : List RoomSpec) (start refused : List ℕ) (fed : List FedEvent) (count : ℕ) (output : List ℕ) (well : Bool) (room : RoomSpec) (output_now : List ℕ) (well_now : Bool)
+    → SoFar json rooms start refused fed count output well → slice_get rooms count ≡ Some room → IsRoomSaid json room (fed_to room.name fed) output output_now well_now → SoFar json rooms start refused fed (count + 1) output_now (well && well_now)
+one_more json rooms start refused fed count output well room output_now well_now so_far there said =
     let all = so_far.0 in
     let one = said.one in
     let within = slice_get_within rooms count room there in
     let plus : count + 1 ≡ suc count = omega arith in
     let next : take (count + 1) rooms ≡ take count rooms ++ room ∷ [] = ap (λ n. take n rooms) plus ∙ take-suc rooms count room within ∙ ap (λ r. take count rooms ++ r ∷ []) (get_or_from_slice_get rooms count room room there) in
-    let P : RoomSpec → Type 0 = λ (r : RoomSpec). (IsVerdict r (fed_to r.name fed) one.judged.verdict × IsTaskAnswer r (fed_to r.name fed) one.judged.task) × IsReasonFor (told_of r fed) one.judged.verdict one.judged.task one.notes in
-    let explained : IsExplained fed one = subst P (sym said.room) ((said.verdict, said.task), said.because) in (
+    let P : RoomSpec → Type 0 = λ (r : RoomSpec). (IsVerdict r (fed_to r.name fed) one.judged.verdict × IsTaskAnswer r (fed_to r.name fed) one.judged.task) × IsReasonIn json (told_of r fed) one.judged.verdict one.judged.task one.notes in
+    let explained : IsExplained json fed one = subst P (sym said.room) ((said.verdict, said.task), said.because) in (
       all ++ one ∷ [],
       map_push (λ (o : Explained). o.judged.room) all one ∙ ap (λ rs. rs ++ one.judged.room ∷ []) so_far.1 ∙ ap (λ r. take count rooms ++ r ∷ []) said.room ∙ sym next,
-      All-push (IsExplained fed) all one so_far.2 explained,
-      said.written ∙ ap (λ o. o ++ explained_lines one) so_far.3 ∙ append_assoc start (flat_map explained_lines all) (explained_lines one)
-          ∙ ap (λ o. start ++ (flat_map explained_lines all ++ o)) (sym (append-nil (explained_lines one))) ∙ ap (λ o. start ++ o) (sym (flat_map-append explained_lines all (one ∷ []))),
+      All-push (IsExplained json fed) all one so_far.2 explained,
+      said.written ∙ ap (λ o. o ++ explained_lines json one) so_far.3 ∙ append_assoc start (flat_map (explained_lines json) all) (explained_lines json one)
+          ∙ ap (λ o. start ++ (flat_map (explained_lines json) all ++ o)) (sym (append-nil (explained_lines json one))) ∙ ap (λ o. start ++ o) (sym (flat_map-append (explained_lines json) all (one ∷ []))),
       ap (λ w. well && w) said.well_is ∙ ap (λ w. w && is_well one.judged.verdict one.judged.task) so_far.4
           ∙ and_assoc (length refused == 0) (list_all (λ (o : Judged). is_well o.verdict o.task) (map (λ (o : Explained). o.judged) all)) (is_well one.judged.verdict one.judged.task)
           ∙ ap (λ w. (length refused == 0) && w) (well_more all one),
@@ -93,16 +93,16 @@ rooms_judged : (all : List Explained) → map (λ (one : Judged). one.room) (map
 rooms_judged [] = refl
 rooms_judged (one ∷ all) = ap (λ rooms. one.judged.room ∷ rooms) (rooms_judged all)
 
-justified_each : (fed : List FedEvent) (all : List Explained) → AllByRecursion (IsExplained fed) all → AllByRecursion (IsJustified fed) (map (λ (one : Explained). one.judged) all)
-justified_each fed [] each = tt
-justified_each fed (one ∷ all) each = (each.0.0, justified_each fed all each.1)
+justified_each : (json : Bool) (fed : List FedEvent) (all : List Explained) → AllByRecursion (IsExplained json fed) all → AllByRecursion (IsJustified fed) (map (λ (one : Explained). one.judged) all)
+justified_each json fed [] each = tt
+justified_each json fed (one ∷ all) each = (each.0.0, justified_each json fed all each.1)
 
-all_justified : (fed : List FedEvent) (all : List Explained) → All (IsExplained fed) all → All (IsJustified fed) (map (λ (one : Explained). one.judged) all)
-all_justified fed all each = All-from_recursion (IsJustified fed) (map (λ (one : Explained). one.judged) all) (justified_each fed all (recursion_from_All (IsExplained fed) all each))
+all_justified : (json : Bool) (fed : List FedEvent) (all : List Explained) → All (IsExplained json fed) all → All (IsJustified fed) (map (λ (one : Explained). one.judged) all)
+all_justified json fed all each = All-from_recursion (IsJustified fed) (map (λ (one : Explained). one.judged) all) (justified_each json fed all (recursion_from_All (IsExplained json fed) all each))
 
-pub all_said : (input : List ℕ) (refusals : List RefusedBlock) (rooms : List RoomSpec) (fed : List FedEvent) (count : ℕ) (output : List ℕ) (well : Bool) (outcome : Outcome) → length rooms ≤ count → outcome ≡ outcome_if well → SoFar rooms (said_refusals input refusals) (flat_map refusal_line refusals) fed count output well
-    → IsExplanation input rooms (flat_map refusal_line refusals) fed outcome output
-all_said input refusals rooms fed count output well outcome all_of outcome_is so_far = record {
+pub all_said : (json : Bool) (input : List ℕ) (refusals : List RefusedBlock) (rooms : List RoomSpec) (fed : List FedEvent) (count : ℕ) (output : List ℕ) (well : Bool) (outcome : Outcome) → length rooms ≤ count → outcome ≡ outcome_if well → SoFar json rooms (refusals_shown json input refusals) (flat_map refusal_line refusals) fed count output well
+    → IsExplanation json input rooms (flat_map refusal_line refusals) fed outcome output
+all_said json input refusals rooms fed count output well outcome all_of outcome_is so_far = record {
   refusals = refusals;
   refused_are = refl;
   all = so_far.0;
@@ -112,7 +112,7 @@ all_said input refusals rooms fed count output well outcome all_of outcome_is so
   checked = record {
     all = map (λ (one : Explained). one.judged) so_far.0;
     each_room = rooms_judged so_far.0 ∙ so_far.1 ∙ take_all count rooms all_of;
-    justified = all_justified fed so_far.0 so_far.2;
+    justified = all_justified json fed so_far.0 so_far.2;
     output_is = refl;
     outcome_is = outcome_is ∙ ap outcome_if so_far.4;
   };

@@ -2,8 +2,10 @@ mod Behind
 mod Breaking
 mod Deciding
 mod Explaining
+mod Floats
 mod Hearing
 mod Reasoning
 mod RoomLists
+mod RoomObjects
 mod Running
 mod Telling

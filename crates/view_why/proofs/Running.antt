@@ -23,7 +23,7 @@ nothing_to_say told (Broken line) task well = absurd cc
 
 -- what is written of it
 pub run_said : (spec : RoomSpec) (fed : List FedEvent) (verdict : Verdict) (task : Option TaskVerdict) (name old new : List ℕ) → is_well verdict task ≡ true → IsVerdict spec fed verdict → IsTaskAnswer spec fed task → name ≡ spec.name
-    → new ≡ (old ++ verdict_line name verdict) ++ task_line name verdict task → IsRoomSaid spec fed old new true
+    → new ≡ (old ++ verdict_line name verdict) ++ task_line name verdict task → IsRoomSaid false spec fed old new true
 run_said spec fed verdict task name old new well judged answered named written = record {
   one = record { judged = record { room = spec; verdict = verdict; task = task }; notes = [] };
   room = refl;
@@ -41,9 +41,9 @@ and_true false = refl
 
 -- one such room more
 pub one_run_more : (rooms : List RoomSpec) (start refused : List ℕ) (fed : List FedEvent) (count : ℕ) (output : List ℕ) (well : Bool) (room : RoomSpec) (output_now : List ℕ)
-    → SoFar rooms start refused fed count output well → slice_get rooms count ≡ Some room → IsRoomSaid room (fed_to room.name fed) output output_now true → SoFar rooms start refused fed (count + 1) output_now well
+    → SoFar false rooms start refused fed count output well → slice_get rooms count ≡ Some room → IsRoomSaid false room (fed_to room.name fed) output output_now true → SoFar false rooms start refused fed (count + 1) output_now well
 one_run_more rooms start refused fed count output well room output_now so_far there said =
-    subst (SoFar rooms start refused fed (count + 1) output_now) (and_true well) (one_more rooms start refused fed count output well room output_now true so_far there said)
+    subst (SoFar false rooms start refused fed (count + 1) output_now) (and_true well) (one_more false rooms start refused fed count output well room output_now true so_far there said)
 
 -- what holds of an answer by one thing holds of it by another that follows
 pub found_still : {A : Type 0} (P Q : A → Type 0) (found : Option A) → ((one : A) → P one → Q one) → IfSome found P → IfSome found Q

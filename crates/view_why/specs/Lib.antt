@@ -1,3 +1,4 @@
+pub mod Json
 pub mod Told
 pub mod Why
 pub mod Words

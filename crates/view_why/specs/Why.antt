@@ -1,20 +1,24 @@
 -- What is said of rooms that are no run or break their task.
-use Rattle.std.specs.Prelude.{◌≡◌, ℕ, Bool, List, [], ◌∷◌, ◌++◌, map, Option, Some, None, Result, Ok, Err, slice_get}
-use Rattle.std.specs.List.{All, flat_map}
+use Rattle.std.specs.Prelude.{◌≡◌, ℕ, Bool, true, false, List, [], ◌∷◌, ◌++◌, map, Option, Some, None, Result, Ok, Err, slice_get}
+use Rattle.std.specs.List.{All, concat, flat_map}
 use Rattle.room_spec.specs.Rooms.{RoomSpec}
 use Rattle.transcript.specs.Grammar.{event_line}
 use Rattle.transcript.specs.declared.event.Event.{Event}
 use Rattle.history_checker.specs.Verdicts.{FedEvent, IsTaskAnswer, IsVerdict, events_of, fed_to}
+use Rattle.serde_json.specs.Data.{Data, null}
 use Rattle.history_checker.specs.declared.verdict.Verdict.{Verdict}
 use Rattle.history_checker.specs.declared.verdict.Verdict.TheVariants.{Run, Broken}
 use Rattle.history_checker.specs.declared.verdict.TaskVerdict.{TaskVerdict}
 use Rattle.history_checker.specs.declared.verdict.TaskVerdict.TheVariants as tasks
 use Rattle.room_files.specs.Blocks.{Setup}
 use Rattle.room_files.specs.Inputs.{input_says}
+use Rattle.room_files.specs.Reports.{task_line, verdict_line}
 use Rattle.room_files.specs.Verdicts.{Judged, IsJustified, IsOutput, judged_line, is_well}
 use Rattle.room_files.specs.declared.outcome.Outcome.{Outcome}
 use Rattle.fault_text.specs.Lines.{indented_all}
 use Rattle.fault_text.specs.Refusals.{refusal_line, said_refusals}
+use Rattle.json_lines.specs.Lines.{json_line}
+use Rattle.view_why.specs.Json.{IsBreakData, IsExcessData, kept_data, room_data, task_data}
 use Rattle.view_why.specs.Told.{ToldRoom, AreDecidedBefore, IsExcess, IsLineBreak, lines_of}
 use Rattle.view_why.specs.Words.{excess_words, reason_words}
 use Rattle.fault_text.specs.declared.refusals.RefusedBlock.{RefusedBlock}
@@ -70,6 +74,24 @@ task_verdict_of None excess = None
 task_verdict_of (Some most) (Ok kept) = Some tasks.Holds
 task_verdict_of (Some most) (Err excess) = Some (tasks.Broken excess.line)
 
+-- ---- the same as JSON
+
+-- what is said of a task that holds, or that breaks there
+abbrev pub IsTaskData : ToldRoom → Option TaskVerdict → Data → Type 0
+IsTaskData told None it = it ≡ kept_data told.spec.task
+IsTaskData told (Some tasks.Holds) it = it ≡ kept_data told.spec.task
+IsTaskData told (Some (tasks.Broken line)) it = (most : ℕ) × (told.spec.task ≡ Some most) × (why : Data) × IsExcessData told line why × (it ≡ task_data most why)
+
+-- a room that is a run, and what is said of its task; or what breaks it
+abbrev pub IsRoomData : ToldRoom → Verdict → Option TaskVerdict → Data → Type 0
+IsRoomData told Run task it = (of_task : Data) × IsTaskData told task of_task × (it ≡ room_data told.spec.name null of_task)
+IsRoomData told (Broken line) task it = (why : Data) × IsBreakData told line why × (it ≡ room_data told.spec.name why null)
+
+-- in text why the room is no run, or breaks its task; as JSON the line that says all
+abbrev pub IsReasonIn : Bool → ToldRoom → Verdict → Option TaskVerdict → List (List ℕ) → Type 0
+IsReasonIn false told verdict task notes = IsReasonFor told verdict task notes
+IsReasonIn true told verdict task notes = (it : Data) × IsRoomData told verdict task it × (notes ≡ json_line it ∷ [])
+
 -- ---- the answer
 
 pub record Explained : Type 0 where
@@ -82,34 +104,58 @@ abbrev pub told_of : RoomSpec → List FedEvent → ToldRoom
 told_of room fed = record { spec = room; events = events_of (fed_to room.name fed); lines = lines_of (fed_to room.name fed) }
 
 -- what `check` answers on the room, and why it is no run, or breaks its task
-abbrev pub IsExplained : List FedEvent → Explained → Type 0
-IsExplained fed one = IsJustified fed one.judged × IsReasonFor (told_of one.judged.room fed) one.judged.verdict one.judged.task one.notes
+abbrev pub IsExplained : Bool → List FedEvent → Explained → Type 0
+IsExplained json fed one = IsJustified fed one.judged × IsReasonIn json (told_of one.judged.room fed) one.judged.verdict one.judged.task one.notes
 
-abbrev pub explained_lines : Explained → List ℕ
-explained_lines one = judged_line one.judged ++ indented_all one.notes
+-- the verdict and what is said of it; as JSON all is in the line
+abbrev pub said_lines : Bool → RoomSpec → Verdict → Option TaskVerdict → List (List ℕ) → List ℕ
+said_lines false room verdict task notes = (verdict_line room.name verdict ++ task_line room.name verdict task) ++ indented_all notes
+said_lines true room verdict task notes = concat notes
+
+abbrev pub explained_lines : Bool → Explained → List ℕ
+explained_lines json one = said_lines json one.judged.room one.judged.verdict one.judged.task one.notes
+
+-- what is written of a room after a text, if that breaks its run and that its task
+abbrev pub IsSaid : Bool → ToldRoom → Result (Unit {0}) LineBreak → Result (Unit {0}) Excess → List ℕ → List ℕ → Type 0
+IsSaid json told reason excess old new =
+    (notes : List (List ℕ)) × IsReasonIn json told (verdict_of reason) (task_verdict_of told.spec.task excess) notes
+    × (new ≡ old ++ said_lines json told.spec (verdict_of reason) (task_verdict_of told.spec.task excess) notes)
 
 -- what is written of a room after a text, and whether all is well with it
-pub record IsRoomSaid (spec : RoomSpec) (fed : List FedEvent) (old new : List ℕ) (well : Bool) : Type 0 where
+pub record IsRoomSaid (json : Bool) (spec : RoomSpec) (fed : List FedEvent) (old new : List ℕ) (well : Bool) : Type 0 where
   pub one : Explained
   pub room : one.judged.room ≡ spec
   pub verdict : IsVerdict spec fed one.judged.verdict
   pub task : IsTaskAnswer spec fed one.judged.task
-  pub because : IsReasonFor (record { spec = spec; events = events_of fed; lines = lines_of fed }) one.judged.verdict one.judged.task one.notes
-  pub written : new ≡ old ++ explained_lines one
+  pub because : IsReasonIn json (record { spec = spec; events = events_of fed; lines = lines_of fed }) one.judged.verdict one.judged.task one.notes
+  pub written : new ≡ old ++ explained_lines json one
   pub well_is : well ≡ is_well one.judged.verdict one.judged.task
 
--- the line of each refused block of the input, with what is said of it; and what `check` answers on each room, in order, each with the
--- reason after it
-pub record IsExplanation (input : List ℕ) (rooms : List RoomSpec) (refused : List ℕ) (fed : List FedEvent) (outcome : Outcome) (output : List ℕ) : Type 0 where
+-- what is said of the refused blocks, in text
+abbrev pub refusals_shown : Bool → List ℕ → List RefusedBlock → List ℕ
+refusals_shown false input refusals = said_refusals input refusals
+refusals_shown true input refusals = []
+
+-- In text, the line of each refused block of the input, with what is said of it; and what `check` answers on each room, in order, each with
+-- the reason after it. As JSON, an object on a line for each room.
+pub record IsExplanation (json : Bool) (input : List ℕ) (rooms : List RoomSpec) (refused : List ℕ) (fed : List FedEvent) (outcome : Outcome) (output : List ℕ) : Type 0 where
   pub refusals : List RefusedBlock
   pub refused_are : refused ≡ flat_map refusal_line refusals
   pub all : List Explained
   pub each_room : map (λ one. one.judged.room) all ≡ rooms
-  pub explained : All (IsExplained fed) all
-  pub output_is : output ≡ said_refusals input refusals ++ flat_map explained_lines all
-  -- without the indented lines it is what `check` writes, with its outcome
+  pub explained : All (IsExplained json fed) all
+  pub output_is : output ≡ refusals_shown json input refusals ++ flat_map (explained_lines json) all
+  -- in text it is, without the indented lines, what `check` writes; and its outcome is that of `check`
   pub checked : IsOutput rooms refused fed outcome (refused ++ flat_map judged_line (map (λ one. one.judged) all))
 
+abbrev pub IsExplanationIn : Bool → List ℕ → Outcome → List ℕ → Type 0
+IsExplanationIn json input outcome output =
+    (setup : Setup) × (fed : List FedEvent) × (input_says input ≡ Ok (setup, fed)) × IsExplanation json input setup.rooms setup.refused fed outcome output
+
+-- as text
 abbrev pub IsExplanationFor : List ℕ → Outcome → List ℕ → Type 0
-IsExplanationFor input outcome output =
-    (setup : Setup) × (fed : List FedEvent) × (input_says input ≡ Ok (setup, fed)) × IsExplanation input setup.rooms setup.refused fed outcome output
+IsExplanationFor input outcome output = IsExplanationIn false input outcome output
+
+-- as JSON
+abbrev pub IsJsonExplanationFor : List ℕ → Outcome → List ℕ → Type 0
+IsJsonExplanationFor input outcome output = IsExplanationIn true input outcome output

@@ -1,5 +1,5 @@
 //! The answer to a whole input.
-ghost use Rattle.std.specs.Prelude.{◌≡◌, ◌≤◌, ◌++◌, ℕ, List, IfOk, IfErr, OnOk, length};
+ghost use Rattle.std.specs.Prelude.{◌≡◌, ◌≤◌, ◌++◌, ℕ, List, IfOk, IfErr, OnOk, false, length};
 ghost use Rattle.std.specs.List.{flat_map};
 ghost use Rattle.history_checker.specs.Verdicts.{FedEvent};
 ghost use Rattle.io_text.specs.Reading.{most_bytes};
@@ -9,9 +9,10 @@ ghost use Rattle.transcript.specs.Grammar.{event_line};
 ghost use Rattle.view_why.specs.Told.{AreTold, IsExcess, IsLineBreak, IsTold, specs_of};
 ghost use Rattle.fault_text.specs.Lines.{indented, indented_all};
 ghost use Rattle.fault_text.specs.Refusals.{refusal_line};
-ghost use Rattle.view_why.specs.Why.{IsBecause, IsExcessSaid, IsExplanation, IsExplanationFor, IsReasonFor, IsRoomSaid, IsTaskReason, task_verdict_of, verdict_of};
+ghost use Rattle.view_why.specs.Why.{IsBecause, IsExcessSaid, IsExplanation, IsExplanationFor, IsExplanationIn, IsJsonExplanationFor, IsReasonFor, IsRoomSaid, IsSaid, IsTaskReason, refusals_shown, task_verdict_of, verdict_of};
 
 use crate::excess::write_excess_words;
+use crate::objects::write_object;
 use crate::reasons::write_reason;
 use crate::rooms::ToldRooms;
 use crate::runs::explain_runs;
@@ -36,14 +37,23 @@ pub fn explain(alloc: Global, input: &[u8]) -> Result<Answer, InputFault>
 {
     match explain_runs(alloc, input)? {
         Some(answer) => Ok(answer),
-        None => explain_rooms(alloc, input),
+        None => explain_rooms(alloc, input, false),
     }
 }
 
-/// The same, with the events of all rooms kept.
-fn explain_rooms(alloc: Global, input: &[u8]) -> Result<Answer, InputFault>
+/// Judges an input, and says why as JSON: an object on a line for each room, in order. Nothing is said of refused blocks.
+pub fn explain_json(alloc: Global, input: &[u8]) -> Result<Answer, InputFault>
     requires { length input.now ≤ most_bytes }
-    ensures output { IfOk result (λ answer. IsExplanationFor input.now answer.outcome answer.output) }
+    ensures output { IfOk result (λ answer. IsJsonExplanationFor input.now answer.outcome answer.output) }
+    ensures err { IfErr result (IsFaultOr (MayLackMemory input.now) (input_says input.now)) }
+{
+    explain_rooms(alloc, input, true)
+}
+
+/// The same, with the events of all rooms kept.
+fn explain_rooms(alloc: Global, input: &[u8], json: bool) -> Result<Answer, InputFault>
+    requires { length input.now ≤ most_bytes }
+    ensures output { IfOk result (λ answer. IsExplanationIn json input.now answer.outcome answer.output) }
     ensures err { IfErr result (IsFaultOr (MayLackMemory input.now) (input_says input.now)) }
 {
     let setup = Setup::new(ToldRooms::new(alloc), Refusals::new(alloc));
@@ -54,24 +64,25 @@ fn explain_rooms(alloc: Global, input: &[u8]) -> Result<Answer, InputFault>
         line,
     } = setup;
     feed_events(&mut rooms, line, transcript)?;
-    Ok(answer_of(alloc, input, &rooms, &refused)?)
+    Ok(answer_of(alloc, input, json, &rooms, &refused)?)
 }
 
 /// Appends what is said of the rooms to what is said of the refused blocks.
 fn answer_of(
     alloc: Global,
     input: &[u8],
+    json: bool,
     rooms: &ToldRooms,
     refusals: &Refusals,
 ) -> Result<Answer, AllocError>
     ensures { IfOk result (λ answer. (fed : List FedEvent) → AreTold rooms.now fed →
-        IsExplanation input.now (specs_of rooms.now) (flat_map refusal_line refusals.now) fed answer.outcome answer.output) }
+        IsExplanation json input.now (specs_of rooms.now) (flat_map refusal_line refusals.now) fed answer.outcome answer.output) }
 {
     let mut output = Text::new(alloc);
-    refusals.write(alloc, &mut output, input)?;
+    write_refusals(alloc, &mut output, input, json, refusals)?;
     let mut all_well = refusals.is_empty();
     for told in rooms.iter() {
-        all_well &= write_room(alloc, &mut output, told)?;
+        all_well &= write_room(alloc, &mut output, json, told)?;
     }
     Ok(Answer {
         output,
@@ -79,19 +90,72 @@ fn answer_of(
     })
 }
 
+/// Writes what is said of the refused blocks, in text.
+fn write_refusals(
+    alloc: Global,
+    output: &mut Text,
+    input: &[u8],
+    json: bool,
+    refusals: &Refusals,
+) -> Result<(), AllocError>
+    ensures { OnOk result (output.new ≡ output.old ++ refusals_shown json input.now refusals.now) }
+{
+    if json {
+        return Ok(());
+    }
+    refusals.write(alloc, output, input)
+}
+
 /// Writes what is said of a room. Gives whether its events are a run that doesn't break its task.
-fn write_room(alloc: Global, output: &mut Text, told: &Told) -> Result<bool, AllocError>
-    ensures { IfOk result (λ well. (fed : List FedEvent) → IsTold fed told.now → IsRoomSaid told.now.spec fed output.old output.new well) }
+fn write_room(alloc: Global, output: &mut Text, json: bool, told: &Told) -> Result<bool, AllocError>
+    ensures { IfOk result (λ well. (fed : List FedEvent) → IsTold fed told.now → IsRoomSaid json told.now.spec fed output.old output.new well) }
 {
     let reason = told.why();
     let excess = told.excess();
+    let verdict = verdict_of(reason);
+    let task = task_verdict_of(&told.spec, excess);
+    write_said(alloc, output, json, told, reason, excess)?;
+    Ok(is_well(verdict, task))
+}
+
+/// Writes what is said of a room whose run breaks there, and its task there, or nowhere.
+fn write_said(
+    alloc: Global,
+    output: &mut Text,
+    json: bool,
+    told: &Told,
+    reason: Result<(), LineBreak>,
+    excess: Result<(), Excess>,
+) -> Result<(), AllocError>
+    requires run { IfErr reason (IsLineBreak told.now) }
+    requires task { IfErr excess (IsExcess told.now) }
+    ensures { OnOk result (IsSaid json told.now reason excess output.old output.new) }
+{
+    if json {
+        return write_object(alloc, output, told, reason, excess);
+    }
+    write_text(alloc, output, told, reason, excess)
+}
+
+/// Writes the verdict on a room, and why.
+fn write_text(
+    alloc: Global,
+    output: &mut Text,
+    told: &Told,
+    reason: Result<(), LineBreak>,
+    excess: Result<(), Excess>,
+) -> Result<(), AllocError>
+    requires run { IfErr reason (IsLineBreak told.now) }
+    requires task { IfErr excess (IsExcess told.now) }
+    ensures { OnOk result (IsSaid false told.now reason excess output.old output.new) }
+{
     let verdict = verdict_of(reason);
     let task = task_verdict_of(&told.spec, excess);
     let name = told.spec.name();
     write_verdict(output, name, verdict)?;
     write_task(output, name, verdict, task)?;
     write_reasons(alloc, output, told, reason, excess)?;
-    Ok(is_well(verdict, task))
+    Ok(())
 }
 
 /// The verdict on a room whose run breaks there, or nowhere.

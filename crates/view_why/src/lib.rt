@@ -3,9 +3,11 @@
 
 mod answer;
 mod excess;
+mod json;
+mod objects;
 mod reasons;
 mod rooms;
 mod runs;
 mod told;
 
-pub use answer::explain;
+pub use answer::{explain, explain_json};

@@ -44,7 +44,7 @@ pub fn write_reason(
 }
 
 /// What the event shows of this process.
-fn shown_of(event: &Event, process: usize) -> Option<u32>
+pub(crate) fn shown_of(event: &Event, process: usize) -> Option<u32>
     ensures { result ≡ shown_of event.now process }
 {
     match event {

@@ -1,5 +1,5 @@
 //! The answer to an input of whose rooms there is nothing to explain.
-ghost use Rattle.std.specs.Prelude.{◌≡◌, ◌≤◌, IfErr, IfOk, IfSome, List, Some, length, slice_get, true};
+ghost use Rattle.std.specs.Prelude.{◌≡◌, ◌≤◌, IfErr, IfOk, IfSome, List, Some, false, length, slice_get, true};
 ghost use Rattle.std.specs.List.{flat_map};
 ghost use Rattle.room_spec.specs.Rooms.{RoomSpec};
 ghost use Rattle.history_checker.specs.Verdicts.{FedEvent, HasProcessed, fed_to, specs_of};
@@ -43,7 +43,7 @@ fn answer_of_runs(
     refusals: &Refusals,
 ) -> Result<Option<Answer>, AllocError>
     ensures { IfOk result (λ found. IfSome found (λ answer. (fed : List FedEvent) → HasProcessed rooms.now fed →
-        IsExplanation input.now (specs_of rooms.now) (flat_map refusal_line refusals.now) fed answer.outcome answer.output)) }
+        IsExplanation false input.now (specs_of rooms.now) (flat_map refusal_line refusals.now) fed answer.outcome answer.output)) }
 {
     let mut output = Text::new(alloc);
     refusals.write(alloc, &mut output, input)?;
@@ -61,7 +61,7 @@ fn answer_of_runs(
 /// Writes the verdicts on the room of this index, if it is a run that keeps its task. Gives whether it is one.
 fn write_run(output: &mut Text, rooms: &Rooms, index: usize) -> Result<bool, AllocError>
     ensures { IfOk result (λ well. well ≡ true → (fed : List FedEvent) → HasProcessed rooms.now fed → (spec : RoomSpec) ×
-        (slice_get (specs_of rooms.now) index ≡ Some spec) × IsRoomSaid spec (fed_to spec.name fed) output.old output.new true) }
+        (slice_get (specs_of rooms.now) index ≡ Some spec) × IsRoomSaid false spec (fed_to spec.name fed) output.old output.new true) }
 {
     let (Some(name), Some(verdict)) = (rooms.name(index), rooms.verdict(index)) else {
         return Ok(false);

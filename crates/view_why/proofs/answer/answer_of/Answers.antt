@@ -3,7 +3,8 @@ use Rattle.std.specs.List.{flat_map}
 use Rattle.std.proofs.lemmas.List.{append_assoc}
 use Rattle.history_checker.specs.Verdicts.{fed_to}
 use Rattle.history_checker.proofs.CallerLemmas.{after_there, spec_there}
-use Rattle.fault_text.specs.Refusals.{refusal_line, said_refusals}
+use Rattle.fault_text.specs.Refusals.{refusal_line}
+use Rattle.view_why.specs.Why.{refusals_shown}
 use Rattle.view_why.specs.Told.{IsTold, ToldRoom, specs_of}
 use Rattle.view_why.proofs.Explaining.{SoFar, all_said, none_yet, one_more}
 use Rattle.view_why.proofs.RoomLists.{all_done, one_done, room_there, spec_in}
@@ -11,20 +12,20 @@ use Rattle.view_why.proofs.answer.answer_of.Goals as goal
 
 pub loop-told-init : goal.loop-told-init
 loop-told-init c =
-    let start = said_refusals c.args.input.now c.args.refusals.now in
+    let start = refusals_shown c.args.json c.args.input.now c.args.refusals.now in
     let refused = flat_map refusal_line c.args.refusals.now in
     let specs = specs_of c.args.rooms.now in
-    let written : c.write.new.output ≡ start = c.in_ok-write.ensures ∙ ap (λ (text : List ℕ). text ++ start) c.new-output.ensures in (
+    let written : c.write_refusals.new.output ≡ start = c.in_ok-write_refusals.ensures ∙ ap (λ (text : List ℕ). text ++ start) c.new-output.ensures in (
       tt,
       tt,
       [],
       sym (c.into_iter-told-iterator.ensures.into_iter_gives ∙ c.iter-told-items.ensures),
-      λ fed told. subst (λ (text : List ℕ). SoFar specs start refused fed 0 text c.is_empty-all_well.result) (sym written) (none_yet specs start refused fed c.is_empty-all_well.result c.is_empty-all_well.ensures),
+      λ fed told. subst (λ (text : List ℕ). SoFar c.args.json specs start refused fed 0 text c.is_empty-all_well.result) (sym written) (none_yet c.args.json specs start refused fed c.is_empty-all_well.result c.is_empty-all_well.ensures),
     )
 
 pub loop-told-preserved : goal.loop-told-preserved
 loop-told-preserved c =
-    let start = said_refusals c.args.input.now c.args.refusals.now in
+    let start = refusals_shown c.args.json c.args.input.now c.args.refusals.now in
     let refused = flat_map refusal_line c.args.refusals.now in
     let rooms = c.args.rooms.now in
     let specs = specs_of rooms in
@@ -38,8 +39,8 @@ loop-told-preserved c =
       done ++ room ∷ [],
       split ∙ sym (append_assoc done (room ∷ []) rest),
       λ fed told.
-          subst (λ (count : ℕ). SoFar specs start refused fed count c.write_room.new.output (c.loop-told.all_well && c.in_ok-all_well.field-0)) (one_done done room)
-          (one_more specs start refused fed (length done) c.loop-told.output c.loop-told.all_well room.spec c.write_room.new.output c.in_ok-all_well.field-0
+          subst (λ (count : ℕ). SoFar c.args.json specs start refused fed count c.write_room.new.output (c.loop-told.all_well && c.in_ok-all_well.field-0)) (one_done done room)
+          (one_more c.args.json specs start refused fed (length done) c.loop-told.output c.loop-told.all_well room.spec c.write_room.new.output c.in_ok-all_well.field-0
           (c.loop-told.invariant.4 fed told) (spec_there spec_in rooms (length done) room there)
           (c.in_ok-all_well.ensures (fed_to room.spec.name fed) (after_there spec_in IsTold rooms fed (length done) room there told))),
     )
@@ -48,5 +49,5 @@ pub returns : goal.returns
 returns c = λ fed told.
     let rooms = c.args.rooms.now in
     let done = c.loop-told.invariant.2 in
-    all_said c.args.input.now c.args.refusals.now (specs_of rooms) fed (length done) c.loop-told.output c.loop-told.all_well c.outcome_if.result
+    all_said c.args.json c.args.input.now c.args.refusals.now (specs_of rooms) fed (length done) c.loop-told.output c.loop-told.all_well c.outcome_if.result
     (all_done rooms done (c.loop-told.invariant.3 ∙ ap (λ (left : List ToldRoom). done ++ left) c.in-None.ensures.steps.0)) c.outcome_if.ensures (c.loop-told.invariant.4 fed told)

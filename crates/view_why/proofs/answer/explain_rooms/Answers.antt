@@ -20,7 +20,7 @@ returns-clause-output c =
       setup,
       told.0,
       says (blocks_in c.args.input.now) setup transcript told.0 (c.in_ok-setup.ensures.read ∙ ap (λ (s : Setup). Ok (s, transcript)) (sym c.setup.view_is)) told.1,
-      subst (λ (rooms : List RoomSpec). IsExplanation c.args.input.now rooms setup.refused told.0 answer.outcome answer.output) c.in_ok-feed_events.ensures.rooms (c.in_ok-answer_of.ensures told.0 told.2),
+      subst (λ (rooms : List RoomSpec). IsExplanation c.args.json c.args.input.now rooms setup.refused told.0 answer.outcome answer.output) c.in_ok-feed_events.ensures.rooms (c.in_ok-answer_of.ensures told.0 told.2),
     )
 
 pub returns-in_err-feed_events-clause-err : goal.returns-in_err-feed_events-clause-err

@@ -1,4 +1,4 @@
-use Rattle.std.proofs.Common.{◌∙◌, ◌≤◌, ◌==◌, ap, length, subst}
+use Rattle.std.proofs.Common.{◌∙◌, ◌≤◌, ◌==◌, ap, false, length, subst}
 use Rattle.std.specs.List.{flat_map}
 use Rattle.history_checker.specs.Verdicts.{specs_of}
 use Rattle.room_files.specs.Verdicts.{outcome_if}
@@ -18,5 +18,5 @@ pub returns : goal.returns
 returns c = λ fed processed.
     let rooms = specs_of c.args.rooms.now in
     let refused = flat_map refusal_line c.args.refusals.now in
-    all_said c.args.input.now c.args.refusals.now rooms fed c.loop-index.index c.loop-index.output (length refused == 0) c.outcome_if.result
+    all_said false c.args.input.now c.args.refusals.now rooms fed c.loop-index.index c.loop-index.output (length refused == 0) c.outcome_if.result
     (subst (λ n. n ≤ c.loop-index.index) c.len-index-end.ensures c.loop-index-test.false) (c.outcome_if.ensures ∙ ap outcome_if c.is_empty.ensures) (c.loop-index.invariant fed processed)

@@ -1,4 +1,4 @@
-use Rattle.std.proofs.Common.{◌==◌, List, length}
+use Rattle.std.proofs.Common.{◌==◌, List, false, length}
 use Rattle.std.specs.List.{flat_map}
 use Rattle.history_checker.specs.Verdicts.{FedEvent, HasProcessed, specs_of}
 use Rattle.fault_text.specs.Refusals.{refusal_line, said_refusals}
@@ -7,4 +7,4 @@ use Rattle.view_why.proofs.runs.answer_of_runs.Given as goal
 
 abbrev pub invariant-loop-index : goal.invariant-loop-index
 invariant-loop-index l = (fed : List FedEvent) → HasProcessed l.rooms fed
-    → SoFar (specs_of l.rooms) (said_refusals l.input l.refusals) (flat_map refusal_line l.refusals) fed l.index l.output (length (flat_map refusal_line l.refusals) == 0)
+    → SoFar false (specs_of l.rooms) (said_refusals l.input l.refusals) (flat_map refusal_line l.refusals) fed l.index l.output (length (flat_map refusal_line l.refusals) == 0)

@@ -1,4 +1,4 @@
-use Rattle.std.proofs.Common.{◌∙◌, List, Ok, ap, subst, sym}
+use Rattle.std.proofs.Common.{◌∙◌, List, Ok, ap, false, subst, sym}
 use Rattle.std.specs.List.{flat_map}
 use Rattle.room_spec.specs.Rooms.{RoomSpec}
 use Rattle.history_checker.specs.Verdicts.{specs_of}
@@ -19,5 +19,5 @@ returns-clause-output c =
       setup,
       fed.0,
       says (blocks_in c.args.input.now) setup transcript fed.0 (c.in_ok-setup.ensures.read ∙ ap (λ (s : Setup). Ok (s, transcript)) (sym c.setup.view_is)) fed.1,
-      subst (λ (rooms : List RoomSpec). IsExplanation c.args.input.now rooms setup.refused fed.0 answer.outcome answer.output) c.in_ok-feed_events.ensures.rooms (is fed.0 fed.2),
+      subst (λ (rooms : List RoomSpec). IsExplanation false c.args.input.now rooms setup.refused fed.0 answer.outcome answer.output) c.in_ok-feed_events.ensures.rooms (is fed.0 fed.2),
     )) c.in_ok-answer_of_runs.ensures

@@ -1,0 +1,87 @@
+-- No number in the JSON of a room has a fraction.
+use Rattle.std.proofs.Common.{◌≡◌, ◌∙◌, ◌||◌, ℕ, false, List, Option, Some, None, refl, ap}
+use Rattle.serde_json.specs.Data.{Data, null}
+use Rattle.serde_json.specs.Written.{has_float}
+use Rattle.json_lines.specs.Values.{entry_data, event_data}
+use Rattle.json_lines.proofs.CallerLemmas.{both, event_is, items_are}
+use Rattle.room_spec.specs.Rooms.{RoomSpec}
+use Rattle.transcript.specs.declared.event.Event.{Event}
+use Rattle.transcript.specs.declared.event.Event.TheVariants as events
+use Rattle.protocol_lang.specs.declared.meaning.Action.{Action}
+use Rattle.protocol_lang.specs.declared.meaning.Action.TheVariants as actions
+use Rattle.history_checker.specs.declared.process.Turn.{Turn}
+use Rattle.history_checker.specs.declared.process.Turn.TheVariants as turns
+use Rattle.history_checker.specs.declared.reason.LastWrite.{LastWrite}
+use Rattle.history_checker.specs.declared.reason.Reason.{Reason}
+use Rattle.history_checker.specs.declared.reason.Reason.TheVariants.{NoProcess, OtherLength, OutOfTurn, OtherAction, WrongEntry, TooManyWrites}
+use Rattle.history_checker.specs.declared.verdict.TaskVerdict.{TaskVerdict}
+use Rattle.history_checker.specs.declared.verdict.TaskVerdict.TheVariants as tasks
+use Rattle.history_checker.specs.declared.verdict.Verdict.{Verdict}
+use Rattle.history_checker.specs.declared.verdict.Verdict.TheVariants.{Run, Broken}
+use Rattle.view_why.specs.Json.{action_data, break_data, decision_data, decisions_data, excess_data, input_data, kept_data, reason_data, room_data, task_data, turn_data, written_data}
+use Rattle.view_why.specs.Told.{ToldRoom}
+use Rattle.view_why.specs.Why.{IsRoomData, IsTaskData}
+use Rattle.view_why.specs.Words.{shown_of}
+use Rattle.view_why.specs.declared.told.Decision.{Decision}
+use Rattle.view_why.specs.declared.told.LineBreak.{LineBreak}
+
+entry_is : (entry : Option ℕ) → has_float (entry_data entry) ≡ false
+entry_is None = refl
+entry_is (Some v) = refl
+
+written_is : (written : Option LastWrite) (earlier : Option ℕ) → has_float (written_data written earlier) ≡ false
+written_is None earlier = refl
+written_is (Some last) earlier = both (has_float (entry_data earlier)) false (entry_is earlier) refl
+
+turn_is : (next : Turn) → has_float (turn_data next) ≡ false
+turn_is (turns.Write v) = refl
+turn_is turns.Snap = refl
+turn_is (turns.Decide v) = refl
+turn_is turns.Over = refl
+
+action_is : (action : Action) → has_float (action_data action) ≡ false
+action_is (actions.Write v) = refl
+action_is (actions.Decide v) = refl
+
+reason_is : (event : Event) (reason : Reason) (earlier : Option ℕ) → has_float (reason_data event reason earlier) ≡ false
+reason_is event NoProcess earlier = refl
+reason_is event OtherLength earlier = refl
+reason_is event (OutOfTurn next) earlier = both (has_float (turn_data next)) false (turn_is next) refl
+reason_is event (OtherAction asked) earlier = both (has_float (action_data asked)) false (action_is asked) refl
+reason_is event (WrongEntry q written) earlier =
+    let shown = has_float (entry_data (shown_of event q)) || false in
+    both (has_float (written_data written earlier)) shown (written_is written earlier) (both (has_float (entry_data (shown_of event q))) false (entry_is (shown_of event q)) refl)
+reason_is event TooManyWrites earlier = refl
+
+break_is : (event : Event) (broken : LineBreak) → has_float (break_data event broken) ≡ false
+break_is event broken =
+    let reason = has_float (reason_data event broken.reason broken.earlier) in
+    both (has_float (event_data event)) (reason || false) (event_is event) (both reason false (reason_is event broken.reason broken.earlier) refl)
+
+input_is : (spec : RoomSpec) (event : Event) → has_float (input_data spec event) ≡ false
+input_is spec (events.Write p v) = refl
+input_is spec (events.Snap p row) = refl
+input_is spec (events.Decide p v) = refl
+
+excess_is : (spec : RoomSpec) (line : ℕ) (event : Event) (before : List Decision) → has_float (excess_data spec line event before) ≡ false
+excess_is spec line event before =
+    let of_event = has_float (event_data event) in
+    let input = has_float (input_data spec event) in
+    both (has_float (decisions_data before)) (of_event || (input || false)) (items_are decision_data (λ one. refl) before)
+    (both of_event (input || false) (event_is event) (both input false (input_is spec event) refl))
+
+kept_is : (most : Option ℕ) → has_float (kept_data most) ≡ false
+kept_is None = refl
+kept_is (Some most) = refl
+
+task_is : (told : ToldRoom) (task : Option TaskVerdict) (it : Data) → IsTaskData told task it → has_float it ≡ false
+task_is told None it is = ap has_float is ∙ kept_is told.spec.task
+task_is told (Some tasks.Holds) it is = ap has_float is ∙ kept_is told.spec.task
+task_is told (Some (tasks.Broken line)) it is =
+    let why = is.2 in
+    let exceeds = is.3 in
+    ap has_float is.4 ∙ both (has_float why) false (ap has_float exceeds.is ∙ excess_is told.spec line exceeds.event exceeds.before) refl
+
+pub room_is : (told : ToldRoom) (verdict : Verdict) (task : Option TaskVerdict) (it : Data) → IsRoomData told verdict task it → has_float it ≡ false
+room_is told Run task it is = ap has_float is.2 ∙ both (has_float is.0) false (task_is told task is.0 is.1) refl
+room_is told (Broken line) task it is = ap has_float is.2 ∙ both (has_float is.0) false (ap has_float is.1.is ∙ break_is is.1.event is.1.broken) refl

@@ -1,0 +1,90 @@
+//! The objects of rooms.
+ghost use Rattle.std.specs.Prelude.{IfErr, IfOk, OnOk, true};
+ghost use Rattle.serde_json.specs.View.{view};
+ghost use Rattle.view_why.specs.Json.{IsBreakData, IsExcessData};
+ghost use Rattle.view_why.specs.Told.{IsExcess, IsLineBreak};
+ghost use Rattle.view_why.specs.Why.{IsRoomData, IsSaid, IsTaskData, task_verdict_of, verdict_of};
+
+use crate::json::{break_value, broken_room, broken_task, excess_value, kept_task, whole_room};
+use crate::told::{Excess, LineBreak, Told};
+use io_text::Text;
+use json_lines::write_line;
+use serde_json::Value;
+use std::alloc::{AllocError, Global};
+
+/// Writes what is said of a room as an object, on a line of its own.
+pub(crate) fn write_object(
+    alloc: Global,
+    output: &mut Text,
+    told: &Told,
+    reason: Result<(), LineBreak>,
+    excess: Result<(), Excess>,
+) -> Result<(), AllocError>
+    requires run { IfErr reason (IsLineBreak told.now) }
+    requires task { IfErr excess (IsExcess told.now) }
+    ensures { OnOk result (IsSaid true told.now reason excess output.old output.new) }
+{
+    let value = object_value(alloc, told, reason, excess)?;
+    write_line(alloc, output, &value)?;
+    Ok(())
+}
+
+#[tactic(auto, using(crate::proofs::RoomObjects::run_of, crate::proofs::RoomObjects::no_run_of))]
+fn object_value(
+    alloc: Global,
+    told: &Told,
+    reason: Result<(), LineBreak>,
+    excess: Result<(), Excess>,
+) -> Result<Value, AllocError>
+    requires run { IfErr reason (IsLineBreak told.now) }
+    requires task { IfErr excess (IsExcess told.now) }
+    ensures { IfOk result (λ value. IsRoomData told.now (verdict_of reason) (task_verdict_of told.now.spec.task excess) (view value)) }
+{
+    let name = told.spec.name().as_str();
+    match reason {
+        Ok(()) => {
+            let task = task_part(alloc, told, excess)?;
+            whole_room(alloc, name, &task)
+        }
+        Err(broken) => {
+            let why = break_part(alloc, told, broken)?;
+            broken_room(alloc, name, &why)
+        }
+    }
+}
+
+/// What breaks a room's run.
+#[tactic(auto, using(crate::proofs::RoomObjects::break_of))]
+fn break_part(alloc: Global, told: &Told, broken: LineBreak) -> Result<Value, AllocError>
+    requires { IsLineBreak told.now broken }
+    ensures { IfOk result (λ value. IsBreakData told.now broken.line (view value)) }
+{
+    let event = told.event(broken.at);
+    break_value(alloc, event, broken)
+}
+
+/// What is said of a room's task, if it has one.
+#[tactic(auto, using(crate::proofs::RoomObjects::kept_of, crate::proofs::RoomObjects::broken_of))]
+fn task_part(alloc: Global, told: &Told, excess: Result<(), Excess>) -> Result<Value, AllocError>
+    requires { IfErr excess (IsExcess told.now) }
+    ensures { IfOk result (λ value. IsTaskData told.now (task_verdict_of told.now.spec.task excess) (view value)) }
+{
+    match excess {
+        Ok(()) => kept_task(alloc, told.spec.task()),
+        Err(excess) => {
+            let why = excess_part(alloc, told, excess)?;
+            broken_task(alloc, excess.most, &why)
+        }
+    }
+}
+
+/// What breaks a room's task.
+#[tactic(auto, using(crate::proofs::RoomObjects::excess_of))]
+fn excess_part(alloc: Global, told: &Told, excess: Excess) -> Result<Value, AllocError>
+    requires { IsExcess told.now excess }
+    ensures { IfOk result (λ value. IsExcessData told.now excess.line (view value)) }
+{
+    let event = told.event(excess.at);
+    let before = told.decided_before(alloc, excess.at)?;
+    excess_value(alloc, &told.spec, excess.line, event, before.as_slice())
+}
