@@ -17,8 +17,8 @@ use Rattle.view_draw.specs.Drawn.{IsDrawn}
 use Rattle.view_transcript.specs.Transcripts.{IsTranscribed}
 use Rattle.view_page.specs.Pages.{IsPageFor, fault_among, fault_in}
 use Rattle.view_sample.specs.Sample.{IsSampleFor}
-use Rattle.view_trace.specs.Trace.{IsTraceFor}
-use Rattle.view_why.specs.Why.{IsExplanationFor}
+use Rattle.view_trace.specs.Trace.{IsTraceIn}
+use Rattle.view_why.specs.Why.{IsExplanationIn}
 use Rattle.bgview.specs.declared.command_line.Grading.{Grading}
 use Rattle.bgview.specs.declared.command_line.Mode.{Mode}
 use Rattle.bgview.specs.declared.command_line.Mode.TheVariants.{Why, Trace, Draw, Page, Transcript, Fault, Grade, Sample, Outcomes, Lint}
@@ -40,11 +40,11 @@ goal_text grading = grading.goal.now
 unfoldable pub IsGradeFor : Grading → List ℕ → Result Outcome AllocError → List ℕ → Type 0
 IsGradeFor grading input ending output = (claims : List Claim) × (goal_in (goal_text grading) ≡ Ok claims) × IsGraded claims grading.most input ending output
 
--- `fault` reads no input
+-- as text, or as JSON if that is asked for; `fault` reads no input
 abbrev pub IsShownIn : Mode → Request → List ℕ → Result Outcome AllocError → List ℕ → Type 0
-IsShownIn Why request input ending output = IsWhole (IsExplanationFor input) ending output
-IsShownIn Fault request input ending output = IsWhole (IsExplanationFor input) ending output
-IsShownIn Trace request input ending output = IsTraceFor input ending output
+IsShownIn Why request input ending output = IsWhole (IsExplanationIn request.json input) ending output
+IsShownIn Fault request input ending output = IsWhole (IsExplanationIn request.json input) ending output
+IsShownIn Trace request input ending output = IsTraceIn request.json input ending output
 IsShownIn Draw request input ending output = IsDrawn request.style input ending output
 IsShownIn Page request input ending output = IsPageFor (input ∷ []) ending output
 IsShownIn Transcript request input ending output = IsTranscribed input ending output

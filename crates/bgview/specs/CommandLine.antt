@@ -23,6 +23,14 @@ file_app word = with_rule (new_app word) (new_rule (codes "FILE"))
 abbrev pub number_rule : List ℕ → ℕ → ℕ → Rule
 number_rule name least most = record (new_rule name) { long = Some name; value_names = 1; parser = Some (Signed (pos least) (pos most)) }
 
+-- an option that takes no value
+abbrev pub json_rule : Rule
+json_rule = record (new_rule (codes "json")) { long = Some (codes "json"); action = Some SetTrue }
+
+-- the subcommand of a word, which takes a file, and a flag that asks for JSON
+abbrev pub telling_app : List ℕ → App
+telling_app word = with_rule (file_app word) json_rule
+
 -- the subcommand `page`, which takes one file or two
 abbrev pub page_app : App
 page_app = with_rule (file_app (codes "page")) (new_rule (codes "OTHER"))
@@ -59,10 +67,6 @@ workers_rule = number_rule (codes "workers") 1 16
 -- an option that takes no value
 abbrev pub brief_rule : Rule
 brief_rule = record (new_rule (codes "brief")) { long = Some (codes "brief"); action = Some SetTrue }
-
--- an option that takes no value
-abbrev pub json_rule : Rule
-json_rule = record (new_rule (codes "json")) { long = Some (codes "json"); action = Some SetTrue }
 
 -- the subcommand `sample` as far as it says which schedules are drawn: a file and three numbers
 abbrev pub drawing_app : App
@@ -113,7 +117,7 @@ plain_app = record { top = plain_shape; subs = [] }
 
 abbrev pub bgview_app : App
 bgview_app =
-    let showing = with_subcommand (with_subcommand (with_subcommand (with_subcommand plain_app (file_app (codes "why")).top) (file_app (codes "trace")).top) draw_app.top) page_app.top in
+    let showing = with_subcommand (with_subcommand (with_subcommand (with_subcommand plain_app (telling_app (codes "why")).top) (telling_app (codes "trace")).top) draw_app.top) page_app.top in
     let finding = with_subcommand (with_subcommand (with_subcommand (with_subcommand showing (file_app (codes "transcript")).top) fault_app.top) sample_app.top) outcomes_app.top in
     with_subcommand (with_subcommand finding (file_app (codes "lint")).top) grade_app.top
 
@@ -184,9 +188,14 @@ pub record IsStyleAmong (found : Option (List ℕ × List Row)) (style : Style) 
   pub percent : IsNumber (value_among (codes "scale") found) 100 style.percent
   pub by_turns : style.by_turns ≡ is_given (value_among (codes "turns") found)
 
+-- JSON is asked for
+abbrev pub json_among : Option (List ℕ × List Row) → Bool
+json_among found = is_given (value_among (codes "json") found)
+
 -- what the words request
 pub record IsRequestAmong (found : Option (List ℕ × List Row)) (request : Request) : Type 0 where
   pub mode : request.mode ≡ mode_among found
+  pub json : request.json ≡ json_among found
   pub plan : IsPlanAmong found request.plan
   pub search : IsSearchAmong found request.search
   pub grading : IsGradingAmong found request.grading

@@ -1,5 +1,5 @@
 -- What is said of an input's faults on standard error.
-use Rattle.std.specs.Prelude.{◌≡◌, ⊤, ℕ, List, Result, Ok, Err}
+use Rattle.std.specs.Prelude.{◌≡◌, ⊤, ℕ, Bool, true, false, List, Result, Ok, Err}
 use Rattle.io_text.specs.declared.fault.DeviceFault.TheVariants.{Read, Write, TooLong, Memory}
 use Rattle.file_faults.specs.Files.{AreRoomFaults, AreTranscriptFaults}
 use Rattle.file_faults.specs.Scripts.{script_faults}
@@ -30,6 +30,11 @@ AreSaid said (Err (Device Write)) notes = said notes
 AreSaid said (Err (Device Read)) notes = ⊤
 AreSaid said (Err (Device TooLong)) notes = ⊤
 AreSaid said (Err (Device Memory)) notes = ⊤
+
+-- the answer as JSON has no refused block either
+abbrev pub AreWhyNotes : {A : Type 0} → Bool → List ℕ → Result A ViewFault → List ℕ → List ℕ → Type 0
+AreWhyNotes false input result old new = AreNotes input result old new
+AreWhyNotes true input result old new = AreSaid (AreTranscriptFaults input) result new
 
 -- of all faults of a script
 abbrev pub AreScriptNotes : {A : Type 0} → List ℕ → Result A ViewFault → List ℕ → Type 0
@@ -68,14 +73,14 @@ AreGradeNotes input (Err Incomplete) notes = notes ≡ script_faults input
 AreGradeNotes input (Err (BadInput line fault)) notes = notes ≡ script_faults input
 
 -- what each mode says on standard error: of an input's faults, and `lint`, which says these as its answer, what it warns of
-abbrev pub AreNotesIn : {A : Type 0} → Mode → List ℕ → Result A ViewFault → List ℕ → List ℕ → Type 0
-AreNotesIn Why input result old new = AreNotes input result old new
-AreNotesIn Fault input result old new = AreNotes input result old new
-AreNotesIn Trace input result old new = AreScriptNotes input result new
-AreNotesIn Draw input result old new = AreScriptNotes input result new
-AreNotesIn Page input result old new = AreFileNotes input result new
-AreNotesIn Transcript input result old new = AreScriptNotes input result new
-AreNotesIn Grade input result old new = AreGradeNotes input result new
-AreNotesIn Sample input result old new = AreRoomNotes input result new
-AreNotesIn Outcomes input result old new = AreRoomNotes input result new
-AreNotesIn Lint input result old new = AreWarnings input result new
+abbrev pub AreNotesIn : {A : Type 0} → Mode → Bool → List ℕ → Result A ViewFault → List ℕ → List ℕ → Type 0
+AreNotesIn Why json input result old new = AreWhyNotes json input result old new
+AreNotesIn Fault json input result old new = AreWhyNotes json input result old new
+AreNotesIn Trace json input result old new = AreScriptNotes input result new
+AreNotesIn Draw json input result old new = AreScriptNotes input result new
+AreNotesIn Page json input result old new = AreFileNotes input result new
+AreNotesIn Transcript json input result old new = AreScriptNotes input result new
+AreNotesIn Grade json input result old new = AreGradeNotes input result new
+AreNotesIn Sample json input result old new = AreRoomNotes input result new
+AreNotesIn Outcomes json input result old new = AreRoomNotes input result new
+AreNotesIn Lint json input result old new = AreWarnings input result new

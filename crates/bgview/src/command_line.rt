@@ -4,7 +4,7 @@ ghost use Rattle.clap.specs.Kinds.{FailsBy};
 ghost use Rattle.clap.specs.declared.builder.command.Command.TheViews.{out-Command};
 ghost use Rattle.clap.specs.Words.{app_of, fault_of, first_value, found_of, subcommand_of, subcommand_rows_of, with_subcommand};
 ghost use Rattle.clap.specs.Walk.{rule_of};
-ghost use Rattle.bgview.specs.CommandLine.{bgview_app, brief_rule, choosing_app, commands_rule, crashes_rule, draw_app, drawing_app, fault_app, file_among, file_app, goal_rule, grade_app, is_given, json_rule, mode_among, mode_of, other_among, outcome_rule, outcomes_app, page_app, plain_app, sample_app, scale_rule, schedules_rule, seed_rule, states_rule, stopped_rule, top_rule, turns_rule, workers_rule, IsGradingAmong, IsNumber, IsNumberIfAny, IsPlanAmong, IsRequestAmong, IsSearchAmong, IsStyleAmong};
+ghost use Rattle.bgview.specs.CommandLine.{IsGradingAmong, IsNumber, IsNumberIfAny, IsPlanAmong, IsRequestAmong, IsSearchAmong, IsStyleAmong, bgview_app, brief_rule, choosing_app, commands_rule, crashes_rule, draw_app, drawing_app, fault_app, file_among, file_app, goal_rule, grade_app, is_given, json_among, json_rule, mode_among, mode_of, other_among, outcome_rule, outcomes_app, page_app, plain_app, sample_app, scale_rule, schedules_rule, seed_rule, states_rule, stopped_rule, telling_app, top_rule, turns_rule, workers_rule};
 
 use clap::{Arg, ArgAction, ArgMatches, Command, Error, value_parser};
 use room_sample::Plan;
@@ -85,30 +85,45 @@ fn file_command<'a>(
         .arg(file)
 }
 
-/// The subcommand `why`.
-fn why_command<'a>(alloc: Global) -> Result<Command<'a>, AllocError>
-    ensures app { IfOk result (λ command. app_of command ≡ file_app (codes "why")) }
+/// The subcommand of this word, which takes a file, and a flag that asks for JSON.
+fn telling_command<'a>(
+    alloc: Global,
+    word: &'a str,
+    about: &'a str,
+    usage: &'a str,
+    file: &'a str,
+) -> Result<Command<'a>, AllocError>
+    ensures app { IfOk result (λ command. app_of command ≡ telling_app word.entry.now) }
     ensures local { IfOk result (λ command. (out-Command command).has_globals ≡ false) }
 {
-    file_command(
+    let command = file_command(alloc, word, about, usage, file)?;
+    command.arg(json_option(alloc))
+}
+
+/// The subcommand `why`.
+fn why_command<'a>(alloc: Global) -> Result<Command<'a>, AllocError>
+    ensures app { IfOk result (λ command. app_of command ≡ telling_app (codes "why")) }
+    ensures local { IfOk result (λ command. (out-Command command).has_globals ≡ false) }
+{
+    telling_command(
         alloc,
         "why",
         "Says of each room in a transcript whether its events are a run, and if not, why",
-        "bgview why [FILE]",
+        "bgview why [--json] [FILE]",
         "The transcript; without it, standard input is read",
     )
 }
 
 /// The subcommand `trace`.
 fn trace_command<'a>(alloc: Global) -> Result<Command<'a>, AllocError>
-    ensures app { IfOk result (λ command. app_of command ≡ file_app (codes "trace")) }
+    ensures app { IfOk result (λ command. app_of command ≡ telling_app (codes "trace")) }
     ensures local { IfOk result (λ command. (out-Command command).has_globals ≡ false) }
 {
-    file_command(
+    telling_command(
         alloc,
         "trace",
         "Plays a script, and says under each reply what each atomic step did",
-        "bgview trace [FILE]",
+        "bgview trace [--json] [FILE]",
         "The script; without it, standard input is read",
     )
 }
@@ -525,6 +540,8 @@ pub struct Grading<'a> {
 #[derive(Clone, Copy, Debug, PartialEq, Eq)]
 pub struct Request<'a> {
     pub mode: Mode,
+    /// Whether the answer is written as JSON, if the mode has such an answer.
+    pub json: bool,
     pub plan: Plan,
     pub search: Search,
     pub grading: Grading<'a>,
@@ -537,6 +554,7 @@ pub fn request_in<'a>(matches: &ArgMatches<'a>) -> Request<'a>
 {
     Request {
         mode: line_in(matches).command,
+        json: json_in(matches),
         plan: plan_in(matches),
         search: search_in(matches),
         grading: grading_in(matches),
@@ -557,6 +575,16 @@ fn style_in(matches: &ArgMatches<'_>) -> Style
             percent: 100,
             by_turns: false,
         },
+    }
+}
+
+/// Whether the words ask for JSON.
+fn json_in(matches: &ArgMatches<'_>) -> bool
+    ensures { result ≡ json_among (subcommand_rows_of matches.now) }
+{
+    match matches.subcommand() {
+        Some((_, inner)) => is_given(inner, "json"),
+        None => false,
     }
 }
 

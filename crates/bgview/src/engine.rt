@@ -45,7 +45,7 @@ pub fn answer_io<H: Threads + Sync, R: Read, W: Write, P: Progress>(
         × (writer.new.calls ≤ writer.old.calls + length output + failed_writes (is_write_failed result))) }
     ensures reader { HasRead reader.old reader.new (R.remaining reader.old.inner) (is_read_failed result) }
     ensures writer { HasWritten writer.old writer.new result (is_write_failed result) }
-    ensures notes { IfSome (R.remaining reader.old.inner) (λ input. AreNotesIn request.now.mode input result notes.old notes.new) }
+    ensures notes { IfSome (R.remaining reader.old.inner) (λ input. AreNotesIn request.now.mode request.now.json input result notes.old notes.new) }
 {
     let input = read_input(alloc, reader)?;
     write_answer(rt, alloc, &input, writer, request, notes, progress)
@@ -68,7 +68,7 @@ fn write_answer<H: Threads + Sync, W: Write, P: Progress>(
         × (writer.new.calls ≤ writer.old.calls + length output + failed_writes (is_write_failed result)) }
     ensures read { is_read_failed result ≡ false }
     ensures writer { HasWritten writer.old writer.new result (is_write_failed result) }
-    ensures notes { AreNotesIn request.now.mode input.now result notes.old notes.new }
+    ensures notes { AreNotesIn request.now.mode request.now.json input.now result notes.old notes.new }
 {
     let shown = show(rt, alloc, request, input, notes, progress)?;
     write_output(writer, shown.output.as_bytes())?;

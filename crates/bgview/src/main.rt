@@ -7,7 +7,7 @@ ghost use Rattle.std.specs.IoError.{error_kind};
 ghost use Rattle.std.specs.Io.KnownBytes.{Appends};
 ghost use Rattle.clap.specs.Values.{kind_of};
 ghost use Rattle.clap.specs.Words.{subcommand_rows_of};
-ghost use Rattle.bgview.specs.CommandLine.{codes_among, mode_among, other_among};
+ghost use Rattle.bgview.specs.CommandLine.{codes_among, json_among, mode_among, other_among};
 ghost use Rattle.bgview.specs.Endings.{IsAnswered, IsEnding, IsReadBy, IsStatusFor, named_by};
 ghost use Rattle.bgview.specs.Ends.{ending_status, fault_status, unread_status, words_status};
 ghost use Rattle.bgview.specs.Faults.{AreFaultsSaid};
@@ -207,7 +207,7 @@ fn answered<H: Threads + Sync, R: Read + Drop, W: Write, P: Progress>(
     requires { writer.old.failed ≡ false }
     ensures answer { IfSome (R.remaining input) (λ bytes. IsAnswered (subcommand_rows_of matches.now) bytes result
         (record { before = W.contents writer.old.inner; after = W.contents writer.new.inner })) }
-    ensures notes { IfSome (R.remaining input) (λ bytes. AreNotesIn (mode_among (subcommand_rows_of matches.now)) bytes result notes.old notes.new) }
+    ensures notes { IfSome (R.remaining input) (λ bytes. AreNotesIn (mode_among (subcommand_rows_of matches.now)) (json_among (subcommand_rows_of matches.now)) bytes result notes.old notes.new) }
 {
     let mut reader = Device::new(input);
     let request = request_in(matches);

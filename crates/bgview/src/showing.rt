@@ -1,13 +1,15 @@
 //! From a request and an input to what is shown: one call for each mode.
-ghost use Rattle.std.specs.Prelude.{◌≡◌, ◌≤◌, Ok, None, IfErr, IfOk, length};
+ghost use Rattle.std.specs.Prelude.{◌≡◌, ◌≤◌, Ok, None, IfErr, IfOk, IsOk, false, length};
 ghost use Rattle.io_text.specs.Reading.{most_bytes};
+ghost use Rattle.room_files.specs.Blocks.{IsFaultOr};
 ghost use Rattle.room_files.specs.Inputs.{input_says};
 ghost use Rattle.view_grade.specs.Goals.{goal_in};
 ghost use Rattle.script_play.specs.Script.{script_says};
 ghost use Rattle.view_page.specs.Pages.{fault_in};
-ghost use Rattle.view_why.specs.Why.{IsExplanationFor};
+ghost use Rattle.view_trace.specs.Trace.{IsTraceIn};
+ghost use Rattle.view_why.specs.Why.{IsExplanationIn};
 ghost use Rattle.bgview.specs.Answers.{Ends, EndsRequest, IsGradeFor, IsShown, IsWhole, goal_fault_in, goal_text};
-ghost use Rattle.bgview.specs.Notes.{AreGoalNotes, AreGradeNotes, AreNotes, AreNotesIn};
+ghost use Rattle.bgview.specs.Notes.{AreGoalNotes, AreGradeNotes, AreNotes, AreNotesIn, AreWhyNotes};
 
 use crate::command_line::{Grading, Mode, Request};
 use crate::fault::ViewFault;
@@ -23,9 +25,9 @@ use view_grade::{Goal, goal_forms, grade, read_goal};
 use view_outcomes::search_blocks;
 use view_page::{faults_of, page};
 use view_sample::sample_blocks;
-use view_trace::trace;
+use view_trace::{trace, trace_json};
 use view_transcript::transcribe;
-use view_why::explain;
+use view_why::{explain, explain_json};
 
 /// What is shown of an input as is requested. What is said of its faults, or of a goal that is not valid, becomes `notes`.
 pub fn show<H: Threads + Sync, P: Progress>(
@@ -39,13 +41,13 @@ pub fn show<H: Threads + Sync, P: Progress>(
     requires { length input.now ≤ most_bytes }
     ensures shown { IfOk result (λ shown. IsShown request.now input.now shown.ending shown.output) }
     ensures err { IfErr result (EndsRequest request.now input.now) }
-    ensures notes { AreNotesIn request.now.mode input.now result notes.old notes.new }
+    ensures notes { AreNotesIn request.now.mode request.now.json input.now result notes.old notes.new }
 {
     match request.mode {
-        Mode::Why | Mode::Fault => explain_or_note(alloc, input, notes),
+        Mode::Why | Mode::Fault => explained(alloc, request.json, input, notes),
         Mode::Trace => {
             *notes = script_faults(alloc, input)?;
-            Ok(trace(alloc, input)?)
+            Ok(traced(alloc, request.json, input)?)
         }
         Mode::Draw => {
             *notes = script_faults(alloc, input)?;
@@ -86,10 +88,41 @@ fn whole(answer: Answer) -> PlayText
     }
 }
 
+/// What is said of a script, as text or as JSON.
+fn traced(alloc: Global, json: bool, script: &[u8]) -> Result<PlayText, InputFault>
+    requires { length script.now ≤ most_bytes }
+    ensures text { IfOk result (λ traced. IsTraceIn json script.now traced.ending traced.output) }
+    ensures err { IfErr result (IsFaultOr (IsOk (script_says script.now)) (script_says script.now)) }
+{
+    if json {
+        return trace_json(alloc, script);
+    }
+    trace(alloc, script)
+}
+
+/// Explains a transcript, as text or as JSON. What is said of its faults becomes `notes`, unless the answer has it.
+fn explained(
+    alloc: Global,
+    json: bool,
+    input: &[u8],
+    notes: &mut Text,
+) -> Result<PlayText, ViewFault>
+    requires { length input.now ≤ most_bytes }
+    ensures shown { IfOk result (λ shown. IsWhole (IsExplanationIn json input.now) shown.ending shown.output) }
+    ensures err { IfErr result (Ends (fault_in (input_says input.now)) None) }
+    ensures notes { AreWhyNotes json input.now result notes.old notes.new }
+{
+    if !json {
+        return explain_or_note(alloc, input, notes);
+    }
+    *notes = transcript_faults(alloc, input)?;
+    Ok(whole(explain_json(alloc, input)?))
+}
+
 /// Explains a transcript. What is said of all its faults, if it has a malformed line, becomes `notes`.
 fn explain_or_note(alloc: Global, input: &[u8], notes: &mut Text) -> Result<PlayText, ViewFault>
     requires { length input.now ≤ most_bytes }
-    ensures shown { IfOk result (λ shown. IsWhole (IsExplanationFor input.now) shown.ending shown.output) }
+    ensures shown { IfOk result (λ shown. IsWhole (IsExplanationIn false input.now) shown.ending shown.output) }
     ensures err { IfErr result (Ends (fault_in (input_says input.now)) None) }
     ensures notes { AreNotes input.now result notes.old notes.new }
 {
