@@ -1,6 +1,7 @@
-//! The lines of a turn that follow each other in most turns, taken in a row. What a line does stands in `part` and `taking`;
-//! here the numbers that several lines share are looked up once for all of them, no line is stored between two
-//! steps, and a row of steps is counted once.
+//! The lines of a turn that follow each other in most turns, taken in a row. The operation of a line is that of `part` or
+//! `next`, and what its answer makes of the mind is in `taking`. Here the numbers that several lines share are looked up
+//! once for all of them, no line is stored between two steps, and a row of steps is counted once: after an operation on
+//! words that threads share, the compiler would load each of these anew.
 ghost use Rattle.std.specs.Prelude.{ℕ, Some, ◌≡◌, ◌≢◌, ◌⊎◌, ◌+◌, ◌<◌, ◌≤◌, true, false};
 ghost use Rattle.room_spec.specs.Shapes.{sizes_of};
 ghost use Rattle.room_spec.specs.Sizes.{sizes_in};
@@ -64,7 +65,8 @@ impl Run {
 }
 
 impl Mind {
-    /// Takes the steps of the lines that follow each other in most turns.
+    /// Takes the steps of the lines that follow each other in most turns. Each row names its line, so the compiler goes from
+    /// one to the next without a look-up; any other line is looked up in `take_step`.
     #[inline(always)]
     pub(crate) fn in_a_row<C, M: Memory<C>>(
         &mut self,
@@ -239,7 +241,7 @@ impl Mind {
         self.along_agreement(spec, most, run, context, memory);
     }
 
-    /// Takes whole collects, as long as so many steps are left, until the scan ends.
+    /// Takes whole collects, as long as a step is left for each memory word, until the scan ends.
     #[inline(always)]
     fn along_collects<C, M: Memory<C>>(
         &mut self,
