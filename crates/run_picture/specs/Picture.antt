@@ -13,7 +13,7 @@ use Rattle.simulator_lanes.specs.declared.fonts.TheConstants.{HEADING, WORDS}
 use Rattle.simulator_lanes.specs.declared.layout.Grid.{Grid}
 use Rattle.simulator_lanes.specs.declared.layout.TheConstants.{MARGIN}
 use Rattle.simulator_lanes.specs.Lanes.{insides, lanes, ticks}
-use Rattle.simulator_lanes.specs.Layout.{row_y, rows}
+use Rattle.simulator_lanes.specs.Layout.{right_of, row_y, rows}
 use Rattle.simulator_lanes.specs.Panels.{Panel, states_in}
 use Rattle.simulator_lanes.specs.Proposals.{proposals}
 use Rattle.simulator_lanes.specs.Squares.{squares}
@@ -82,8 +82,10 @@ room_shapes panel columns = steps_heading columns ++ lanes_shapes (grid_of panel
 unfoldable pub height_with : Panel → Columns → ℕ
 height_with panel columns = row_y (grid_of panel columns) (rows (grid_of panel columns))
 
+-- After the last column there is space for the word of a crash, and after the last event a margin.
 unfoldable pub width_with : Panel → Columns → ℕ
-width_with panel columns = max (head_width panel.head) (plus (events_right panel columns.columns (grid_of panel columns)) 64)
+width_with panel columns =
+    max (max (head_width panel.head) (plus (right_of (grid_of panel columns)) 64)) (plus (events_right panel columns.columns (grid_of panel columns)) 16)
 
 -- what is known of a room, and under it its lanes
 abbrev pub parts_with : ℕ → Panel → Columns → List Part

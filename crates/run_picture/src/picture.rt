@@ -297,5 +297,6 @@ fn room_width(
     ensures { IfOk result (λ width. width ≡ width_with panel.now columns.now) }
 {
     let head = head_width(alloc, panel.head())?;
-    Ok(head.max(right.saturating_add(64)))
+    let columns_end = grid_of(panel, columns).right().saturating_add(64);
+    Ok(head.max(columns_end).max(right.saturating_add(16)))
 }
