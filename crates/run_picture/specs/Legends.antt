@@ -1,5 +1,5 @@
 -- What the letters stand for, below all rooms.
-use Rattle.std.specs.Prelude.{ℕ, ◌+◌, ◌*◌, ◌/◌, ◌%◌, nat_le, ◌&&◌, not, Bool, true, false, List, [], ◌∷◌, ◌++◌, is_some, codes, length, if◌then◌else◌}
+use Rattle.std.specs.Prelude.{ℕ, ◌+◌, ◌*◌, ◌/◌, ◌%◌, nat_le, ◌&&◌, not, Bool, false, List, [], ◌∷◌, ◌++◌, is_some, codes, length, if◌then◌else◌}
 use Rattle.std.specs.List.{filter, list_any}
 use Rattle.picture_shapes.specs.declared.colour.Colour.TheVariants.{Faint}
 use Rattle.picture_shapes.specs.declared.shape.Shape.{Shape}

@@ -1,10 +1,10 @@
--- Squares are apart.
-use Rattle.std.proofs.Common.{◌≡◌, ◌∙◌, ◌⊎◌, inl, inr, ℕ, ◌+◌, ◌*◌, ◌/◌, ◌%◌, ◌<◌, ◌≤◌, ap, subst, sym, arith}
-use Rattle.std.proofs.lemmas.Nat.{div-add-mod', mul-le}
+-- Squares are apart, and none is outside.
+use Rattle.std.proofs.Common.{◌≡◌, ◌∙◌, ◌⊎◌, inl, inr, ℕ, ◌+◌, ◌-◌, ◌*◌, ◌/◌, ◌%◌, ◌<◌, ◌≤◌, ap, min, subst, sym, arith}
+use Rattle.std.proofs.lemmas.Nat.{div-add-mod', mod_below, mul-le}
 use Rattle.run_columns.specs.declared.column.Scale.{Scale}
 use Rattle.run_columns.specs.declared.column.Scale.TheVariants.{Steps, Turns, Simulators}
 use Rattle.simulator_lanes.specs.declared.layout.Grid.{Grid}
-use Rattle.simulator_lanes.specs.Layout.{AreApart, across, cell, column_x, in_row, lane_y, row_height, row_of, row_y}
+use Rattle.simulator_lanes.specs.Layout.{AreApart, IsWithin, across, cell, column_x, in_row, lane_y, right_of, row_height, row_of, row_y, rows}
 
 -- whether one number is below another
 order : (a b : ℕ) → (a < b) ⊎ ((a ≡ b) ⊎ (b < a))
@@ -64,3 +64,39 @@ by_rows grid i j place other small_i small_j differ (inr (inr more)) = inr (inr 
 pub squares_apart : (grid : Grid) (i j place other : ℕ) → i < grid.simulators → j < grid.simulators → (i ≡ j → place ≡ other → ⊥)
     → AreApart (cell grid i place) (cell grid j other) (across grid.scale 1) 58
 squares_apart grid i j place other small_i small_j differ = by_rows grid i j place other small_i small_j differ (order (row_of grid place) (row_of grid other))
+
+-- ---- inside
+
+never_past : (n place count : ℕ) → 0 < n → place < count → (count + n - 1) / n ≤ place / n → ⊥
+never_past n place count some there past =
+    let products : (count + n - 1) / n * n ≤ place / n * n = mul-le ((count + n - 1) / n) n (place / n) n past (omega arith) in
+    omega (arith, products, div-add-mod' (count + n - 1) n, div-add-mod' place n, mod_below (count + n - 1) n some, there)
+
+below_by : (a b : ℕ) → (b ≤ a → ⊥) → (a < b) ⊎ ((a ≡ b) ⊎ (b < a)) → a < b
+below_by a b never (inl less) = less
+below_by a b never (inr (inl same)) = absurd (never (omega (arith, same)))
+below_by a b never (inr (inr more)) = absurd (never (omega (arith, more)))
+
+row_is_there : (grid : Grid) (place : ℕ) → place < grid.count → row_of grid place < rows grid
+unfolding row_of rows
+row_is_there grid place there =
+    let some : 0 < in_row grid = omega arith in
+    let last = (grid.count + in_row grid - 1) / in_row grid in
+    let below : place / in_row grid < last = below_by (place / in_row grid) last (never_past (in_row grid) place grid.count some there) (order (place / in_row grid) last) in
+    omega (arith, below)
+
+column_within : (grid : Grid) (place : ℕ) → place < grid.count → column_x grid place + across grid.scale 1 ≤ right_of grid
+unfolding column_x right_of
+column_within grid place there =
+    let some : 0 < in_row grid = omega arith in
+    let less : place % in_row grid < min grid.count (in_row grid) = omega (arith, mod_below place (in_row grid) some, div-add-mod' place (in_row grid), there) in
+    omega (arith, across_apart grid.scale (place % in_row grid) (min grid.count (in_row grid)) less)
+
+lane_within : (grid : Grid) (i place : ℕ) → i < grid.simulators → place < grid.count → lane_y grid (row_of grid place) i + 58 ≤ row_y grid (rows grid)
+unfolding lane_y
+lane_within grid i place small there = omega (arith, rows_apart grid i 0 (row_of grid place) (rows grid) small (row_is_there grid place there))
+
+pub squares_within : (grid : Grid) (i place : ℕ) → i < grid.simulators → place < grid.count
+    → IsWithin (cell grid i place) (across grid.scale 1) 58 (right_of grid) (row_y grid (rows grid))
+unfolding cell
+squares_within grid i place small there = (column_within grid place there, lane_within grid i place small there)

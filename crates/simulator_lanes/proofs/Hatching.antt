@@ -1,10 +1,10 @@
 -- A lane is hatched while its simulator is in the unsafe section.
-use Rattle.std.proofs.Common.{◌≡◌, ◌∙◌, ℕ, ◌+◌, ◌<◌, ◌≤◌, ◌==◌, ◌&&◌, ◌||◌, Bool, true, false, cond, List, [], ◌∷◌, ◌++◌, Option, Some, None, ap, length, refl, sym, subst, arith}
+use Rattle.std.proofs.Common.{◌≡◌, ◌∙◌, ℕ, ◌+◌, ◌<◌, ◌≤◌, ◌==◌, ◌&&◌, ◌||◌, Bool, true, false, cond, List, [], ◌∷◌, ◌++◌, Option, Some, None, ap, length, refl, sym, arith}
 use Rattle.std.specs.List.{filter, last_or}
 use Rattle.std.proofs.lemmas.List.{append-nil, append_assoc, length-append}
 use Rattle.picture_shapes.specs.declared.shape.Shape.{Shape}
 use Rattle.run_columns.specs.declared.column.Change.{Change}
-use Rattle.run_columns.specs.declared.column.Change.TheVariants.{Nothing, Enters, Leaves, Crashes}
+use Rattle.run_columns.specs.declared.column.Change.TheVariants.{Nothing, Crashes}
 use Rattle.run_columns.specs.declared.column.Column.{Column}
 use Rattle.run_columns.specs.declared.column.Scale.TheVariants.{Steps}
 use Rattle.run_columns.specs.declared.mark.Deed.{Deed}

@@ -77,3 +77,7 @@ dashes_for process = if nat_le 8 process then Short else Solid
 abbrev pub AreApart : Point → Point → ℕ → ℕ → Type 0
 AreApart one other width height =
     ((one.x + width ≤ other.x) ⊎ (other.x + width ≤ one.x)) ⊎ ((one.y + height ≤ other.y) ⊎ (other.y + height ≤ one.y))
+
+-- an area of these sizes that begins at a point ends before this right and this lower end
+abbrev pub IsWithin : Point → ℕ → ℕ → ℕ → ℕ → Type 0
+IsWithin corner width height right bottom = (corner.x + width ≤ right) × (corner.y + height ≤ bottom)

@@ -1,5 +1,5 @@
 -- The proposals of the simulators, each under the step that completes it: one that was chosen is framed, and one that can't be chosen is struck through.
-use Rattle.std.specs.Prelude.{ℕ, ◌+◌, ◌*◌, ◌-◌, ◌==◌, ◌&&◌, nat_le, Bool, List, [], ◌∷◌, ◌++◌, Option, codes, drop, length, min, if◌then◌else◌}
+use Rattle.std.specs.Prelude.{ℕ, ◌+◌, ◌*◌, ◌==◌, ◌&&◌, Bool, List, [], ◌∷◌, ◌++◌, codes, drop, length, min, if◌then◌else◌}
 use Rattle.std.specs.List.{flat_map}
 use Rattle.picture_shapes.specs.declared.colour.Colour.{Colour}
 use Rattle.picture_shapes.specs.declared.colour.Colour.TheVariants.{Clear, Hue, White}

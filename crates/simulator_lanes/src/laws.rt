@@ -4,13 +4,20 @@ ghost use Rattle.run_columns.specs.Columns.{columns_of};
 ghost use Rattle.run_columns.specs.declared.mark.Mark.{Mark as MarkData};
 ghost use Rattle.simulator_lanes.specs.Lanes.{lane_insides};
 ghost use Rattle.simulator_lanes.specs.Unsafe.{hatch};
-ghost use Rattle.simulator_lanes.specs.Layout.{AreApart, across, cell};
+ghost use Rattle.simulator_lanes.specs.Layout.{AreApart, IsWithin, across, cell, right_of, row_y, rows};
 ghost use Rattle.simulator_lanes.specs.declared.layout.Grid.{Grid as GridData};
 
 /// No two squares overlap: two columns, or two lanes, are apart by at least the sizes of a column in a lane.
 pub fn squares_are_apart()
     ensures { (grid : GridData) (i j place other : ℕ) → i < grid.simulators → j < grid.simulators → (i ≡ j → place ≡ other → ⊥) →
         AreApart (cell grid i place) (cell grid j other) (across grid.scale 1) 58 }
+{}
+
+/// No square is outside the lanes of its room: each column in a lane ends before the right end of all columns and before the lower end of all rows, which the sizes of the
+/// room's picture are made from.
+pub fn squares_are_inside()
+    ensures { (grid : GridData) (i place : ℕ) → i < grid.simulators → place < grid.count →
+        IsWithin (cell grid i place) (across grid.scale 1) 58 (right_of grid) (row_y grid (rows grid)) }
 {}
 
 /// A lane is hatched in the column of a step or crash exactly if its simulator is in the unsafe section of an agreement before or after that; it is paler after the
