@@ -1,2 +1,3 @@
 pub mod CallerLemmas
+mod Choosing
 mod Counting
