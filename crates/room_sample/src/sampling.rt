@@ -1,5 +1,5 @@
 //! Many runs of one room.
-ghost use Rattle.std.specs.Prelude.{IfOk};
+ghost use Rattle.std.specs.Prelude.{◌≤◌, IfOk};
 ghost use Rattle.room_sample.specs.Samples.{AreAmongAll, IsSample};
 
 use crate::tally::Tally;
@@ -9,8 +9,11 @@ use run_search::Progress;
 use std::alloc::{AllocError, Global};
 use std::thread::Threads;
 
-/// How many schedules a worker runs and counts before its outcomes are added to those of all.
+/// How many schedules are run and counted before it is said how many were.
 const A_ROUND: u32 = 1000;
+
+/// And on each of several threads, which are started anew for each round.
+const A_SHARE: u32 = 4000;
 
 /// The most threads at the same time.
 const MOST_WORKERS: u32 = 16;
@@ -60,10 +63,21 @@ pub fn sample<R: Threads + Sync, P: Progress>(
     let mut done = 0;
     while done < plan.schedules {
         progress.reached(u64::from(done));
-        let count = (plan.schedules - done).min(A_ROUND * workers);
+        let count = (plan.schedules - done).min(round_of(workers));
         let later = count_by_workers(rt, alloc, spec, plan, done, count, workers)?;
         tally.add_all(later)?;
         done += count;
     }
     Ok(tally)
+}
+
+/// How many schedules this many threads run before it is said how many were.
+fn round_of(workers: u32) -> u32
+    ensures { 1 ≤ result }
+{
+    if workers <= 1 {
+        A_ROUND
+    } else {
+        A_SHARE.saturating_mul(workers)
+    }
 }

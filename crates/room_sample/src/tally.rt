@@ -112,6 +112,39 @@ impl Tally {
         Ok(())
     }
 
+    /// Makes the schedule short that leads to the outcome of this place, from 0, among those in the order of how often they came; as
+    /// [`shorten`](Tally::shorten) makes those of all.
+    ///
+    /// # Errors
+    ///
+    /// An allocation that fails.
+    pub fn shorten_at(
+        &mut self,
+        alloc: Global,
+        spec: &Spec,
+        crashes: u32,
+        tries: u32,
+        place: usize,
+    ) -> Result<(), AllocError>
+        ensures { OnOk result (AreKept spec.now crashes self.old self.new) }
+    {
+        let index = self.index_at(alloc, place)?;
+        let mut left = tries;
+        self.shorten_one(alloc, spec, crashes, index, &mut left)
+    }
+
+    /// The index of the outcome of this place, or one that no outcome has.
+    fn index_at(&self, alloc: Global, place: usize) -> Result<usize, AllocError> {
+        let mut order = Vec::new(alloc);
+        for index in 0..self.len() {
+            if let Some((_, outcome)) = self.get(index) {
+                order.push((outcome.times, index))?;
+            }
+        }
+        order.sort_by_key(|one| Reverse(one.0))?;
+        Ok(order.get(place).map_or(self.len(), |one| one.1))
+    }
+
     /// Makes the schedule short that leads to one of the outcomes, by at most `left` runs.
     fn shorten_one(
         &mut self,

@@ -4,6 +4,7 @@ ghost use Rattle.std.specs.List.{sum_by};
 ghost use Rattle.room_files.specs.BlockLists.{IsBlockAt};
 ghost use Rattle.room_spec.specs.Blocks.{block_in};
 ghost use Rattle.room_spec.specs.Rooms.{RoomSpec};
+ghost use Rattle.room_sample.specs.Shown.{AreKept};
 ghost use Rattle.view_sample.specs.Rooms.{AddsSamples, IsSampleText, alone_shown, end_text, shown_text};
 ghost use Rattle.view_sample.specs.TaskTexts.{has_held};
 
@@ -54,6 +55,25 @@ fn tries_for(plan: &Plan) -> u32 {
     }
 }
 
+/// Makes the schedules short of which scripts are written: that of one outcome, or those of all.
+fn shorten_shown(
+    alloc: Global,
+    outcomes: &mut Tally,
+    spec: &Spec,
+    plan: &Plan,
+) -> Result<(), AllocError>
+    ensures { OnOk result (AreKept spec.now plan.now.crashes outcomes.old outcomes.new) }
+{
+    let tries = tries_for(plan);
+    match plan.outcome {
+        None => outcomes.shorten(alloc, spec, plan.crashes, tries),
+        Some(number) => {
+            let place = number.saturating_sub(1) as usize;
+            outcomes.shorten_at(alloc, spec, plan.crashes, tries, place)
+        }
+    }
+}
+
 /// Samples the room of a block, and writes its outcomes, those first that came most often, and whether they keep its task; or the script of
 /// one outcome. Gives whether the task held, or whether there is that outcome.
 fn write_room<R: Threads + Sync, P: Progress>(
@@ -73,7 +93,7 @@ fn write_room<R: Threads + Sync, P: Progress>(
     };
     let _shape = spec.shape(); // for the proof: the room is within its limits
     let mut outcomes = sample(rt, alloc, &spec, plan, progress)?;
-    outcomes.shorten(alloc, &spec, plan.crashes, tries_for(plan))?;
+    shorten_shown(alloc, &mut outcomes, &spec, plan)?;
     let mut end = Text::new(alloc);
     let held = write_end(alloc, &mut end, &spec, block, plan, &outcomes)?;
     outcomes.sort_by_times()?;
