@@ -155,9 +155,10 @@ fn ending_threads(rooms: usize, workers: u8) -> u8
     usize::from(workers).min(rooms / ROOMS_A_THREAD) as u8
 }
 
-/// Closes and reports all rooms on `threads` threads, an equal part on each.
+/// Closes and reports all rooms on `threads` threads, an equal part on each: the last one on this thread, whose results are added to
+/// those of the others.
 #[cycle(parts)]
-fn finish_by<R: Threads, A: Gathers + Send>(
+fn finish_by<R: Threads + Sync, A: Gathers + Send>(
     rt: &R,
     alloc: Global,
     mut rooms: Vec<RuledRoom>,
@@ -173,20 +174,20 @@ fn finish_by<R: Threads, A: Gathers + Send>(
         return finish_all(alloc, rooms, keepers, gathered);
     }
     let others = threads - 1;
-    let count = rooms.len() / usize::from(threads);
-    let (other_rooms, other_keepers) = cut(&mut rooms, &mut keepers, count)?;
+    let count = rooms.len() - rooms.len() / usize::from(threads);
+    let (last_rooms, last_keepers) = cut(&mut rooms, &mut keepers, count)?;
     let nothing = A::none(alloc);
     let first = move || -> Result<A, AllocError>
         requires { AreKept rooms.items keepers.items × ((k i : ℕ) → away keepers.items k i ≡ 0) }
         ensures { IfOk result (λ all. AddsRoomRuns (map (λ room. room.spec) rooms.items) (A.has_gathered gathered) (A.has_gathered all)) }
-    { finish_all(alloc, rooms, keepers, gathered) };
-    let rest = move || -> Result<A, AllocError>
-        requires { AreKept other_rooms.items other_keepers.items × ((k i : ℕ) → away other_keepers.items k i ≡ 0) }
-        ensures { IfOk result (λ all. AddsRoomRuns (map (λ room. room.spec) other_rooms.items) (A.has_gathered nothing) (A.has_gathered all)) }
-    { finish_by(rt, alloc, other_rooms, other_keepers, others, nothing) };
-    let (first, rest) = thread::join(rt, first, rest);
+    { finish_by(rt, alloc, rooms, keepers, others, gathered) };
+    let last = move || -> Result<A, AllocError>
+        requires { AreKept last_rooms.items last_keepers.items × ((k i : ℕ) → away last_keepers.items k i ≡ 0) }
+        ensures { IfOk result (λ all. AddsRoomRuns (map (λ room. room.spec) last_rooms.items) (A.has_gathered nothing) (A.has_gathered all)) }
+    { finish_all(alloc, last_rooms, last_keepers, nothing) };
+    let (first, last) = thread::join(rt, first, last);
     let mut all = first?;
-    all.add_all(rest?)?;
+    all.add_all(last?)?;
     Ok(all)
 }
 

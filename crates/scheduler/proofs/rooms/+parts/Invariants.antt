@@ -4,5 +4,5 @@ use Rattle.scheduler.proofs.rooms.+parts.Given as goal
 abbrev pub decreases-finish_by : goal.decreases-finish_by
 decreases-finish_by g l = 2 * l.threads
 
-abbrev pub decreases-rest : goal.decreases-rest
-decreases-rest g l = 2 * l.others + 1
+abbrev pub decreases-first : goal.decreases-first
+decreases-first g l = 2 * l.others + 1
