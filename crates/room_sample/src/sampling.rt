@@ -12,7 +12,7 @@ use std::thread::Threads;
 /// How many schedules are run and counted before it is said how many were.
 const A_ROUND: u32 = 1000;
 
-/// And on each of several threads, which are started anew for each round.
+/// How many schedules each of several threads runs and counts in a round; threads are started anew for each round.
 const A_SHARE: u32 = 4000;
 
 /// The most threads at the same time.

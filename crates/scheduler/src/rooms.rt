@@ -121,7 +121,7 @@ pub fn open_rooms(alloc: Global, specs: Vec<Spec>, workers: u8) -> Result<OpenRo
 ///
 /// # Errors
 ///
-/// Where a thread could not be started; an allocation that failed. All rooms are then given up.
+/// If a thread could not be started; an allocation that failed. All rooms are then given up.
 pub fn run_opened<R: Threads + Wait + Sync, G: Gate + Sync, A: Gathers + Send>(
     rt: &R,
     alloc: Global,

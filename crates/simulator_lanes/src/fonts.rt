@@ -16,6 +16,7 @@ pub const HEADING: Font = Font {
     anchor: Anchor::Start,
 };
 
+/// The names of lanes, and what is said of a room and of letters.
 pub const WORDS: Font = Font {
     size: 12,
     face: Face::Plain,

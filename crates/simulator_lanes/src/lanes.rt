@@ -21,6 +21,10 @@ pub(crate) enum Phase {
 }
 
 /// Draws the numbers of the steps, with a line down all lanes at each.
+///
+/// # Errors
+///
+/// An allocation that fails.
 #[tactic(auto, unfolding(crate::specs::Lanes::ticks))]
 pub fn add_ticks(sheet: &mut Sheet, grid: Grid, columns: &[Column]) -> Result<(), AllocError>
     ensures { OnOk result (sheet.new ≡ sheet.old ++ ticks grid columns.now) }
@@ -86,6 +90,10 @@ pub(crate) fn number_text(alloc: Global, number: u64) -> Result<Text, AllocError
 }
 
 /// Draws the lanes of all rows.
+///
+/// # Errors
+///
+/// An allocation that fails.
 #[tactic(auto, unfolding(crate::specs::Lanes::lanes))]
 pub fn add_lanes(sheet: &mut Sheet, grid: Grid) -> Result<(), AllocError>
     ensures { OnOk result (sheet.new ≡ sheet.old ++ lanes grid) }
@@ -135,6 +143,10 @@ fn add_lane_at(sheet: &mut Sheet, y: u64, right: u64, simulator: u8) -> Result<(
 }
 
 /// Hatches the lanes where their simulators are inside an agreement.
+///
+/// # Errors
+///
+/// An allocation that fails.
 #[tactic(auto, unfolding(crate::specs::Lanes::insides))]
 pub fn add_insides(sheet: &mut Sheet, grid: Grid, columns: &[Column]) -> Result<(), AllocError>
     ensures { OnOk result (sheet.new ≡ sheet.old ++ insides grid columns.now) }

@@ -78,7 +78,7 @@ impl Panel {
         &self.marks
     }
 
-    /// Whether it isn't known yet the room's final state.
+    /// Whether the room's final state isn't known yet.
     pub fn is_open(&self) -> bool
         ensures { result ≡ is_none self.now.report }
     {

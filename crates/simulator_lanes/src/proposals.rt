@@ -14,7 +14,11 @@ use run_columns::{Agreement, Column, Deed, Fate, Mark, Scale, Step};
 use std::alloc::{AllocError, Global};
 use step_words::write_counts;
 
-/// Draws the proposals, if there is space for them.
+/// Draws the proposals, each under the step that completes it, if each column is one step; else nothing.
+///
+/// # Errors
+///
+/// An allocation that fails.
 pub fn add_proposals(
     sheet: &mut Sheet,
     grid: Grid,
@@ -109,6 +113,10 @@ fn agreement_of(step: &Step) -> Agreement
 }
 
 /// The proposal of a simulator in an agreement, in the words of `trace`: for each process how many writes of it the snapshot shows.
+///
+/// # Errors
+///
+/// An allocation that fails.
 pub fn counts_of(
     alloc: Global,
     panel: &Panel,
@@ -215,6 +223,10 @@ fn proposal_hint(alloc: Global, step: &Step, counts: &[u8], fate: Fate) -> Resul
 }
 
 /// Says who proposed.
+///
+/// # Errors
+///
+/// An allocation that fails.
 #[tactic(auto, unfolding(crate::specs::Proposals::proposer))]
 pub fn write_proposer(output: &mut Text, simulator: u8) -> Result<(), AllocError>
     ensures { OnOk result (output.new ≡ output.old ++ proposer simulator) }

@@ -13,6 +13,10 @@ use run_columns::{Column, Mark, Scale, Step};
 use std::alloc::{AllocError, Global};
 
 /// Draws each column.
+///
+/// # Errors
+///
+/// An allocation that fails.
 #[tactic(auto, unfolding(crate::specs::Squares::squares))]
 pub fn add_squares(
     sheet: &mut Sheet,

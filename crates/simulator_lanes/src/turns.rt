@@ -12,6 +12,10 @@ use simulator::Turn;
 use std::alloc::{AllocError, Global};
 
 /// Draws a bar for each turn, unless a column may show several.
+///
+/// # Errors
+///
+/// An allocation that fails.
 pub fn add_turns(sheet: &mut Sheet, grid: Grid, columns: &[Column]) -> Result<(), AllocError>
     ensures { OnOk result (sheet.new ≡ sheet.old ++ turns grid columns.now) }
 {

@@ -10,6 +10,10 @@ use std::alloc::{AllocError, Global};
 use step_words::write_counts;
 
 /// Names a process.
+///
+/// # Errors
+///
+/// An allocation that fails.
 #[tactic(auto, unfolding(crate::specs::Words::process_name))]
 pub fn write_process(output: &mut Text, process: u8) -> Result<(), AllocError>
     ensures { OnOk result (output.new ≡ output.old ++ process_name process) }
@@ -45,6 +49,10 @@ fn write_word(output: &mut Text, word: Option<u8>) -> Result<(), AllocError>
 }
 
 /// Names a simulator.
+///
+/// # Errors
+///
+/// An allocation that fails.
 #[tactic(auto, unfolding(crate::specs::Words::simulator_name))]
 pub fn write_simulator(output: &mut Text, simulator: u8) -> Result<(), AllocError>
     ensures { OnOk result (output.new ≡ output.old ++ simulator_name simulator) }
@@ -104,6 +112,10 @@ pub(crate) fn step_words(
 }
 
 /// As much of a text as there is space for: the first bytes and two full stops, if that is shorter.
+///
+/// # Errors
+///
+/// An allocation that fails.
 #[tactic(auto, unfolding(crate::specs::Words::clipped))]
 pub fn clipped(alloc: Global, most: usize, text: &[u8]) -> Result<Text, AllocError>
     requires { most ≤ 1000 }
@@ -120,6 +132,10 @@ pub fn clipped(alloc: Global, most: usize, text: &[u8]) -> Result<Text, AllocErr
 }
 
 /// Writes a number of things: after it the word for one, or for several.
+///
+/// # Errors
+///
+/// An allocation that fails.
 #[tactic(auto, unfolding(crate::specs::Words::counted))]
 pub fn write_counted(
     output: &mut Text,
