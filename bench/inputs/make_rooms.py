@@ -4,7 +4,7 @@
     python3 make_rooms.py FOLDER [--seed N]
 
 Six are the cases of these names in `make_inputs.py`, with a room of version 1 that has as many simulators in place of
-each of version 2. In the other two, `play-words` and `run-words`, all rooms are of version 2, and their memories take two or four words.
+each of version 2. In the other three, `play-words`, `run-words` and `run-large`, all rooms are of version 2, and their memories take two or four words.
 """
 
 import argparse
@@ -15,6 +15,7 @@ import make_inputs
 
 WIDEST = (1, 8, 8, 1)  # of version 1, with 8 simulators
 SEVERAL_WORDS = [(2, 9, 8, 1), (2, 16, 8, 3), (2, 9, 2, 15), (2, 8, 8, 15)]  # two, four, two and four
+LARGEST = (2, 16, 8, 3)
 
 any_shaped = make_inputs.shaped
 
@@ -36,6 +37,10 @@ def run_words(rng, scale):
     return "".join(any_shaped(rng, "r%d" % i, SEVERAL_WORDS[i % 4]) for i in range(int(200 * scale)))
 
 
+def run_large(rng, scale):
+    return "".join(any_shaped(rng, "r%d" % i, LARGEST) for i in range(int(500 * scale)))
+
+
 CASES = [
     make_inputs.play_steps,
     make_inputs.play_single_steps,
@@ -45,6 +50,7 @@ CASES = [
     make_inputs.run_fuses,
     make_inputs.run_wide,
     run_words,
+    run_large,
 ]
 
 

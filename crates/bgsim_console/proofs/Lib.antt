@@ -1,8 +1,2 @@
-mod FileWords
-mod Naming
-mod RunWords
-mod Subcommands
-mod Taken
 mod RunTexts
 mod Verdicts
-mod Worked

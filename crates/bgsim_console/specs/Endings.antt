@@ -6,11 +6,11 @@ use Rattle.clap.specs.Words.{subcommand_of}
 use Rattle.clap.specs.declared.error.kind.ErrorKind.{ErrorKind}
 use Rattle.clap.specs.declared.error.kind.ErrorKind.TheVariants.{OutOfMemory}
 use Rattle.room_files.specs.declared.outcome.Outcome.{Outcome}
-use Rattle.bgsim_console.specs.CommandLine.{IsAsked, IsPlainly, IsWorkers, bgsim_app, words_fault, workers_among}
+use Rattle.bgsim_command_line.specs.CommandLine.{IsAsked, IsPlainly, IsWorkers, bgsim_app, words_fault, workers_among}
 use Rattle.bgsim_console.specs.Ends.{ending_status, words_status}
 use Rattle.bgsim_console.specs.Modes.{IsAnswerIn}
-use Rattle.bgsim_console.specs.declared.command_line.words.Mode.{Mode}
-use Rattle.bgsim_console.specs.declared.command_line.words.Mode.TheVariants.{Run}
+use Rattle.bgsim_command_line.specs.declared.words.Mode.{Mode}
+use Rattle.bgsim_command_line.specs.declared.words.Mode.TheVariants.{Run}
 use Rattle.bgsim_console.specs.declared.fault.IoFault.{IoFault}
 use Rattle.bgsim_console.specs.declared.fault.IoFault.TheVariants.{Read}
 

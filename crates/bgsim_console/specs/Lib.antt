@@ -1,5 +1,4 @@
 pub mod Check
-pub mod CommandLine
 pub mod Endings
 pub mod Ends
 pub mod Modes

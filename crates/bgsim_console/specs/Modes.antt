@@ -4,8 +4,8 @@ use Rattle.room_files.specs.declared.outcome.Outcome.{Outcome}
 use Rattle.bgsim_console.specs.Check.{IsAnswer}
 use Rattle.bgsim_console.specs.Play.{IsPlayed}
 use Rattle.bgsim_console.specs.Run.{IsRan}
-use Rattle.bgsim_console.specs.declared.command_line.words.Mode.{Mode}
-use Rattle.bgsim_console.specs.declared.command_line.words.Mode.TheVariants.{Check, Play, Run}
+use Rattle.bgsim_command_line.specs.declared.words.Mode.{Mode}
+use Rattle.bgsim_command_line.specs.declared.words.Mode.TheVariants.{Check, Play, Run}
 use Rattle.bgsim_console.specs.declared.fault.IoFault.{IoFault}
 
 -- the mode's answer to an input, and what it writes; `run` has this many workers

@@ -1,10 +1,10 @@
 //! Devices that fail in the middle, in each mode.
 ghost use Rattle.std.specs.Prelude.{◌≡◌, false};
 
-use crate::command_line::Mode;
 use crate::engine::{check_io, play_io, run_io};
 use crate::fault::IoFault;
 use crate::tests::{Flaky, Trickle};
+use bgsim_command_line::Mode;
 use io_text::Device;
 use room_files::Outcome;
 use scheduler::FreeGate;

@@ -7,7 +7,6 @@ ghost use Rattle.clap.specs.Values.{kind_of};
 ghost use Rattle.bgsim_console.specs.Endings.{IsAnswered, IsReadOrNot, IsStatusFor, input_named};
 ghost use Rattle.bgsim_console.specs.Ends.{ending_status, fault_status, unread_status, words_status};
 
-mod command_line;
 #[cfg(test)]
 mod device_tests;
 mod engine;
@@ -26,8 +25,8 @@ mod tests;
 #[cfg(test)]
 mod text_tests;
 
+use bgsim_command_line::{Line, Mode, line};
 use clap::error::ErrorKind;
-use command_line::{Line, Mode, line};
 use fault::IoFault;
 use inputs::Inputs;
 use io_text::Device;

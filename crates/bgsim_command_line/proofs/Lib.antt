@@ -1,0 +1,6 @@
+mod FileWords
+mod Naming
+mod RunWords
+mod Subcommands
+mod Taken
+mod Worked

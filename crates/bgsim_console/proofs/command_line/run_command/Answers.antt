@@ -1,5 +1,0 @@
-use Rattle.std.proofs.Common.{rules}
-use Rattle.bgsim_console.proofs.command_line.run_command.Goals as goal
-
-pub returns-clause-app : goal.returns-clause-app
-returns-clause-app c = search rules

@@ -1,8 +1,0 @@
-use Rattle.std.proofs.Common.{rules}
-use Rattle.bgsim_console.proofs.command_line.words.Mode.of.Goals as goal
-
-pub returns-then-eq : goal.returns-then-eq
-returns-then-eq c = search rules
-
-pub returns-else-eq-2 : goal.returns-else-eq-2
-returns-else-eq-2 c = search rules
