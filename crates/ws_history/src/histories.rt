@@ -52,8 +52,8 @@ pub fn history(alloc: Global, room: &RoomCore) -> Result<Vec<Event>, AllocError>
 fn read_history(alloc: Global, room: &RoomCore) -> Result<Vec<Event>, AllocError>
     ensures { IfOk result (λ events. events.items ≡ history_of room.now.spec (read_of room.now)) }
 {
-    let order = in_order(alloc, room)?;
     let greatest = greatest_steps(room);
+    let order = in_order(alloc, room, greatest.as_slice())?;
     let mut events = Vec::with_capacity(
         alloc,
         most_events(room, order.as_slice(), greatest.as_slice()),
@@ -70,8 +70,8 @@ pub(crate) fn pass_history<S: EventSink>(
 ) -> Result<(), AllocError>
     ensures { OnOk result (TakesMore (S.has_taken sink.old) (history_of room.now.spec (read_of room.now)) (S.has_taken sink.new)) }
 {
-    let order = in_order(alloc, room)?;
     let greatest = greatest_steps(room);
+    let order = in_order(alloc, room, greatest.as_slice())?;
     pass_events(sink, room, order.as_slice(), greatest.as_slice())
 }
 

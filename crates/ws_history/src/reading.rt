@@ -121,10 +121,8 @@ pub(crate) fn row_of(spec: &Spec, words: &[u64]) -> Row
     ensures range { (p : ℕ) → slice_index result.items p ≤ spec.now.rounds }
 {
     let last = last_writes(&spec.shape(), words);
-    let mut row = Row::new();
-    for p in 0..spec.n() {
-        row.push(last.rounds[p]);
-    }
+    let mut row = Row::from(last.rounds);
+    row.truncate(spec.n());
     row
 }
 

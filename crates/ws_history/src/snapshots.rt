@@ -5,15 +5,14 @@ ghost use Rattle.protocol_lang.specs.declared.meaning.TheConstants.{MAX_PROCESSE
 ghost use Rattle.room_spec.specs.Rooms.{processes};
 ghost use Rattle.room_spec.specs.Sizes.{sizes_in};
 ghost use Rattle.view_table.specs.Places.{IsRound};
+ghost use Rattle.sim_memory.specs.Steps.{row_of};
 ghost use Rattle.room_core.specs.Agreements.{greatest_step, has_out};
 ghost use Rattle.ws_history.specs.Placing.{agreed_at, agreed_if_passed, agreed_of, all_agreed};
 ghost use Rattle.ws_history.specs.Readings.{read_of};
 ghost use Rattle.ws_history.specs.Sources.{source_of};
 
 use crate::agreements::{is_passed, view_at};
-use crate::reading::{
-    Row, greatest_step, has_out, number_of, process_count, round_count, row_of, shape_of,
-};
+use crate::reading::{Row, has_out, number_of, process_count, round_count, row_of, shape_of};
 use room_core::RoomCore;
 use room_spec::MAX_ROUNDS;
 use std::alloc::{AllocError, Global};
@@ -28,33 +27,45 @@ pub(crate) struct Agreed {
     pub(crate) row: Row,
 }
 
-/// The passed snapshots of a room, by the sum of their rows, and then by process.
-pub(crate) fn in_order(alloc: Global, room: &RoomCore) -> Result<Vec<Agreed>, AllocError>
+/// The passed snapshots of a room, by the sum of their rows, and then by process; `greatest` is how many writes
+/// of each process have been made.
+pub(crate) fn in_order(
+    alloc: Global,
+    room: &RoomCore,
+    greatest: &[u8],
+) -> Result<Vec<Agreed>, AllocError>
+    requires { greatest.now ≡ row_of room.now.spec.simulators (processes room.now.spec) (read_of room.now).step }
     ensures { IfOk result (λ agreed. agreed.items ≡ map (agreed_at room.now) (source_of room.now.spec (read_of room.now)).order) }
 {
     let _shape = shape_of(room); // for the proof: the room stands for some fields, so its rows compare
-    let mut agreed = all_agreed(alloc, room)?;
+    let mut agreed = all_agreed(alloc, room, greatest)?;
     agreed.sort_unstable();
     Ok(agreed)
 }
 
 /// The passed snapshots of a room, by process, and then by round.
-fn all_agreed(alloc: Global, room: &RoomCore) -> Result<Vec<Agreed>, AllocError>
+fn all_agreed(alloc: Global, room: &RoomCore, greatest: &[u8]) -> Result<Vec<Agreed>, AllocError>
+    requires { greatest.now ≡ row_of room.now.spec.simulators (processes room.now.spec) (read_of room.now).step }
     ensures { IfOk result (λ agreed. agreed.items ≡ all_agreed room.now) }
 {
     let mut agreed = Vec::with_capacity(alloc, process_count(room) * round_count(room))?;
     for process in 0..process_count(room) {
-        push_rounds(&mut agreed, room, process)?;
+        push_rounds(&mut agreed, room, process, usize::from(greatest[process]))?;
     }
     Ok(agreed)
 }
 
-/// Adds the passed snapshots of this process.
-fn push_rounds(agreed: &mut Vec<Agreed>, room: &RoomCore, process: usize) -> Result<(), AllocError>
-    requires { process < processes room.now.spec }
+/// Adds the passed snapshots of this process, by how many writes of it have been made.
+fn push_rounds(
+    agreed: &mut Vec<Agreed>,
+    room: &RoomCore,
+    process: usize,
+    greatest: usize,
+) -> Result<(), AllocError>
+    requires process { process < processes room.now.spec }
+    requires greatest { greatest ≡ greatest_step room.now.spec (read_of room.now) process }
     ensures { OnOk result (agreed.new.items ≡ agreed.old.items ++ agreed_of room.now process) }
 {
-    let greatest = greatest_step(room, process);
     let out = has_out(room, process);
     for r in 0..round_count(room) {
         push_passed(agreed, room, process, r + 1, greatest, out)?;
