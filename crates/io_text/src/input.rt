@@ -3,6 +3,7 @@ ghost use Rattle.io_text.specs.Ends.{is_read_failed};
 ghost use Rattle.std.specs.Prelude.{◌≡◌, ◌||◌, ◌+◌, ◌≤◌, ◌<◌, false, IfOk, IfErr, IfSome, length};
 ghost use Rattle.io_text.specs.Reading.{IsPiece, IsReadFault, IsWholeInput, MayEnd, most_bytes};
 
+use crate::copies::append;
 use crate::device::Device;
 use crate::fault::DeviceFault;
 use std::alloc::{AllocError, Global};
@@ -62,6 +63,6 @@ fn read_piece<R: Read>(
     if count > MAX_INPUT - text.len() {
         return Err(DeviceFault::TooLong);
     }
-    text.extend_from_slice(&piece[..count])?;
+    append(text, &piece[..count])?;
     Ok(count)
 }

@@ -1,6 +1,7 @@
 //! Whole inputs read, and outputs written, through devices that know whether they failed; and texts that grow at their ends.
 #![tactic(auto)]
 
+mod copies;
 mod device;
 mod fault;
 mod input;

@@ -2,6 +2,7 @@
 ghost use Rattle.std.specs.Prelude.{◌≡◌, ◌+◌, ◌<◌, ◌≤◌, ◌^◌, ◌==◌, [], ◌∷◌, ◌++◌, ◌⊎◌, OnErr, OnOk, decimal, length, slice_range, take};
 ghost use Rattle.io_text.specs.Numbers.{numbers_text};
 
+use crate::copies::append;
 use itoa::write_digits;
 use std::alloc::{AllocError, Global};
 use std::marker::Model;
@@ -142,7 +143,7 @@ impl Text {
         ensures err { OnErr result (self.new ≡ self.old) }
     {
         self.bytes.truncate(self.len);
-        self.bytes.extend_from_slice(more)?;
+        append(&mut self.bytes, more)?;
         self.len = self.bytes.len();
         Ok(())
     }
