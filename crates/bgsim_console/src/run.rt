@@ -8,7 +8,7 @@ ghost use Rattle.bgsim_console.specs.Run.{AddsReports, AreWorkers, IsRunFor, May
 use crate::fault::IoFault;
 use indexmap::map::IntoValues;
 use io_text::Text;
-use report_text::write_room;
+use report_text::{EventLines, write_room};
 use room_core::RoomCore;
 use room_files::{Answer, Setup, SpecList, outcome_if, read_all_blocks};
 use room_spec::{Name, Spec};
@@ -139,6 +139,8 @@ fn both(first: Text, second: Text) -> Result<Text, AllocError>
 #[derive(Drop)]
 struct Reports {
     text: Text,
+    /// Those of one room's events.
+    lines: EventLines,
 }
 
 impl Gathers for Reports {
@@ -151,11 +153,12 @@ impl Gathers for Reports {
     fn none(alloc: Global) -> Reports {
         Reports {
             text: Text::new(alloc),
+            lines: EventLines::new(alloc),
         }
     }
 
     fn add(&mut self, alloc: Global, core: RoomCore) -> Result<(), AllocError> {
-        write_room(alloc, &mut self.text, &core)?;
+        write_room(alloc, &mut self.text, &mut self.lines, &core)?;
         Ok(())
     }
 

@@ -1,6 +1,6 @@
 //! Text that grows at its end.
-ghost use Rattle.std.specs.Prelude.{◌≡◌, ◌+◌, ◌<◌, ◌≤◌, ◌^◌, ◌==◌, [], ◌∷◌, ◌++◌, ◌⊎◌, OnErr, OnOk, decimal, length, slice_range, take};
-ghost use Rattle.io_text.specs.Numbers.{numbers_text};
+ghost use Rattle.std.specs.Prelude.{◌≡◌, ◌+◌, ◌*◌, ◌<◌, ◌≤◌, ◌^◌, ◌==◌, [], ◌∷◌, ◌++◌, ◌⊎◌, OnErr, OnOk, decimal, length, slice_range, take};
+ghost use Rattle.io_text.specs.Numbers.{entries_text, entry_word, numbers_text};
 
 use crate::copies::append;
 use itoa::write_digits;
@@ -12,6 +12,9 @@ const SPARE: usize = 1024;
 
 /// The most bytes of a number and the space before it, and some to spare.
 const WIDTH: usize = 24;
+
+/// The most entries of a row.
+const MOST_ENTRIES: usize = 16;
 
 /// A number's text, to be put often once it is made.
 #[derive(Clone, Copy)]
@@ -108,6 +111,13 @@ impl Text {
             bytes: Vec::new(alloc),
             len: 0,
         }
+    }
+
+    /// Makes it empty. Its memory is kept.
+    pub fn clear(&mut self)
+        ensures { self.new ≡ [] }
+    {
+        self.len = 0;
     }
 
     /// Whether nothing was put yet.
@@ -214,6 +224,23 @@ impl Text {
         self.put_spaced(&numeral.bytes, numeral.start)
     }
 
+    /// Appends a row to the text: for each entry a space and its number, or a space and `.` for nothing.
+    /// `shown` has the numbers that were put last, since most entries of a row are those of the row before
+    /// it. An `Err` leaves the text as it was.
+    pub fn put_row(
+        &mut self,
+        row: &[Option<u32>],
+        shown: &mut [Numeral; MOST_ENTRIES],
+    ) -> Result<(), AllocError>
+        requires { length row.now ≤ MOST_ENTRIES }
+        ensures text { OnOk result (self.new ≡ self.old ++ entries_text row.now) }
+        ensures err { OnErr result (self.new ≡ self.old) }
+    {
+        make_room(&mut self.bytes, self.len, row.len() * WIDTH)?;
+        self.len = place_row(&mut self.bytes, self.len, row, shown);
+        Ok(())
+    }
+
     /// Appends what is in these bytes from `start` to the 24th to the text.
     #[inline(always)]
     fn put_spaced(&mut self, number: &[u8; 48], start: usize) -> Result<(), AllocError>
@@ -282,13 +309,48 @@ fn place(bytes: &mut [u8], at: usize, more: &[u8]) -> usize
 fn place_spaced(bytes: &mut [u8], at: usize, number: &[u8; 48], start: usize) -> usize
     requires within { start ≤ 24 }
     requires room { at + 24 ≤ length bytes.old }
-    ensures end { result ≤ length bytes.new }
+    ensures end { result ≤ at + 24 }
     ensures len { length bytes.new ≡ length bytes.old }
     ensures text { take result bytes.new ≡ take at bytes.old ++ slice_range number.now start 24 }
 {
     // As many bytes for each number are copied faster; those after it count as room.
     let end = place(bytes, at, &number[start..start + WIDTH]);
     end - start
+}
+
+/// Puts a row at this place. Gives the place after it.
+fn place_row(
+    bytes: &mut [u8],
+    at: usize,
+    row: &[Option<u32>],
+    shown: &mut [Numeral; MOST_ENTRIES],
+) -> usize
+    requires few { length row.now ≤ MOST_ENTRIES }
+    requires room { at + length row.now * 24 ≤ length bytes.old }
+    ensures end { result ≤ length bytes.new }
+    ensures len { length bytes.new ≡ length bytes.old }
+    ensures text { take result bytes.new ≡ take at bytes.old ++ entries_text row.now }
+{
+    let mut end = at;
+    for index in 0..row.len() {
+        end = place_entry(bytes, end, row[index], &mut shown[index]);
+    }
+    end
+}
+
+/// Puts an entry of a row at this place. Gives the place after it.
+#[inline(always)]
+fn place_entry(bytes: &mut [u8], at: usize, entry: Option<u32>, shown: &mut Numeral) -> usize
+    requires { at + 24 ≤ length bytes.old }
+    ensures end { result ≤ at + 24 }
+    ensures len { length bytes.new ≡ length bytes.old }
+    ensures text { take result bytes.new ≡ take at bytes.old ++ 32 ∷ entry_word entry }
+{
+    let Some(number) = entry else {
+        return place(bytes, at, b" .");
+    };
+    shown.set(u64::from(number));
+    place_spaced(bytes, at, &shown.bytes, shown.start)
 }
 
 /// Puts the first `len` of these bytes at this place. Gives the place after them.

@@ -27,16 +27,23 @@ pub struct EventLines {
 }
 
 impl EventLines {
-    /// No lines yet, for a room of this name.
-    pub fn new(alloc: Global, name: &Name) -> EventLines
-        ensures { KeepsLines result.name result.text result.count name.now [] }
-    {
+    /// Room for the lines of one room after the other.
+    pub fn new(alloc: Global) -> EventLines {
         EventLines {
-            name: ShortText::of(name.as_str().as_bytes()),
+            name: ShortText::of(b""),
             text: Text::new(alloc),
             count: 0,
             shown: [Numeral::of(0); MAX_PROCESSES],
         }
+    }
+
+    /// No lines yet, for a room of this name. The memory of the lines before is kept.
+    pub fn begin(&mut self, name: &Name)
+        ensures { KeepsLines self.new.name self.new.text self.new.count name.now [] }
+    {
+        self.name = ShortText::of(name.as_str().as_bytes());
+        self.text.clear();
+        self.count = 0;
     }
 }
 
@@ -133,12 +140,17 @@ pub fn write_lines(
 /// # Errors
 ///
 /// An allocation that fails.
-pub fn write_room(alloc: Global, output: &mut Text, room: &RoomCore) -> Result<(), AllocError>
+pub fn write_room(
+    alloc: Global,
+    output: &mut Text,
+    lines: &mut EventLines,
+    room: &RoomCore,
+) -> Result<(), AllocError>
     ensures { OnOk result ((report : ReportData) × IsReportIn room.now report × (output.new ≡ output.old ++ report_text room.now.spec.name report)) }
 {
     let name = room.spec().name();
-    let mut lines = EventLines::new(alloc, name);
-    let standing = report_to(alloc, room, &mut lines)?;
-    write_lines(output, name, &standing, &lines)?;
+    lines.begin(name);
+    let standing = report_to(alloc, room, lines)?;
+    write_lines(output, name, &standing, lines)?;
     Ok(())
 }

@@ -1,8 +1,8 @@
 //! The lines of events.
 ghost use Rattle.std.specs.Prelude.{◌≡◌, ◌≤◌, ◌++◌, ◌∷◌, OnOk, codes, decimal, length};
-ghost use Rattle.std.specs.List.{flat_map};
 ghost use Rattle.protocol_lang.specs.declared.meaning.TheConstants.{MAX_PROCESSES};
-ghost use Rattle.transcript.specs.Grammar.{entry_text, event_line};
+ghost use Rattle.io_text.specs.Numbers.{entries_text};
+ghost use Rattle.transcript.specs.Grammar.{event_line};
 ghost use Rattle.report_text.specs.ReportTexts.{event_lines};
 
 use crate::reports::write_end;
@@ -56,36 +56,10 @@ pub(crate) fn write_snapshot(
 ) -> Result<(), AllocError>
     requires { length entries.now ≤ MAX_PROCESSES }
     ensures { OnOk result (output.new ≡ output.old ++ (32 ∷ decimal p ++
-        (codes " snap" ++ (flat_map (λ entry. 32 ∷ entry_text entry) entries.now ++ codes "\n")))) }
+        (codes " snap" ++ (entries_text entries.now ++ codes "\n")))) }
 {
     output.put_number(u64::from(p))?;
     output.put(b" snap")?;
-    write_entries(output, shown, entries)?;
+    output.put_row(entries, shown)?;
     output.put(b"\n")
-}
-
-/// Writes each entry of a snapshot after a space.
-fn write_entries(
-    output: &mut Text,
-    shown: &mut [Numeral; MAX_PROCESSES],
-    entries: &[Option<u32>],
-) -> Result<(), AllocError>
-    requires { length entries.now ≤ MAX_PROCESSES }
-    ensures { OnOk result (output.new ≡ output.old ++ flat_map (λ entry. 32 ∷ entry_text entry) entries.now) }
-{
-    for place in 0..entries.len() {
-        write_entry(output, &mut shown[place], entries[place])?;
-    }
-    Ok(())
-}
-
-/// Writes a space and an entry: a value, or `.` for nothing.
-fn write_entry(output: &mut Text, shown: &mut Numeral, entry: Option<u32>) -> Result<(), AllocError>
-    ensures { OnOk result (output.new ≡ output.old ++ 32 ∷ entry_text entry) }
-{
-    let Some(value) = entry else {
-        return output.put(b" .");
-    };
-    shown.set(u64::from(value));
-    output.put_numeral(shown)
 }

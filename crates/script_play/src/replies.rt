@@ -44,11 +44,12 @@ pub fn play(alloc: Global, script: &[u8]) -> Result<PlayText, InputFault>
     })
 }
 
-/// A service, and the lines of its replies and of the refused blocks.
+/// A service, the lines of its replies and of the refused blocks, and room for those of a report's events.
 #[derive(Drop)]
 struct Replies {
     service: Service,
     output: Text,
+    lines: EventLines,
 }
 
 impl Replies {
@@ -59,6 +60,7 @@ impl Replies {
         Replies {
             service: Service::new(alloc),
             output: Text::new(alloc),
+            lines: EventLines::new(alloc),
         }
     }
 
@@ -81,10 +83,10 @@ impl Replies {
             self.old.service (λ all. self.old.output ≡ flat_map done_text all) (Report name.now) refusal
             self.new.service (λ all. self.new.output ≡ flat_map done_text all)) }
     {
-        let mut lines = EventLines::new(alloc, name);
-        match self.service.report_to(alloc, name, &mut lines) {
+        self.lines.begin(name);
+        match self.service.report_to(alloc, name, &mut self.lines) {
             Ok(standing) => {
-                write_lines(&mut self.output, name, &standing, &lines)?;
+                write_lines(&mut self.output, name, &standing, &self.lines)?;
                 Ok(None)
             }
             Err(refusal) => {

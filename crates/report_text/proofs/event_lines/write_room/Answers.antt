@@ -9,5 +9,5 @@ returns c =
     let to = c.in_ok-standing.ensures in (
       to.report,
       to.is_report,
-      subst (λ (n : List ℕ). c.write_lines.new.output ≡ c.args.output.now ++ report_text n to.report) own (c.in_ok-write_lines.ensures to.report to.states to.crashed (to.history name [] c.new-lines.ensures)),
+      subst (λ (n : List ℕ). c.write_lines.new.output ≡ c.args.output.now ++ report_text n to.report) own (c.in_ok-write_lines.ensures to.report to.states to.crashed (to.history name [] c.begin.ensures)),
     )
