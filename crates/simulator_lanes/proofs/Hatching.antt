@@ -81,7 +81,7 @@ shown_more grid simulator phase place (first ∷ before) mark =
 phase_by : Bool → Bool → Phase
 phase_by unsafe crashed = cond unsafe (cond crashed Stuck Inside) Outside
 
-unsafe_next : ℕ → Bool → Mark → Bool
+unfoldable pub unsafe_next : ℕ → Bool → Mark → Bool
 unsafe_next simulator unsafe mark = cond (passes simulator mark) (is_entry (Some mark)) unsafe
 
 crashed_next : ℕ → Bool → Mark → Bool
@@ -182,7 +182,7 @@ phase_is simulator marks =
     ∙ ap (λ (unsafe : Bool). phase_by unsafe (crashed_from simulator false marks)) (sym (unsafe_is simulator marks))
     ∙ ap (phase_by (is_unsafe simulator marks)) (sym (crashed_is simulator marks))
 
-unsafe_after : (simulator : ℕ) (before : List Mark) (mark : Mark) → is_unsafe simulator (before ++ mark ∷ []) ≡ unsafe_next simulator (is_unsafe simulator before) mark
+pub unsafe_after : (simulator : ℕ) (before : List Mark) (mark : Mark) → is_unsafe simulator (before ++ mark ∷ []) ≡ unsafe_next simulator (is_unsafe simulator before) mark
 unsafe_after simulator before mark =
     unsafe_is simulator (before ++ mark ∷ []) ∙ unsafe_more simulator false before mark ∙ ap (λ (unsafe : Bool). unsafe_next simulator unsafe mark) (sym (unsafe_is simulator before))
 

@@ -1,4 +1,5 @@
 pub mod CallerLemmas
 mod Apart
 mod Hatching
+mod Staying
 mod Texts

@@ -1,5 +1,5 @@
 -- Who is in the unsafe section of an agreement, and how the lanes show it.
-use Rattle.std.specs.Prelude.{ℕ, ◌==◌, ◌&&◌, ◌||◌, Bool, true, false, List, [], ◌∷◌, ◌++◌, Option, Some, None, length, if◌then◌else◌}
+use Rattle.std.specs.Prelude.{◌≡◌, ◌⊎◌, ℕ, ◌==◌, ◌&&◌, ◌||◌, Bool, true, false, List, [], ◌∷◌, ◌++◌, Option, Some, None, length, if◌then◌else◌}
 use Rattle.std.specs.List.{filter, last_or}
 use Rattle.picture_shapes.specs.declared.colour.Colour.{Colour}
 use Rattle.picture_shapes.specs.declared.colour.Colour.TheVariants.{Hatched, Pale}
@@ -8,9 +8,10 @@ use Rattle.run_columns.specs.declared.mark.Deed.{Deed}
 use Rattle.run_columns.specs.declared.mark.Deed.TheVariants.{Enter, Stand, Withdraw}
 use Rattle.run_columns.specs.declared.mark.Mark.{Mark}
 use Rattle.run_columns.specs.declared.mark.Mark.TheVariants.{Step, Crash}
+use Rattle.run_columns.specs.Columns.{columns_of}
 use Rattle.run_columns.specs.Deeds.{is_same}
 use Rattle.simulator_lanes.specs.declared.layout.Grid.{Grid}
-use Rattle.simulator_lanes.specs.Lanes.{inside_at}
+use Rattle.simulator_lanes.specs.Lanes.{inside_at, lane_insides}
 use Rattle.simulator_lanes.specs.Layout.{cell}
 
 abbrev pub is_passage : Deed → Bool
@@ -51,3 +52,11 @@ hatch_colour crashed = if crashed then Pale else Hatched
 abbrev pub hatch : Grid → ℕ → List Mark → Mark → List Shape
 hatch grid simulator before mark =
     if is_unsafe simulator before || is_unsafe simulator (before ++ mark ∷ []) then inside_at grid (cell grid simulator (length before)) (hatch_colour (has_crashed simulator (before ++ mark ∷ []))) else []
+
+-- the lane of a simulator in the picture of these marks is hatched in the column at this place
+pub record IsHatchedAt (grid : Grid) (marks : List Mark) (simulator place : ℕ) : Type 0 where
+  pub colour : Colour
+  pub hatches : (colour ≡ Hatched) ⊎ (colour ≡ Pale)
+  pub left : List Shape
+  pub right : List Shape
+  pub drawn : lane_insides grid (columns_of marks).columns simulator ≡ left ++ (inside_at grid (cell grid simulator place) colour ++ right)

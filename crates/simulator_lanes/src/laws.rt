@@ -1,9 +1,13 @@
 //! Laws of the layout.
-ghost use Rattle.std.specs.Prelude.{◌≡◌, ◌<◌, ◌⊎◌, ◌++◌, ◌∷◌, [], ℕ, List, length};
+ghost use Rattle.std.specs.Prelude.{◌≡◌, ◌<◌, ◌≤◌, ◌⊎◌, ◌++◌, ◌∷◌, [], false, ℕ, List, length};
+ghost use Rattle.std.specs.List.{list_any};
 ghost use Rattle.run_columns.specs.Columns.{columns_of};
+ghost use Rattle.run_columns.specs.declared.mark.Deed.TheVariants.{Enter as EnterDeed};
 ghost use Rattle.run_columns.specs.declared.mark.Mark.{Mark as MarkData};
+ghost use Rattle.run_columns.specs.declared.mark.Mark.TheVariants.{Step as StepOf};
+ghost use Rattle.run_columns.specs.declared.mark.Step.{Step as StepData};
 ghost use Rattle.simulator_lanes.specs.Lanes.{lane_insides};
-ghost use Rattle.simulator_lanes.specs.Unsafe.{hatch};
+ghost use Rattle.simulator_lanes.specs.Unsafe.{IsHatchedAt, hatch, passes};
 ghost use Rattle.simulator_lanes.specs.Layout.{AreApart, IsWithin, across, cell, right_of, row_y, rows};
 ghost use Rattle.simulator_lanes.specs.declared.layout.Grid.{Grid as GridData};
 
@@ -26,4 +30,11 @@ pub fn hatched_in_the_unsafe_section()
     ensures none { (grid : GridData) (simulator : ℕ) → lane_insides grid (columns_of []).columns simulator ≡ [] }
     ensures one_more { (grid : GridData) (simulator : ℕ) (before : List MarkData) (mark : MarkData) → length before < 400 →
         lane_insides grid (columns_of (before ++ mark ∷ [])).columns simulator ≡ lane_insides grid (columns_of before).columns simulator ++ hatch grid simulator before mark }
+{}
+
+/// If a simulator enters an agreement, and neither leaves it nor enters another, its lane is hatched from the column of that step on to the last column.
+pub fn hatched_to_the_end()
+    ensures { (grid : GridData) (simulator : ℕ) (before since : List MarkData) (entry : StepData) →
+        entry.deed ≡ EnterDeed → entry.simulator ≡ simulator → list_any (passes simulator) since ≡ false → length (before ++ StepOf entry ∷ since) ≤ 400 →
+        (place : ℕ) → length before ≤ place → place < length (before ++ StepOf entry ∷ since) → IsHatchedAt grid (before ++ StepOf entry ∷ since) simulator place }
 {}
