@@ -186,8 +186,8 @@ fn before(widths: &[u8], p: usize) -> usize
     ensures small { result ≤ 4080 }
 {
     let mut start = 0;
-    for i in 0..p {
-        start += usize::from(widths[i]);
+    for &width in &widths[..p] {
+        start += usize::from(width);
     }
     start
 }
