@@ -56,7 +56,7 @@ noted_there name marks (panel ∷ panels) (suc place) is = ap₂ (λ (p : Panel)
 
 -- ---- closed
 
-apart : (name other : List ℕ) → bytes_eq name other ≡ false → (panel : Panel) → is_of name panel ≡ true → is_of other panel ≡ false
+pub apart : (name other : List ℕ) → bytes_eq name other ≡ false → (panel : Panel) → is_of name panel ≡ true → is_of other panel ≡ false
 apart name other differs panel is = false_from_ne_true (is_of other panel) (λ of_other.
     let own = same_name panel.head.spec.name name (and_parts (is_none panel.report) (bytes_eq panel.head.spec.name name) is).1 in
     let others = same_name panel.head.spec.name other (and_parts (is_none panel.report) (bytes_eq panel.head.spec.name other) of_other).1 in

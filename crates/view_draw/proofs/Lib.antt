@@ -1,7 +1,11 @@
 mod Changing
 mod Closing
+mod Entering
 mod Finishing
+mod Holding
 mod Indexing
+mod Lives
 mod Performing
 mod Places
 mod Seeing
+mod Showing

@@ -1,10 +1,11 @@
 -- What is drawn of a script's rooms.
 use Rattle.std.specs.Prelude.{◌≡◌, ⊤, ℕ, zero, suc, Bool, true, false, ◌&&◌, List, [], ◌∷◌, ◌++◌, map, Option, Some, None, Result, Ok, is_none, position, if◌then◌else◌}
 use Rattle.std.specs.declared.alloc.AllocError.{AllocError}
+use Rattle.std.specs.List.{AllByRecursion}
 use Rattle.std.specs.Map.{lookup}
 use Rattle.std.specs.Str.{bytes_eq}
 use Rattle.room_core.specs.declared.reply.CrashReply.TheVariants.{Crashed}
-use Rattle.room_spec.specs.Rooms.{RoomSpec}
+use Rattle.room_spec.specs.Rooms.{IsWithinLimits, RoomSpec}
 use Rattle.ws_history.specs.declared.states.Report.{Report as ReportData}
 use Rattle.service_core.specs.declared.command.Command.{Command}
 use Rattle.service_core.specs.declared.command.Command.TheVariants as commands
@@ -24,6 +25,7 @@ use Rattle.run_picture.specs.declared.picture.Style.{Style}
 use Rattle.simulator_lanes.specs.declared.panel.Head.{Head}
 use Rattle.run_columns.specs.declared.mark.Mark.{Mark}
 use Rattle.run_columns.specs.declared.mark.Mark.TheVariants.{Crash}
+use Rattle.view_draw.specs.Held.{ShowsHeld}
 use Rattle.view_draw.specs.Seen.{AreMarks}
 
 -- ---- panels
@@ -68,7 +70,7 @@ IsReportAt rooms name report = (room : Option OpenRoom) → IsStateOf (room_at r
 
 -- a room that is opened has a panel of its own, with a block that says it
 abbrev pub DrawsOpening : RoomSpec → Reply → List Panel → List Panel → Type 0
-DrawsOpening spec replies.Begun before after = (block : List ℕ) × (head : Head) × IsBlockOf spec block × IsHeadOf spec block head × (after ≡ before ++ fresh head ∷ [])
+DrawsOpening spec replies.Begun before after = (block : List ℕ) × (head : Head) × IsBlockOf spec block × IsHeadOf spec block head × IsWithinLimits spec × (after ≡ before ++ fresh head ∷ [])
 DrawsOpening spec reply before after = after ≡ before
 
 -- the steps that a command takes are drawn, and no others, in their order
@@ -148,6 +150,8 @@ pub record IsDrawn (style : Style) (input : List ℕ) (ending : Result Outcome A
   pub same_rooms : (name : List ℕ) → room_at left name ≡ room_at rooms name
   pub at_end : List Panel
   pub finished_are : AreFinished left panels at_end
+  -- each process that is held is seen to be: its holder's lane is hatched from its entering on
+  pub held : AllByRecursion ShowsHeld at_end
   pub output_is : output ≡ svg_of (picture_of style at_end)
   pub ending_is : ending ≡ ending_of all
 

@@ -47,6 +47,7 @@ impl Drawing {
         requires { IsBlockOf spec block.now }
         ensures { IfOk result (λ refusal. IsDrawnOn self.old.service self.old.panels (Begin spec) refusal self.new.service self.new.panels) }
     {
+        let _shape = spec.shape(); // for the proof: the room is within its limits
         let head = Head::of(alloc, &spec, block)?;
         let reply = self.service.apply(alloc, Command::Begin(spec));
         match &reply {

@@ -1,4 +1,5 @@
 use Rattle.view_draw.specs.Drawn.{nothing}
+use Rattle.view_draw.proofs.Showing.{held_shown}
 use Rattle.view_draw.proofs.playing.draw.Goals as goal
 
 pub play_script-requires-clause-done : goal.play_script-requires-clause-done
@@ -20,6 +21,7 @@ returns-clause-drawn c =
       same_rooms = from.same_rooms;
       at_end = from.picture.at_end;
       finished_are = from.picture.finished_are;
+      held = held_shown play.all c.in_ok-performer.field-0.performer.service from.left c.in_ok-performer.field-0.performer.panels from.picture.at_end play.played.done from.same_rooms from.picture.finished_are;
       output_is = from.picture.output_is;
       ending_is = play.played.ending_is;
     }

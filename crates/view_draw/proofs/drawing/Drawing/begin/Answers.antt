@@ -7,5 +7,5 @@ returns-in_ok-open-in-Begun c = record {
   reply = Begun;
   applies = rw c.in-Begun.is at c.apply-reply.ensures.applies;
   refusal_is = refl;
-  draws = (c.args.block.now, c.in_ok-head.head, c.requires, c.in_ok-head.ensures, c.in_ok-open-in-Begun.ensures.added);
+  draws = (c.args.block.now, c.in_ok-head.head, c.requires, c.in_ok-head.ensures, c.shape-shape.ensures.limits, c.in_ok-open-in-Begun.ensures.added);
 }
