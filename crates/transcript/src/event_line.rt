@@ -13,7 +13,7 @@ use crate::event::Event;
 use crate::fault::LineFault;
 use crate::word::EventWord;
 use protocol_lang::{View, read_number};
-use room_spec::{MAX_PROCESSES, Name, cut_near};
+use room_spec::{MAX_PROCESSES, Name, cut, cut_near};
 use std::marker::Model;
 
 /// The longest event line, in bytes.
@@ -21,6 +21,9 @@ pub(crate) const MAX_LINE: usize = 256;
 
 /// The greatest number of a process.
 pub(crate) const MAX_PROCESS: u32 = 15;
+
+/// From this many bytes on, `cut` compares the first bytes of a line at once.
+const LONG: usize = 16;
 
 /// An event line, cut into its parts. Its name may be none, and its values aren't read yet.
 #[derive(Drop)]
@@ -53,7 +56,7 @@ impl<'a> EventLine<'a> {
         if line.len() > MAX_LINE {
             return Err(LineFault::TooLong);
         }
-        let (name, fields) = cut_near(line, b' ');
+        let (name, fields) = cut_name(line);
         match split_fields(fields) {
             Ok((process, word, values)) => Ok(EventLine {
                 name,
@@ -116,6 +119,18 @@ impl<'a> EventLine<'a> {
         let name = Name::read(self.name).ok_or(LineFault::BadName)?;
         let event = self.event()?;
         Ok((name, event))
+    }
+}
+
+/// The first field of a line, and what follows it.
+#[inline(always)]
+fn cut_name(line: &[u8]) -> (&[u8], Option<&[u8]>)
+    ensures { fields_of line.now ≡ result.0.now ∷ pieces_of is_space (option_copied result.1) }
+{
+    if line.len() < LONG {
+        cut_near(line, b' ')
+    } else {
+        cut(line, b' ')
     }
 }
 
