@@ -46,21 +46,11 @@ box_width words = 7 * min (length words) 200 + 14
 abbrev pub event_width : Event → ℕ
 event_width event = box_width (event_words event) + 6
 
--- a decision is filled, and a snapshot has round ends
-abbrev pub event_fill : Event → Colour
-event_fill (Write p v) = White
-event_fill (Snap p row) = White
-event_fill (Decide p v) = Hue p
-
-abbrev pub event_ink : Event → Colour
-event_ink (Write p v) = Ink
-event_ink (Snap p row) = Ink
-event_ink (Decide p v) = White
-
-abbrev pub event_corner : Event → ℕ
-event_corner (Write p v) = 3
-event_corner (Snap p row) = 11
-event_corner (Decide p v) = 3
+-- the fill of its box, the colour of its words, and how round the corners are: a decision is filled, and a snapshot has round ends
+abbrev pub event_look : Event → Colour × Colour × ℕ
+event_look (Write p v) = (White, Ink, 3)
+event_look (Snap p row) = (White, Ink, 11)
+event_look (Decide p v) = (Hue p, White, 3)
 
 unfoldable pub event_hint : ℕ → List ℕ → List ℕ
 event_hint process words = process_name process ++ (codes ": " ++ words)
@@ -68,8 +58,8 @@ event_hint process words = process_name process ++ (codes ": " ++ words)
 -- an event with these words, from this point on
 unfoldable pub event_box : Point → Event → List ℕ → List Shape
 event_box start event words =
-    Area (frame_at start (box_width words) 22) (event_corner event) (event_fill event) (Hue (process_of event)) (dashes_for (process_of event))
-    ∷ Label (moved start (box_width words / 2) 15) EVENT (event_ink event) words
+    Area (frame_at start (box_width words) 22) (event_look event).2 (event_look event).0 (Hue (process_of event)) (dashes_for (process_of event))
+    ∷ Label (moved start (box_width words / 2) 15) EVENT (event_look event).1 words
     ∷ Hint (frame_at start (box_width words) 22) (event_hint (process_of event) words)
     ∷ []
 
@@ -154,11 +144,19 @@ events_right panel columns grid =
 
 -- ---- lanes
 
-unfoldable pub held_words : ℕ → List ℕ
-held_words simulator = codes "held by " ++ simulator_name simulator
+-- what is said of a process; one that isn't through may go on if some simulator can
+unfoldable pub state_words : Panel → ProcessState → List ℕ
+state_words panel (Decided value) = codes "decided " ++ decimal value
+state_words panel Spent = codes "spent"
+state_words panel (Held simulator) = codes "held by " ++ simulator_name simulator
+state_words panel Going = if is_one_left panel then codes "may still go on" else codes "no simulator left"
 
-unfoldable pub decided_words : ℕ → List ℕ
-decided_words value = codes "decided " ++ decimal value
+-- the colour of these words and of its line, which is dashed if it isn't through
+abbrev pub state_look : ProcessState → Colour × Dashes
+state_look (Decided value) = (Faint, Solid)
+state_look Spent = (Faint, Solid)
+state_look (Held simulator) = (Alarm, Long)
+state_look Going = (Faint, Long)
 
 -- the name of a process and the line of its lane, with what is said under the name
 unfoldable pub lane_line : ℕ → ℕ → ℕ → List ℕ → Colour → Dashes → List Shape
@@ -168,17 +166,9 @@ lane_line y right process words colour dashes =
     ∷ Line (moved (record { x = LEFT - 6; y = y }) 0 11) (moved (record { x = right; y = y }) 0 11) 1 colour dashes
     ∷ []
 
--- a process that isn't through may go on if some simulator can
-abbrev pub going_words : Bool → List ℕ
-going_words true = codes "may still go on"
-going_words false = codes "no simulator left"
-
--- in the last row is the state of the process, and the line is dashed if the process isn't through
+-- in the last row is the state of the process
 abbrev pub last_line : ℕ → ℕ → Panel → ℕ → ProcessState → List Shape
-last_line y right panel process (Decided value) = lane_line y right process (decided_words value) Faint Solid
-last_line y right panel process Spent = lane_line y right process (codes "spent") Faint Solid
-last_line y right panel process (Held simulator) = lane_line y right process (held_words simulator) Alarm Long
-last_line y right panel process Going = lane_line y right process (going_words (is_one_left panel)) Faint Long
+last_line y right panel process state = lane_line y right process (state_words panel state) (state_look state).0 (state_look state).1
 
 -- in the last row, also the proposals that may still be chosen
 abbrev pub process_lane : Grid → ℕ → Panel → ℕ → ℕ → List Shape

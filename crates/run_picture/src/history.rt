@@ -1,7 +1,8 @@
 //! The lanes of the processes: each event at the step at which it takes effect, and the state of each process.
 ghost use Rattle.std.specs.Prelude.{◌≡◌, ◌+◌, ◌*◌, ◌++◌, ◌∷◌, ◌≤◌, ◌<◌, IfOk, OnOk, length};
 ghost use Rattle.transcript.specs.Grammar.{entry_text};
-ghost use Rattle.run_picture.specs.History.{all_events, box_width, boxed, column_for, decided_words, entries_text, event_box, event_corner, event_fill, event_hint, event_ink, event_shapes, event_start, event_width, event_words, event_x, events_right, first_pen, going_words, held_words, lane_events, lane_line, lane_right, last_line, own_pen, own_shapes, pen_after, process_lane, process_lanes, row_processes, tie, tied};
+ghost use Rattle.ws_history.specs.declared.states.ProcessState.TheVariants.{Going as GoingState};
+ghost use Rattle.run_picture.specs.History.{all_events, box_width, boxed, column_for, entries_text, event_box, event_hint, event_look, event_shapes, event_start, event_width, event_words, event_x, events_right, first_pen, lane_events, lane_line, lane_right, last_line, own_pen, own_shapes, pen_after, process_lane, process_lanes, row_processes, state_look, state_words, tie, tied};
 ghost use Rattle.run_picture.specs.Opens.{open_shapes};
 ghost use Rattle.simulator_lanes.specs.Panels.{states_in};
 ghost use Rattle.simulator_lanes.specs.Words.{process_name};
@@ -306,33 +307,51 @@ fn add_last_line(
 ) -> Result<(), AllocError>
     ensures { OnOk result (sheet.new ≡ sheet.old ++ last_line y right panel.now process state) }
 {
-    let (colour, dashes) = (Colour::Faint, Dashes::Solid);
-    match state {
-        ProcessState::Decided(value) => {
-            let words = decided_words(sheet.alloc(), value)?;
-            add_lane_line(sheet, y, right, process, words.as_bytes(), colour, dashes)
-        }
-        ProcessState::Spent => { add_lane_line(sheet, y, right, process, b"spent", colour, dashes) }
-        ProcessState::Held(simulator) => {
-            let words = held_words(sheet.alloc(), simulator)?;
-            let (colour, dashes) = (Colour::Alarm, Dashes::Long);
-            add_lane_line(sheet, y, right, process, words.as_bytes(), colour, dashes)
-        }
-        ProcessState::Going => {
-            let words = going_words(is_one_left(panel));
-            add_lane_line(sheet, y, right, process, words, colour, Dashes::Long)
-        }
-    }
+    let words = state_words(sheet.alloc(), panel, state)?;
+    let (colour, dashes) = state_look(state);
+    add_lane_line(sheet, y, right, process, words.as_bytes(), colour, dashes)
 }
 
-/// What is said of a process that isn't through, if this says whether some simulator can go on.
-fn going_words(left: bool) -> &'static [u8]
-    ensures { result.now ≡ going_words left }
+/// The state of a process, in words. One that isn't through may go on if some simulator can.
+#[tactic(auto, unfolding(crate::specs::History::state_words))]
+fn state_words(alloc: Global, panel: &Panel, state: ProcessState) -> Result<Text, AllocError>
+    ensures { IfOk result (λ words. words ≡ state_words panel.now state) }
 {
-    if left {
+    let mut words = Text::new(alloc);
+    match state {
+        ProcessState::Decided(value) => {
+            words.put(b"decided")?;
+            words.put_number(u64::from(value))?;
+        }
+        ProcessState::Spent => words.put(b"spent")?,
+        ProcessState::Held(simulator) => {
+            words.put(b"held by ")?;
+            write_simulator(&mut words, simulator)?;
+        }
+        ProcessState::Going => words.put(going_words(panel))?,
+    }
+    Ok(words)
+}
+
+#[tactic(auto, unfolding(crate::specs::History::state_words))]
+fn going_words(panel: &Panel) -> &'static [u8]
+    ensures { result.now ≡ state_words panel.now GoingState }
+{
+    if is_one_left(panel) {
         b"may still go on"
     } else {
         b"no simulator left"
+    }
+}
+
+/// The colour of these words and of the process's line, which is dashed if the process isn't through.
+fn state_look(state: ProcessState) -> (Colour, Dashes)
+    ensures { result ≡ state_look state }
+{
+    match state {
+        ProcessState::Decided(_) | ProcessState::Spent => (Colour::Faint, Dashes::Solid),
+        ProcessState::Held(_) => (Colour::Alarm, Dashes::Long),
+        ProcessState::Going => (Colour::Faint, Dashes::Long),
     }
 }
 
@@ -363,26 +382,6 @@ fn process_name(alloc: Global, process: u8) -> Result<Text, AllocError>
 {
     let mut words = Text::new(alloc);
     write_process(&mut words, process)?;
-    Ok(words)
-}
-
-#[tactic(auto, unfolding(crate::specs::History::decided_words))]
-fn decided_words(alloc: Global, value: u32) -> Result<Text, AllocError>
-    ensures { IfOk result (λ words. words ≡ decided_words value) }
-{
-    let mut words = Text::new(alloc);
-    words.put(b"decided ")?;
-    write_decimal(&mut words, u64::from(value))?;
-    Ok(words)
-}
-
-#[tactic(auto, unfolding(crate::specs::History::held_words))]
-fn held_words(alloc: Global, simulator: u8) -> Result<Text, AllocError>
-    ensures { IfOk result (λ words. words ≡ held_words simulator) }
-{
-    let mut words = Text::new(alloc);
-    words.put(b"held by ")?;
-    write_simulator(&mut words, simulator)?;
     Ok(words)
 }
 
@@ -451,11 +450,11 @@ fn add_box(sheet: &mut Sheet, start: Point, event: &Event, words: &[u8]) -> Resu
     let width = box_width(words);
     let frame = Frame::at(start, width, 22);
     let outline = Colour::Hue(event.process());
-    let corner = event_corner(event);
+    let (fill, ink, corner) = event_look(event);
     let dashes = dashes_for(event.process());
-    sheet.area(frame, corner, event_fill(event), outline, dashes)?;
+    sheet.area(frame, corner, fill, outline, dashes)?;
     let middle = start.moved(width / 2, 15);
-    sheet.label(middle, EVENT, event_ink(event), words)?;
+    sheet.label(middle, EVENT, ink, words)?;
     let hint = event_hint(sheet.alloc(), event.process(), words)?;
     sheet.hint(frame, hint.as_bytes())
 }
@@ -471,31 +470,13 @@ fn event_hint(alloc: Global, process: u8, words: &[u8]) -> Result<Text, AllocErr
     Ok(hint)
 }
 
-/// How round the corners of an event's box are: a snapshot has round ends.
-fn event_corner(event: &Event) -> u8
-    ensures { result ≡ event_corner event.now }
+/// The fill of an event's box, the colour of its words, and how round the corners are: a decision is filled, and a snapshot has round ends.
+fn event_look(event: &Event) -> (Colour, Colour, u8)
+    ensures { result ≡ event_look event.now }
 {
     match event {
-        Event::Snap { .. } => 11,
-        Event::Write { .. } | Event::Decide { .. } => 3,
-    }
-}
-
-/// A decision is filled.
-fn event_fill(event: &Event) -> Colour
-    ensures { result ≡ event_fill event.now }
-{
-    match event {
-        Event::Decide { p, .. } => Colour::Hue(*p),
-        Event::Write { .. } | Event::Snap { .. } => Colour::White,
-    }
-}
-
-fn event_ink(event: &Event) -> Colour
-    ensures { result ≡ event_ink event.now }
-{
-    match event {
-        Event::Decide { .. } => Colour::White,
-        Event::Write { .. } | Event::Snap { .. } => Colour::Ink,
+        Event::Write { .. } => (Colour::White, Colour::Ink, 3),
+        Event::Snap { .. } => (Colour::White, Colour::Ink, 11),
+        Event::Decide { p, .. } => (Colour::Hue(*p), Colour::White, 3),
     }
 }
