@@ -1,5 +1,5 @@
 -- The lanes of the processes: each event at the step at which it takes effect, and the state of each process.
-use Rattle.std.specs.Prelude.{ℕ, ◌+◌, ◌-◌, ◌*◌, ◌/◌, ◌==◌, Bool, true, false, Option, Some, None, List, [], ◌∷◌, ◌++◌, codes, decimal, fold, length, max, min, slice_index_or, if◌then◌else◌}
+use Rattle.std.specs.Prelude.{ℕ, ◌+◌, ◌-◌, ◌*◌, ◌/◌, ◌==◌, Option, Some, None, List, [], ◌∷◌, ◌++◌, codes, decimal, fold, length, max, min, slice_index_or, if◌then◌else◌}
 use Rattle.std.specs.List.{flat_map, range_with_len}
 use Rattle.transcript.specs.declared.event.Event.{Event}
 use Rattle.transcript.specs.declared.event.Event.TheVariants.{Write, Snap, Decide}

@@ -14,11 +14,9 @@ use Rattle.simulator_lanes.specs.Proposals.{counts_of, proposer}
 use Rattle.simulator_lanes.specs.Words.{clipped}
 
 -- ; simulator 0 proposed 1 .
-unfoldable pub open_proposal : Panel → Agreement → ℕ → List ℕ
-open_proposal panel agreement simulator = codes "; " ++ (proposer simulator ++ counts_of panel agreement simulator)
-
-abbrev pub proposal_if : Panel → Agreement → ℕ → List ℕ
-proposal_if panel agreement simulator = if is_open agreement simulator panel.marks (events_in panel.report) then open_proposal panel agreement simulator else []
+unfoldable pub proposal_if : Panel → Agreement → ℕ → List ℕ
+proposal_if panel agreement simulator =
+    if is_open agreement simulator panel.marks (events_in panel.report) then codes "; " ++ (proposer simulator ++ counts_of panel agreement simulator) else []
 
 unfoldable pub open_proposals : Panel → Agreement → List ℕ
 open_proposals panel agreement = flat_map (proposal_if panel agreement) (range_with_len 0 panel.head.spec.simulators)

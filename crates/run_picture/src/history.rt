@@ -1,7 +1,6 @@
 //! The lanes of the processes: each event at the step at which it takes effect, and the state of each process.
 ghost use Rattle.std.specs.Prelude.{◌≡◌, ◌+◌, ◌*◌, ◌++◌, ◌∷◌, ◌≤◌, ◌<◌, IfOk, OnOk, length};
 ghost use Rattle.transcript.specs.Grammar.{entry_text};
-ghost use Rattle.ws_history.specs.declared.states.ProcessState.TheVariants.{Going as GoingState};
 ghost use Rattle.run_picture.specs.History.{all_events, box_width, boxed, column_for, entries_text, event_box, event_hint, event_look, event_shapes, event_start, event_width, event_words, event_x, events_right, first_pen, lane_events, lane_line, lane_right, last_line, own_pen, own_shapes, pen_after, process_lane, process_lanes, row_processes, state_look, state_words, tie, tied};
 ghost use Rattle.run_picture.specs.Opens.{open_shapes};
 ghost use Rattle.simulator_lanes.specs.Panels.{states_in};
@@ -328,20 +327,10 @@ fn state_words(alloc: Global, panel: &Panel, state: ProcessState) -> Result<Text
             words.put(b"held by ")?;
             write_simulator(&mut words, simulator)?;
         }
-        ProcessState::Going => words.put(going_words(panel))?,
+        ProcessState::Going if is_one_left(panel) => words.put(b"may still go on")?,
+        ProcessState::Going => words.put(b"no simulator left")?,
     }
     Ok(words)
-}
-
-#[tactic(auto, unfolding(crate::specs::History::state_words))]
-fn going_words(panel: &Panel) -> &'static [u8]
-    ensures { result.now ≡ state_words panel.now GoingState }
-{
-    if is_one_left(panel) {
-        b"may still go on"
-    } else {
-        b"no simulator left"
-    }
 }
 
 /// The colour of these words and of the process's line, which is dashed if the process isn't through.

@@ -1,7 +1,7 @@
 //! The proposals that may still be chosen, in the lane of the process whose snapshot they are.
 ghost use Rattle.std.specs.Prelude.{◌≡◌, ◌++◌, IfOk, OnOk};
 ghost use Rattle.simulator_lanes.specs.Panels.{events_in};
-ghost use Rattle.run_picture.specs.Opens.{open_label, open_proposal, open_proposals, open_shapes, open_words, proposal_if, shapes_of};
+ghost use Rattle.run_picture.specs.Opens.{open_label, open_proposals, open_shapes, open_words, proposal_if, shapes_of};
 
 use io_text::Text;
 use picture_shapes::{Colour, Frame, Point, Sheet, write_decimal};
@@ -72,6 +72,7 @@ fn open_proposals(alloc: Global, panel: &Panel, agreement: Agreement) -> Result<
     Ok(words)
 }
 
+#[tactic(auto, unfolding(crate::specs::Opens::proposal_if))]
 fn write_if_open(
     alloc: Global,
     output: &mut Text,
@@ -81,23 +82,9 @@ fn write_if_open(
 ) -> Result<(), AllocError>
     ensures { OnOk result (output.new ≡ output.old ++ proposal_if panel.now agreement simulator) }
 {
-    if agreement.is_open(simulator, panel.marks(), panel.events()) {
-        write_open(alloc, output, panel, agreement, simulator)
-    } else {
-        Ok(())
+    if !agreement.is_open(simulator, panel.marks(), panel.events()) {
+        return Ok(());
     }
-}
-
-#[tactic(auto, unfolding(crate::specs::Opens::open_proposal))]
-fn write_open(
-    alloc: Global,
-    output: &mut Text,
-    panel: &Panel,
-    agreement: Agreement,
-    simulator: u8,
-) -> Result<(), AllocError>
-    ensures { OnOk result (output.new ≡ output.old ++ open_proposal panel.now agreement simulator) }
-{
     let counts = counts_of(alloc, panel, agreement, simulator)?;
     output.put(b"; ")?;
     write_proposer(output, simulator)?;
