@@ -1,9 +1,8 @@
 -- A lane stays hatched until its simulator leaves the agreement.
-use Rattle.std.proofs.Common.{◌≡◌, ◌∙◌, ◌⊎◌, inl, inr, ℕ, ◌+◌, ◌<◌, ◌≤◌, ◌==◌, ◌&&◌, ◌||◌, Bool, true, false, cond, List, [], ◌∷◌, ◌++◌, Some, ap, eq-eqb, length, refl, subst, sym, arith}
+use Rattle.std.proofs.Common.{◌≡◌, ◌∙◌, ◌⊎◌, inl, inr, ℕ, ◌<◌, ◌≤◌, ◌&&◌, ◌||◌, Bool, true, false, cond, List, [], ◌∷◌, ◌++◌, Some, ap, eq-eqb, length, refl, subst, sym, arith}
 use Rattle.std.specs.List.{list_any}
 use Rattle.std.proofs.lemmas.Bool.{cases_lt}
 use Rattle.std.proofs.lemmas.List.{append-nil, append_assoc, length-append}
-use Rattle.picture_shapes.specs.declared.colour.Colour.{Colour}
 use Rattle.picture_shapes.specs.declared.colour.Colour.TheVariants.{Hatched, Pale}
 use Rattle.picture_shapes.specs.declared.shape.Shape.{Shape}
 use Rattle.run_columns.specs.declared.mark.Deed.{Deed}
