@@ -68,13 +68,17 @@ workers_rule = number_rule (codes "workers") 1 16
 abbrev pub brief_rule : Rule
 brief_rule = record (new_rule (codes "brief")) { long = Some (codes "brief"); action = Some SetTrue }
 
+-- an option that takes no value
+abbrev pub group_rule : Rule
+group_rule = record (new_rule (codes "group")) { long = Some (codes "group"); action = Some SetTrue }
+
 -- the subcommand `sample` as far as it says which schedules are drawn: a file and three numbers
 abbrev pub drawing_app : App
 drawing_app = with_rule (with_rule (with_rule (file_app (codes "sample")) schedules_rule) crashes_rule) seed_rule
 
 -- and which outcomes are shown
 abbrev pub choosing_app : App
-choosing_app = with_rule (with_rule drawing_app top_rule) outcome_rule
+choosing_app = with_rule (with_rule (with_rule drawing_app group_rule) top_rule) outcome_rule
 
 -- the subcommand `sample`, which takes besides a number and two flags
 abbrev pub sample_app : App
@@ -167,6 +171,7 @@ pub record IsPlanAmong (found : Option (List ℕ × List Row)) (plan : Plan) : T
   pub crashes : IsNumber (value_among (codes "crashes") found) 1 plan.crashes
   pub seed : IsNumber (value_among (codes "seed") found) 1 plan.seed
   pub workers : IsNumber (value_among (codes "workers") found) 1 plan.workers
+  pub group : plan.group ≡ is_given (value_among (codes "group") found)
   pub brief : plan.brief ≡ is_given (value_among (codes "brief") found)
   pub json : plan.json ≡ is_given (value_among (codes "json") found)
   pub top : IsNumberIfAny (value_among (codes "top") found) plan.top

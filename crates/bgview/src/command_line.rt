@@ -4,7 +4,7 @@ ghost use Rattle.clap.specs.Kinds.{FailsBy};
 ghost use Rattle.clap.specs.declared.builder.command.Command.TheViews.{out-Command};
 ghost use Rattle.clap.specs.Words.{app_of, fault_of, first_value, found_of, subcommand_of, subcommand_rows_of, with_subcommand};
 ghost use Rattle.clap.specs.Walk.{rule_of};
-ghost use Rattle.bgview.specs.CommandLine.{IsGradingAmong, IsNumber, IsNumberIfAny, IsPlanAmong, IsRequestAmong, IsSearchAmong, IsStyleAmong, bgview_app, brief_rule, choosing_app, commands_rule, crashes_rule, draw_app, drawing_app, fault_app, file_among, file_app, goal_rule, grade_app, is_given, json_among, json_rule, mode_among, mode_of, other_among, outcome_rule, outcomes_app, page_app, plain_app, sample_app, scale_rule, schedules_rule, seed_rule, states_rule, stopped_rule, telling_app, top_rule, turns_rule, workers_rule};
+ghost use Rattle.bgview.specs.CommandLine.{IsGradingAmong, IsNumber, IsNumberIfAny, IsPlanAmong, IsRequestAmong, IsSearchAmong, IsStyleAmong, bgview_app, brief_rule, choosing_app, commands_rule, crashes_rule, draw_app, drawing_app, fault_app, file_among, file_app, goal_rule, grade_app, group_rule, is_given, json_among, json_rule, mode_among, mode_of, other_among, outcome_rule, outcomes_app, page_app, plain_app, sample_app, scale_rule, schedules_rule, seed_rule, states_rule, stopped_rule, telling_app, top_rule, turns_rule, workers_rule};
 
 use clap::{Arg, ArgAction, ArgMatches, Command, Error, value_parser};
 use room_sample::Plan;
@@ -216,7 +216,8 @@ fn choosing_command<'a>(alloc: Global) -> Result<Command<'a>, AllocError>
     ensures local { IfOk result (λ command. (out-Command command).has_globals ≡ false) }
 {
     let sample = drawing_command(alloc)?;
-    let with_top = sample.arg(top_option(alloc))?;
+    let with_group = sample.arg(group_option(alloc))?;
+    let with_top = with_group.arg(top_option(alloc))?;
     with_top.arg(outcome_option(alloc))
 }
 
@@ -229,7 +230,7 @@ fn drawing_command<'a>(alloc: Global) -> Result<Command<'a>, AllocError>
         alloc,
         "sample",
         "Runs each room of a file by random schedules, and counts the outcomes",
-        "bgview sample [--schedules N] [--crashes F] [--seed S] [--workers W] [--top K] [--outcome K] [--json] [--brief] [FILE]",
+        "bgview sample [--schedules N] [--crashes F] [--seed S] [--workers W] [--group] [--top K] [--outcome K] [--json] [--brief] [FILE]",
         "The rooms; without it, standard input is read",
     )?;
     let with_schedules = sample.arg(schedules_option(alloc))?;
@@ -294,6 +295,17 @@ fn seed_option<'a>(alloc: Global) -> Arg<'a>
         .value_name("S")
         .value_parser(value_parser!(u32).range(0..=4294967295))
         .help("What the schedules are drawn from, 0 to 4294967295; without it, 1")
+}
+
+/// The option `--group`.
+fn group_option<'a>(alloc: Global) -> Arg<'a>
+    ensures rule { rule_of result ≡ group_rule }
+    ensures local { result.global ≡ false }
+{
+    Arg::new(alloc, "group")
+        .long("group")
+        .action(ArgAction::SetTrue)
+        .help("Counts outcomes as one that differ only in which simulators hold processes")
 }
 
 /// The option `--top K`.
@@ -614,6 +626,7 @@ fn plan_in(matches: &ArgMatches<'_>) -> Plan
             crashes: number_among(inner, "crashes", 1),
             seed: number_among(inner, "seed", 1),
             workers: number_among(inner, "workers", 1),
+            group: is_given(inner, "group"),
             brief: is_given(inner, "brief"),
             top: number_if_any(inner, "top"),
             json: is_given(inner, "json"),
@@ -624,6 +637,7 @@ fn plan_in(matches: &ArgMatches<'_>) -> Plan
             crashes: 1,
             seed: 1,
             workers: 1,
+            group: false,
             brief: false,
             top: None,
             json: false,

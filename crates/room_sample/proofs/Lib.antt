@@ -3,6 +3,8 @@ mod AmongAll
 mod Counting
 mod Drawing
 mod Entering
+mod Grouping
+mod Joining
 mod OneMore
 mod Parts
 mod Ordering

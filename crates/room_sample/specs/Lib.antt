@@ -1,5 +1,6 @@
 pub mod Chances
 pub mod Drawn
+pub mod Groups
 pub mod Parts
 pub mod Samples
 pub mod Schedules

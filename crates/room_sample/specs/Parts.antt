@@ -1,5 +1,5 @@
 -- Outcomes that are counted in parts, each part on its own.
-use Rattle.std.specs.Prelude.{◌≡◌, ℕ, ◌+◌, ◌-◌, ◌^◌, List, [], ◌∷◌, min, if◌then◌else◌}
+use Rattle.std.specs.Prelude.{◌≡◌, ℕ, zero, suc, ◌+◌, ◌-◌, ◌^◌, List, [], ◌∷◌, min, if◌then◌else◌}
 use Rattle.std.specs.List.{fold}
 use Rattle.room_spec.specs.Rooms.{RoomSpec}
 use Rattle.room_sample.specs.Samples.{AreRunsFrom, Counted, Sampled, counted_all, same_states}
@@ -23,3 +23,9 @@ added one (other ∷ others) = if same_states one.states other.states then more_
 -- and all of a later part, in order
 abbrev pub added_all : List Counted → List Counted → List Counted
 added_all outcomes later = fold (λ so_far one. added one so_far) outcomes later
+
+-- the outcomes, where that of an index came this many times more
+abbrev pub more_at : List Counted → ℕ → ℕ → List Counted
+more_at [] i count = []
+more_at (one ∷ others) zero count = more_times count one ∷ others
+more_at (one ∷ others) (suc i) count = one ∷ more_at others i count

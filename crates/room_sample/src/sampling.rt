@@ -30,6 +30,8 @@ pub struct Plan {
     /// How many threads run schedules at the same time, 1 to 16. A smaller number counts as 1, and a larger one as 16. The outcomes are the same
     /// by any number.
     pub workers: u32,
+    /// Whether outcomes that differ only in which simulators hold processes are one.
+    pub group: bool,
     /// Whether scripts are left out.
     pub brief: bool,
     /// How many outcomes are shown at most; if it is not said, all.

@@ -1,7 +1,8 @@
 //! Outcomes, and how often each came.
-ghost use Rattle.std.specs.Prelude.{◌≡◌, ◌<◌, [], IsPermutation, OnOk, length, option_map, slice_get};
+ghost use Rattle.std.specs.Prelude.{◌≡◌, ◌<◌, [], IfOk, IsPermutation, OnOk, length, map, option_map, slice_get};
 ghost use Rattle.room_sample.specs.Samples.{AreMostFirst, counted, counted_of};
-ghost use Rattle.room_sample.specs.Parts.{added, added_all};
+ghost use Rattle.room_sample.specs.Groups.{ArePatterns, grouped, joined, without_holder};
+ghost use Rattle.room_sample.specs.Parts.{added, added_all, more_at};
 ghost use Rattle.room_sample.specs.Shown.{AreKept, with_schedule_at};
 ghost use Rattle.room_sample.specs.Ways.{sampled_of};
 
@@ -9,7 +10,7 @@ use crate::cuts::shorten;
 use crate::run::Run;
 use crate::stretch::Stretch;
 use arrayvec::ArrayVec;
-use indexmap::IndexMap;
+use indexmap::{IndexMap, IndexSet};
 use room_spec::{MAX_PROCESSES, Spec};
 use std::alloc::{AllocError, Global};
 use std::cmp::Reverse;
@@ -83,10 +84,56 @@ impl Tally {
             self.outcomes.insert(states, outcome)?;
             return Ok(());
         };
+        self.come_again(index, outcome.times);
+        Ok(())
+    }
+
+    /// Counts an outcome this many times more.
+    fn come_again(&mut self, index: usize, times: u32)
+        requires { index < length self.old }
+        ensures { self.new ≡ more_at self.old index times }
+    {
         let Some(known) = self.outcomes.get_index_mut(index) else {
-            unreachable!() // the index was found just now
+            unreachable!() // there is an outcome of each index below their number
         };
-        known.times = known.times.saturating_add(outcome.times);
+        known.times = known.times.saturating_add(times);
+    }
+
+    /// Puts outcomes into one group that differ only in which simulators hold processes. A group is its first outcome, as often as all of its
+    /// outcomes came.
+    ///
+    /// # Errors
+    ///
+    /// An allocation that fails.
+    pub fn grouped(self, alloc: Global) -> Result<Tally, AllocError>
+        ensures { IfOk result (λ groups. groups ≡ grouped self) }
+    {
+        let mut groups = Tally::new(alloc);
+        let mut patterns = IndexSet::new(alloc);
+        for (states, outcome) in self.outcomes {
+            groups.join(&mut patterns, states, outcome)?;
+        }
+        Ok(groups)
+    }
+
+    /// Adds an outcome to its group, or begins one. The group of an index has the pattern of that index.
+    fn join(
+        &mut self,
+        patterns: &mut IndexSet<States>,
+        states: States,
+        outcome: Outcome,
+    ) -> Result<(), AllocError>
+        requires { ArePatterns self.old patterns.old.keys }
+        ensures joined { OnOk result (self.new ≡ joined (counted_of (states, outcome)) self.old) }
+        ensures patterns { OnOk result (ArePatterns self.new patterns.new.keys) }
+    {
+        let pattern = pattern_of(&states);
+        let Some(index) = patterns.get_index_of(&pattern) else {
+            patterns.insert(pattern)?;
+            self.add(states, outcome)?;
+            return Ok(());
+        };
+        self.come_again(index, outcome.times);
         Ok(())
     }
 
@@ -201,5 +248,27 @@ impl Tally {
         ensures { option_map (λ one. counted_of (one.0.now, one.1.now)) result ≡ slice_get self.now index }
     {
         self.outcomes.get_index(index)
+    }
+}
+
+/// The states, whichever simulators hold.
+fn pattern_of(states: &States) -> States
+    ensures { result.items ≡ map without_holder states.now.items }
+{
+    let states = states.as_slice();
+    let mut pattern = States::new();
+    for at in 0..states.len() {
+        pattern.push(without_holder(states[at]));
+    }
+    pattern
+}
+
+/// The state of a process, whichever simulator holds it.
+fn without_holder(state: ProcessState) -> ProcessState
+    ensures { result ≡ without_holder state }
+{
+    match state {
+        ProcessState::Held(_) => ProcessState::Held(0),
+        ProcessState::Decided(_) | ProcessState::Spent | ProcessState::Going => state,
     }
 }

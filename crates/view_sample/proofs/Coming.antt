@@ -11,10 +11,12 @@ use Rattle.view_sample.specs.Leads.{HasScript}
 use Rattle.room_sample.specs.Chances.{random_of}
 use Rattle.room_sample.specs.Samples.{Counted, IsRunFrom, IsSample, Sampled, counted, first_time, once_more, same_states}
 use Rattle.ws_history.specs.declared.states.ProcessState.{ProcessState}
+use Rattle.room_sample.specs.Groups.{grouped_if}
 use Rattle.room_sample.specs.Schedules.{IsOutcome}
 use Rattle.room_sample.specs.Shown.{AreKept}
 use Rattle.view_sample.specs.Tasks.{breaks_task, first_broken}
 use Rattle.room_sample.specs.declared.sampling.Plan.{Plan}
+use Rattle.room_sample.proofs.CallerLemmas.{grouped_keeps}
 use Rattle.view_sample.proofs.Leading.{leads}
 
 -- an outcome comes by its schedule
@@ -43,6 +45,11 @@ sample_come : (plan : Plan) (spec : RoomSpec) (outcomes : List Counted) → IsSa
 sample_come plan spec outcomes sample =
     subst (λ (all : List Counted). All (Comes spec plan.crashes) all) (sym sample.outcomes_are) (drawn_come spec plan.crashes (random_of plan.seed) sample.runs [] sample.drawn (λ k d below. absurd (omega (arith, below))))
 
+-- and so do their groups
+groups_come : (group : Bool) (spec : RoomSpec) (crashes : ℕ) (outcomes : List Counted) → All (Comes spec crashes) outcomes → All (Comes spec crashes) (grouped_if group outcomes)
+groups_come true spec crashes outcomes all = grouped_keeps (Comes spec crashes) (λ one count is. is) outcomes all
+groups_come false spec crashes outcomes all = all
+
 -- and so they do by schedules that were made short
 kept_come : (spec : RoomSpec) (crashes : ℕ) (outcomes short : List Counted) → AreKept spec crashes outcomes short → All (Comes spec crashes) outcomes → All (Comes spec crashes) short
 kept_come spec crashes [] [] kept all = λ k d below. absurd (omega (arith, below))
@@ -52,11 +59,12 @@ kept_come spec crashes (one ∷ outcomes) (other ∷ short) kept all =
 kept_come spec crashes [] (other ∷ short) kept all = absurd kept
 kept_come spec crashes (one ∷ outcomes) [] kept all = absurd kept
 
-short_come : (plan : Plan) (spec : RoomSpec) (outcomes short : List Counted) → IsSample spec plan outcomes → AreKept spec plan.crashes outcomes short → All (Comes spec plan.crashes) short
-short_come plan spec outcomes short sample kept = kept_come spec plan.crashes outcomes short kept (sample_come plan spec outcomes sample)
+short_come : (plan : Plan) (spec : RoomSpec) (outcomes short : List Counted) → IsSample spec plan outcomes → AreKept spec plan.crashes (grouped_if plan.group outcomes) short → All (Comes spec plan.crashes) short
+short_come plan spec outcomes short sample kept =
+    kept_come spec plan.crashes (grouped_if plan.group outcomes) short kept (groups_come plan.group spec plan.crashes outcomes (sample_come plan spec outcomes sample))
 
 -- each script leads to its outcome
-pub scripts_lead : (plan : Plan) (spec : RoomSpec) (block : List ℕ) (outcomes short shown : List Counted) → IsWithinLimits spec → block_in block ≡ Ok (spec, length block) → IsSample spec plan outcomes → AreKept spec plan.crashes outcomes short → IsPermutation short shown
+pub scripts_lead : (plan : Plan) (spec : RoomSpec) (block : List ℕ) (outcomes short shown : List Counted) → IsWithinLimits spec → block_in block ≡ Ok (spec, length block) → IsSample spec plan outcomes → AreKept spec plan.crashes (grouped_if plan.group outcomes) short → IsPermutation short shown
     → All (HasScript spec.name block) shown
 scripts_lead plan spec block outcomes short shown limits says sample kept permuted =
     let come = short_come plan spec outcomes short sample kept in
@@ -76,7 +84,7 @@ if_some P Q None more is = tt
 if_some P Q (Some one) more is = more one is
 
 -- and so does that of the outcome that breaks the task first
-pub breaking_leads : (plan : Plan) (spec : RoomSpec) (block : List ℕ) (outcomes short : List Counted) → IsWithinLimits spec → block_in block ≡ Ok (spec, length block) → IsSample spec plan outcomes → AreKept spec plan.crashes outcomes short → IfSome (first_broken spec short) (HasScript spec.name block)
+pub breaking_leads : (plan : Plan) (spec : RoomSpec) (block : List ℕ) (outcomes short : List Counted) → IsWithinLimits spec → block_in block ≡ Ok (spec, length block) → IsSample spec plan outcomes → AreKept spec plan.crashes (grouped_if plan.group outcomes) short → IfSome (first_broken spec short) (HasScript spec.name block)
 breaking_leads plan spec block outcomes short limits says sample kept =
     if_some (Comes spec plan.crashes) (HasScript spec.name block) (first_broken spec short) (λ one comes. leads spec plan.crashes block one.schedule one.states limits says comes)
     (found_come (Comes spec plan.crashes) (breaks_task spec) short (short_come plan spec outcomes short sample kept))

@@ -1,18 +1,18 @@
 -- That an outcome keeps its room's task says the same as that the room's history does.
 use Rattle.std.proofs.Common.{get_or, ◌≡◌, ◌≢◌, ◌↔◌, ◌∙◌, ℕ, zero, suc, ◌+◌, ◌<◌, ◌≤◌, Bool, true, false, ◌&&◌, ◌||◌, not, cond, eqb, List, [], ◌∷◌, ◌++◌, length, take, Option, Some, None, refl, sym, ap, subst, arith, rules, inl, inr, ◌⊎◌}
-use Rattle.std.specs.Prelude.{slice_get, slice_index_or, IfSome, nat_le}
+use Rattle.std.specs.Prelude.{slice_get, IfSome, nat_le}
 use Rattle.std.specs.List.{Contains, filter, list_all, list_any}
 use Rattle.std.specs.Option.{option_map_or}
 use Rattle.std.proofs.lemmas.Bool.{eq-eqb, eqb-true, ne_eqb}
 use Rattle.std.proofs.lemmas.List.{take_all, take_more}
 use Rattle.std.proofs.lemmas.List.FromFn.{get_or-map-range_with_len, length-map-range_with_len}
-use Rattle.std.proofs.lemmas.Option.{get_or_from_slice_get, slice_get-get_or, slice_get_within}
+use Rattle.std.proofs.lemmas.Option.{get_or_from_slice_get, slice_get-get_or}
 use Rattle.room_spec.specs.Rooms.{IsWithinLimits, RoomSpec, processes}
 use Rattle.transcript.specs.declared.event.Event.{Event}
 use Rattle.transcript.specs.declared.event.Event.TheVariants.{Write, Snap, Decide}
 use Rattle.transcript.specs.Runs.{IsRun}
 use Rattle.transcript.specs.Tasks.{IsInTask, KeepsOwnTask, KeepsTask, decided_by, decided_in, different}
-use Rattle.transcript.proofs.CallerLemmas.{In, any_in, contains_in, different_in, few_different, in_any, in_contains, in_different, input_is, no_more, one_more}
+use Rattle.transcript.proofs.CallerLemmas.{In, contains_in, few_different, in_any, in_different, input_is, no_more, one_more}
 use Rattle.room_core.specs.Calls.{RoomState}
 use Rattle.room_core.specs.Fields.{Fields}
 use Rattle.room_core.specs.Reading.{AreFieldsOf}

@@ -1,3 +1,4 @@
+mod Alike
 mod Breaking
 mod Coming
 mod Following

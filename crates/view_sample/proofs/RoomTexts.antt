@@ -8,10 +8,10 @@ use Rattle.room_spec.specs.Blocks.{block_in}
 use Rattle.room_spec.specs.Rooms.{IsWithinLimits, RoomSpec}
 use Rattle.room_files.specs.BlockLists.{IsBlockAt}
 use Rattle.view_sample.specs.Rooms.{AddsSamples, AreSampleTexts, IsSampleText, alone_shown, is_well, room_text, end_text, shown_text}
+use Rattle.room_sample.specs.Groups.{grouped_if}
 use Rattle.room_sample.specs.Shown.{AreKept}
 use Rattle.room_sample.specs.Samples.{AreAmongAll, AreMostFirst, Counted, IsSample}
-use Rattle.view_sample.specs.TaskTexts.{has_held, task_text}
-use Rattle.view_sample.specs.Texts.{sample_text}
+use Rattle.view_sample.specs.TaskTexts.{has_held}
 use Rattle.room_sample.specs.declared.sampling.Plan.{Plan}
 use Rattle.view_sample.proofs.Coming.{breaking_leads, scripts_lead}
 use Rattle.view_sample.proofs.Taking.{took}
@@ -54,7 +54,7 @@ same_read : (block : List ℕ) (one other : RoomSpec × ℕ) → block_in block 
 same_read block one other read says = cc
 
 -- what was written of the room that a block says
-sample_shown : (plan : Plan) (block : List ℕ) (spec : RoomSpec) (len : ℕ) (outcomes short shown : List Counted) (well : Bool) (before after : List ℕ) → IsWithinLimits spec → block_in block ≡ Ok (spec, len) → IsSample spec plan outcomes → AreAmongAll spec outcomes → AreKept spec plan.crashes outcomes short
+sample_shown : (plan : Plan) (block : List ℕ) (spec : RoomSpec) (len : ℕ) (outcomes short shown : List Counted) (well : Bool) (before after : List ℕ) → IsWithinLimits spec → block_in block ≡ Ok (spec, len) → IsSample spec plan outcomes → AreAmongAll spec outcomes → AreKept spec plan.crashes (grouped_if plan.group outcomes) short
     → IsPermutation short shown → AreMostFirst shown → well ≡ is_well plan.outcome spec short shown → after ≡ before ++ room_text plan.outcome plan spec block short shown
     → (said : RoomSpec) → block_in block ≡ Ok (said, length block) → (text : List ℕ) × IsSampleText plan said well text × (after ≡ before ++ text)
 sample_shown plan block spec len outcomes short shown well before after limits read sample among kept permuted first well_is after_is said says =
@@ -81,7 +81,7 @@ sample_shown plan block spec len outcomes short shown well before after limits r
 
 -- all of it
 pub sample_told : (plan : Plan) (block : List ℕ) (spec : RoomSpec) (len : ℕ) (outcomes short shown : List Counted) (held : Bool) (task before middle after : List ℕ) → plan.outcome ≡ None → IsWithinLimits spec → block_in block ≡ Ok (spec, len) → IsSample spec plan outcomes → AreAmongAll spec outcomes
-    → AreKept spec plan.crashes outcomes short → IsPermutation short shown → AreMostFirst shown → held ≡ has_held spec short → task ≡ end_text plan.json plan spec block short → middle ≡ before ++ shown_text plan.json plan spec.name block shown → after ≡ middle ++ task
+    → AreKept spec plan.crashes (grouped_if plan.group outcomes) short → IsPermutation short shown → AreMostFirst shown → held ≡ has_held spec short → task ≡ end_text plan.json plan spec block short → middle ≡ before ++ shown_text plan.json plan spec.name block shown → after ≡ middle ++ task
     → (said : RoomSpec) → block_in block ≡ Ok (said, length block) → (text : List ℕ) × IsSampleText plan said held text × (after ≡ before ++ text)
 sample_told plan block spec len outcomes short shown held task before middle after none limits read sample among kept permuted first held_is task_is middle_is after_is =
     let listed = shown_text plan.json plan spec.name block shown in
@@ -91,7 +91,7 @@ sample_told plan block spec len outcomes short shown held task before middle aft
 
 -- the script of one outcome
 pub script_told : (plan : Plan) (block : List ℕ) (spec : RoomSpec) (len : ℕ) (outcomes short shown : List Counted) (there : Bool) (number : ℕ) (before after : List ℕ) → plan.outcome ≡ Some number → IsWithinLimits spec → block_in block ≡ Ok (spec, len) → IsSample spec plan outcomes → AreAmongAll spec outcomes
-    → AreKept spec plan.crashes outcomes short → IsPermutation short shown → AreMostFirst shown → there ≡ is_some (slice_get shown (number - 1)) → after ≡ before ++ alone_shown plan.json plan spec.name block shown number
+    → AreKept spec plan.crashes (grouped_if plan.group outcomes) short → IsPermutation short shown → AreMostFirst shown → there ≡ is_some (slice_get shown (number - 1)) → after ≡ before ++ alone_shown plan.json plan spec.name block shown number
     → (said : RoomSpec) → block_in block ≡ Ok (said, length block) → (text : List ℕ) × IsSampleText plan said there text × (after ≡ before ++ text)
 script_told plan block spec len outcomes short shown there number before after some limits read sample among kept permuted first there_is after_is =
     sample_shown plan block spec len outcomes short shown there before after limits read sample among kept permuted first

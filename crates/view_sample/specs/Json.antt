@@ -1,5 +1,5 @@
 -- A sample as JSON: an object a line.
-use Rattle.std.specs.Prelude.{ℕ, ◌+◌, ◌-◌, Bool, true, false, List, [], ◌∷◌, ◌++◌, length, map, take, Option, Some, None, slice_get, if◌then◌else◌, codes}
+use Rattle.std.specs.Prelude.{ℕ, ◌-◌, Bool, true, List, length, map, take, Option, Some, None, slice_get, if◌then◌else◌, codes}
 use Rattle.std.specs.List.{flat_map}
 use Rattle.serde_json.specs.Data.{Data, array, boolean, member, no_members, null, number, object, string, unsigned}
 use Rattle.serde_json.specs.View.{items_of}
@@ -45,10 +45,10 @@ broken_data spec outcomes = broken_by spec.task spec outcomes
 abbrev pub room_data : RoomSpec → Plan → List Counted → Data
 room_data spec plan outcomes =
     object (member (codes "crashes") (number (unsigned plan.crashes)) (member (codes "decided_at_most") (number (unsigned (most_of values_in outcomes)))
-    (member (codes "held_at_most") (number (unsigned (most_of held_in outcomes))) (member (codes "once") (number (unsigned (once_in outcomes)))
+    (member (codes "grouped") (boolean plan.group) (member (codes "held_at_most") (number (unsigned (most_of held_in outcomes))) (member (codes "once") (number (unsigned (once_in outcomes)))
     (member (codes "outcomes") (number (unsigned (length outcomes))) (member (codes "room") (string spec.name)
     (member (codes "schedules") (number (unsigned plan.schedules)) (member (codes "seed") (number (unsigned plan.seed))
-    (member (codes "task_broken") (broken_data spec outcomes) no_members)))))))))
+    (member (codes "task_broken") (broken_data spec outcomes) no_members))))))))))
 
 abbrev pub room_line : RoomSpec → Plan → List Counted → List ℕ
 room_line spec plan outcomes = json_line (room_data spec plan outcomes)

@@ -4,6 +4,7 @@ use Rattle.std.specs.List.{All, concat}
 use Rattle.room_spec.specs.Blocks.{block_in}
 use Rattle.room_spec.specs.Rooms.{RoomSpec}
 use Rattle.view_sample.specs.Leads.{HasScript}
+use Rattle.room_sample.specs.Groups.{grouped_if}
 use Rattle.room_sample.specs.Samples.{AreAmongAll, AreMostFirst, Counted, IsSample}
 use Rattle.room_sample.specs.Shown.{AreKept}
 use Rattle.view_sample.specs.Json.{alone_line, outcome_lines, room_line}
@@ -37,7 +38,7 @@ abbrev pub is_well : Option ℕ → RoomSpec → List Counted → List Counted �
 is_well None spec short shown = has_held spec short
 is_well (Some number) spec short shown = is_some (slice_get shown (number - 1))
 
--- The text shows a sample of the room: those outcomes first that came most often, each with a short script that leads to it, and each among
+-- The text shows a sample of the room, in groups if they are asked for: those outcomes first that came most often, each with a short script that leads to it, and each among
 -- the outcomes of all runs of the room's protocol. It then says in how many schedules the room's task was broken, with a script that leads to an
 -- outcome that breaks it; all is well if none broke it. The block says the room.
 pub record IsSampleText (plan : Plan) (spec : RoomSpec) (well : Bool) (text : List ℕ) : Type 0 where
@@ -46,9 +47,9 @@ pub record IsSampleText (plan : Plan) (spec : RoomSpec) (well : Bool) (text : Li
   pub outcomes : List Counted
   pub sample : IsSample spec plan outcomes
   pub among : AreAmongAll spec outcomes
-  -- the same, with schedules that were made short
+  -- these or their groups, with schedules that were made short
   pub short : List Counted
-  pub kept : AreKept spec plan.crashes outcomes short
+  pub kept : AreKept spec plan.crashes (grouped_if plan.group outcomes) short
   pub shown : List Counted
   pub all_shown : IsPermutation short shown
   pub most_first : AreMostFirst shown

@@ -22,9 +22,13 @@ script_text name block schedule =
 
 -- ---- the text
 
+-- whether the outcomes are groups
+abbrev pub plan_end : Bool → List ℕ
+plan_end group = if group then codes " grouped\n" else codes "\n"
+
 abbrev pub plan_line : List ℕ → Plan → List ℕ
 plan_line name plan =
-    (name ++ (codes " sample" ++ (32 ∷ decimal plan.schedules))) ++ ((codes " crashes" ++ (32 ∷ decimal plan.crashes)) ++ ((codes " seed" ++ (32 ∷ decimal plan.seed)) ++ codes "\n"))
+    (name ++ (codes " sample" ++ (32 ∷ decimal plan.schedules))) ++ ((codes " crashes" ++ (32 ∷ decimal plan.crashes)) ++ ((codes " seed" ++ (32 ∷ decimal plan.seed)) ++ plan_end plan.group))
 
 abbrev pub script_unless : Bool → List ℕ → List ℕ → List Stretch → List ℕ
 script_unless brief name block schedule = if brief then [] else script_text name block schedule

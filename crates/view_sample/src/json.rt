@@ -145,9 +145,11 @@ fn room_value(
     let (values, held) = most_of(outcomes);
     let (count, once) = (outcomes.len(), once_in(outcomes));
     let (crashes, schedules, seed) = (plan.crashes, plan.schedules, plan.seed);
+    let grouped = plan.group;
     json!(in alloc; {
         "crashes": crashes,
         "decided_at_most": values,
+        "grouped": grouped,
         "held_at_most": held,
         "once": once,
         "outcomes": count,

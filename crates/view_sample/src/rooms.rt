@@ -4,6 +4,7 @@ ghost use Rattle.std.specs.List.{sum_by};
 ghost use Rattle.room_files.specs.BlockLists.{IsBlockAt};
 ghost use Rattle.room_spec.specs.Blocks.{block_in};
 ghost use Rattle.room_spec.specs.Rooms.{RoomSpec};
+ghost use Rattle.room_sample.specs.Groups.{grouped_if};
 ghost use Rattle.room_sample.specs.Shown.{AreKept};
 ghost use Rattle.view_sample.specs.Rooms.{AddsSamples, IsSampleText, alone_shown, end_text, shown_text};
 ghost use Rattle.view_sample.specs.TaskTexts.{has_held};
@@ -46,6 +47,17 @@ pub(crate) fn write_samples<R: Threads + Sync, P: Progress>(
     Ok(well)
 }
 
+/// The groups of these outcomes if they are asked for, and else the outcomes.
+fn grouped_if(alloc: Global, group: bool, outcomes: Tally) -> Result<Tally, AllocError>
+    ensures { IfOk result (λ all. all ≡ grouped_if group outcomes) }
+{
+    if group {
+        outcomes.grouped(alloc)
+    } else {
+        Ok(outcomes)
+    }
+}
+
 /// How many times a room is run at most to make its scripts short.
 fn tries_for(plan: &Plan) -> u32 {
     if plan.brief {
@@ -74,8 +86,8 @@ fn shorten_shown(
     }
 }
 
-/// Samples the room of a block, and writes its outcomes, those first that came most often, and whether they keep its task; or the script of
-/// one outcome. Gives whether the task held, or whether there is that outcome.
+/// Samples the room of a block, and writes its outcomes, or the groups of them, those first that came most often, and whether they keep its
+/// task; or the script of one outcome. Gives whether the task held, or whether there is that outcome.
 fn write_room<R: Threads + Sync, P: Progress>(
     rt: &R,
     alloc: Global,
@@ -92,7 +104,8 @@ fn write_room<R: Threads + Sync, P: Progress>(
         unreachable!() // it is a room's block
     };
     let _shape = spec.shape(); // for the proof: the room is within its limits
-    let mut outcomes = sample(rt, alloc, &spec, plan, progress)?;
+    let sampled = sample(rt, alloc, &spec, plan, progress)?;
+    let mut outcomes = grouped_if(alloc, plan.group, sampled)?;
     shorten_shown(alloc, &mut outcomes, &spec, plan)?;
     let mut end = Text::new(alloc);
     let held = write_end(alloc, &mut end, &spec, block, plan, &outcomes)?;

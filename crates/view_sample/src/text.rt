@@ -2,7 +2,7 @@
 ghost use Rattle.std.specs.Prelude.{◌≡◌, ◌-◌, ◌≤◌, ◌++◌, ◌∷◌, IfOk, OnOk, codes, decimal, is_some, slice_get};
 ghost use Rattle.std.specs.List.{flat_map};
 ghost use Rattle.room_sample.specs.Samples.{counted_of};
-ghost use Rattle.view_sample.specs.Texts.{alone_text, count_words, most_lines, new_line, new_words, none_line, number_line, number_words, outcome_text, outcome_texts, plan_line, sample_text, script_text, script_unless, shown_count, stretch_line};
+ghost use Rattle.view_sample.specs.Texts.{alone_text, count_words, most_lines, new_line, new_words, none_line, number_line, number_words, outcome_text, outcome_texts, plan_end, plan_line, sample_text, script_text, script_unless, shown_count, stretch_line};
 
 use crate::counts::{most_of, once_in};
 use io_text::Text;
@@ -34,7 +34,14 @@ fn write_plan(output: &mut Text, name: &[u8], plan: &Plan) -> Result<(), AllocEr
     write_schedules(output, name, plan.schedules)?;
     write_crashes(output, plan.crashes)?;
     write_number(output, b" seed", u64::from(plan.seed))?;
-    output.put(b"\n")
+    output.put(plan_end(plan.group))
+}
+
+/// What follows the plan's numbers: whether the outcomes are groups.
+fn plan_end(group: bool) -> &'static [u8]
+    ensures { result.now ≡ plan_end group }
+{
+    if group { b" grouped\n" } else { b"\n" }
 }
 
 fn write_schedules(output: &mut Text, name: &[u8], schedules: u32) -> Result<(), AllocError>

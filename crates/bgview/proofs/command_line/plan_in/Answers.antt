@@ -15,8 +15,9 @@ returns-in-Some c =
       crashes = subst (λ (text : Option (List ℕ)). IsNumber text 1 c.number_among-in-Some.result) (among (codes "crashes")) c.number_among-in-Some.ensures;
       seed = subst (λ (text : Option (List ℕ)). IsNumber text 1 c.number_among-in-Some-2.result) (among (codes "seed")) c.number_among-in-Some-2.ensures;
       workers = subst (λ (text : Option (List ℕ)). IsNumber text 1 c.number_among-in-Some-3.result) (among (codes "workers")) c.number_among-in-Some-3.ensures;
-      json = c.is_given-in-Some.ensures ∙ ap is_given (among (codes "json"));
-      brief = c.is_given.ensures ∙ ap is_given (among (codes "brief"));
+      group = c.is_given.ensures ∙ ap is_given (among (codes "group"));
+      brief = c.is_given-in-Some.ensures ∙ ap is_given (among (codes "brief"));
+      json = c.is_given-in-Some-2.ensures ∙ ap is_given (among (codes "json"));
       top = subst (λ (text : Option (List ℕ)). IsNumberIfAny text c.number_if_any.result) (among (codes "top")) c.number_if_any.ensures;
       outcome = subst (λ (text : Option (List ℕ)). IsNumberIfAny text c.number_if_any-in-Some.result) (among (codes "outcome")) c.number_if_any-in-Some.ensures;
     }

@@ -1,4 +1,4 @@
-use Rattle.std.proofs.Common.{◌≡◌, ◌∙◌, ap}
+use Rattle.std.proofs.Common.{◌∙◌, ap}
 use Rattle.serde_json.specs.Written.{has_float}
 use Rattle.room_sample.specs.Samples.{counted_of}
 use Rattle.view_sample.proofs.JsonNumbers.{outcome_is}

@@ -1,10 +1,9 @@
-use Rattle.std.proofs.Common.{◌∙◌, ℕ, sym, ap}
+use Rattle.std.proofs.Common.{◌∙◌, List, sym, ap}
 use Rattle.std.specs.Prelude.{is_some}
 use Rattle.std.specs.Map.{lookup}
-use Rattle.room_sample.specs.declared.tally.Outcome.{Outcome}
-use Rattle.room_sample.specs.Parts.{added}
+use Rattle.room_sample.specs.Parts.{added, more_at}
 use Rattle.room_sample.specs.Samples.{Counted, counted_of, outcomes_in}
-use Rattle.room_sample.proofs.Counting.{Key, again_there, is_key, new_there, none_found}
+use Rattle.room_sample.proofs.Counting.{again_there, is_key, new_there, none_found}
 use Rattle.room_sample.proofs.tally.Tally.add.Goals as goal
 
 pub returns-in_default : goal.returns-in_default
@@ -14,8 +13,6 @@ returns-in_default c =
 
 pub returns : goal.returns
 returns c =
-    let before : Outcome = c.in-Some-get_index_mut.known.now in
-    let after : Outcome = record { times = c.saturating_add-known.result; schedule = before.schedule } in
-    let more = λ (k : Key). ap (λ (n : ℕ). let one : Counted = record { states = k.items; schedule = before.schedule.items; times = n } in one) c.saturating_add-known.ensures in
-    again_there c.args.states c.args.outcome before after c.self.inside.outcomes.entries c.in-Some.index more (sym c.get_index_of.ensures.index ∙ c.in-Some.is) (sym c.in-Some-get_index_mut.ensures.value)
+    c.come_again.ensures ∙ ap (λ (all : List Counted). more_at all c.in-Some.index c.args.outcome.times) (sym c.self.view_is)
+    ∙ again_there c.args.states c.args.outcome c.self.inside.outcomes.entries c.in-Some.index (sym c.get_index_of.ensures.index ∙ c.in-Some.is)
     ∙ ap (added (counted_of (c.args.states, c.args.outcome))) c.self.view_is
