@@ -49,7 +49,7 @@ IsShownIn Draw request input ending output = IsDrawn request.style input ending 
 IsShownIn Page request input ending output = IsPageFor (input ∷ []) ending output
 IsShownIn Transcript request input ending output = IsTranscribed input ending output
 IsShownIn Grade request input ending output = IsGradeFor request.grading input ending output
-IsShownIn Sample request input ending output = IsWhole (IsSampleFor request.plan input) ending output
+IsShownIn Sample request input ending output = IsSampleFor request.plan input ending output
 IsShownIn Outcomes request input ending output = IsWhole (IsOutcomesFor request.search input) ending output
 IsShownIn Lint request input ending output = IsWhole (IsLintFor input) ending output
 
@@ -91,8 +91,8 @@ goal_fault Lint request = None
 -- ---- the answer
 
 -- What is shown of inputs that have this fault if they have one, with a goal that has that fault if it has one: The answer is an outcome, with
--- what is shown; or a fault, with nothing. But if an allocation failed for a part of a script, the rest is shown; and if writing failed, a beginning
--- is written.
+-- what is shown; or a fault, with nothing. But if an allocation failed for a part of a script or for a room's sample, the rest is shown; and if writing
+-- failed, a beginning is written.
 abbrev pub IsAnswerOf : Type 0 → Type 0 → (Result Outcome AllocError → List ℕ → Type 0) → Option FaultAt → Option GoalFault → Result Outcome ViewFault → List ℕ → Type 0
 IsAnswerOf fit long shown fault bad_goal (Ok outcome) output = fit × shown (Ok outcome) output
 IsAnswerOf fit long shown fault bad_goal (Err Incomplete) output = fit × shown (Err alloc_error) output

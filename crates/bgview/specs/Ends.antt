@@ -43,7 +43,7 @@ abbrev pub input_fault : InputFault → ViewFault
 input_fault (inputs.BadInput line fault) = BadInput line fault
 input_fault inputs.Memory = Device Memory
 
--- the end of an answer that was written: memory may have been refused to a part of its script
+-- the end of an answer that was written: an allocation may have failed for a part of its script, or for a room's sample
 abbrev pub written : Result Outcome AllocError → Result Outcome ViewFault
 written (Ok outcome) = Ok outcome
 written (Err refused) = Err Incomplete

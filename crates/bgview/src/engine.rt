@@ -27,7 +27,7 @@ use view_page::{faults_of_both, page_of_both};
 /// # Errors
 ///
 /// A device that failed; an input that is too long; the input's first fault, or the goal's; or an allocation that failed. If that was for a
-/// block or a command of a script, the script goes on to its end.
+/// block or a command of a script, the script goes on to its end; if it was for a room's sample, what there is memory for is written.
 pub fn answer_io<H: Threads + Sync, R: Read, W: Write, P: Progress>(
     rt: &H,
     alloc: Global,

@@ -16,7 +16,7 @@ pub enum ViewFault {
     /// Reading or writing failed, or an allocation failed.
     #[error("{0}")]
     Device(DeviceFault),
-    /// The answer was written, and says for which command an allocation failed.
+    /// What there is memory for was written: an allocation failed for a command of a script, or for a room's sample.
     #[error("out of memory")]
     Incomplete,
     /// The input has this fault on this line, counted from 1. A message has the fault's number.
@@ -39,7 +39,7 @@ impl ViewFault {
     }
 }
 
-/// How an answer ends that was written whole, whatever came of the script in it.
+/// How an answer ends that was written: whether an allocation failed for a part of it.
 pub fn written(ending: Result<Outcome, AllocError>) -> Result<Outcome, ViewFault>
     ensures { result ≡ written ending }
 {

@@ -64,7 +64,7 @@ pub fn show<H: Threads + Sync, P: Progress>(
         Mode::Grade => grade_or_note(alloc, &request.grading, input, notes),
         Mode::Sample => {
             *notes = room_faults(alloc, input)?;
-            Ok(whole(sample_blocks(rt, alloc, input, &request.plan, progress)?))
+            Ok(sample_blocks(rt, alloc, input, &request.plan, progress)?)
         }
         Mode::Outcomes => {
             *notes = room_faults(alloc, input)?;

@@ -4,6 +4,7 @@
 mod active;
 mod chances;
 mod cuts;
+mod entries;
 pub mod laws;
 mod run;
 mod sampling;
@@ -11,6 +12,6 @@ mod stretch;
 mod tally;
 mod workers;
 
-pub use sampling::{Plan, sample};
+pub use sampling::{PartialSample, Plan, sample};
 pub use stretch::Stretch;
 pub use tally::{Outcome, States, Tally};

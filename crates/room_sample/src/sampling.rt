@@ -1,6 +1,6 @@
 //! Many runs of one room.
-ghost use Rattle.std.specs.Prelude.{◌≤◌, IfOk};
-ghost use Rattle.room_sample.specs.Samples.{AreAmongAll, IsSample};
+ghost use Rattle.std.specs.Prelude.{◌≡◌, ◌<◌, ◌≤◌, IfOk, OnErr, OnOk};
+ghost use Rattle.room_sample.specs.Samples.{AreAmongAll, IsSampleOf};
 
 use crate::tally::Tally;
 use crate::workers::count_by_workers;
@@ -17,6 +17,12 @@ const A_SHARE: u32 = 4000;
 
 /// The most threads at the same time.
 const MOST_WORKERS: u32 = 16;
+
+/// How many bytes are kept for the end of memory at least.
+const LEAST_KEPT: usize = 4 << 20;
+
+/// How many bytes are kept for each outcome: more than it takes to sort the outcomes.
+const KEPT_EACH: usize = 512;
 
 /// How a room is sampled, and what is written of it.
 #[derive(Clone, Copy, Debug, PartialEq, Eq)]
@@ -42,35 +48,88 @@ pub struct Plan {
     pub outcome: Option<u32>,
 }
 
+/// The outcomes of a room by a number of schedules.
+#[derive(Drop)]
+pub struct PartialSample {
+    pub outcomes: Tally,
+    /// By how many schedules the room was run.
+    pub schedules: u32,
+    /// An `Err` says that an allocation failed: the room was run by fewer schedules than the plan says.
+    pub ending: Result<(), AllocError>,
+}
+
 /// Runs the room of a spec by random schedules, from its beginning each time, and counts the states of its processes once it has
 /// settled. It is no search: an outcome that isn't among them may be possible. Reports how many schedules it has tried.
 ///
-/// # Errors
-///
-/// An allocation that fails.
-#[tactic(auto, using(crate::proofs::OneMore::no_sample, crate::proofs::Parts::part_more))]
+/// If an allocation fails, the sample is that of the schedules that were counted before. A block of memory that was kept meanwhile is
+/// then free, so that this sample can be written.
+#[tactic(auto, using(crate::proofs::OneMore::no_sample))]
 pub fn sample<R: Threads + Sync, P: Progress>(
     rt: &R,
     alloc: Global,
     spec: &Spec,
     plan: &Plan,
     progress: &mut P,
-) -> Result<Tally, AllocError>
-    ensures sample { IfOk result (IsSample spec.now plan.now) }
-    ensures among { IfOk result (AreAmongAll spec.now) }
+) -> PartialSample
+    ensures sample { IsSampleOf spec.now plan.now result.schedules result.outcomes }
+    ensures few { result.schedules ≤ plan.now.schedules }
+    ensures whole { OnOk result.ending (result.schedules ≡ plan.now.schedules) }
+    ensures among { AreAmongAll spec.now result.outcomes }
 {
     let _shape = spec.shape(); // for the proof: the room is within its limits
-    let workers = plan.workers.clamp(1, MOST_WORKERS);
-    let mut tally = Tally::new(alloc);
-    let mut done = 0;
-    while done < plan.schedules {
-        progress.reached(u64::from(done));
-        let count = (plan.schedules - done).min(round_of(workers));
-        let later = count_by_workers(rt, alloc, spec, plan, done, count, workers)?;
-        tally.add_all(later)?;
-        done += count;
+    let mut kept = Vec::new(alloc);
+    let mut outcomes = Tally::new(alloc);
+    let mut schedules = 0;
+    while schedules < plan.schedules {
+        progress.reached(u64::from(schedules));
+        match count_round(rt, alloc, spec, plan, &mut kept, &mut outcomes, schedules) {
+            Ok(counted) => schedules = counted,
+            Err(refused) => {
+                return PartialSample {
+                    outcomes,
+                    schedules,
+                    ending: Err(refused),
+                };
+            }
+        }
     }
-    Ok(tally)
+    PartialSample {
+        outcomes,
+        schedules,
+        ending: Ok(()),
+    }
+}
+
+/// Runs the room by the schedules of one round more, after this many, and counts their outcomes. Gives how many schedules are counted then.
+/// An `Err` leaves the outcomes as they were.
+#[tactic(auto, using(crate::proofs::Parts::part_more))]
+fn count_round<R: Threads + Sync>(
+    rt: &R,
+    alloc: Global,
+    spec: &Spec,
+    plan: &Plan,
+    kept: &mut Vec<u8>,
+    outcomes: &mut Tally,
+    done: u32,
+) -> Result<u32, AllocError>
+    requires before { IsSampleOf spec.now plan.now done outcomes.old }
+    requires left { done < plan.now.schedules }
+    ensures sample { IfOk result (λ counted. IsSampleOf spec.now plan.now counted outcomes.new) }
+    ensures more { IfOk result (λ counted. done < counted) }
+    ensures few { IfOk result (λ counted. counted ≤ plan.now.schedules) }
+    ensures err { OnErr result (outcomes.new ≡ outcomes.old) }
+{
+    keep_memory(kept, outcomes.len())?;
+    let workers = plan.workers.clamp(1, MOST_WORKERS);
+    let count = (plan.schedules - done).min(round_of(workers));
+    let later = count_by_workers(rt, alloc, spec, plan, done, count, workers)?;
+    outcomes.add_all(later)?;
+    Ok(done + count)
+}
+
+/// Makes the block of memory that is kept large enough for this many outcomes.
+fn keep_memory(kept: &mut Vec<u8>, outcomes: usize) -> Result<(), AllocError> {
+    kept.reserve_exact(outcomes.saturating_mul(KEPT_EACH).max(LEAST_KEPT))
 }
 
 /// How many schedules this many threads run before it is said how many were.

@@ -1,5 +1,5 @@
 //! Outcomes, and how often each came.
-ghost use Rattle.std.specs.Prelude.{◌≡◌, ◌<◌, [], IfOk, IsPermutation, OnOk, length, map, option_map, slice_get};
+ghost use Rattle.std.specs.Prelude.{◌≡◌, ◌<◌, [], IfOk, IsPermutation, OnErr, OnOk, length, map, option_map, slice_get};
 ghost use Rattle.room_sample.specs.Samples.{AreMostFirst, counted, counted_of};
 ghost use Rattle.room_sample.specs.Groups.{ArePatterns, grouped, joined, without_holder};
 ghost use Rattle.room_sample.specs.Parts.{added, added_all, more_at};
@@ -7,6 +7,7 @@ ghost use Rattle.room_sample.specs.Shown.{AreKept, with_schedule_at};
 ghost use Rattle.room_sample.specs.Ways.{sampled_of};
 
 use crate::cuts::shorten;
+use crate::entries::{add, add_all, come_again};
 use crate::run::Run;
 use crate::stretch::Stretch;
 use arrayvec::ArrayVec;
@@ -66,26 +67,19 @@ impl Tally {
         self.add(run.states, outcome)
     }
 
-    /// Adds the outcomes of later schedules, which were counted on their own.
+    /// Adds the outcomes of later schedules, which were counted on their own. An `Err` leaves these as they were.
     pub(crate) fn add_all(&mut self, later: Tally) -> Result<(), AllocError>
-        ensures { OnOk result (self.new ≡ added_all self.old later) }
+        ensures all { OnOk result (self.new ≡ added_all self.old later) }
+        ensures err { OnErr result (self.new ≡ self.old) }
     {
-        for (states, outcome) in later.outcomes {
-            self.add(states, outcome)?;
-        }
-        Ok(())
+        add_all(&mut self.outcomes, later.outcomes)
     }
 
     /// Adds an outcome, as often as it came. If it has come before, its first schedule stays.
     fn add(&mut self, states: States, outcome: Outcome) -> Result<(), AllocError>
         ensures { OnOk result (self.new ≡ added (counted_of (states, outcome)) self.old) }
     {
-        let Some(index) = self.outcomes.get_index_of(&states) else {
-            self.outcomes.insert(states, outcome)?;
-            return Ok(());
-        };
-        self.come_again(index, outcome.times);
-        Ok(())
+        add(&mut self.outcomes, states, outcome)
     }
 
     /// Counts an outcome this many times more.
@@ -93,10 +87,7 @@ impl Tally {
         requires { index < length self.old }
         ensures { self.new ≡ more_at self.old index times }
     {
-        let Some(known) = self.outcomes.get_index_mut(index) else {
-            unreachable!() // there is an outcome of each index below their number
-        };
-        known.times = known.times.saturating_add(times);
+        come_again(&mut self.outcomes, index, times);
     }
 
     /// Puts outcomes into one group that differ only in which simulators hold processes. A group is its first outcome, as often as all of its
@@ -142,7 +133,7 @@ impl Tally {
     ///
     /// # Errors
     ///
-    /// An allocation that fails.
+    /// An allocation that fails. The schedules that were made short by then stay short.
     pub fn shorten(
         &mut self,
         alloc: Global,
@@ -150,7 +141,7 @@ impl Tally {
         crashes: u32,
         tries: u32,
     ) -> Result<(), AllocError>
-        ensures { OnOk result (AreKept spec.now crashes self.old self.new) }
+        ensures { AreKept spec.now crashes self.old self.new }
     {
         let mut left = tries;
         for index in 0..self.len() {
@@ -173,7 +164,7 @@ impl Tally {
         tries: u32,
         place: usize,
     ) -> Result<(), AllocError>
-        ensures { OnOk result (AreKept spec.now crashes self.old self.new) }
+        ensures { AreKept spec.now crashes self.old self.new }
     {
         let index = self.index_at(alloc, place)?;
         let mut left = tries;
@@ -201,7 +192,7 @@ impl Tally {
         index: usize,
         left: &mut u32,
     ) -> Result<(), AllocError>
-        ensures { OnOk result (AreKept spec.now crashes self.old self.new) }
+        ensures { AreKept spec.now crashes self.old self.new }
     {
         let Some((states, outcome)) = self.get(index) else {
             return Ok(());

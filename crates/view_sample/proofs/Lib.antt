@@ -1,4 +1,5 @@
 mod Alike
+mod Answering
 mod Breaking
 mod Coming
 mod Following

@@ -1,10 +1,11 @@
 -- What is written of a file of rooms that are sampled.
-use Rattle.std.specs.Prelude.{◌≡◌, ℕ, ◌==◌, ◌&&◌, not, is_some, Bool, List, [], ◌++◌, length, codes, if◌then◌else◌}
+use Rattle.std.specs.Prelude.{◌≡◌, ℕ, ◌==◌, ◌&&◌, not, is_some, Bool, List, [], ◌++◌, length, codes, if◌then◌else◌, Result, Ok, Err}
+use Rattle.std.specs.declared.alloc.AllocError.{AllocError}
 use Rattle.room_files.specs.Blocks.{Setup}
 use Rattle.room_files.specs.Inputs.{all_blocks}
 use Rattle.room_files.specs.Verdicts.{outcome_if}
 use Rattle.room_files.specs.declared.outcome.Outcome.{Outcome}
-use Rattle.view_sample.specs.Rooms.{AddsSamples}
+use Rattle.view_sample.specs.Rooms.{AddsFirst, AddsSamples}
 use Rattle.room_sample.specs.declared.sampling.Plan.{Plan}
 
 -- text for people is written, and not scripts or JSON alone
@@ -29,5 +30,16 @@ pub record IsSampleOutput (plan : Plan) (setup : Setup) (outcome : Outcome) (out
   pub output_is : output ≡ told ++ last_of (is_for_people plan)
   pub outcome_is : outcome ≡ outcome_if ((length setup.refused == 0) && well)
 
-abbrev pub IsSampleFor : Plan → List ℕ → Outcome → List ℕ → Type 0
-IsSampleFor plan input outcome output = IsSampleOutput plan (all_blocks input) outcome output
+-- The same, but an allocation failed for a room: the samples of those before it, and what there was memory for of its own.
+pub record IsCutOutput (plan : Plan) (setup : Setup) (output : List ℕ) : Type 0 where
+  pub told : List ℕ
+  pub samples : AddsFirst plan setup.rooms (head_of (is_for_people plan) setup.refused) told
+  pub output_is : output ≡ told ++ last_of (is_for_people plan)
+
+-- An `Err` says that an allocation failed.
+abbrev pub IsSampleOr : Plan → Setup → Result Outcome AllocError → List ℕ → Type 0
+IsSampleOr plan setup (Ok outcome) output = IsSampleOutput plan setup outcome output
+IsSampleOr plan setup (Err refused) output = IsCutOutput plan setup output
+
+abbrev pub IsSampleFor : Plan → List ℕ → Result Outcome AllocError → List ℕ → Type 0
+IsSampleFor plan input ending output = IsSampleOr plan (all_blocks input) ending output

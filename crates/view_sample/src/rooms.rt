@@ -1,20 +1,21 @@
 //! The samples of the rooms of a file.
-ghost use Rattle.std.specs.Prelude.{◌≡◌, ◌-◌, ◌≤◌, ◌++◌, ℕ, IfOk, List, Ok, OnOk, is_some, length, slice_get};
+ghost use Rattle.std.specs.Prelude.{◌≡◌, ◌-◌, ◌≤◌, ◌++◌, ℕ, IfOk, List, Ok, OnErr, OnOk, is_some, length, slice_get};
 ghost use Rattle.std.specs.List.{sum_by};
 ghost use Rattle.room_files.specs.BlockLists.{IsBlockAt};
 ghost use Rattle.room_spec.specs.Blocks.{block_in};
-ghost use Rattle.room_spec.specs.Rooms.{RoomSpec};
+ghost use Rattle.room_spec.specs.Rooms.{IsWithinLimits, RoomSpec};
 ghost use Rattle.room_sample.specs.Groups.{grouped_if};
+ghost use Rattle.room_sample.specs.Samples.{AreAmongAll, IsSample};
 ghost use Rattle.room_sample.specs.Shown.{AreKept};
-ghost use Rattle.view_sample.specs.Rooms.{AddsSamples, IsSampleText, alone_shown, end_text, shown_text};
+ghost use Rattle.view_sample.specs.Rooms.{AddsCut, AddsFewer, AddsFirst, AddsSamples, IsSampleText, alone_shown, end_text, is_told_well, shown_text, told_text};
 ghost use Rattle.view_sample.specs.TaskTexts.{has_held};
 
 use crate::json::{write_alone_line, write_outcome_lines, write_room_line};
 use crate::task_text::{has_held, write_task};
-use crate::text::{write_alone, write_sample};
+use crate::text::{shown_count, write_alone, write_sample};
 use io_text::Text;
 use room_files::{BlockList, read_room};
-use room_sample::{Plan, Tally, sample};
+use room_sample::{PartialSample, Plan, Tally, sample};
 use room_spec::Spec;
 use run_search::Progress;
 use std::alloc::{AllocError, Global};
@@ -28,7 +29,7 @@ const MORE_TRIES: u32 = 2000;
 ///
 /// # Errors
 ///
-/// If an allocation fails.
+/// If an allocation fails. The samples of the rooms before are written then, and what there is memory for of the next one.
 pub(crate) fn write_samples<R: Threads + Sync, P: Progress>(
     rt: &R,
     alloc: Global,
@@ -37,7 +38,8 @@ pub(crate) fn write_samples<R: Threads + Sync, P: Progress>(
     output: &mut Text,
     progress: &mut P,
 ) -> Result<bool, AllocError>
-    ensures { IfOk result (λ well. AddsSamples plan.now rooms.now.rooms well output.old output.new) }
+    ensures samples { IfOk result (λ well. AddsSamples plan.now rooms.now.rooms well output.old output.new) }
+    ensures cut { OnErr result (AddsFirst plan.now rooms.now.rooms output.old output.new) }
 {
     let mut well = true;
     for index in 0..rooms.len() {
@@ -67,14 +69,14 @@ fn tries_for(plan: &Plan) -> u32 {
     }
 }
 
-/// Makes the schedules short of which scripts are written: that of one outcome, or those of all.
+/// Makes the schedules short of which scripts are written: that of one outcome, or those of all. After an `Err` some are short.
 fn shorten_shown(
     alloc: Global,
     outcomes: &mut Tally,
     spec: &Spec,
     plan: &Plan,
 ) -> Result<(), AllocError>
-    ensures { OnOk result (AreKept spec.now plan.now.crashes outcomes.old outcomes.new) }
+    ensures { AreKept spec.now plan.now.crashes outcomes.old outcomes.new }
 {
     let tries = tries_for(plan);
     match plan.outcome {
@@ -88,6 +90,10 @@ fn shorten_shown(
 
 /// Samples the room of a block, and writes its outcomes, or the groups of them, those first that came most often, and whether they keep its
 /// task; or the script of one outcome. Gives whether the task held, or whether there is that outcome.
+///
+/// # Errors
+///
+/// If an allocation fails. What there is memory for is written: the sample of the schedules that were counted by then.
 fn write_room<R: Threads + Sync, P: Progress>(
     rt: &R,
     alloc: Global,
@@ -97,26 +103,120 @@ fn write_room<R: Threads + Sync, P: Progress>(
     progress: &mut P,
 ) -> Result<bool, AllocError>
     requires { (spec : RoomSpec) × (block_in block.now ≡ Ok (spec, length block.now)) }
-    ensures { IfOk result (λ well. (spec : RoomSpec) → block_in block.now ≡ Ok (spec, length block.now) →
+    ensures whole { IfOk result (λ well. (spec : RoomSpec) → block_in block.now ≡ Ok (spec, length block.now) →
         (text : List ℕ) × IsSampleText plan.now spec well text × (output.new ≡ output.old ++ text)) }
+    ensures cut { OnErr result ((spec : RoomSpec) → block_in block.now ≡ Ok (spec, length block.now) → AddsCut plan.now spec output.old output.new) }
 {
     let Ok((spec, _)) = read_room(alloc, block)? else {
         unreachable!() // it is a room's block
     };
     let _shape = spec.shape(); // for the proof: the room is within its limits
-    let sampled = sample(rt, alloc, &spec, plan, progress)?;
-    let mut outcomes = grouped_if(alloc, plan.group, sampled)?;
-    shorten_shown(alloc, &mut outcomes, &spec, plan)?;
-    let mut end = Text::new(alloc);
-    let held = write_end(alloc, &mut end, &spec, block, plan, &outcomes)?;
-    outcomes.sort_by_times()?;
-    if let Some(number) = plan.outcome {
-        let is_there = write_chosen(alloc, output, &spec, block, plan, &outcomes, number)?;
-        return Ok(is_there);
+    let PartialSample {
+        outcomes,
+        schedules,
+        ending,
+    } = sample(rt, alloc, &spec, plan, progress);
+    if schedules == 0 {
+        ending?;
     }
-    write_shown(alloc, output, &spec, block, plan, &outcomes)?;
-    output.put(end.as_bytes())?;
-    Ok(held)
+    let counted = Plan { schedules, ..*plan };
+    let well = write_counted(alloc, output, &spec, block, &counted, outcomes)?;
+    ending?;
+    Ok(well)
+}
+
+/// Writes what is said of these outcomes of a room, which its block says.
+fn write_counted(
+    alloc: Global,
+    output: &mut Text,
+    spec: &Spec,
+    block: &[u8],
+    plan: &Plan,
+    outcomes: Tally,
+) -> Result<bool, AllocError>
+    requires limits { IsWithinLimits spec.now }
+    requires says { block_in block.now ≡ Ok (spec.now, length block.now) }
+    requires sample { IsSample spec.now plan.now outcomes }
+    requires among { AreAmongAll spec.now outcomes }
+    ensures whole { IfOk result (λ well. (text : List ℕ) × IsSampleText plan.now spec.now well text × (output.new ≡ output.old ++ text)) }
+    ensures cut { OnErr result (AddsCut plan.now spec.now output.old output.new) }
+{
+    let mut outcomes = grouped_if(alloc, plan.group, outcomes)?;
+    let shortened = shorten_shown(alloc, &mut outcomes, spec, plan);
+    let mut text = Text::new(alloc);
+    let held = write_end(alloc, &mut text, spec, block, plan, &outcomes)?;
+    outcomes.sort_by_times()?;
+    let end = End { text, held };
+    let well = write_most(alloc, output, spec, block, plan, &outcomes, &end)?;
+    shortened?;
+    Ok(well)
+}
+
+/// What is said at the end of a room, and whether its task held.
+#[derive(Drop)]
+struct End {
+    text: Text,
+    held: bool,
+}
+
+/// Writes these outcomes of a room and its end, or one outcome. If an allocation fails, it writes fewer outcomes: half as many each time.
+fn write_most(
+    alloc: Global,
+    output: &mut Text,
+    spec: &Spec,
+    block: &[u8],
+    plan: &Plan,
+    outcomes: &Tally,
+    end: &End,
+) -> Result<bool, AllocError>
+    ensures text { OnOk result (output.new ≡ output.old ++ told_text plan.now.outcome plan.now spec.now.name block.now outcomes.now end.now.text) }
+    ensures well { IfOk result (λ well. well ≡ is_told_well plan.now.outcome outcomes.now end.now.held) }
+    ensures cut { OnErr result (AddsFewer plan.now spec.now.name block.now outcomes.now end.now.text output.old output.new) }
+{
+    let written = write_told(alloc, output, spec, block, plan, outcomes, end);
+    if written.is_ok() {
+        return written;
+    }
+    let shown = shown_count(plan.top, outcomes.len());
+    let mut most = shown.min(u32::MAX as usize) as u32;
+    while most > 0 {
+        most /= 2;
+        let fewer = Plan {
+            top: Some(most),
+            ..*plan
+        };
+        if write_told(alloc, output, spec, block, &fewer, outcomes, end).is_ok() {
+            return Err(AllocError);
+        }
+    }
+    written
+}
+
+/// Writes these outcomes of a room and its end, or one outcome. An `Err` leaves the output as it was.
+fn write_told(
+    alloc: Global,
+    output: &mut Text,
+    spec: &Spec,
+    block: &[u8],
+    plan: &Plan,
+    outcomes: &Tally,
+    end: &End,
+) -> Result<bool, AllocError>
+    ensures text { OnOk result (output.new ≡ output.old ++ told_text plan.now.outcome plan.now spec.now.name block.now outcomes.now end.now.text) }
+    ensures well { IfOk result (λ well. well ≡ is_told_well plan.now.outcome outcomes.now end.now.held) }
+    ensures err { OnErr result (output.new ≡ output.old) }
+{
+    let mut text = Text::new(alloc);
+    let well = match plan.outcome {
+        None => {
+            write_shown(alloc, &mut text, spec, block, plan, outcomes)?;
+            text.put(end.text.as_bytes())?;
+            end.held
+        }
+        Some(number) => write_chosen(alloc, &mut text, spec, block, plan, outcomes, number)?,
+    };
+    output.put_long(text.as_bytes())?;
+    Ok(well)
 }
 
 /// Writes the script of the outcome of this number, or as JSON that outcome. Gives whether there is one.

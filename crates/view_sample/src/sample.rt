@@ -1,13 +1,15 @@
 //! Outcomes of the rooms of a file.
-ghost use Rattle.std.specs.Prelude.{◌≡◌, ◌≤◌, ◌++◌, IfOk, OnOk, length};
+ghost use Rattle.std.specs.Prelude.{◌≡◌, ◌≤◌, ◌++◌, ◌&&◌, Err, IfErr, IfOk, Ok, OnOk, length};
 ghost use Rattle.io_text.specs.Reading.{most_bytes};
+ghost use Rattle.room_files.specs.Verdicts.{outcome_if};
 ghost use Rattle.view_sample.specs.Sample.{IsSampleFor, head_of, is_for_people, last_of};
 
 use crate::rooms::write_samples;
 use io_text::Text;
-use room_files::{Answer, BlockList, Setup, outcome_if, read_all_blocks};
+use room_files::{BlockList, Outcome, Setup, outcome_if, read_all_blocks};
 use room_sample::Plan;
 use run_search::Progress;
+use script_play::PlayText;
 use std::alloc::{AllocError, Global};
 use std::thread::Threads;
 
@@ -15,29 +17,38 @@ const LAST: &[u8] =
     b"\nthis is a sample of simulations: other outcomes may come, and with fewer simulators than processes a protocol has runs to which no schedule leads\n";
 
 /// Runs each room of a file by random schedules, and gives the lines of the refused blocks and, for each room, its outcomes. Or, if the
-/// plan asks for it, these outcomes as JSON, or the script of one outcome in each room.
+/// plan asks for it, these outcomes as JSON, or the script of one outcome in each room. If an allocation fails for a room, its sample is that
+/// of the schedules that were counted by then, with as many of their outcomes as there is memory for; it is the last, and the ending says so.
 ///
 /// # Errors
 ///
-/// An allocation that failed.
+/// An allocation that failed for anything else.
 pub fn sample_blocks<R: Threads + Sync, P: Progress>(
     rt: &R,
     alloc: Global,
     input: &[u8],
     plan: &Plan,
     progress: &mut P,
-) -> Result<Answer, AllocError>
+) -> Result<PlayText, AllocError>
     requires { length input.now ≤ most_bytes }
-    ensures { IfOk result (λ answer. IsSampleFor plan.now input.now answer.outcome answer.output) }
+    ensures { IfOk result (λ told. IsSampleFor plan.now input.now told.ending told.output) }
 {
     let no_blocks = Setup::new(BlockList::new(alloc), Text::new(alloc));
     let Setup { rooms, refused, .. } = read_all_blocks(alloc, no_blocks, input)?;
     let is_accepted = refused.is_empty();
     let mut output = head_of(alloc, plan, refused);
-    let is_well = write_samples(rt, alloc, &rooms, plan, &mut output, progress)?;
+    let samples = write_samples(rt, alloc, &rooms, plan, &mut output, progress);
     write_last(&mut output, plan)?;
-    let outcome = outcome_if(is_accepted & is_well);
-    Ok(Answer { output, outcome })
+    let ending = ending_of(is_accepted, samples);
+    Ok(PlayText { output, ending })
+}
+
+/// How it ends: the outcome, unless an allocation failed for a sample.
+fn ending_of(is_accepted: bool, samples: Result<bool, AllocError>) -> Result<Outcome, AllocError>
+    ensures ok { IfOk samples (λ is_well. result ≡ Ok (outcome_if (is_accepted && is_well))) }
+    ensures err { IfErr samples (λ refused. result ≡ Err refused) }
+{
+    Ok(outcome_if(is_accepted & samples?))
 }
 
 /// Whether text for people is written, and not scripts or JSON alone.

@@ -1,36 +1,32 @@
-use Rattle.std.proofs.Common.{◌≡◌, ◌∙◌, List, ℕ, Ok, arith, rules, sym, ap, subst}
-use Rattle.std.specs.List.{sum_by}
-use Rattle.room_spec.specs.Blocks.{block_in}
-use Rattle.room_sample.specs.Samples.{Counted}
-use Rattle.room_sample.specs.Shown.{AreKept}
-use Rattle.view_sample.proofs.Alike.{grouped_few}
-use Rattle.view_sample.proofs.RoomTexts.{sample_told, script_told}
-use Rattle.room_sample.proofs.CallerLemmas.{same_total}
+use Rattle.std.proofs.Common.{◌≡◌, ◌∙◌, ◌++◌, List, OnOk, ℕ, subst, sym}
+use Rattle.room_spec.specs.Rooms.{RoomSpec}
+use Rattle.view_sample.specs.Rooms.{AddsCut, IsSampleText}
+use Rattle.view_sample.proofs.RoomTexts.{all_run, cut_again, cut_sample, of_said, on_err, own_room, whole_cut}
 use Rattle.view_sample.proofs.rooms.write_room.Goals as goal
 
-pub write_end-requires : goal.write_end-requires
-write_end-requires g c =
-    let total = c.in_ok-sampled.ensures.sample.total in
-    let few = grouped_few c.args.plan.now.group c.in_ok-sampled.sampled in
-    let are = ap (λ (all : List Counted). sum_by (λ (one : Counted). one.times) all) c.in_ok-outcomes.ensures in
-    let same = same_total c.in-Ok.spec c.args.plan.now.crashes c.in_ok-outcomes.outcomes c.shorten_shown.new.outcomes c.in_ok-shorten_shown.ensures in
-    omega (arith, total, few, are, same)
+pub write_counted-requires-clause-says : goal.write_counted-requires-clause-says
+write_counted-requires-clause-says g c = own_room c.args.block.now c.in-Ok.spec c.in-Ok.field-0-1 (sym c.in_ok-spec.ensures.read ∙ c.in-Ok.is) c.requires
 
-pub returns : goal.returns
-returns g c =
-    let read : block_in c.args.block.now ≡ Ok (c.in-Ok.spec, c.in-Ok.field-0-1) = sym c.in_ok-spec.ensures.read ∙ c.in-Ok.is in
-    let kept = subst (λ (all : List Counted). AreKept c.in-Ok.spec c.args.plan.now.crashes all c.shorten_shown.new.outcomes) c.in_ok-outcomes.ensures c.in_ok-shorten_shown.ensures in
-    sample_told c.args.plan.now c.args.block.now c.in-Ok.spec c.in-Ok.field-0-1 c.in_ok-sampled.sampled c.shorten_shown.new.outcomes c.sort_by_times.new.self c.in_ok-held.held c.write_end.new.output c.args.output.now c.write_shown.new.output c.put.new.self
-    (search rules) c.shape-shape.ensures.limits read c.in_ok-sampled.ensures.sample c.in_ok-sampled.ensures.among kept c.sort_by_times.ensures.all c.in_ok-sort_by_times.ensures.sorted
-    c.in_ok-held.ensures.held (c.in_ok-held.ensures.text ∙ ap (λ (t : List ℕ). t) (search rules))
-    c.in_ok-write_shown.ensures
-    (search rules)
+pub write_counted-requires-clause-sample : goal.write_counted-requires-clause-sample
+write_counted-requires-clause-sample g c = cut_sample c.in-Ok.spec c.args.plan.now c.sample-outcomes.result.schedules c.args.plan.now.top c.sample-outcomes.result.outcomes c.sample-outcomes.ensures.sample
 
-pub returns-in-Some : goal.returns-in-Some
-returns-in-Some g c =
-    let read : block_in c.args.block.now ≡ Ok (c.in-Ok.spec, c.in-Ok.field-0-1) = sym c.in_ok-spec.ensures.read ∙ c.in-Ok.is in
-    let kept = subst (λ (all : List Counted). AreKept c.in-Ok.spec c.args.plan.now.crashes all c.shorten_shown.new.outcomes) c.in_ok-outcomes.ensures c.in_ok-shorten_shown.ensures in
-    script_told c.args.plan.now c.args.block.now c.in-Ok.spec c.in-Ok.field-0-1 c.in_ok-sampled.sampled c.shorten_shown.new.outcomes c.sort_by_times.new.self c.in_ok-is_there.is_there c.in-Some.number c.args.output.now c.write_chosen.new.output
-    c.in-Some.is c.shape-shape.ensures.limits read c.in_ok-sampled.ensures.sample c.in_ok-sampled.ensures.among kept c.sort_by_times.ensures.all c.in_ok-sort_by_times.ensures.sorted
-    c.in_ok-is_there.ensures.there
-    c.in_ok-is_there.ensures.text
+pub returns-clause-whole : goal.returns-clause-whole
+returns-clause-whole g c = λ said says.
+    let own = own_room c.args.block.now c.in-Ok.spec c.in-Ok.field-0-1 (sym c.in_ok-spec.ensures.read ∙ c.in-Ok.is) c.requires in
+    let all = subst (λ r. OnOk r (c.sample-outcomes.result.schedules ≡ c.args.plan.now.schedules)) c.in_ok-ending-2.was c.sample-outcomes.ensures.whole in
+    of_said (λ (room : RoomSpec). (text : List ℕ) × IsSampleText c.args.plan.now room c.in_ok-well.well text × (c.write_counted.new.output ≡ c.args.output.now ++ text)) c.args.block.now c.in-Ok.spec said own says
+    (all_run c.args.plan.now c.in-Ok.spec c.sample-outcomes.result.schedules c.in_ok-well.well c.args.output.now c.write_counted.new.output all c.in_ok-well.ensures.whole)
+
+pub returns-in_err-well-clause-cut : goal.returns-in_err-well-clause-cut
+returns-in_err-well-clause-cut g c =
+    let own = own_room c.args.block.now c.in-Ok.spec c.in-Ok.field-0-1 (sym c.in_ok-spec.ensures.read ∙ c.in-Ok.is) c.requires in
+    on_err c.from_residual-in_err-well.result
+    (λ said says. of_said (λ (room : RoomSpec). AddsCut c.args.plan.now room c.args.output.now c.write_counted.new.output) c.args.block.now c.in-Ok.spec said own says
+    (cut_again c.args.plan.now c.in-Ok.spec c.sample-outcomes.result.schedules c.args.output.now c.write_counted.new.output c.sample-outcomes.ensures.few c.in_err-well.ensures.cut))
+
+pub returns-in_err-ending-2-clause-cut : goal.returns-in_err-ending-2-clause-cut
+returns-in_err-ending-2-clause-cut g c =
+    let own = own_room c.args.block.now c.in-Ok.spec c.in-Ok.field-0-1 (sym c.in_ok-spec.ensures.read ∙ c.in-Ok.is) c.requires in
+    on_err c.from_residual-in_err-ending-2.result
+    (λ said says. of_said (λ (room : RoomSpec). AddsCut c.args.plan.now room c.args.output.now c.write_counted.new.output) c.args.block.now c.in-Ok.spec said own says
+    (whole_cut c.args.plan.now c.in-Ok.spec c.sample-outcomes.result.schedules c.in_ok-well.well c.args.output.now c.write_counted.new.output c.sample-outcomes.ensures.few c.in_ok-well.ensures.whole))

@@ -18,3 +18,6 @@ returns c =
     let leads = subst (λ (schedule : List Stretch). KeepsOutcome c.args.spec.now c.args.crashes one.states schedule c.in_ok-short.short.items) c.as_slice-schedule.ensures.value c.in_ok-short.ensures in
     subst (λ (all : List Counted). AreKept c.args.spec.now c.args.crashes c.args.self.now all) (sym c.set_schedule.ensures)
     (kept_at c.args.spec.now c.args.crashes c.args.self.now c.args.index one c.in_ok-short.short.items (sym c.in-Some.ensures) leads)
+
+pub returns-in_err-short : goal.returns-in_err-short
+returns-in_err-short c = kept_as c.args.spec.now c.args.crashes c.args.self.now
