@@ -1,5 +1,5 @@
 //! What a room is given when it is made.
-ghost use Rattle.std.specs.Prelude.{◌≡◌, ◌==◌, ◌*◌, ◌<◌, ◌≤◌, IfSome, length, slice_index};
+ghost use Rattle.std.specs.Prelude.{◌≡◌, ◌==◌, ◌*◌, ◌<◌, ◌≤◌, IfOk, IfSome, length, slice_index};
 ghost use Rattle.std.specs.List.{list_any};
 ghost use Rattle.room_spec.specs.Rooms.{IsShape, IsWithinLimits, bits_of, fuse_of, processes};
 ghost use Rattle.room_spec.specs.Sizes.{memory_words};
@@ -129,9 +129,6 @@ impl Clone for Spec {
     ghost is_clone = { λ spec copy. copy ≡ spec };
 
     fn clone(&self) -> Result<Spec, AllocError> {
-        let Ok(protocol) = Arc::try_clone(&self.protocol) else {
-            return Err(AllocError);
-        };
         Ok(Spec {
             version: self.version,
             name: self.name.clone()?,
@@ -142,12 +139,13 @@ impl Clone for Spec {
             task: self.task,
             fuses: self.fuses.clone()?,
             words: self.words,
-            protocol,
+            protocol: self.share_protocol()?,
         })
     }
 }
 
 impl Spec {
+    ghost use Rattle.std.specs.Arc.{arc_value};
     ghost use Rattle.room_spec.specs.Sizes.{sizes_in};
     ghost use Rattle.room_spec.specs.Shapes.{sizes_of};
 
@@ -234,6 +232,20 @@ impl Spec {
         ensures { result.now ≡ self.now.protocol }
     {
         &self.protocol
+    }
+
+    /// The protocol that the processes run, which the room and the caller share from now on.
+    ///
+    /// # Errors
+    ///
+    /// If more owners share it than can be counted.
+    pub fn share_protocol(&self) -> Result<Arc<Protocol, Global>, AllocError>
+        ensures { IfOk result (λ protocol. arc_value protocol ≡ self.now.protocol) }
+    {
+        match Arc::try_clone(&self.protocol) {
+            Ok(protocol) => Ok(protocol),
+            Err(_) => Err(AllocError),
+        }
     }
 
     /// The numbers that the room's memory depends on.
