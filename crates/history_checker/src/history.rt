@@ -64,8 +64,9 @@ fn follow_all(processes: &mut [Process], spec: &Spec, events: &[Event]) -> Resul
     requires { Tracks spec.now processes.old [] }
     ensures { MatchResult result (λ done. IsRun spec.now events.now) (IsMisfit spec.now events.now processes.new) }
 {
+    let rounds = spec.rounds() as u8;
     for (at, event) in events.iter().enumerate() {
-        if let Err(rule) = follow(processes, spec, event) {
+        if let Err(rule) = follow(processes, rounds, spec.protocol(), event) {
             return Err(Misfit { at, rule });
         }
     }

@@ -4,6 +4,7 @@
 mod bound;
 mod fault;
 mod history;
+mod kept;
 mod process;
 mod reason;
 mod room;

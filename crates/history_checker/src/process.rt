@@ -1,11 +1,11 @@
 //! What a checker keeps of a process.
 ghost use Rattle.std.specs.Prelude.{◌≡◌, ◌↔◌, ◌<◌, IsTrue, MatchOption, OnErr, OnOk, Some, slice_set, length, [], if◌then◌else◌, nat_lt, ◌&&◌};
-ghost use Rattle.room_spec.specs.Rooms.{processes};
+ghost use Rattle.room_spec.specs.Rooms.{RoomSpec, processes};
 ghost use Rattle.transcript.specs.declared.event.Event.TheVariants.{Write, Snap, Decide};
 ghost use Rattle.history_checker.specs.Shown.{lasts_after};
 ghost use Rattle.history_checker.specs.Processes.{turn_for, is_action, could_do, lasts, IsAt, Follows, FirstDiffers};
 
-use protocol_lang::{Action, View, first, next};
+use protocol_lang::{Action, Protocol, View, first, next};
 use room_spec::Spec;
 use transcript::Event;
 
@@ -168,22 +168,28 @@ impl Process {
     }
 }
 
-/// Has the processes follow an event, or else gives the rule by which it may not follow those before it.
-pub fn follow(processes: &mut [Process], spec: &Spec, event: &Event) -> Result<(), Rule>
-    ensures follows { Follows spec.now event.now processes.old result processes.new }
+/// Has the processes of a room with these rounds and this protocol follow an event, or else gives the rule by which it may not
+/// follow those before it.
+pub fn follow(
+    processes: &mut [Process],
+    rounds: u8,
+    protocol: &Protocol,
+    event: &Event,
+) -> Result<(), Rule>
+    ensures follows { (spec : RoomSpec) → spec.rounds ≡ rounds → spec.protocol ≡ protocol.now → Follows spec event.now processes.old result processes.new }
     ensures lasts { OnOk result (lasts processes.new ≡ lasts_after event.now (lasts processes.old)) }
     ensures err { OnErr result (lasts processes.new ≡ lasts processes.old) }
 {
     match event {
-        Event::Write { p, v } => follow_write(processes, spec, usize::from(*p), *v),
-        Event::Snap { p, row } => follow_snap(processes, spec, usize::from(*p), row),
-        Event::Decide { p, v } => follow_decide(processes, spec, usize::from(*p), *v),
+        Event::Write { p, v } => follow_write(processes, rounds, usize::from(*p), *v),
+        Event::Snap { p, row } => follow_snap(processes, protocol, usize::from(*p), row),
+        Event::Decide { p, v } => follow_decide(processes, usize::from(*p), *v),
     }
 }
 
 #[inline(always)]
-pub fn follow_write(processes: &mut [Process], spec: &Spec, p: usize, v: u32) -> Result<(), Rule>
-    ensures follows { Follows spec.now (Write p v) processes.old result processes.new }
+pub fn follow_write(processes: &mut [Process], rounds: u8, p: usize, v: u32) -> Result<(), Rule>
+    ensures follows { (spec : RoomSpec) → spec.rounds ≡ rounds → Follows spec (Write p v) processes.old result processes.new }
     ensures lasts { OnOk result (lasts processes.new ≡ slice_set (lasts processes.old) p (Some v)) }
     ensures err { OnErr result (lasts processes.new ≡ lasts processes.old) }
 {
@@ -194,7 +200,7 @@ pub fn follow_write(processes: &mut [Process], spec: &Spec, p: usize, v: u32) ->
     if !process.turn.is_write_of(v) {
         return Err(process.rule_of_write());
     }
-    if usize::from(process.writes) >= spec.rounds() {
+    if process.writes >= rounds {
         return Err(Rule::Rounds);
     }
     processes[p] = Process {
@@ -206,8 +212,13 @@ pub fn follow_write(processes: &mut [Process], spec: &Spec, p: usize, v: u32) ->
     Ok(())
 }
 
-fn follow_snap(processes: &mut [Process], spec: &Spec, p: usize, row: &View) -> Result<(), Rule>
-    ensures follows { Follows spec.now (Snap p row.now) processes.old result processes.new }
+fn follow_snap(
+    processes: &mut [Process],
+    protocol: &Protocol,
+    p: usize,
+    row: &View,
+) -> Result<(), Rule>
+    ensures follows { (spec : RoomSpec) → spec.protocol ≡ protocol.now → Follows spec (Snap p row.now) processes.old result processes.new }
     ensures lasts { OnOk result (lasts processes.new ≡ lasts processes.old) }
     ensures err { OnErr result (lasts processes.new ≡ lasts processes.old) }
 {
@@ -225,7 +236,7 @@ fn follow_snap(processes: &mut [Process], spec: &Spec, p: usize, row: &View) -> 
         return Err(Rule::Entry(q));
     }
     let round = u32::from(process.writes);
-    let action = next(spec.protocol(), process.input, p as u32, round, row);
+    let action = next(protocol, process.input, p as u32, round, row);
     processes[p] = Process {
         turn: Turn::of(action),
         ..process
@@ -235,9 +246,14 @@ fn follow_snap(processes: &mut [Process], spec: &Spec, p: usize, row: &View) -> 
 
 /// Has the processes follow a snapshot whose entries are known to be their last writes.
 #[inline(always)]
-pub fn follow_said(processes: &mut [Process], spec: &Spec, p: usize, row: &View) -> Result<(), Rule>
+pub fn follow_said(
+    processes: &mut [Process],
+    protocol: &Protocol,
+    p: usize,
+    row: &View,
+) -> Result<(), Rule>
     requires { row.now.items ≡ lasts processes.old }
-    ensures follows { Follows spec.now (Snap p row.now) processes.old result processes.new }
+    ensures follows { (spec : RoomSpec) → spec.protocol ≡ protocol.now → Follows spec (Snap p row.now) processes.old result processes.new }
     ensures lasts { lasts processes.new ≡ lasts processes.old }
 {
     if p >= row.len() {
@@ -248,7 +264,7 @@ pub fn follow_said(processes: &mut [Process], spec: &Spec, p: usize, row: &View)
         return Err(Rule::Turn);
     }
     let round = u32::from(process.writes);
-    let action = next(spec.protocol(), process.input, p as u32, round, row);
+    let action = next(protocol, process.input, p as u32, round, row);
     processes[p] = Process {
         turn: Turn::of(action),
         ..process
@@ -256,9 +272,9 @@ pub fn follow_said(processes: &mut [Process], spec: &Spec, p: usize, row: &View)
     Ok(())
 }
 
-// For the proof: `spec`.
-fn follow_decide(processes: &mut [Process], spec: &Spec, p: usize, v: u32) -> Result<(), Rule>
-    ensures follows { Follows spec.now (Decide p v) processes.old result processes.new }
+/// The same for a decision, whatever the rounds and the protocol.
+fn follow_decide(processes: &mut [Process], p: usize, v: u32) -> Result<(), Rule>
+    ensures follows { (spec : RoomSpec) → Follows spec (Decide p v) processes.old result processes.new }
     ensures lasts { OnOk result (lasts processes.new ≡ lasts processes.old) }
     ensures err { OnErr result (lasts processes.new ≡ lasts processes.old) }
 {

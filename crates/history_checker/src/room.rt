@@ -8,9 +8,10 @@ ghost use Rattle.history_checker.specs.Shown.{Feeds, MayShowLasts, SaysRow, last
 ghost use Rattle.history_checker.specs.Verdicts.{FedEvent, HasProcessedOwn, IsAfter, StandsAfter, TaskStands, IsVerdict, IsTaskAnswer, StaysSo};
 
 use crate::history::open;
+use crate::kept::KeptSpec;
 use crate::process::{Process, follow, follow_said, follow_write};
 use crate::row::Row;
-use crate::tally::Tally;
+use crate::tally::RoomTask;
 use crate::verdict::{TaskVerdict, Verdict};
 use room_spec::Spec;
 use std::alloc::{AllocError, Global};
@@ -20,16 +21,17 @@ use transcript::{Event, EventLine, EventWord, LineFault};
 /// A room and its events so far.
 #[derive(Drop)]
 pub(crate) struct Room {
-    pub(crate) spec: Spec,
+    pub(crate) spec: KeptSpec,
     processes: Vec<Process>,
     broken: Option<u64>,
     /// In a room of few processes there is none: its snapshots are read quickly.
     row: Option<Box<Row>>,
     /// In a room without a task there is none.
-    tally: Option<Box<Tally>>,
+    task: Option<Box<RoomTask>>,
 }
 
 impl Model for Room {
+    ghost use Rattle.std.specs.Prelude.{◌≡◌, IfSome};
     ghost use Rattle.std.specs.Coded.{codes};
     ghost use Rattle.protocol_lang.specs.Codes.{expression_code};
     ghost use Rattle.std.specs.Option.{option_map};
@@ -42,9 +44,10 @@ impl Model for Room {
     ghost coded = { Prim.hlevel (codes, expression_code) };
 
     ghost view = { λ room.
-        record { spec = room.spec; processes = room.processes.items; broken = room.broken; tally = option_map (λ tally. tally.value) room.tally } };
+        record { spec = room.spec; processes = room.processes.items; broken = room.broken; tally = option_map (λ task. task.value.tally) room.task } };
 
-    ghost invariant = { λ room. MayShowLasts (lasts room.processes.items) (option_map (λ row. row.value) room.row) };
+    ghost invariant = { λ room. MayShowLasts (lasts room.processes.items) (option_map (λ row. row.value) room.row) ×
+        IfSome room.task (λ task. task.value.spec ≡ room.spec) };
 }
 
 impl Room {
@@ -55,13 +58,14 @@ impl Room {
         let mut processes = vec![in alloc; Process::BLANK; spec.n()]?;
         open(&spec, &mut processes);
         let row = Row::of_many(alloc, spec.n())?;
-        let tally = Tally::of_task(alloc, &spec)?;
+        let kept = KeptSpec::of(&spec)?;
+        let task = RoomTask::of(alloc, spec)?;
         Ok(Room {
-            spec,
+            spec: kept,
             processes,
             broken: None,
             row,
-            tally,
+            task,
         })
     }
 
@@ -135,7 +139,7 @@ impl Room {
         if self.broken.is_some() {
             return true;
         }
-        let followed = follow_said(&mut self.processes, &self.spec, p, row);
+        let followed = follow_said(&mut self.processes, self.spec.protocol(), p, row);
         if followed.is_err() {
             self.broken = Some(line);
         }
@@ -161,13 +165,9 @@ impl Room {
         ensures task { let spec = self.old.spec in
             StaysSo event.now line (λ fed. TaskStands spec fed spec.task self.old.tally) (λ fed. TaskStands spec fed spec.task self.new.tally) }
     {
-        let Some(most) = self.spec.task() else {
-            return;
-        };
-        let Some(tally) = &mut self.tally else {
-            return;
-        };
-        tally.feed(&self.spec, usize::from(most), event, line);
+        if let Some(task) = &mut self.task {
+            task.feed(event, line);
+        }
     }
 
     /// Follows the event, unless one before it broke the run.
@@ -192,7 +192,7 @@ impl Room {
         if self.broken.is_some() {
             return;
         }
-        let followed = follow_write(&mut self.processes, &self.spec, p, v);
+        let followed = follow_write(&mut self.processes, self.spec.rounds(), p, v);
         if followed.is_err() {
             self.broken = Some(line);
             return;
@@ -210,7 +210,12 @@ impl Room {
         if self.broken.is_some() {
             return;
         }
-        let followed = follow(&mut self.processes, &self.spec, event);
+        let followed = follow(
+            &mut self.processes,
+            self.spec.rounds(),
+            self.spec.protocol(),
+            event,
+        );
         if followed.is_err() {
             self.broken = Some(line);
         }
@@ -228,8 +233,8 @@ impl Room {
     pub(crate) fn task_verdict(&self) -> Option<TaskVerdict>
         ensures { (fed : List FedEvent) → TaskStands self.now.spec fed self.now.spec.task self.now.tally → IsTaskAnswer self.now.spec fed result }
     {
-        let tally = self.tally.as_ref()?;
-        match tally.excess() {
+        let task = self.task.as_ref()?;
+        match task.tally.excess() {
             None => Some(TaskVerdict::Holds),
             Some(line) => Some(TaskVerdict::Broken(line)),
         }

@@ -115,7 +115,7 @@ impl Rooms {
             return Err(fault_of_stray(line));
         };
         let room = &mut self.rooms[index];
-        let _ = room.spec.name().as_str(); // for the proof: a room's name is a name
+        let _ = room.spec.rounds(); // for the proof: a room's name is a name
         if let Err(fault) = room.feed_line(line, number) {
             return Err(FeedFault::BadLine(fault));
         }

@@ -15,7 +15,7 @@ returns-then-is_some-clause-few c = λ yes.
     let text = c.args.text.now in
     let items = c.self.inside.processes.items in
     let says = subst (SaysRow (32 ∷ text)) c.deref.ensures (c.if-not-is_said_by.ensures refl) in
-    let shown : c.in-Some.row.value ≡ lasts items = shown_by text (lasts items) c.in-Some.row.value says (rw c.in-Some.is at c.self.invariant) in
+    let shown : c.in-Some.row.value ≡ lasts items = shown_by text (lasts items) c.in-Some.row.value says (rw c.in-Some.is at c.self.invariant.0) in
     let few = subst (λ (row : List (Option ℕ)). length row ≤ 16) c.deref-2.ensures c.last-row.ensures.few in
     subst (λ (row : List (Option ℕ)). length row ≤ 16) (shown ∙ ap (λ (room : RoomState). lasts room.processes) c.self.view_is) few
 
@@ -33,7 +33,7 @@ returns-then-is_err-clause-processed c =
     let text = c.args.text.now in
     let items = c.self.inside.processes.items in
     let says = subst (SaysRow (32 ∷ text)) c.deref.ensures (c.if-not-is_said_by.ensures refl) in
-    let shown : c.in-Some.row.value ≡ lasts items = shown_by text (lasts items) c.in-Some.row.value says (rw c.in-Some.is at c.self.invariant) in
+    let shown : c.in-Some.row.value ≡ lasts items = shown_by text (lasts items) c.in-Some.row.value says (rw c.in-Some.is at c.self.invariant.0) in
     let row = c.last-row.result.now in
     let known : lasts c.args.self.now.processes ≡ row.items = sym (ap (λ (room : RoomState). lasts room.processes) c.self.view_is) ∙ sym shown ∙ sym (c.last-row.ensures.last ∙ c.deref-2.ensures) in
     let seen : one.event ≡ Snap c.args.p row = event ∙ ap (λ (entries : List (Option ℕ)). Snap c.args.p (record { items = entries })) known in
@@ -41,7 +41,7 @@ returns-then-is_err-clause-processed c =
     let T : RoomState → Type 0 = λ room. TaskStands room.spec fed room.spec.task room.tally in
     let before = unbroken (record { spec = _; processes = _; broken = _; tally = None }) fed (sym c.if-is_some.ensures) (subst P (sym c.self.view_is) after.0) in
     let counted = uncounted c.self.inside.spec fed one (Snap c.args.p row) c.self.inside.spec.task _ refl seen (subst T (sym c.self.view_is) after.1) in
-    let follows = rw c.deref_mut.ensures.value at c.follow_said-followed.ensures.follows in
+    let follows = rw c.deref_mut.ensures.value at (c.follow_said-followed.ensures.follows c.self.inside.spec (sym c.protocol.ensures)) in
     (breaks_now c.self.inside.spec items c.follow_said-followed.new.processes fed one (Snap c.args.p row) c.args.line _ seen line (sym c.if-is_err.ensures.value) follows before, counted)
 
 pub returns-else-is_err-clause-processed : goal.returns-else-is_err-clause-processed
@@ -50,7 +50,7 @@ returns-else-is_err-clause-processed c =
     let text = c.args.text.now in
     let items = c.self.inside.processes.items in
     let says = subst (SaysRow (32 ∷ text)) c.deref.ensures (c.if-not-is_said_by.ensures refl) in
-    let shown : c.in-Some.row.value ≡ lasts items = shown_by text (lasts items) c.in-Some.row.value says (rw c.in-Some.is at c.self.invariant) in
+    let shown : c.in-Some.row.value ≡ lasts items = shown_by text (lasts items) c.in-Some.row.value says (rw c.in-Some.is at c.self.invariant.0) in
     let row = c.last-row.result.now in
     let known : lasts c.args.self.now.processes ≡ row.items = sym (ap (λ (room : RoomState). lasts room.processes) c.self.view_is) ∙ sym shown ∙ sym (c.last-row.ensures.last ∙ c.deref-2.ensures) in
     let seen : one.event ≡ Snap c.args.p row = event ∙ ap (λ (entries : List (Option ℕ)). Snap c.args.p (record { items = entries })) known in
@@ -58,7 +58,7 @@ returns-else-is_err-clause-processed c =
     let T : RoomState → Type 0 = λ room. TaskStands room.spec fed room.spec.task room.tally in
     let before = unbroken (record { spec = _; processes = _; broken = _; tally = None }) fed (sym c.if-is_some.ensures) (subst P (sym c.self.view_is) after.0) in
     let counted = uncounted c.self.inside.spec fed one (Snap c.args.p row) c.self.inside.spec.task _ refl seen (subst T (sym c.self.view_is) after.1) in
-    let follows = rw c.deref_mut.ensures.value at c.follow_said-followed.ensures.follows in
+    let follows = rw c.deref_mut.ensures.value at (c.follow_said-followed.ensures.follows c.self.inside.spec (sym c.protocol.ensures)) in
     let len : length c.follow_said-followed.new.processes ≡ c.self.inside.processes.len = c.follow_said-followed.auto.processes ∙ c.deref_mut.ensures.len in (
       still_unbroken (record { spec = _; processes = _; broken = _; tally = None }) (fed ++ one ∷ []) (sym c.if-is_some.ensures)
           (rw (with_items_is c.self.inside.processes c.follow_said-followed.new.processes len)

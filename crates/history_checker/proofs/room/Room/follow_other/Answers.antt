@@ -13,7 +13,7 @@ pub returns-then-is_err-clause-processed : goal.returns-then-is_err-clause-proce
 returns-then-is_err-clause-processed c =
     λ fed one event line stands.
     let P : RoomState → Type 0 = λ room. StandsAfter room fed room.broken in
-    breaks_now c.self.inside.spec c.self.inside.processes.items c.follow-followed.new.processes fed one c.args.event.now c.args.line _ event line (sym c.if-is_err.ensures.value) (rw c.deref_mut.ensures.value at c.follow-followed.ensures.follows)
+    breaks_now c.self.inside.spec c.self.inside.processes.items c.follow-followed.new.processes fed one c.args.event.now c.args.line _ event line (sym c.if-is_err.ensures.value) (rw c.deref_mut.ensures.value at (c.follow-followed.ensures.follows c.self.inside.spec (sym c.rounds.ensures.value) (sym c.protocol.ensures)))
     (unbroken (record { spec = _; processes = _; broken = _; tally = None }) fed (sym c.if-is_some.ensures) (subst P (sym c.self.view_is) stands))
 
 pub returns-else-is_err-clause-processed : goal.returns-else-is_err-clause-processed
@@ -24,4 +24,4 @@ returns-else-is_err-clause-processed c =
     let len : length c.follow-followed.new.processes ≡ c.self.inside.processes.len = c.follow-followed.auto.processes ∙ c.deref_mut.ensures.len in
     still_unbroken (record { spec = _; processes = _; broken = _; tally = None }) (fed ++ one ∷ []) (sym c.if-is_some.ensures)
     (rw (with_items_is c.self.inside.processes c.follow-followed.new.processes len)
-    (runs_on c.self.inside.spec c.self.inside.processes.items c.follow-followed.new.processes fed one c.args.event.now _ event (sym c.if-is_err.ensures.value) (rw c.deref_mut.ensures.value at c.follow-followed.ensures.follows) before))
+    (runs_on c.self.inside.spec c.self.inside.processes.items c.follow-followed.new.processes fed one c.args.event.now _ event (sym c.if-is_err.ensures.value) (rw c.deref_mut.ensures.value at (c.follow-followed.ensures.follows c.self.inside.spec (sym c.rounds.ensures.value) (sym c.protocol.ensures))) before))

@@ -40,7 +40,7 @@ returns-clause-fed c =
     let there = c.index_mut-room.ensures.value in
     let found : position (bytes_eq name) (keys_in entries) ≡ Some index = ap (λ (n : List ℕ). position (bytes_eq n) (keys_in entries)) (sym c.name-bytes.ensures) ∙ sym c.in-Some.ensures.index in
     let same : name ≡ room.spec.name = (bytes_eq-Decides name room.spec.name).0 (own_name spec_in name entries index room c.self.invariant found there) in
-    let named : is_name name ≡ true = subst (λ (n : List ℕ). is_name n ≡ true) (c.name.ensures ∙ ap (λ (r : RoomState). r.spec.name) c.room.view_is ∙ sym same) c.as_str.ensures.rule in
+    let named : is_name name ≡ true = subst (λ (n : List ℕ). is_name n ≡ true) (ap (λ (r : RoomState). r.spec.name) c.room.view_is ∙ sym same) c.rounds.ensures.named in
     let known = c.in-Some.ensures.found ∙ sym (has_room-lookup spec_in c.name-bytes.result.now entries c.self.invariant) ∙ ap (λ (rooms : List RoomState). has_room c.name-bytes.result.now (specs_of rooms)) c.self.view_is in
     let one : FedEvent = record { name = name; event = feeds.event; line = c.args.number } in
     record {
@@ -67,5 +67,5 @@ returns-in-Err-clause-fault c =
     let name = c.args.line.now.name in
     let found : position (bytes_eq name) (keys_in entries) ≡ Some c.in-Some.index = ap (λ (n : List ℕ). position (bytes_eq n) (keys_in entries)) (sym c.name-bytes.ensures) ∙ sym c.in-Some.ensures.index in
     let same : name ≡ room.spec.name = (bytes_eq-Decides name room.spec.name).0 (own_name spec_in name entries c.in-Some.index room c.self.invariant found c.index_mut-room.ensures.value) in
-    let named : is_name name ≡ true = subst (λ (n : List ℕ). is_name n ≡ true) (c.name.ensures ∙ ap (λ (r : RoomState). r.spec.name) c.room.view_is ∙ sym same) c.as_str.ensures.rule in
+    let named : is_name name ≡ true = subst (λ (n : List ℕ). is_name n ≡ true) (ap (λ (r : RoomState). r.spec.name) c.room.view_is ∙ sym same) c.rounds.ensures.named in
     fault_named c.args.line.now c.in-Err.fault named (sym c.in-Err.ensures.fault)
