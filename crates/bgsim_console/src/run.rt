@@ -18,13 +18,30 @@ use std::sync::Wait;
 use std::thread;
 use std::thread::Threads;
 
-/// How many rooms run at the same time at least, if there are as many. While it runs a room takes
-/// some 4 KB, however short its block is.
+/// How many rooms a worker goes round at a time, and how many a part has at least, if there are as many. While it runs a room takes some
+/// 4 KB, however short its block is: the words of these rooms stay in a processor's cache.
 const ROOMS_AT_ONCE: usize = 128;
 
-/// How many equal parts a file of many rooms runs in. Threads are started for each part, so their number
-/// doesn't grow with the file.
-const PARTS: usize = 64;
+/// How many rooms a part has at most, if several workers run a file of up to 64 such parts. Two parts take memory at the same time.
+const MOST_IN_PART: usize = 512;
+
+/// How many parts a file has at least, if they are not too short: one is opened while another one runs.
+const LEAST_PARTS: usize = 4;
+
+/// How many equal parts a file of very many rooms runs in. Threads are started for each part, so their number doesn't grow with the file.
+const MOST_PARTS: usize = 64;
+
+/// How many rooms run in a part, by how many there are. A long part starts few threads; one worker starts none.
+fn rooms_in_part(rooms: usize, workers: u8) -> usize {
+    let most = if workers == 1 {
+        ROOMS_AT_ONCE
+    } else {
+        MOST_IN_PART
+    };
+    (rooms / LEAST_PARTS)
+        .clamp(ROOMS_AT_ONCE, most)
+        .max(rooms / MOST_PARTS)
+}
 
 /// Runs the rooms of an input's blocks, and appends their reports to the lines of the refused blocks.
 pub fn run_blocks<H: Threads + Wait + Sync, G: Gate + Sync>(
@@ -62,7 +79,7 @@ fn run_in_parts<H: Threads + Wait + Sync, G: Gate + Sync>(
     ensures workers { OnOk result (AreWorkers workers) }
     ensures err { IfErr result (MayEndRun workers) }
 {
-    let rooms = ROOMS_AT_ONCE.max(left.len() / PARTS);
+    let rooms = rooms_in_part(left.len(), workers);
     let part = next_part(alloc, &mut left, rooms)?;
     let mut opened = open_rooms(alloc, part, workers)?;
     let mut reports = Reports::none(alloc);
@@ -70,7 +87,7 @@ fn run_in_parts<H: Threads + Wait + Sync, G: Gate + Sync>(
         let part = next_part(alloc, &mut left, rooms)?;
         (reports, opened) = run_and_open(rt, alloc, opened, reports, part, workers, gate)?;
     }
-    let reports = run_opened(rt, alloc, opened, gate, reports)?;
+    let reports = run_opened(rt, alloc, opened, ROOMS_AT_ONCE, gate, reports)?;
     Ok(reports.text)
 }
 
@@ -90,7 +107,7 @@ fn run_and_open<H: Threads + Wait + Sync, G: Gate + Sync, A: Gathers + Send>(
     ensures fault { IfErr result (λ fault. fault ≢ Workers) }
 {
     if workers == 1 {
-        let all = run_opened(rt, alloc, opened, gate, gathered)?;
+        let all = run_opened(rt, alloc, opened, ROOMS_AT_ONCE, gate, gathered)?;
         return Ok((all, open_rooms(alloc, part, workers)?));
     }
     let open_next = move || -> Result<OpenRooms, RunFault>
@@ -98,7 +115,7 @@ fn run_and_open<H: Threads + Wait + Sync, G: Gate + Sync, A: Gathers + Send>(
     { open_rooms(alloc, part, workers) };
     let run = move || -> Result<A, RunFault>
         ensures { IfErr result (λ fault. fault ≢ Workers) × IfOk result (λ all. AddsRoomRuns opened (A.has_gathered gathered) (A.has_gathered all)) }
-    { run_opened(rt, alloc, opened, gate, gathered) };
+    { run_opened(rt, alloc, opened, ROOMS_AT_ONCE, gate, gathered) };
     let (next, all) = thread::join(rt, open_next, run);
     Ok((all?, next?))
 }

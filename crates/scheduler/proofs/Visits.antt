@@ -7,7 +7,7 @@ use Rattle.std.proofs.lemmas.Bool.{cases_eq}
 use Rattle.std.proofs.lemmas.List.{get_or_append_left, get_or-set_same, get_or-set_other, length-set}
 use Rattle.std.proofs.lemmas.List.Elements.{All-set}
 use Rattle.std.proofs.lemmas.List.Sorted.{All-permutation, length_permutation, sum_by-IsPermutation}
-use Rattle.std.proofs.lemmas.List.Sums.{sum_by-cons, sum_by-set}
+use Rattle.std.proofs.lemmas.List.Sums.{sum_by-append, sum_by-cons, sum_by-set}
 use Rattle.ruled_room.specs.Parts.{RoomName}
 use Rattle.ruled_room.specs.declared.stop.Stop.{Stop}
 use Rattle.scheduler.specs.declared.workers.Stopped.{Stopped}
@@ -18,17 +18,48 @@ use Rattle.scheduler.proofs.Rounds.{all_cons, all_head, all_snoc, all_tail, sum_
 
 -- ---- before the first round
 
-pub all_to_visit : (rooms : List RoomName) (tasks : List Task) → All (λ task. IsTaskOf rooms task) tasks → All (λ one. IsVisitedOf rooms one) (map to_visit tasks)
+all_from_visit : (rooms : List RoomName) (tasks : List Task) → All (λ one. IsVisitedOf rooms one) (map to_visit tasks) → All (λ task. IsTaskOf rooms task) tasks
+all_from_visit rooms [] all = λ k d below. absurd (omega (arith, below))
+all_from_visit rooms (task ∷ tasks) all =
+    all_cons (λ (t : Task). IsTaskOf rooms t) task tasks (all_head (λ (one : Visited). IsVisitedOf rooms one) (to_visit task) (map to_visit tasks) all) (all_from_visit rooms tasks (all_tail (λ (one : Visited). IsVisitedOf rooms one) (to_visit task) (map to_visit tasks) all))
+
+all_to_visit : (rooms : List RoomName) (tasks : List Task) → All (λ task. IsTaskOf rooms task) tasks → All (λ one. IsVisitedOf rooms one) (map to_visit tasks)
 all_to_visit rooms [] all = λ k d below. absurd (omega (arith, below))
 all_to_visit rooms (task ∷ tasks) all =
     all_cons (λ (one : Visited). IsVisitedOf rooms one) (to_visit task) (map to_visit tasks) (all_head (λ (t : Task). IsTaskOf rooms t) task tasks all) (all_to_visit rooms tasks (all_tail (λ (t : Task). IsTaskOf rooms t) task tasks all))
 
-pub visited_to_visit : (k i : ℕ) (tasks : List Task) → visited k i (map to_visit tasks) ≡ queued k i tasks
+visited_to_visit : (k i : ℕ) (tasks : List Task) → visited k i (map to_visit tasks) ≡ queued k i tasks
 visited_to_visit k i [] = refl
 visited_to_visit k i (task ∷ tasks) =
     let f : Visited → ℕ = λ one. is_here k i one.task.place one.task.simulator.number in
     let h : Task → ℕ = λ t. is_here k i t.place t.simulator.number in
     omega (arith, sum_by-cons f (to_visit task) (map to_visit tasks), sum_by-cons h task tasks, visited_to_visit k i tasks)
+
+all_first : (rooms : List RoomName) (first later : List Visited) → All (λ one. IsVisitedOf rooms one) (first ++ later) → All (λ one. IsVisitedOf rooms one) first
+all_first rooms [] later all = λ k d below. absurd (omega (arith, below))
+all_first rooms (one ∷ first) later all =
+    all_cons (λ (v : Visited). IsVisitedOf rooms v) one first (all_head (λ (v : Visited). IsVisitedOf rooms v) one (first ++ later) all) (all_first rooms first later (all_tail (λ (v : Visited). IsVisitedOf rooms v) one (first ++ later) all))
+
+all_later : (rooms : List RoomName) (first later : List Visited) → All (λ one. IsVisitedOf rooms one) (first ++ later) → All (λ one. IsVisitedOf rooms one) later
+all_later rooms [] later all = all
+all_later rooms (one ∷ first) later all = all_later rooms first later (all_tail (λ (v : Visited). IsVisitedOf rooms v) one (first ++ later) all)
+
+-- some tasks were taken off the front, to be visited
+pub record AreTaken (rooms : List RoomName) (tasks left : List Task) (all : List Visited) : Type 0 where
+  pub every : All (λ one. IsVisitedOf rooms one) all
+  pub rest : All (λ task. IsTaskOf rooms task) left
+  pub same : (k i : ℕ) → visited k i all + queued k i left ≡ queued k i tasks
+
+pub are_taken : (rooms : List RoomName) (tasks left : List Task) (all : List Visited) → all ++ map to_visit left ≡ map to_visit tasks → All (λ task. IsTaskOf rooms task) tasks → AreTaken rooms tasks left all
+are_taken rooms tasks left all taken each =
+    let both : All (λ one. IsVisitedOf rooms one) (all ++ map to_visit left) = subst (λ (l : List Visited). All (λ one. IsVisitedOf rooms one) l) (sym taken) (all_to_visit rooms tasks each) in
+    record {
+      every = all_first rooms all (map to_visit left) both;
+      rest = all_from_visit rooms left (all_later rooms all (map to_visit left) both);
+      same = λ k i.
+          let f : Visited → ℕ = λ one. is_here k i one.task.place one.task.simulator.number in
+          omega (arith, sum_by-append f all (map to_visit left), ap (λ (l : List Visited). sum_by f l) taken, visited_to_visit k i left, visited_to_visit k i tasks);
+    }
 
 -- ---- in the midst of a round
 

@@ -96,7 +96,7 @@ pub fn run_rooms<R: Threads + Wait + Sync, G: Gate + Sync>(
     ensures rooms { IfOk result (λ results. AreRoomRuns specs.items results.items) }
 {
     let opened = open_rooms(alloc, specs, workers)?;
-    run_opened(rt, alloc, opened, gate, Vec::new(alloc))
+    run_opened(rt, alloc, opened, usize::MAX, gate, Vec::new(alloc))
 }
 
 /// Opens a room of each spec, and deals out their simulators to the workers. [`run_opened`] runs them; the rooms of another list can be
@@ -119,6 +119,9 @@ pub fn open_rooms(alloc: Global, specs: Vec<Spec>, workers: u8) -> Result<OpenRo
 /// Runs rooms that are open, as [`run_rooms`] says, and adds the results to those that were gathered before. Each thread that ends
 /// rooms gathers their results.
 ///
+/// A worker goes round its tasks of the first `at_once` rooms until all of them have stopped, then round those of the next, and so on:
+/// the words of a few rooms stay in the processor's cache. If `at_once` is 0, it counts as 1.
+///
 /// # Errors
 ///
 /// If a thread could not be started; an allocation that failed. All rooms are then given up.
@@ -126,6 +129,7 @@ pub fn run_opened<R: Threads + Wait + Sync, G: Gate + Sync, A: Gathers + Send>(
     rt: &R,
     alloc: Global,
     opened: OpenRooms,
+    at_once: usize,
     gate: &G,
     gathered: A,
 ) -> Result<A, RunFault>
@@ -139,7 +143,7 @@ pub fn run_opened<R: Threads + Wait + Sync, G: Gate + Sync, A: Gathers + Send>(
         queues,
     } = opened.dealt;
     let workers = queues.len() as u8;
-    let keepers = run_all(rt, alloc, rooms.as_slice(), keepers, queues, gate)?;
+    let keepers = run_all(rt, alloc, rooms.as_slice(), keepers, queues, at_once, gate)?;
     let threads = ending_threads(rooms.len(), workers);
     Ok(finish_by(rt, alloc, rooms, keepers, threads, gathered)?)
 }

@@ -1,5 +1,5 @@
 //! A worker's simulators, which stay where they are in memory while it goes round them.
-ghost use Rattle.std.specs.Prelude.{◌≡◌, ◌+◌, ◌<◌, ◌≤◌, true, false, ℕ, None, IfOk, List, length, map};
+ghost use Rattle.std.specs.Prelude.{◌≡◌, ◌+◌, ◌<◌, ◌≤◌, ◌++◌, true, false, ℕ, None, List, [], OnOk, length, map};
 ghost use Rattle.std.specs.List.{All, SwappedAt};
 ghost use Rattle.std.specs.List.Sorted.{IsPermutation};
 ghost use Rattle.std.specs.Option.{IsSome};
@@ -10,7 +10,7 @@ use crate::driving::turn;
 use crate::gate::Gate;
 use crate::workers::{Stopped, Task};
 use ruled_room::{RuledRoom, Stop};
-use std::alloc::{AllocError, Global};
+use std::alloc::AllocError;
 use std::collections::VecDeque;
 
 /// A simulator that is to run, and why it has stopped once it has.
@@ -20,20 +20,58 @@ pub(crate) struct Visited {
     pub(crate) stop: Option<Stop>,
 }
 
-/// These tasks, none of which has stopped.
-pub(crate) fn to_visit(alloc: Global, mut tasks: VecDeque<Task>) -> Result<Vec<Visited>, AllocError>
-    ensures { IfOk result (λ all. all.items ≡ map to_visit tasks.items) }
+/// Takes the tasks of the next `at_once` rooms off the front, at least one if there are some. None of them has stopped.
+pub(crate) fn take_next(
+    all: &mut Vec<Visited>,
+    tasks: &mut VecDeque<Task>,
+    at_once: usize,
+) -> Result<(), AllocError>
+    ensures taken { OnOk result (all.new.items ++ map to_visit tasks.new.items ≡ all.old.items ++ map to_visit tasks.old.items) }
+    ensures some { OnOk result (0 < length tasks.old.items → length tasks.new.items < length tasks.old.items) }
 {
-    let mut all = Vec::with_capacity(alloc, tasks.len())?;
+    let Some(first) = tasks.front() else {
+        return Ok(());
+    };
+    let end = first.place.saturating_add(at_once);
     while let Some(task) = tasks.pop_front() {
         all.push(Visited { task, stop: None })?;
+        if !is_next_before(tasks, end) {
+            return Ok(());
+        }
     }
-    Ok(all)
+    Ok(())
+}
+
+/// Whether the next task is of a room before this place.
+fn is_next_before(tasks: &VecDeque<Task>, end: usize) -> bool {
+    match tasks.front() {
+        Some(task) => task.place < end,
+        None => false,
+    }
+}
+
+/// Visits them in rounds, each once in a round and in order, until all have stopped.
+pub(crate) fn visit_all<G: Gate>(
+    rooms: &[RuledRoom],
+    all: &mut Vec<Visited>,
+    gate: &G,
+    worker: u8,
+    visits: &mut u64,
+)
+    requires { All (λ one. IsVisitedOf rooms.now one) all.old.items }
+    ensures visited { All (λ one. IsVisitedOf rooms.now one) all.new.items }
+    ensures stopped { AreStoppedFrom 0 all.new.items }
+    ensures same { (k i : ℕ) → visited k i all.new.items ≡ visited k i all.old.items }
+{
+    let mut going = all.len();
+    while going > 0 {
+        going = go_round(rooms, all.as_mut_slice(), going, gate, worker, visits);
+    }
 }
 
 /// Visits the first `going` of them once each, in order. Those that go on are put first, in the same order; answers how
 /// many they are.
-pub(crate) fn go_round<G: Gate>(
+fn go_round<G: Gate>(
     rooms: &[RuledRoom],
     all: &mut [Visited],
     going: usize,
@@ -111,18 +149,19 @@ fn take_turn<G: Gate>(
     turn(&mut task.simulator, &rooms[task.place], &task.fuse)
 }
 
-/// All of them, which have stopped.
-pub(crate) fn all_stopped(alloc: Global, mut all: Vec<Visited>) -> Result<Vec<Stopped>, AllocError>
-    requires { AreStoppedFrom 0 all.items }
-    ensures stopped { IfOk result (λ done. (rooms : List RoomName) → All (λ one. IsVisitedOf rooms one) all.items → All (λ one. IsStoppedOf rooms one) done.items) }
-    ensures same { IfOk result (λ done. (k i : ℕ) → brought k i done.items ≡ visited k i all.items) }
+/// Puts all of them, which have stopped, to those that stopped before.
+pub(crate) fn put_stopped(done: &mut Vec<Stopped>, all: &mut Vec<Visited>) -> Result<(), AllocError>
+    requires { AreStoppedFrom 0 all.old.items }
+    ensures empty { OnOk result (all.new.items ≡ []) }
+    ensures stopped { OnOk result ((rooms : List RoomName) → All (λ one. IsVisitedOf rooms one) all.old.items →
+        All (λ one. IsStoppedOf rooms one) done.old.items → All (λ one. IsStoppedOf rooms one) done.new.items) }
+    ensures same { OnOk result ((k i : ℕ) → brought k i done.new.items ≡ brought k i done.old.items + visited k i all.old.items) }
 {
-    let mut done = Vec::with_capacity(alloc, all.len())?;
     while let Some(one) = all.pop() {
         let Some(stop) = one.stop else {
             unreachable!() // all have stopped
         };
         done.push(one.task.ended(stop))?;
     }
-    Ok(done)
+    Ok(())
 }

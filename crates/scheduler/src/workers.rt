@@ -7,7 +7,7 @@ ghost use Rattle.scheduler.specs.Tasks.{AreKept, AreTasksOf, BringsBack, IsStopp
 use crate::fuse::Fuse;
 use crate::gate::Gate;
 use crate::rooms::RunFault;
-use crate::visiting::{all_stopped, go_round, to_visit};
+use crate::visiting::{put_stopped, take_next, visit_all};
 use ruled_room::{Keeper, RuledRoom, Simulator, Stop};
 use std::alloc::{AllocError, Global};
 use std::collections::VecDeque;
@@ -49,25 +49,28 @@ impl Task {
     }
 }
 
-/// Goes round the tasks in order, one visit each, until all have stopped. A visit passes the gate and
-/// then takes a turn; a task that has stopped is not visited again.
+/// Takes the tasks of the first `at_once` rooms and goes round them in order, one visit each, until all have stopped; then those of the
+/// next rooms, and so on. A visit passes the gate and then takes a turn; a task that has stopped is not visited again.
 pub(crate) fn work<G: Gate>(
     alloc: Global,
     rooms: &[RuledRoom],
-    tasks: VecDeque<Task>,
+    mut tasks: VecDeque<Task>,
+    at_once: usize,
     gate: &G,
     worker: u8,
 ) -> Result<Vec<Stopped>, AllocError>
     requires { All (λ task. IsTaskOf rooms.now task) tasks.items }
     ensures { IfOk result (λ done. BringsBack rooms.now tasks.items done.items) }
 {
-    let mut all = to_visit(alloc, tasks)?;
-    let mut going = all.len();
+    let mut all = Vec::with_capacity(alloc, tasks.len())?;
+    let mut done = Vec::with_capacity(alloc, tasks.len())?;
     let mut visits: u64 = 0;
-    while going > 0 {
-        going = go_round(rooms, all.as_mut_slice(), going, gate, worker, &mut visits);
+    while !tasks.is_empty() {
+        take_next(&mut all, &mut tasks, at_once)?;
+        visit_all(rooms, &mut all, gate, worker, &mut visits);
+        put_stopped(&mut done, &mut all)?;
     }
-    all_stopped(alloc, all)
+    Ok(done)
 }
 
 /// What a worker's thread was given to do.
@@ -84,14 +87,15 @@ impl<'a> Promise<Result<Vec<Stopped>, AllocError>> for Given<'a> {
     ghost kept_by = { λ given result. IfOk result (λ done. BringsBack given.rooms.now given.tasks.value.items done.items) };
 }
 
-/// Runs all tasks, each queue by a worker of its own, all at the same time, and brings them back. The
-/// first worker has the calling thread, each other one a thread of its own.
+/// Runs all tasks, each queue by a worker of its own, all at the same time, and brings them back; a worker runs those of `at_once` rooms
+/// at a time. The first worker has the calling thread, each other one a thread of its own.
 pub(crate) fn run_all<R: Threads + Wait + Sync, G: Gate + Sync>(
     rt: &R,
     alloc: Global,
     rooms: &[RuledRoom],
     keepers: Vec<Keeper>,
     queues: Vec<VecDeque<Task>>,
+    at_once: usize,
     gate: &G,
 ) -> Result<Vec<Keeper>, RunFault>
     requires kept { AreKept rooms.now keepers.items }
@@ -112,7 +116,7 @@ pub(crate) fn run_all<R: Threads + Wait + Sync, G: Gate + Sync>(
                 (length queues.items ≤ 16) }
             ensures { IfOk result (λ keepers. AreKept rooms.entry.now keepers.items × ((k i : ℕ) → away keepers.items k i ≡ 0)) ×
                 IfErr result (λ fault. fault ≢ Workers) }
-        { run_within(rt, alloc, scope, rooms, keepers, queues, gate) },
+        { run_within(rt, alloc, scope, rooms, keepers, queues, at_once, gate) },
     )
 }
 
@@ -123,6 +127,7 @@ fn run_within<'s, E, R: Threads + Sync, G: Gate + Sync>(
     rooms: &'s [RuledRoom],
     mut keepers: Vec<Keeper>,
     queues: Vec<VecDeque<Task>>,
+    at_once: usize,
     gate: &'s G,
 ) -> Result<Vec<Keeper>, RunFault>
     requires kept { AreKept rooms.now keepers.items }
@@ -139,6 +144,7 @@ fn run_within<'s, E, R: Threads + Sync, G: Gate + Sync>(
         rooms,
         keepers.as_mut_slice(),
         queues,
+        at_once,
         gate,
     )?;
     Ok(keepers)
@@ -153,6 +159,7 @@ fn start_each<'s, E, R: Threads + Sync, G: Gate + Sync>(
     rooms: &'s [RuledRoom],
     keepers: &mut [Keeper],
     mut queues: Vec<VecDeque<Task>>,
+    at_once: usize,
     gate: &'s G,
 ) -> Result<(), RunFault>
     requires kept { AreKept rooms.now keepers.old }
@@ -168,7 +175,7 @@ fn start_each<'s, E, R: Threads + Sync, G: Gate + Sync>(
     };
     let worker = queues.len() as u8;
     if worker == 0 {
-        let done = work(alloc, rooms, tasks, gate, worker)?;
+        let done = work(alloc, rooms, tasks, at_once, gate, worker)?;
         bring_back(rooms, keepers, done);
         return Ok(());
     }
@@ -179,11 +186,11 @@ fn start_each<'s, E, R: Threads + Sync, G: Gate + Sync>(
     let run = move || -> Result<Vec<Stopped>, AllocError>
         requires { All (λ task. IsTaskOf rooms.now task) tasks.items }
         ensures { IfOk result (λ done. BringsBack rooms.entry.now tasks.items done.items) }
-    { work(alloc, rooms, tasks, gate, worker) };
+    { work(alloc, rooms, tasks, at_once, gate, worker) };
     let Ok(handle) = scope.spawn_with(given, run) else {
         return Err(RunFault::Spawn);
     };
-    let others = start_each(rt, alloc, scope, rooms, keepers, queues, gate);
+    let others = start_each(rt, alloc, scope, rooms, keepers, queues, at_once, gate);
     let done = handle.join(rt);
     others?;
     bring_back(rooms, keepers, done?);

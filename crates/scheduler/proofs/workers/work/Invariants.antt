@@ -1,15 +1,15 @@
-use Rattle.std.proofs.Common.{◌≡◌, ℕ, ◌+◌, ◌≤◌, length}
+use Rattle.std.proofs.Common.{◌≡◌, ℕ, ◌+◌, [], length}
 use Rattle.std.specs.List.{All}
-use Rattle.scheduler.specs.Tasks.{AreStoppedFrom, IsVisitedOf, left_in_all, queued, visited}
+use Rattle.scheduler.specs.Tasks.{IsStoppedOf, IsTaskOf, brought, queued}
 use Rattle.scheduler.proofs.workers.work.Given as goal
 
-abbrev pub invariant-loop-going : goal.invariant-loop-going
-invariant-loop-going g l = record {
-  every : All (λ one. IsVisitedOf l.rooms one) l.all.items;
-  within : l.going ≤ length l.all.items;
-  stopped : AreStoppedFrom l.going l.all.items;
-  same : (k i : ℕ) → visited k i l.all.items ≡ queued k i l.fn.tasks.items;
+abbrev pub invariant-loop-all : goal.invariant-loop-all
+invariant-loop-all g l = record {
+  left : All (λ task. IsTaskOf l.rooms task) l.tasks.items;
+  none : l.all.items ≡ [];
+  stopped : All (λ one. IsStoppedOf l.rooms one) l.done.items;
+  same : (k i : ℕ) → brought k i l.done.items + queued k i l.tasks.items ≡ queued k i l.fn.tasks.items;
 }
 
-abbrev pub decreases-loop-going : goal.decreases-loop-going
-decreases-loop-going g l = left_in_all l.all.items + l.going
+abbrev pub decreases-loop-all : goal.decreases-loop-all
+decreases-loop-all g l = length l.tasks.items

@@ -1,6 +1,6 @@
 use Rattle.std.proofs.Common.{arith}
 use Rattle.scheduler.proofs.Visits.{last_stopped}
-use Rattle.scheduler.proofs.visiting.all_stopped.Goals as goal
+use Rattle.scheduler.proofs.visiting.put_stopped.Goals as goal
 
 pub loop-one-preserved : goal.loop-one-preserved
 loop-one-preserved c =
@@ -9,6 +9,6 @@ loop-one-preserved c =
     record {
       stopped = last.stopped loop.stopped;
       every = λ rooms every. last.every rooms (loop.every rooms every);
-      done = λ rooms every. last.done rooms (loop.every rooms every) (loop.done rooms every);
+      done = λ rooms every before. last.done rooms (loop.every rooms every) (loop.done rooms every before);
       same = λ k i. omega (arith, last.same k i, loop.same k i);
     }

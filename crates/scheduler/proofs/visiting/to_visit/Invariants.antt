@@ -1,9 +1,0 @@
-use Rattle.std.proofs.Common.{◌≡◌, ◌++◌, length, map}
-use Rattle.scheduler.specs.Tasks.{to_visit}
-use Rattle.scheduler.proofs.visiting.to_visit.Given as goal
-
-abbrev pub invariant-loop-task : goal.invariant-loop-task
-invariant-loop-task l = l.all.items ++ map to_visit l.tasks.items ≡ map to_visit l.initial.tasks.items
-
-abbrev pub decreases-loop-task : goal.decreases-loop-task
-decreases-loop-task l = length l.tasks.items
