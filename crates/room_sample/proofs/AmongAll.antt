@@ -24,7 +24,7 @@ use Rattle.room_sample.specs.declared.stretch.Stretch.{Stretch}
 use Rattle.room_sample.specs.declared.stretch.Stretch.TheVariants.{Steps, Crash}
 
 -- the room has this spec, and fields
-record HasFields (spec : RoomSpec) (room : RoomState) : Type 0 where
+pub record HasFields (spec : RoomSpec) (room : RoomState) : Type 0 where
   pub same : room.spec ≡ spec
   pub fields : Fields
   pub are : AreFieldsOf room fields
@@ -55,10 +55,15 @@ after_schedule : (spec : RoomSpec) (room : RoomState) (schedule : List Stretch) 
 after_schedule spec room [] limits has = has
 after_schedule spec room (stretch ∷ schedule) limits has = after_schedule spec (room_after_stretch room stretch) schedule limits (after_stretch spec room stretch limits has)
 
+-- and so has a room that has settled after a schedule
+pub settled_fields : (spec : RoomSpec) (schedule : List Stretch) → IsWithinLimits spec → HasFields spec (settled_by spec schedule)
+settled_fields spec schedule limits =
+    let opened : HasFields spec (opening_state spec) = record { same = refl; fields = opening_fields spec; are = opening_in_fields spec } in
+    after_call spec (room_after_schedule (opening_state spec) schedule) Settle limits (after_schedule spec (opening_state spec) schedule limits opened)
+
 pub sampled_outcome : (spec : RoomSpec) (crashes : ℕ) (schedule : List Stretch) (states : List ProcessState) → IsWithinLimits spec → IsOutcome spec crashes schedule states → IsRunOutcome spec (processes spec) (ends_of states)
 sampled_outcome spec crashes schedule states limits is =
-    let opened : HasFields spec (opening_state spec) = record { same = refl; fields = opening_fields spec; are = opening_in_fields spec } in
-    let settled = after_call spec (room_after_schedule (opening_state spec) schedule) Settle limits (after_schedule spec (opening_state spec) schedule limits opened) in
+    let settled = settled_fields spec schedule limits in
     let room = settled_by spec schedule in
     let among : IsRunOutcome room.spec (processes room.spec) (ends_of (states_of room.spec settled.fields)) = reported_outcome room settled.fields (within spec room settled.same limits) settled.are in
     subst (λ (ends : List Ended). IsRunOutcome spec (processes spec) ends) (ap ends_of (sym (is.reported settled.fields settled.are)))

@@ -9,6 +9,9 @@ mod OneMore
 mod Parts
 mod Ordering
 mod Ranking
+mod SameDraws
+mod SameRuns
+mod SameSteps
 mod Schedules
 mod Shortening
 mod Stopping

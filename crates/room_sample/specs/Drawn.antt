@@ -210,9 +210,10 @@ pub data IsLed (spec : RoomSpec) (crashes : ℕ) (random : Stream) : ℕ → Way
 abbrev pub most_draws : ℕ
 most_draws = 65536
 
--- this many draws lead there; and none may act, or these are as many as are made
+-- this many draws lead there, of as many as are made at most; and none may act, or these are as many as are made
 pub record IsThrough (spec : RoomSpec) (crashes : ℕ) (random : Stream) (way : Way) : Type 0 where
   pub draws : ℕ
+  pub few : draws ≤ most_draws
   pub active : List Active
   pub later : Stream
   pub led : IsLed spec crashes random draws way active later

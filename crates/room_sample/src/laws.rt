@@ -1,13 +1,15 @@
 //! Laws of samples.
-ghost use Rattle.std.specs.Prelude.{ℕ, ◌<◌, ◌^◌, List};
+ghost use Rattle.std.specs.Prelude.{◌≡◌, ℕ, ◌<◌, ◌^◌, List};
 ghost use Rattle.std.specs.List.{sum_by};
+ghost use Rattle.rand_core.specs.Stream.{Stream};
 ghost use Rattle.room_spec.specs.Rooms.{IsWithinLimits, RoomSpec, processes};
 ghost use Rattle.ws_history.specs.declared.states.ProcessState.{ProcessState};
 ghost use Rattle.run_search.specs.Outcomes.{IsRunOutcome};
 ghost use Rattle.room_outcomes.specs.Ends.{ends_of};
 ghost use Rattle.room_sample.specs.Groups.{AreGroups, grouped};
-ghost use Rattle.room_sample.specs.Samples.{Counted};
+ghost use Rattle.room_sample.specs.Samples.{Counted, IsRunFrom, IsSampleOf, Sampled};
 ghost use Rattle.room_sample.specs.Schedules.{IsOutcome};
+ghost use Rattle.room_sample.specs.declared.sampling.Plan.{Plan};
 ghost use Rattle.room_sample.specs.declared.stretch.Stretch.{Stretch};
 
 /// What a sample finds is among all outcomes that a search of the room's protocol lists, with those processes stopped that are held or
@@ -20,4 +22,18 @@ pub fn sampled_outcomes()
 /// The groups of a sample's outcomes have each outcome once, and each schedule is counted once.
 pub fn groups_of_outcomes()
     ensures { (outcomes : List Counted) → sum_by (λ one. one.times) outcomes < 2 ^ 32 → AreGroups outcomes (grouped outcomes) }
+{}
+
+/// A stream of random numbers gives one run: the same schedule, and the same states of the processes after it.
+pub fn determined_runs()
+    ensures { (spec : RoomSpec) (crashes : ℕ) (random : Stream) (one other : Sampled) →
+        IsWithinLimits spec → IsRunFrom spec crashes random one → IsRunFrom spec crashes random other → one ≡ other }
+{}
+
+/// The same seed gives the same sample: if as many simulators may crash, as many schedules give the same outcomes, as often, and in the same
+/// order, whatever else the plans say. So the outcomes are the same by any number of threads.
+pub fn determined_samples()
+    ensures { (spec : RoomSpec) (plan other_plan : Plan) (schedules : ℕ) (outcomes others : List Counted) →
+        IsWithinLimits spec → plan.seed ≡ other_plan.seed → plan.crashes ≡ other_plan.crashes →
+        IsSampleOf spec plan schedules outcomes → IsSampleOf spec other_plan schedules others → outcomes ≡ others }
 {}
