@@ -38,9 +38,8 @@ fn rooms_in_part(rooms: usize, workers: u8) -> usize {
     } else {
         MOST_IN_PART
     };
-    (rooms / LEAST_PARTS)
-        .clamp(ROOMS_AT_ONCE, most)
-        .max(rooms / MOST_PARTS)
+    let some = (rooms / LEAST_PARTS).min(most);
+    some.max(ROOMS_AT_ONCE).max(rooms / MOST_PARTS)
 }
 
 /// Runs the rooms of an input's blocks, and appends their reports to the lines of the refused blocks.
