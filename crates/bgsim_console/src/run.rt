@@ -23,7 +23,7 @@ use std::thread::Threads;
 const ROOMS_AT_ONCE: usize = 128;
 
 /// How many rooms a part has at most, if several workers run a file of up to 64 such parts. Two parts take memory at the same time.
-const MOST_IN_PART: usize = 512;
+const MOST_IN_PART: usize = 384;
 
 /// How many parts a file has at least, if they are not too short: one is opened while another one runs.
 const LEAST_PARTS: usize = 4;
