@@ -87,7 +87,7 @@ is_among spec states = IsRunOutcome spec (processes spec) (ends_of states)
 abbrev are_among : RoomSpec → List Counted → Type 0
 are_among spec outcomes = AllByRecursion (λ (c : Counted). is_among spec c.states) outcomes
 
-runs_among : (spec : RoomSpec) (crashes : ℕ) (random : ℕ → Stream) (runs : List Sampled) (so_far : List Counted) → IsWithinLimits spec → ((k : ℕ) (run : Sampled) → slice_get runs k ≡ Some run → IsRunFrom spec crashes (random k) run) → are_among spec so_far
+runs_among : (spec : RoomSpec) (crashes : ℕ) (random : ℕ → Stream) (runs : List Sampled) (so_far : List Counted) → IsWithinLimits spec → ((k : ℕ) (run : Sampled) → slice_get runs k ≡ Some run → IsRunFrom spec crashes (random k) run.schedule run.states) → are_among spec so_far
     → are_among spec (fold (λ (all : List Counted) (one : Sampled). counted one all) so_far runs)
 runs_among spec crashes random [] so_far limits drawn are = are
 runs_among spec crashes random (run ∷ runs) so_far limits drawn are =
@@ -96,4 +96,4 @@ runs_among spec crashes random (run ∷ runs) so_far limits drawn are =
 
 pub sample_among : (spec : RoomSpec) (plan : Plan) (schedules : ℕ) (outcomes : List Counted) → IsWithinLimits spec → IsSampleOf spec plan schedules outcomes → AreAmongAll spec outcomes
 sample_among spec plan schedules outcomes limits is =
-    All-from_recursion (λ (c : Counted). is_among spec c.states) outcomes (subst (are_among spec) (sym is.outcomes_are) (runs_among spec plan.crashes (random_of plan.seed) is.runs [] limits is.drawn tt))
+    All-from_recursion (λ (c : Counted). is_among spec c.states) outcomes (subst (are_among spec) (sym is.outcomes_are) (runs_among spec plan.crashes (random_of plan.seed) is.runs [] limits (λ k run there. (is.drawn k run there).drawn) tt))

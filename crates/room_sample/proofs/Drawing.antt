@@ -11,7 +11,6 @@ use Rattle.ws_history.specs.Reports.{report_of}
 use Rattle.room_sample.specs.Drawn.{Acts, Crashes, IsThrough, Walks, WalksInto, Way, active_from, aimed, burning, burnt, fuse_after, one_from, unburnt}
 use Rattle.room_sample.specs.Samples.{IsRunFrom}
 use Rattle.room_sample.specs.Schedules.{HasStopped, IsOutcome}
-use Rattle.room_sample.specs.Ways.{sampled_of}
 use Rattle.room_sample.specs.declared.active.Active.{Active}
 use Rattle.room_sample.specs.declared.active.Fuse.{Fuse}
 use Rattle.room_sample.specs.declared.active.Fuse.TheVariants.{After, Inside, Never}
@@ -74,7 +73,7 @@ aimed_as simulator most others taken entered way after fuse is walks =
 
 pub run_from : (spec : RoomSpec) (crashes : ℕ) (random : Stream) (way : Way) (result : Result Run AllocError) → IfOk result (λ run. run.schedule.items ≡ way.schedule)
     → IfOk result (λ run. (fields : Fields) → AreFieldsOf (room_after_settle way.room) fields → run.states.items ≡ (report_of (room_after_settle way.room).spec fields).states.items)
-    → IsThrough spec crashes random way → IfOk result (λ run. IsRunFrom spec crashes random (sampled_of run))
+    → IsThrough spec crashes random way → IfOk result (λ run. IsRunFrom spec crashes random run.schedule.items run.states.items)
 run_from spec crashes random way (Err refused) schedule states drawn = tt
 run_from spec crashes random way (Ok run) schedule states drawn = record {
   way = way;

@@ -3,6 +3,7 @@ mod AmongAll
 mod Counting
 mod Drawing
 mod Entering
+mod Firsts
 mod Grouping
 mod Joining
 mod OneMore
@@ -14,5 +15,6 @@ mod SameRuns
 mod SameSteps
 mod Schedules
 mod Shortening
+mod Showing
 mod Stopping
 mod Uniform

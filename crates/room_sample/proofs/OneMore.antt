@@ -5,8 +5,7 @@ use Rattle.std.specs.List.{fold, sum_by}
 use Rattle.std.proofs.lemmas.List.{length-append}
 use Rattle.std.proofs.lemmas.List.Sums.{fold-append, sum_by-cons}
 use Rattle.room_spec.specs.Rooms.{RoomSpec}
-use Rattle.room_sample.specs.Chances.{random_of}
-use Rattle.room_sample.specs.Samples.{AreRunsFrom, Counted, IsRunFrom, IsSampleOf, Sampled, counted, first_time, once_more, same_states}
+use Rattle.room_sample.specs.Samples.{AreRunsFrom, Counted, IsRunOf, IsSampleOf, Sampled, counted, first_time, once_more, same_states}
 use Rattle.room_sample.specs.declared.sampling.Plan.{Plan}
 
 more_times : (one : Counted) (others : List Counted) → sum_by (λ (c : Counted). c.times) (one ∷ others) ≡ one.times + sum_by (λ (c : Counted). c.times) others
@@ -46,24 +45,24 @@ one_of P [] run first last (suc k) one there = absurd (let none : None ≡ Some 
 one_of P (other ∷ runs) run first last zero one there = first 0 one there
 one_of P (other ∷ runs) run first last (suc k) one there = one_of (λ n r. P (suc n) r) runs run (λ n r is. first (suc n) r is) last k one there
 
-pub one_more : (spec : RoomSpec) (plan : Plan) (count : ℕ) (before after : List Counted) (run : Sampled) → count + 1 < 4294967296 → IsSampleOf spec plan count before → IsRunFrom spec plan.crashes (random_of plan.seed count) run → after ≡ counted run before → IsSampleOf spec plan (count + 1) after
+pub one_more : (spec : RoomSpec) (plan : Plan) (count : ℕ) (before after : List Counted) (run : Sampled) → count + 1 < 4294967296 → IsSampleOf spec plan count before → IsRunOf spec plan count run → after ≡ counted run before → IsSampleOf spec plan (count + 1) after
 one_more spec plan count before after run few is drawn to = record {
   runs = is.runs ++ run ∷ [];
   count = length-append is.runs (run ∷ []) ∙ ap (λ (n : ℕ). n + 1) is.count;
-  drawn = one_of (λ (k : ℕ) (one : Sampled). IsRunFrom spec plan.crashes (random_of plan.seed k) one) is.runs run is.drawn (subst (λ (k : ℕ). IsRunFrom spec plan.crashes (random_of plan.seed k) run) (sym is.count) drawn);
+  drawn = one_of (λ (k : ℕ) (one : Sampled). IsRunOf spec plan k one) is.runs run is.drawn (subst (λ (k : ℕ). IsRunOf spec plan k run) (sym is.count) drawn);
   outcomes_are = to ∙ ap (counted run) is.outcomes_are ∙ sym (fold-append (λ (so_far : List Counted) (one : Sampled). counted one so_far) [] is.runs (run ∷ []));
   total = ap (λ (l : List Counted). sum_by (λ (c : Counted). c.times) l) to ∙ counted_once run before (let all = is.total in omega (arith, few, all)) ∙ ap (λ (n : ℕ). n + 1) is.total;
 }
 
 -- ---- runs that are counted one after the other
 
-first_of : (spec : RoomSpec) (plan : Plan) (first count : ℕ) (run : Sampled) (runs : List Sampled) → AreRunsFrom spec plan first count (run ∷ runs) → IsRunFrom spec plan.crashes (random_of plan.seed first) run
-first_of spec plan first count run runs are = subst (λ (n : ℕ). IsRunFrom spec plan.crashes (random_of plan.seed n) run) (omega arith) (are.drawn 0 run refl)
+first_of : (spec : RoomSpec) (plan : Plan) (first count : ℕ) (run : Sampled) (runs : List Sampled) → AreRunsFrom spec plan first count (run ∷ runs) → IsRunOf spec plan first run
+first_of spec plan first count run runs are = subst (λ (n : ℕ). IsRunOf spec plan n run) (omega arith) (are.drawn 0 run refl)
 
 later_of : (spec : RoomSpec) (plan : Plan) (first count : ℕ) (run : Sampled) (runs : List Sampled) → AreRunsFrom spec plan first (suc count) (run ∷ runs) → AreRunsFrom spec plan (first + 1) count runs
 later_of spec plan first count run runs are = record {
   length_is = let all = are.length_is in omega (arith, all);
-  drawn = λ k one there. subst (λ (n : ℕ). IsRunFrom spec plan.crashes (random_of plan.seed n) one) (omega arith) (are.drawn (suc k) one there);
+  drawn = λ k one there. subst (λ (n : ℕ). IsRunOf spec plan n one) (omega arith) (are.drawn (suc k) one there);
 }
 
 -- many runs more
@@ -83,18 +82,18 @@ pub no_runs : (spec : RoomSpec) (plan : Plan) (first : ℕ) → AreRunsFrom spec
 no_runs spec plan first = record { length_is = refl; drawn = λ k run there. absurd (let none : None ≡ Some run = there in cc) }
 
 pub run_more : (spec : RoomSpec) (plan : Plan) (first count : ℕ) (runs : List Sampled) (run : Sampled) → AreRunsFrom spec plan first count runs
-    → IsRunFrom spec plan.crashes (random_of plan.seed (first + count)) run → AreRunsFrom spec plan first (count + 1) (runs ++ run ∷ [])
+    → IsRunOf spec plan (first + count) run → AreRunsFrom spec plan first (count + 1) (runs ++ run ∷ [])
 run_more spec plan first count runs run are drawn = record {
   length_is = length-append runs (run ∷ []) ∙ ap (λ (n : ℕ). n + 1) are.length_is;
-  drawn = one_of (λ (k : ℕ) (one : Sampled). IsRunFrom spec plan.crashes (random_of plan.seed (first + k)) one) runs run are.drawn
-      (subst (λ (k : ℕ). IsRunFrom spec plan.crashes (random_of plan.seed (first + k)) run) (sym are.length_is) drawn);
+  drawn = one_of (λ (k : ℕ) (one : Sampled). IsRunOf spec plan (first + k) one) runs run are.drawn
+      (subst (λ (k : ℕ). IsRunOf spec plan (first + k) run) (sym are.length_is) drawn);
 }
 
 pub parts_run : (spec : RoomSpec) (plan : Plan) (first own left : ℕ) (runs more : List Sampled) → AreRunsFrom spec plan first own runs → AreRunsFrom spec plan (first + own) left more
     → AreRunsFrom spec plan first (own + left) (runs ++ more)
 parts_run spec plan first zero left [] more are are' = record {
   length_is = let all : length more ≡ left = are'.length_is in omega (arith, all);
-  drawn = λ k one there. subst (λ (n : ℕ). IsRunFrom spec plan.crashes (random_of plan.seed n) one) (omega arith) (are'.drawn k one there);
+  drawn = λ k one there. subst (λ (n : ℕ). IsRunOf spec plan n one) (omega arith) (are'.drawn k one there);
 }
 parts_run spec plan first (suc own) left [] more are are' = absurd (let none = are.length_is in omega (arith, none))
 parts_run spec plan first zero left (run ∷ runs) more are are' = absurd (let none = are.length_is in omega (arith, none))
@@ -102,6 +101,6 @@ parts_run spec plan first (suc own) left (run ∷ runs) more are are' =
     let rest = parts_run spec plan (first + 1) own left runs more (later_of spec plan first own run runs are) (subst (λ (n : ℕ). AreRunsFrom spec plan n left more) (omega arith) are') in
     record { length_is = let all = rest.length_is in omega (arith, all); drawn = by_place rest }
   where
-    by_place : AreRunsFrom spec plan (first + 1) (own + left) (runs ++ more) → (k : ℕ) (one : Sampled) → slice_get (run ∷ (runs ++ more)) k ≡ Some one → IsRunFrom spec plan.crashes (random_of plan.seed (first + k)) one
+    by_place : AreRunsFrom spec plan (first + 1) (own + left) (runs ++ more) → (k : ℕ) (one : Sampled) → slice_get (run ∷ (runs ++ more)) k ≡ Some one → IsRunOf spec plan (first + k) one
     by_place rest zero one there = are.drawn zero one there
-    by_place rest (suc k) one there = subst (λ (n : ℕ). IsRunFrom spec plan.crashes (random_of plan.seed n) one) (omega arith) (rest.drawn k one there)
+    by_place rest (suc k) one there = subst (λ (n : ℕ). IsRunOf spec plan n one) (omega arith) (rest.drawn k one there)

@@ -4,9 +4,8 @@ use Rattle.std.specs.List.{fold}
 use Rattle.std.proofs.lemmas.List.Sums.{fold-append}
 use Rattle.ws_history.specs.declared.states.ProcessState.{ProcessState}
 use Rattle.room_spec.specs.Rooms.{RoomSpec}
-use Rattle.room_sample.specs.Chances.{random_of}
 use Rattle.room_sample.specs.Parts.{AreCountedFrom, added, added_all, more_times}
-use Rattle.room_sample.specs.Samples.{Counted, IsRunFrom, IsSampleOf, Sampled, counted, counted_all, first_time, once_more, same_states}
+use Rattle.room_sample.specs.Samples.{Counted, IsRunOf, IsSampleOf, Sampled, counted, counted_all, first_time, once_more, same_states}
 use Rattle.room_sample.specs.declared.sampling.Plan.{Plan}
 use Rattle.room_sample.proofs.OneMore.{many_more, no_runs, parts_run, run_more}
 use Rattle.room_sample.proofs.Shortening.{same_lists}
@@ -17,7 +16,7 @@ added_by : (run : Sampled) (one : Counted) (others : List Counted) (b : Bool) �
 added_by run one others true later = refl
 added_by run one others false later = ap (λ (all : List Counted). one ∷ all) later
 
-pub added_first : (run : Sampled) (outcomes : List Counted) → added (first_time run) outcomes ≡ counted run outcomes
+added_first : (run : Sampled) (outcomes : List Counted) → added (first_time run) outcomes ≡ counted run outcomes
 added_first run [] = refl
 added_first run (one ∷ others) = added_by run one others (same_states run.states one.states) (added_first run others)
 
@@ -66,7 +65,7 @@ times_swap : (a b c : ℕ) → min (min (a + b) 4294967295 + c) 4294967295 ≡ m
 times_swap a b c = omega arith
 
 abbrev with_times : Counted → ℕ → Counted
-with_times one times = record { states = one.states; schedule = one.schedule; times = times }
+with_times one times = record { states = one.states; first = one.first; times = times }
 
 twice_by : (x c t : Counted) (ts : List Counted) (e : Bool) → same_states x.states t.states ≡ e → added (more_times x.times c) ts ≡ added x (added c ts)
     → cond e (more_times (more_times x.times c).times t ∷ ts) (t ∷ added (more_times x.times c) ts) ≡ added x (cond e (more_times c.times t ∷ ts) (t ∷ added c ts))
@@ -128,13 +127,18 @@ counted_in_parts runs outcomes = runs_later runs [] outcomes
 pub none_counted : (spec : RoomSpec) (plan : Plan) (first : ℕ) → AreCountedFrom spec plan first 0 []
 none_counted spec plan first = record { runs = []; are_runs = no_runs spec plan first; outcomes_are = refl }
 
-pub one_counted : (spec : RoomSpec) (plan : Plan) (first count : ℕ) (before after : List Counted) (run : Sampled) → AreCountedFrom spec plan first count before
-    → IsRunFrom spec plan.crashes (random_of plan.seed (first + count)) run → after ≡ counted run before → AreCountedFrom spec plan first (count + 1) after
+one_counted : (spec : RoomSpec) (plan : Plan) (first count : ℕ) (before after : List Counted) (run : Sampled) → AreCountedFrom spec plan first count before
+    → IsRunOf spec plan (first + count) run → after ≡ counted run before → AreCountedFrom spec plan first (count + 1) after
 one_counted spec plan first count before after run are drawn to = record {
   runs = are.runs ++ run ∷ [];
   are_runs = run_more spec plan first count are.runs run are.are_runs drawn;
   outcomes_are = to ∙ ap (counted run) are.outcomes_are ∙ sym (fold-append (λ (so_far : List Counted) (one : Sampled). counted one so_far) [] are.runs (run ∷ []));
 }
+
+-- a run that is added as an outcome that came once
+pub one_added : (spec : RoomSpec) (plan : Plan) (first count : ℕ) (before after : List Counted) (run : Sampled) → AreCountedFrom spec plan first count before
+    → IsRunOf spec plan (first + count) run → after ≡ added (first_time run) before → AreCountedFrom spec plan first (count + 1) after
+one_added spec plan first count before after run are drawn to = one_counted spec plan first count before after run are drawn (to ∙ added_first run before)
 
 pub parts_counted : (spec : RoomSpec) (plan : Plan) (first own left : ℕ) (outcomes later all : List Counted) → AreCountedFrom spec plan first own outcomes → AreCountedFrom spec plan (first + own) left later
     → all ≡ added_all outcomes later → AreCountedFrom spec plan first (own + left) all

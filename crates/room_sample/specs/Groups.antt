@@ -39,7 +39,7 @@ times_in group one = if are_alike group one then one.times else 0
 
 -- an outcome is shown as one of these
 abbrev pub IsShownAs : List Counted → Counted → Type 0
-IsShownAs outcomes group = (k : ℕ) × (one : Counted) × (slice_get outcomes k ≡ Some one) × (group.states ≡ one.states) × (group.schedule ≡ one.schedule)
+IsShownAs outcomes group = (k : ℕ) × (one : Counted) × (slice_get outcomes k ≡ Some one) × (group.states ≡ one.states) × (group.first ≡ one.first)
 
 -- Each outcome is in one group and in no other. A group is shown as one of the outcomes, and came as often as those of the group together. All groups
 -- together came as often as all outcomes.

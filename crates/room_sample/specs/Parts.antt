@@ -13,7 +13,7 @@ pub record AreCountedFrom (spec : RoomSpec) (plan : Plan) (first count : ℕ) (o
 
 -- an outcome came this many times more; it stops at the greatest number that is counted
 abbrev pub more_times : ℕ → Counted → Counted
-more_times count one = record { states = one.states; schedule = one.schedule; times = min (one.times + count) (2 ^ 32 - 1) }
+more_times count one = record { states = one.states; first = one.first; times = min (one.times + count) (2 ^ 32 - 1) }
 
 -- the outcomes, and one of a later part: it has come before, or comes for the first time
 abbrev pub added : Counted → List Counted → List Counted

@@ -16,26 +16,27 @@ use Rattle.room_sample.specs.declared.sampling.Plan.{Plan}
 use Rattle.room_sample.specs.declared.stretch.Stretch.{Stretch}
 use Rattle.room_sample.specs.declared.tally.Outcome.{Outcome}
 
--- a schedule, and the states of the processes after it
+-- the number of a schedule, the schedule, and the states of the processes after it
 pub record Sampled : Type 0 where
+  pub number : ℕ
   pub schedule : List Stretch
   pub states : List ProcessState
 
--- an outcome, the first schedule that it came by, and how often it came
+-- an outcome, the number of the schedule that it came by first, and how often it came
 pub record Counted : Type 0 where
   pub states : List ProcessState
-  pub schedule : List Stretch
+  pub first : ℕ
   pub times : ℕ
 
 abbrev pub same_states : List ProcessState → List ProcessState → Bool
 same_states one other = pointwise ghosts.eq one other
 
 abbrev pub first_time : Sampled → Counted
-first_time run = record { states = run.states; schedule = run.schedule; times = 1 }
+first_time run = record { states = run.states; first = run.number; times = 1 }
 
 -- it stops at the greatest number that is counted
 abbrev pub once_more : Counted → Counted
-once_more one = record { states = one.states; schedule = one.schedule; times = min (one.times + 1) (2 ^ 32 - 1) }
+once_more one = record { states = one.states; first = one.first; times = min (one.times + 1) (2 ^ 32 - 1) }
 
 -- one run more: its outcome has come before, or comes for the first time
 abbrev pub counted : Sampled → List Counted → List Counted
@@ -47,25 +48,35 @@ counted_all runs = fold (λ so_far run. counted run so_far) [] runs
 
 -- A run of a room by a schedule that is drawn from a stream, in which at most this many simulators crash. It goes on until each simulator has
 -- stopped, unless as many draws are made as may be.
-pub record IsRunFrom (spec : RoomSpec) (crashes : ℕ) (random : Stream) (run : Sampled) : Type 0 where
+pub record IsRunFrom (spec : RoomSpec) (crashes : ℕ) (random : Stream) (schedule : List Stretch) (states : List ProcessState) : Type 0 where
   pub way : Way
   pub drawn : IsThrough spec crashes random way
-  pub schedule_is : run.schedule ≡ way.schedule
-  pub outcome : IsOutcome spec crashes run.schedule run.states
-  pub ends : (drawn.draws ≡ most_draws) ⊎ ((i : ℕ) → i < spec.simulators → HasStopped spec run.schedule i)
+  pub schedule_is : schedule ≡ way.schedule
+  pub outcome : IsOutcome spec crashes schedule states
+  pub ends : (drawn.draws ≡ most_draws) ⊎ ((i : ℕ) → i < spec.simulators → HasStopped spec schedule i)
 
--- The runs by the schedules of this many numbers from the first one on, in order, each drawn from a stream of its own.
+-- The run by the schedule of a number, which is drawn from a stream of its own: that of the seed and of this number.
+pub record IsRunOf (spec : RoomSpec) (plan : Plan) (number : ℕ) (run : Sampled) : Type 0 where
+  pub number_is : run.number ≡ number
+  pub drawn : IsRunFrom spec plan.crashes (random_of plan.seed number) run.schedule run.states
+
+-- The runs by the schedules of this many numbers from the first one on, in order.
 pub record AreRunsFrom (spec : RoomSpec) (plan : Plan) (first count : ℕ) (runs : List Sampled) : Type 0 where
   pub length_is : length runs ≡ count
-  pub drawn : (k : ℕ) (run : Sampled) → slice_get runs k ≡ Some run → IsRunFrom spec plan.crashes (random_of plan.seed (first + k)) run
+  pub drawn : (k : ℕ) (run : Sampled) → slice_get runs k ≡ Some run → IsRunOf spec plan (first + k) run
 
--- The outcomes of this many runs, each by a schedule that is drawn from a stream of its own: that of the seed and of its number, from 0.
+-- The outcomes of this many runs, by the schedules of the numbers from 0 on. Each outcome has the number of the first schedule that led to it.
 pub record IsSampleOf (spec : RoomSpec) (plan : Plan) (schedules : ℕ) (outcomes : List Counted) : Type 0 where
   pub runs : List Sampled
   pub count : length runs ≡ schedules
-  pub drawn : (k : ℕ) (run : Sampled) → slice_get runs k ≡ Some run → IsRunFrom spec plan.crashes (random_of plan.seed k) run
+  pub drawn : (k : ℕ) (run : Sampled) → slice_get runs k ≡ Some run → IsRunOf spec plan k run
   pub outcomes_are : outcomes ≡ counted_all runs
   pub total : sum_by (λ one. one.times) outcomes ≡ schedules
+
+-- the schedule of an outcome's number leads to it
+pub record CameByFirst (spec : RoomSpec) (plan : Plan) (one : Counted) : Type 0 where
+  pub schedule : List Stretch
+  pub drawn : IsRunFrom spec plan.crashes (random_of plan.seed one.first) schedule one.states
 
 -- the outcomes of a room by a plan
 abbrev pub IsSample : RoomSpec → Plan → List Counted → Type 0
@@ -85,7 +96,7 @@ abbrev pub Entry : Type 0
 Entry = ArrayVec ProcessState 16 (Unit {0}) × Outcome
 
 abbrev pub counted_of : Entry → Counted
-counted_of entry = record { states = entry.0.items; schedule = entry.1.schedule.items; times = entry.1.times }
+counted_of entry = record { states = entry.0.items; first = entry.1.first; times = entry.1.times }
 
 abbrev pub outcomes_in : List Entry → List Counted
 outcomes_in entries = map counted_of entries

@@ -1,30 +1,43 @@
 -- What is shown of an outcome: a schedule that leads to it.
-use Rattle.std.specs.Prelude.{◌≡◌, ℕ, zero, suc, List, [], ◌∷◌, ⊤}
+use Rattle.std.specs.Prelude.{◌≡◌, ℕ, List, [], ◌∷◌, Option, Some, None, ⊤, Bool, true}
 use Rattle.room_spec.specs.Rooms.{RoomSpec}
 use Rattle.ws_history.specs.declared.states.ProcessState.{ProcessState}
 use Rattle.room_sample.specs.Samples.{Counted}
 use Rattle.room_sample.specs.Schedules.{IsOutcome}
+use Rattle.room_sample.specs.declared.examples.Example.{Example}
 use Rattle.room_sample.specs.declared.stretch.Stretch.{Stretch}
 
 -- a schedule leads to these states if another one does
 pub record KeepsOutcome (spec : RoomSpec) (crashes : ℕ) (states : List ProcessState) (old new : List Stretch) : Type 0 where
   pub keeps : IsOutcome spec crashes old states → IsOutcome spec crashes new states
 
--- the same outcome as often, with a schedule that leads to it if the other does
-pub record IsKept (spec : RoomSpec) (crashes : ℕ) (one other : Counted) : Type 0 where
-  pub states_are : other.states ≡ one.states
-  pub times_are : other.times ≡ one.times
-  pub leads : KeepsOutcome spec crashes one.states one.schedule other.schedule
+-- an outcome as it is shown: the states of the processes, how often they came, and a schedule
+pub record Shown : Type 0 where
+  pub states : List ProcessState
+  pub times : ℕ
+  pub schedule : List Stretch
 
--- of each in a list
-abbrev pub AreKept : RoomSpec → ℕ → List Counted → List Counted → Type 0
-AreKept spec crashes [] [] = ⊤
-AreKept spec crashes (one ∷ outcomes) (other ∷ others) = IsKept spec crashes one other × AreKept spec crashes outcomes others
-AreKept spec crashes [] (other ∷ others) = ⊥
-AreKept spec crashes (one ∷ outcomes) [] = ⊥
+-- The same states, as often; and if schedules are shown, this one leads to the states.
+pub record IsShown (spec : RoomSpec) (crashes : ℕ) (scripts : Bool) (one : Counted) (shown : Shown) : Type 0 where
+  pub states_are : shown.states ≡ one.states
+  pub times_are : shown.times ≡ one.times
+  pub leads : scripts ≡ true → IsOutcome spec crashes shown.schedule shown.states
 
--- the outcomes, where that of an index has another schedule
-abbrev pub with_schedule_at : List Counted → ℕ → List Stretch → List Counted
-with_schedule_at [] i schedule = []
-with_schedule_at (one ∷ others) zero schedule = record { states = one.states; schedule = schedule; times = one.times } ∷ others
-with_schedule_at (one ∷ others) (suc i) schedule = one ∷ with_schedule_at others i schedule
+-- each in a list
+abbrev pub AreShown : RoomSpec → ℕ → Bool → List Counted → List Shown → Type 0
+AreShown spec crashes scripts [] [] = ⊤
+AreShown spec crashes scripts (one ∷ outcomes) (other ∷ shown) = IsShown spec crashes scripts one other × AreShown spec crashes scripts outcomes shown
+AreShown spec crashes scripts [] (other ∷ shown) = ⊥
+AreShown spec crashes scripts (one ∷ outcomes) [] = ⊥
+
+-- one, if there is one
+abbrev pub IsShownIf : RoomSpec → ℕ → Bool → Option Counted → Option Shown → Type 0
+IsShownIf spec crashes scripts None None = ⊤
+IsShownIf spec crashes scripts (Some one) (Some other) = IsShown spec crashes scripts one other
+IsShownIf spec crashes scripts None (Some other) = ⊥
+IsShownIf spec crashes scripts (Some one) None = ⊥
+
+-- ---- how they are kept
+
+abbrev pub shown_of : Example → Shown
+shown_of example = record { states = example.states.items; times = example.times; schedule = example.schedule.items }

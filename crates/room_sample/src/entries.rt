@@ -23,7 +23,7 @@ pub(crate) fn add_all(entries: &mut Entries, later: Entries) -> Result<(), Alloc
     Ok(())
 }
 
-/// Adds an outcome, as often as it came. If it has come before, its first schedule stays. It succeeds if there is room.
+/// Adds an outcome, as often as it came. If it has come before, it keeps the number of its first schedule. It succeeds if there is room.
 pub(crate) fn add(entries: &mut Entries, states: States, outcome: Outcome) -> Result<(), AllocError>
     ensures added { OnOk result (outcomes_in entries.new.entries ≡ added (counted_of (states, outcome)) (outcomes_in entries.old.entries)) }
     ensures succeeds { 0 < spare entries.old → IsOk result }

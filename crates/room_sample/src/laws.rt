@@ -1,13 +1,13 @@
 //! Laws of samples.
 ghost use Rattle.std.specs.Prelude.{◌≡◌, ℕ, ◌<◌, ◌^◌, List};
-ghost use Rattle.std.specs.List.{sum_by};
+ghost use Rattle.std.specs.List.{All, sum_by};
 ghost use Rattle.rand_core.specs.Stream.{Stream};
 ghost use Rattle.room_spec.specs.Rooms.{IsWithinLimits, RoomSpec, processes};
 ghost use Rattle.ws_history.specs.declared.states.ProcessState.{ProcessState};
 ghost use Rattle.run_search.specs.Outcomes.{IsRunOutcome};
 ghost use Rattle.room_outcomes.specs.Ends.{ends_of};
 ghost use Rattle.room_sample.specs.Groups.{AreGroups, grouped};
-ghost use Rattle.room_sample.specs.Samples.{Counted, IsRunFrom, IsSampleOf, Sampled};
+ghost use Rattle.room_sample.specs.Samples.{CameByFirst, Counted, IsRunFrom, IsSampleOf};
 ghost use Rattle.room_sample.specs.Schedules.{IsOutcome};
 ghost use Rattle.room_sample.specs.declared.sampling.Plan.{Plan};
 ghost use Rattle.room_sample.specs.declared.stretch.Stretch.{Stretch};
@@ -26,8 +26,9 @@ pub fn groups_of_outcomes()
 
 /// A stream of random numbers gives one run: the same schedule, and the same states of the processes after it.
 pub fn determined_runs()
-    ensures { (spec : RoomSpec) (crashes : ℕ) (random : Stream) (one other : Sampled) →
-        IsWithinLimits spec → IsRunFrom spec crashes random one → IsRunFrom spec crashes random other → one ≡ other }
+    ensures { (spec : RoomSpec) (crashes : ℕ) (random : Stream) (schedule other : List Stretch) (states others : List ProcessState) →
+        IsWithinLimits spec → IsRunFrom spec crashes random schedule states → IsRunFrom spec crashes random other others →
+        (schedule ≡ other) × (states ≡ others) }
 {}
 
 /// The same seed gives the same sample: if as many simulators may crash, as many schedules give the same outcomes, as often, and in the same
@@ -36,4 +37,10 @@ pub fn determined_samples()
     ensures { (spec : RoomSpec) (plan other_plan : Plan) (schedules : ℕ) (outcomes others : List Counted) →
         IsWithinLimits spec → plan.seed ≡ other_plan.seed → plan.crashes ≡ other_plan.crashes →
         IsSampleOf spec plan schedules outcomes → IsSampleOf spec other_plan schedules others → outcomes ≡ others }
+{}
+
+/// The schedule of an outcome's number leads to it. So the seed and the number give a schedule of each outcome again, and none has to be kept.
+pub fn first_schedules()
+    ensures { (spec : RoomSpec) (plan : Plan) (schedules : ℕ) (outcomes : List Counted) →
+        IsSampleOf spec plan schedules outcomes → All (CameByFirst spec plan) outcomes }
 {}

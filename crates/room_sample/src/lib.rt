@@ -5,6 +5,7 @@ mod active;
 mod chances;
 mod cuts;
 mod entries;
+mod examples;
 pub mod laws;
 mod run;
 mod sampling;
@@ -12,6 +13,7 @@ mod stretch;
 mod tally;
 mod workers;
 
+pub use examples::{Example, PartialExamples, example_of, examples_of};
 pub use sampling::{PartialSample, Plan, sample};
 pub use stretch::Stretch;
 pub use tally::{Outcome, States, Tally};

@@ -10,7 +10,7 @@ ghost use Rattle.room_sample.specs.Chances.{random_in};
 ghost use Rattle.room_sample.specs.Drawn.{Acts, Crashes, Draws, EntersBy, IsLed, IsScheduled, IsThrough, Walks, WalksInto, fuse_after, has_entered, is_look, opening_way, style_from};
 ghost use Rattle.room_sample.specs.Samples.{IsRunFrom};
 ghost use Rattle.room_sample.specs.Schedules.{IsOutcome, longest};
-ghost use Rattle.room_sample.specs.Ways.{sampled_of, way_of};
+ghost use Rattle.room_sample.specs.Ways.{way_of};
 
 use crate::active::{
     Active, AllActive, Fuse, Style, all_active, put, random_length, random_pick, random_rank,
@@ -266,11 +266,23 @@ pub(crate) fn run_by_chance(
     chances: &mut Chances,
     crashes: u32,
 ) -> Result<Run, AllocError>
-    ensures { IfOk result (λ run. IsRunFrom spec crashes (random_in chances.old) (sampled_of run)) }
+    ensures { IfOk result (λ run. IsRunFrom spec crashes (random_in chances.old) run.schedule.items run.states.items) }
 {
     let style = random_style(chances);
     let mut active = all_active(&spec, style, chances);
     let mut scheduled = Scheduled::fresh(alloc, spec, crashes)?;
     act_by_chance(&mut scheduled, style, &mut active, chances)?;
     Ok(scheduled.settled())
+}
+
+/// Opens the room of a spec, and runs it by one random schedule.
+pub(crate) fn run_anew(
+    alloc: Global,
+    spec: &Spec,
+    chances: &mut Chances,
+    crashes: u32,
+) -> Result<Run, AllocError>
+    ensures { IfOk result (λ run. IsRunFrom spec.now crashes (random_in chances.old) run.schedule.items run.states.items) }
+{
+    run_by_chance(alloc, spec.clone()?, chances, crashes)
 }

@@ -1,18 +1,13 @@
 //! Outcomes, and how often each came.
 ghost use Rattle.std.specs.Prelude.{◌≡◌, ◌<◌, [], IfOk, IsPermutation, OnErr, OnOk, length, map, option_map, slice_get};
-ghost use Rattle.room_sample.specs.Samples.{AreMostFirst, counted, counted_of};
+ghost use Rattle.room_sample.specs.Samples.{AreMostFirst, counted_of};
 ghost use Rattle.room_sample.specs.Groups.{ArePatterns, grouped, joined, without_holder};
 ghost use Rattle.room_sample.specs.Parts.{added, added_all, more_at};
-ghost use Rattle.room_sample.specs.Shown.{AreKept, with_schedule_at};
-ghost use Rattle.room_sample.specs.Ways.{sampled_of};
 
-use crate::cuts::shorten;
 use crate::entries::{add, add_all, come_again};
-use crate::run::Run;
-use crate::stretch::Stretch;
 use arrayvec::ArrayVec;
 use indexmap::{IndexMap, IndexSet};
-use room_spec::{MAX_PROCESSES, Spec};
+use room_spec::MAX_PROCESSES;
 use std::alloc::{AllocError, Global};
 use std::cmp::Reverse;
 use std::marker::Model;
@@ -21,13 +16,13 @@ use ws_history::ProcessState;
 /// The state of each process of a room, in order of their numbers.
 pub type States = ArrayVec<ProcessState, MAX_PROCESSES>;
 
-/// What there is to say of an outcome.
-#[derive(Drop)]
+/// How often an outcome came, and by which schedule first.
+#[derive(Clone, Copy, Debug, PartialEq, Eq)]
 pub struct Outcome {
     /// By how many schedules it came.
     pub times: u32,
-    /// One that leads to it: the first that came, or a shorter one.
-    pub schedule: Vec<Stretch>,
+    /// The number of the first schedule that led to it. The schedule isn't kept: the seed and this number give it again.
+    pub first: u32,
 }
 
 /// The outcomes of a room, in the order in which each came first.
@@ -55,18 +50,6 @@ impl Tally {
         }
     }
 
-    /// Counts one run more.
-    #[tactic(auto, using(crate::proofs::Parts::added_first))]
-    pub(crate) fn count(&mut self, run: Run) -> Result<(), AllocError>
-        ensures { OnOk result (self.new ≡ counted (sampled_of run) self.old) }
-    {
-        let outcome = Outcome {
-            times: 1,
-            schedule: run.schedule,
-        };
-        self.add(run.states, outcome)
-    }
-
     /// Adds the outcomes of later schedules, which were counted on their own. An `Err` leaves these as they were.
     pub(crate) fn add_all(&mut self, later: Tally) -> Result<(), AllocError>
         ensures all { OnOk result (self.new ≡ added_all self.old later) }
@@ -75,8 +58,8 @@ impl Tally {
         add_all(&mut self.outcomes, later.outcomes)
     }
 
-    /// Adds an outcome, as often as it came. If it has come before, its first schedule stays.
-    fn add(&mut self, states: States, outcome: Outcome) -> Result<(), AllocError>
+    /// Adds an outcome, as often as it came. If it has come before, it keeps the number of its first schedule.
+    pub(crate) fn add(&mut self, states: States, outcome: Outcome) -> Result<(), AllocError>
         ensures { OnOk result (self.new ≡ added (counted_of (states, outcome)) self.old) }
     {
         add(&mut self.outcomes, states, outcome)
@@ -126,92 +109,6 @@ impl Tally {
         };
         self.come_again(index, outcome.times);
         Ok(())
-    }
-
-    /// Makes the schedules short that lead to the outcomes of the room of this spec, by at most `tries` runs of it, in each of which at most
-    /// `crashes` simulators crash.
-    ///
-    /// # Errors
-    ///
-    /// An allocation that fails. The schedules that were made short by then stay short.
-    pub fn shorten(
-        &mut self,
-        alloc: Global,
-        spec: &Spec,
-        crashes: u32,
-        tries: u32,
-    ) -> Result<(), AllocError>
-        ensures { AreKept spec.now crashes self.old self.new }
-    {
-        let mut left = tries;
-        for index in 0..self.len() {
-            self.shorten_one(alloc, spec, crashes, index, &mut left)?;
-        }
-        Ok(())
-    }
-
-    /// Makes the schedule short that leads to the outcome of this place, from 0, among those in the order of how often they came; as
-    /// [`shorten`](Tally::shorten) makes those of all.
-    ///
-    /// # Errors
-    ///
-    /// An allocation that fails.
-    pub fn shorten_at(
-        &mut self,
-        alloc: Global,
-        spec: &Spec,
-        crashes: u32,
-        tries: u32,
-        place: usize,
-    ) -> Result<(), AllocError>
-        ensures { AreKept spec.now crashes self.old self.new }
-    {
-        let index = self.index_at(alloc, place)?;
-        let mut left = tries;
-        self.shorten_one(alloc, spec, crashes, index, &mut left)
-    }
-
-    /// The index of the outcome of this place, or one that no outcome has.
-    fn index_at(&self, alloc: Global, place: usize) -> Result<usize, AllocError> {
-        let mut order = Vec::new(alloc);
-        for index in 0..self.len() {
-            if let Some((_, outcome)) = self.get(index) {
-                order.push((outcome.times, index))?;
-            }
-        }
-        order.sort_by_key(|one| Reverse(one.0))?;
-        Ok(order.get(place).map_or(self.len(), |one| one.1))
-    }
-
-    /// Makes the schedule short that leads to one of the outcomes, by at most `left` runs.
-    fn shorten_one(
-        &mut self,
-        alloc: Global,
-        spec: &Spec,
-        crashes: u32,
-        index: usize,
-        left: &mut u32,
-    ) -> Result<(), AllocError>
-        ensures { AreKept spec.now crashes self.old self.new }
-    {
-        let Some((states, outcome)) = self.get(index) else {
-            return Ok(());
-        };
-        let schedule = outcome.schedule.as_slice();
-        let short = shorten(alloc, spec, crashes, states, schedule, left)?;
-        self.set_schedule(index, short);
-        Ok(())
-    }
-
-    /// Gives an outcome another schedule.
-    fn set_schedule(&mut self, index: usize, schedule: Vec<Stretch>)
-        requires { index < length self.old }
-        ensures { self.new ≡ with_schedule_at self.old index schedule.items }
-    {
-        let Some(outcome) = self.outcomes.get_index_mut(index) else {
-            unreachable!() // there is an outcome of each index below their number
-        };
-        outcome.schedule = schedule;
     }
 
     /// Puts those first that came most often.

@@ -1,14 +1,11 @@
 //! Runs of a room, shared out among threads.
 ghost use Rattle.std.specs.Prelude.{◌≡◌, ◌+◌, ◌<◌, ◌^◌, IfOk};
-ghost use Rattle.room_sample.specs.Chances.{random_in};
 ghost use Rattle.room_sample.specs.Parts.{AreCountedFrom, added_all};
-ghost use Rattle.room_sample.specs.Samples.{IsRunFrom};
-ghost use Rattle.room_sample.specs.Ways.{sampled_of};
 
 use crate::chances::Chances;
-use crate::run::{Run, run_by_chance};
+use crate::run::run_anew;
 use crate::sampling::Plan;
-use crate::tally::Tally;
+use crate::tally::{Outcome, Tally};
 use room_spec::Spec;
 use std::alloc::{AllocError, Global};
 use std::thread;
@@ -54,7 +51,7 @@ fn both(mut tally: Tally, later: Tally) -> Result<Tally, AllocError>
     Ok(tally)
 }
 
-/// Runs a room by the schedules of `count` numbers from `first` on, in order, and counts their outcomes.
+/// Runs a room by the schedules of `count` numbers from `first` on, in order, and counts their outcomes. No schedule is kept.
 fn count_some(
     alloc: Global,
     spec: &Spec,
@@ -69,19 +66,11 @@ fn count_some(
     for done in 0..count {
         let mut chances = Chances::of(plan.seed, first + done);
         let run = run_anew(alloc, spec, &mut chances, plan.crashes)?;
-        tally.count(run)?;
+        let outcome = Outcome {
+            times: 1,
+            first: first + done,
+        };
+        tally.add(run.states, outcome)?;
     }
     Ok(tally)
-}
-
-/// Opens the room of a spec, and runs it by one random schedule.
-fn run_anew(
-    alloc: Global,
-    spec: &Spec,
-    chances: &mut Chances,
-    crashes: u32,
-) -> Result<Run, AllocError>
-    ensures { IfOk result (λ run. IsRunFrom spec.now crashes (random_in chances.old) (sampled_of run)) }
-{
-    run_by_chance(alloc, spec.clone()?, chances, crashes)
 }

@@ -3,7 +3,7 @@ use Rattle.std.proofs.Common.{◌≡◌, Bool, true, false, ◌||◌, List, ℕ,
 use Rattle.serde_json.specs.Written.{has_float}
 use Rattle.json_lines.specs.Values.{processes_data}
 use Rattle.json_lines.proofs.CallerLemmas.{both, items_are, processes_are}
-use Rattle.room_sample.specs.Samples.{Counted}
+use Rattle.room_sample.specs.Shown.{Shown}
 use Rattle.room_sample.specs.declared.stretch.Stretch.{Stretch}
 use Rattle.room_sample.specs.declared.stretch.Stretch.TheVariants.{Steps, Crash}
 use Rattle.view_sample.specs.Json.{outcome_data, schedule_data, schedule_unless, stretch_data}
@@ -19,7 +19,7 @@ unless_is : (brief : Bool) (schedule : List Stretch) → has_float (schedule_unl
 unless_is true schedule = refl
 unless_is false schedule = schedule_is schedule
 
-pub outcome_is : (name : List ℕ) (brief : Bool) (one : Counted) → has_float (outcome_data name brief one) ≡ false
+pub outcome_is : (name : List ℕ) (brief : Bool) (one : Shown) → has_float (outcome_data name brief one) ≡ false
 outcome_is name brief one =
     both (has_float (processes_data one.states)) (has_float (schedule_unless brief one.schedule) || false) (processes_are one.states)
     (both (has_float (schedule_unless brief one.schedule)) false (unless_is brief one.schedule) refl)

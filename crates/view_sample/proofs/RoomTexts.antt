@@ -1,20 +1,23 @@
 -- The texts of rooms, one by one.
-use Rattle.std.proofs.Common.{◌≡◌, ℕ, ◌+◌, ◌≤◌, ◌&&◌, Bool, true, false, List, [], ◌∷◌, ◌++◌, Option, None, Some, Result, Ok, Err, inl, inr, length, take, refl, sym, ap, ◌∙◌, subst, arith}
-use Rattle.std.specs.Prelude.{IsPermutation, OnErr}
+use Rattle.std.proofs.Common.{Bor, ◌≡◌, ◌⊎◌, ℕ, zero, suc, ◌+◌, ◌-◌, ◌≤◌, ◌&&◌, Bool, true, false, not, List, [], ◌∷◌, ◌++◌, Option, None, Some, Result, Ok, Err, inl, inr, length, map, min, take, refl, sym, ap, ap₂, ◌∙◌, subst, arith}
+use Rattle.std.specs.Prelude.{IsPermutation, OnErr, is_some, option_map, slice_get}
+use Rattle.std.specs.Option.{option_copied}
 use Rattle.std.specs.List.{concat}
-use Rattle.std.proofs.lemmas.List.{append-nil, append_assoc, take_all}
+use Rattle.std.proofs.lemmas.List.{append-nil, append_assoc, length-take, take-take, take_all}
 use Rattle.std.proofs.lemmas.List.Folds.{concat-append}
 use Rattle.room_spec.specs.Blocks.{block_in}
 use Rattle.room_spec.specs.Rooms.{IsWithinLimits, RoomSpec}
 use Rattle.room_files.specs.BlockLists.{IsBlockAt}
-use Rattle.view_sample.specs.Rooms.{AddsCut, AddsFewer, AddsFirst, AddsSamples, AreSampleTexts, IsSampleText, ShowsNoMore, cut_plan, end_text, is_told_well, is_well, room_text, told_text}
+use Rattle.view_sample.specs.Rooms.{AddsCut, AddsFirst, AddsSamples, AreSampleTexts, IsChosen, IsListed, IsSampleText, IsTold, ListsFewer, ShowsNoMore, alone_shown, cut_plan, end_text, shown_text, shows_alone, shows_breaking}
 use Rattle.view_sample.specs.Texts.{shown_count}
 use Rattle.room_sample.specs.Groups.{grouped_if}
-use Rattle.room_sample.specs.Shown.{AreKept}
+use Rattle.room_sample.specs.Shown.{AreShown, IsShownIf, Shown, shown_of}
 use Rattle.room_sample.specs.Samples.{AreAmongAll, AreMostFirst, Counted, IsSample, IsSampleOf}
 use Rattle.view_sample.specs.TaskTexts.{has_held}
+use Rattle.view_sample.specs.Tasks.{first_broken}
+use Rattle.room_sample.specs.declared.examples.Example.{Example}
 use Rattle.room_sample.specs.declared.sampling.Plan.{Plan}
-use Rattle.view_sample.proofs.Coming.{breaking_leads, scripts_lead}
+use Rattle.view_sample.proofs.Coming.{all_shown, fewer_shown, lent_shown, script_leads, scripts_lead}
 use Rattle.view_sample.proofs.Taking.{took}
 
 and_right : (b : Bool) → b ≡ (b && true)
@@ -63,34 +66,78 @@ pub of_said : (P : RoomSpec → Type 0) (block : List ℕ) (spec said : RoomSpec
 of_said P block spec said own says is =
     subst P (ap (λ (one : RoomSpec × ℕ). one.0) (same_read block (spec, length block) (said, length block) own says)) is
 
--- a sample of the room that a block says, as text
-room_told : (plan : Plan) (block : List ℕ) (spec : RoomSpec) (outcomes short shown : List Counted) (well : Bool) → IsWithinLimits spec → block_in block ≡ Ok (spec, length block) → IsSample spec plan outcomes → AreAmongAll spec outcomes
-    → AreKept spec plan.crashes (grouped_if plan.group outcomes) short → IsPermutation short shown → AreMostFirst shown → well ≡ is_well plan.outcome spec short shown → IsSampleText plan spec well (room_text plan.outcome plan spec block short shown)
-room_told plan block spec outcomes short shown well limits own sample among kept permuted first well_is = record {
+-- ---- what is told of a room
+
+-- these outcomes, of which some are shown
+module _ (plan : Plan) (top : Option ℕ) (spec : RoomSpec) (block : List ℕ) (limits : IsWithinLimits spec) (own : block_in block ≡ Ok (spec, length block)) where
+  not_false : (b : Bool) → b ≡ false → not b ≡ true
+  not_false b is = ap not is
+
+  same_shown : (json : Bool) (ordered : List Counted) (shown : List Shown) → shown_text json plan spec.name block ordered shown ≡ shown_text json (cut_plan plan plan.schedules top) spec.name block ordered shown
+  same_shown true ordered shown = refl
+  same_shown false ordered shown = refl
+
+  same_end : (json : Bool) (outcomes : List Counted) (broken : Option Shown) → end_text json plan spec block outcomes broken ≡ end_text json (cut_plan plan plan.schedules top) spec block outcomes broken
+  same_end true outcomes broken = refl
+  same_end false outcomes broken = refl
+
+  pub listed : (outcomes ordered : List Counted) (shown : List Shown) (broken : Option Shown) (well : Bool) (text : List ℕ) → IsPermutation outcomes ordered → AreMostFirst ordered
+      → AreShown spec plan.crashes (not plan.brief) (take (shown_count top (length ordered)) ordered) shown → IsShownIf spec plan.crashes (shows_breaking plan) (first_broken spec outcomes) broken → well ≡ has_held spec outcomes
+      → text ≡ shown_text plan.json plan spec.name block ordered shown ++ end_text plan.json plan spec block outcomes broken → IsListed (cut_plan plan plan.schedules top) spec block outcomes well text
+  listed outcomes ordered shown broken well text permuted first are broken_is well_is text_is = record {
+    ordered = ordered;
+    all_ordered = permuted;
+    most_first = first;
+    shown = shown;
+    are_shown = are;
+    scripts = λ asked. scripts_lead spec plan.crashes (not plan.brief) block limits own (not_false plan.brief asked) (take (shown_count top (length ordered)) ordered) shown are;
+    broken = broken;
+    broken_is = broken_is;
+    breaking = λ asked. script_leads spec plan.crashes (shows_breaking plan) block limits own asked (first_broken spec outcomes) broken broken_is;
+    well_is = well_is;
+    text_is = text_is ∙ ap₂ (λ (a b : List ℕ). a ++ b) (same_shown plan.json ordered shown) (same_end plan.json outcomes broken);
+  }
+
+pub chosen : (number : ℕ) (plan : Plan) (spec : RoomSpec) (block : List ℕ) (outcomes ordered : List Counted) (shown : Option Shown) (well : Bool) (before after text : List ℕ) → IsWithinLimits spec → block_in block ≡ Ok (spec, length block) → IsPermutation outcomes ordered
+    → AreMostFirst ordered → IsShownIf spec plan.crashes (shows_alone plan) (slice_get ordered (number - 1)) shown → well ≡ is_some (slice_get ordered (number - 1)) → text ≡ alone_shown plan.json plan spec.name block (length ordered) number shown
+    → after ≡ before ++ text → (text : List ℕ) × IsChosen number plan spec block outcomes well text × (after ≡ before ++ text)
+chosen number plan spec block outcomes ordered shown well before after text limits own permuted first is well_is text_is after_is = (
+  text,
+  record {
+    ordered = ordered;
+    all_ordered = permuted;
+    most_first = first;
+    shown = shown;
+    is_shown = is;
+    script = λ asked. script_leads spec plan.crashes (shows_alone plan) block limits own asked (slice_get ordered (number - 1)) shown is;
+    well_is = well_is;
+    text_is = text_is;
+  },
+  after_is,
+)
+
+-- the text after the outcomes, and the text of one outcome
+pub ended : (json : Bool) (plan : Plan) (spec : RoomSpec) (block : List ℕ) (outcomes : List Counted) (lent : Option (Bor Example)) (one : Option Example) (start text : List ℕ) → start ≡ [] → option_copied lent ≡ one
+    → text ≡ start ++ end_text json plan spec block outcomes (option_map (λ (r : Bor Example). shown_of r.now) lent) → text ≡ end_text json plan spec block outcomes (option_map shown_of one)
+ended json plan spec block outcomes lent one start text start_is lent_is text_is =
+    text_is ∙ ap₂ (λ (s : List ℕ) (o : Option Shown). s ++ end_text json plan spec block outcomes o) start_is (lent_shown lent one lent_is)
+
+pub alone_told : (json : Bool) (plan : Plan) (name block : List ℕ) (count total number : ℕ) (lent : Option (Bor Example)) (one : Option Example) (start text : List ℕ) → start ≡ [] → count ≡ total → option_copied lent ≡ one
+    → text ≡ start ++ alone_shown json plan name block count number (option_map (λ (r : Bor Example). shown_of r.now) lent) → text ≡ alone_shown json plan name block total number (option_map shown_of one)
+alone_told json plan name block count total number lent one start text start_is count_is lent_is text_is =
+    text_is ∙ ap₂ (λ (s : List ℕ) (o : Option Shown). s ++ alone_shown json plan name block count number o) start_is (lent_shown lent one lent_is) ∙ ap (λ (n : ℕ). alone_shown json plan name block n number (option_map shown_of one)) count_is
+
+-- the outcomes that are told are those of a sample
+pub sample_told : (alone : Option ℕ) (plan : Plan) (spec : RoomSpec) (block : List ℕ) (outcomes told : List Counted) (well : Bool) (text : List ℕ) → block_in block ≡ Ok (spec, length block) → IsSample spec plan outcomes → AreAmongAll spec outcomes
+    → told ≡ grouped_if plan.group outcomes → plan.outcome ≡ alone → IsTold alone plan spec block told well text → IsSampleText plan spec well text
+sample_told alone plan spec block outcomes told well text own sample among told_is alone_is is = record {
   block = block;
   says = own;
   outcomes = outcomes;
   sample = sample;
   among = among;
-  short = short;
-  kept = kept;
-  shown = shown;
-  all_shown = permuted;
-  most_first = first;
-  scripts = scripts_lead plan spec block outcomes short shown limits own sample kept permuted;
-  breaking = breaking_leads plan spec block outcomes short limits own sample kept;
-  well_is = well_is;
-  text_is = refl;
+  told = subst (λ (o : Option ℕ). IsTold o plan spec block (grouped_if plan.group outcomes) well text) (sym alone_is) (subst (λ (all : List Counted). IsTold alone plan spec block all well text) told_is is);
 }
-
-pub sample_told : (plan : Plan) (block : List ℕ) (spec : RoomSpec) (outcomes short shown : List Counted) (well held : Bool) (end before after : List ℕ) → IsWithinLimits spec → block_in block ≡ Ok (spec, length block) → IsSample spec plan outcomes
-    → AreAmongAll spec outcomes → AreKept spec plan.crashes (grouped_if plan.group outcomes) short → IsPermutation short shown → AreMostFirst shown → held ≡ has_held spec short → end ≡ end_text plan.json plan spec block short
-    → well ≡ is_told_well plan.outcome shown held → after ≡ before ++ told_text plan.outcome plan spec.name block shown end → (text : List ℕ) × IsSampleText plan spec well text × (after ≡ before ++ text)
-sample_told plan block spec outcomes short shown well held end before after limits own sample among kept permuted first held_is end_is well_is after_is = (
-  room_text plan.outcome plan spec block short shown,
-  room_told plan block spec outcomes short shown well limits own sample among kept permuted first (well_is ∙ ap (is_told_well plan.outcome shown) held_is),
-  after_is ∙ ap (λ (e : List ℕ). before ++ told_text plan.outcome plan spec.name block shown e) end_is,
-)
 
 -- ---- if an allocation fails
 
@@ -98,14 +145,19 @@ pub on_err : {T E P : Type 0} (result : Result T E) → P → OnErr result P
 on_err (Ok value) is = tt
 on_err (Err error) is = is
 
+pub on_err_weaker : {T E P Q : Type 0} (result : Result T E) → (P → Q) → OnErr result P → OnErr result Q
+on_err_weaker (Ok value) more is = tt
+on_err_weaker (Err error) more is = more is
+
 -- what a sample is doesn't depend on how many of its outcomes are shown
 pub cut_sample : (spec : RoomSpec) (plan : Plan) (schedules : ℕ) (top : Option ℕ) (outcomes : List Counted) → IsSampleOf spec plan schedules outcomes → IsSample spec (cut_plan plan schedules top) outcomes
-cut_sample spec plan schedules top outcomes is = record { runs = is.runs; count = is.count; drawn = is.drawn; outcomes_are = is.outcomes_are; total = is.total }
-
--- nor does what is said at the end
-cut_end : (json : Bool) (plan : Plan) (top : Option ℕ) (spec : RoomSpec) (block : List ℕ) (short : List Counted) → end_text json plan spec block short ≡ end_text json (cut_plan plan plan.schedules top) spec block short
-cut_end true plan top spec block short = refl
-cut_end false plan top spec block short = refl
+cut_sample spec plan schedules top outcomes is = record {
+  runs = is.runs;
+  count = is.count;
+  drawn = λ k run there. let drawn = is.drawn k run there in record { number_is = drawn.number_is; drawn = drawn.drawn };
+  outcomes_are = is.outcomes_are;
+  total = is.total;
+}
 
 pub shows_as_many : (top : Option ℕ) → ShowsNoMore top top
 shows_as_many top count = omega arith
@@ -114,24 +166,85 @@ pub shows_fewer : (top : Option ℕ) (length most : ℕ) → most ≤ shown_coun
 shows_fewer None length most few count = omega arith
 shows_fewer (Some top) length most few count = omega (arith, few)
 
-pub fewer_told : (plan : Plan) (block : List ℕ) (spec : RoomSpec) (outcomes short shown : List Counted) (end before after : List ℕ) → IsWithinLimits spec → block_in block ≡ Ok (spec, length block) → IsSample spec plan outcomes
-    → AreAmongAll spec outcomes → AreKept spec plan.crashes (grouped_if plan.group outcomes) short → IsPermutation short shown → AreMostFirst shown → end ≡ end_text plan.json plan spec block short
-    → AddsFewer plan spec.name block shown end before after → AddsCut plan spec before after
-fewer_told plan block spec outcomes short shown end before after limits own sample among kept permuted first end_is (inl same) = inl same
-fewer_told plan block spec outcomes short shown end before after limits own sample among kept permuted first end_is (inr (top, shows, after_is)) =
-    let cut = cut_plan plan plan.schedules top in
-    let well = is_well plan.outcome spec short shown in
+-- half of those that are left are the first ones too
+pub half_left : (all shown after : List Example) (half : ℕ) → half ≤ length shown → (most : ℕ) × (most ≤ length all) × (shown ≡ take most all) → after ≡ take half shown → (most : ℕ) × (most ≤ length all) × (after ≡ take most all)
+half_left all shown after half less (most, few, is) after_is =
+    let long : length shown ≡ min most (length all) = ap (λ (l : List Example). length l) is ∙ length-take most all in
+    (half, omega (arith, less, few, long), after_is ∙ ap (take half) is ∙ take-take half most all (omega (arith, less, long)))
+
+first_of : (examples : List Example) (n : ℕ) → map shown_of (take n examples) ≡ take n (map shown_of examples)
+first_of examples zero = refl
+first_of [] (suc n) = refl
+first_of (one ∷ examples) (suc n) = ap (λ (shown : List Shown). shown_of one ∷ shown) (first_of examples n)
+
+-- some of the outcomes were shown, or none
+pub fewer_listed : (plan : Plan) (spec : RoomSpec) (block : List ℕ) (outcomes ordered : List Counted) (examples : List Example) (broken : Option Shown) (well : Bool) (end before after : List ℕ) → IsWithinLimits spec → block_in block ≡ Ok (spec, length block)
+    → IsPermutation outcomes ordered → AreMostFirst ordered → AreShown spec plan.crashes (not plan.brief) (take (length examples) ordered) (map shown_of examples) → length examples ≤ shown_count plan.top (length ordered)
+    → IsShownIf spec plan.crashes (shows_breaking plan) (first_broken spec outcomes) broken → well ≡ has_held spec outcomes → end ≡ end_text plan.json plan spec block outcomes broken
+    → (after ≡ before) ⊎ ((most : ℕ) × (most ≤ length examples) × (after ≡ before ++ (shown_text plan.json plan spec.name block ordered (map shown_of (take most examples)) ++ end))) → ListsFewer plan spec block outcomes before after
+fewer_listed plan spec block outcomes ordered examples broken well end before after limits own permuted first are few broken_is well_is end_is (inl same) = inl same
+fewer_listed plan spec block outcomes ordered examples broken well end before after limits own permuted first are few broken_is well_is end_is (inr (most, fewer, after_is)) =
+    let shown = map shown_of (take most examples) in
+    let those : AreShown spec plan.crashes (not plan.brief) (take (shown_count (Some most) (length ordered)) ordered) shown =
+    subst (λ (all : List Shown). AreShown spec plan.crashes (not plan.brief) (take (shown_count (Some most) (length ordered)) ordered) all) (sym (first_of examples most))
+    (fewer_shown spec plan.crashes (not plan.brief) ordered (map shown_of examples) (length examples) most fewer are) in
+    let text = shown_text plan.json plan spec.name block ordered shown ++ end_text plan.json plan spec block outcomes broken in
     inr (
-      room_text plan.outcome cut spec block short shown,
+      Some most,
+      well,
+      text,
+      shows_fewer plan.top (length ordered) most (omega (arith, fewer, few)),
+      listed plan (Some most) spec block limits own outcomes ordered shown broken well text permuted first those broken_is well_is refl,
+      after_is ∙ ap (λ (e : List ℕ). before ++ (shown_text plan.json plan spec.name block ordered shown ++ e)) end_is,
+    )
+
+-- as many as were made, which are fewer than were asked for
+pub made_listed : (plan : Plan) (spec : RoomSpec) (block : List ℕ) (outcomes ordered : List Counted) (examples : List Example) (broken : Option Shown) (well : Bool) (end before after : List ℕ) → IsWithinLimits spec → block_in block ≡ Ok (spec, length block)
+    → IsPermutation outcomes ordered → AreMostFirst ordered → AreShown spec plan.crashes (not plan.brief) (take (length examples) ordered) (map shown_of examples) → length examples ≤ shown_count plan.top (length ordered)
+    → IsShownIf spec plan.crashes (shows_breaking plan) (first_broken spec outcomes) broken → well ≡ has_held spec outcomes → end ≡ end_text plan.json plan spec block outcomes broken
+    → after ≡ before ++ (shown_text plan.json plan spec.name block ordered (map shown_of examples) ++ end) → ListsFewer plan spec block outcomes before after
+made_listed plan spec block outcomes ordered examples broken well end before after limits own permuted first are few broken_is well_is end_is after_is =
+    let count = length examples in
+    let text = shown_text plan.json plan spec.name block ordered (map shown_of examples) ++ end_text plan.json plan spec block outcomes broken in
+    inr (
+      Some count,
+      well,
+      text,
+      shows_fewer plan.top (length ordered) count few,
+      listed plan (Some count) spec block limits own outcomes ordered (map shown_of examples) broken well text permuted first (all_shown spec plan.crashes (not plan.brief) ordered (map shown_of examples) count are) broken_is well_is refl,
+      after_is ∙ ap (λ (e : List ℕ). before ++ (shown_text plan.json plan spec.name block ordered (map shown_of examples) ++ e)) end_is,
+    )
+
+-- all that were asked for
+pub whole_listed : (plan : Plan) (spec : RoomSpec) (block : List ℕ) (outcomes ordered : List Counted) (examples : List Example) (broken : Option Shown) (well : Bool) (end before after : List ℕ) → IsWithinLimits spec → block_in block ≡ Ok (spec, length block)
+    → IsPermutation outcomes ordered → AreMostFirst ordered → AreShown spec plan.crashes (not plan.brief) (take (length examples) ordered) (map shown_of examples) → length examples ≡ shown_count plan.top (length ordered)
+    → IsShownIf spec plan.crashes (shows_breaking plan) (first_broken spec outcomes) broken → well ≡ has_held spec outcomes → end ≡ end_text plan.json plan spec block outcomes broken
+    → after ≡ before ++ (shown_text plan.json plan spec.name block ordered (map shown_of examples) ++ end) → (text : List ℕ) × IsListed plan spec block outcomes well text × (after ≡ before ++ text)
+whole_listed plan spec block outcomes ordered examples broken well end before after limits own permuted first are all broken_is well_is end_is after_is =
+    let text = shown_text plan.json plan spec.name block ordered (map shown_of examples) ++ end_text plan.json plan spec block outcomes broken in (
+      text,
+      listed plan plan.top spec block limits own outcomes ordered (map shown_of examples) broken well text permuted first
+          (subst (λ (n : ℕ). AreShown spec plan.crashes (not plan.brief) (take n ordered) (map shown_of examples)) all are) broken_is well_is refl,
+      after_is ∙ ap (λ (e : List ℕ). before ++ (shown_text plan.json plan spec.name block ordered (map shown_of examples) ++ e)) end_is,
+    )
+
+-- and so the sample was written in part
+pub fewer_told : (plan : Plan) (spec : RoomSpec) (block : List ℕ) (outcomes told : List Counted) (before after : List ℕ) → block_in block ≡ Ok (spec, length block) → IsSample spec plan outcomes → AreAmongAll spec outcomes
+    → told ≡ grouped_if plan.group outcomes → plan.outcome ≡ None → ListsFewer plan spec block told before after → AddsCut plan spec before after
+fewer_told plan spec block outcomes told before after own sample among told_is alone_is (inl same) = inl same
+fewer_told plan spec block outcomes told before after own sample among told_is alone_is (inr (top, well, text, shows, is, after_is)) =
+    let cut = cut_plan plan plan.schedules top in
+    inr (
+      text,
       record {
         schedules = plan.schedules;
         top = top;
         fewer = omega arith;
         shows = shows;
         well = well;
-        is_sample = room_told cut block spec outcomes short shown well limits own (cut_sample spec plan plan.schedules top outcomes sample) among kept permuted first refl;
+        is_sample = sample_told None cut spec block outcomes told well text own (cut_sample spec plan plan.schedules top outcomes sample) among told_is alone_is is;
       },
-      after_is ∙ ap (λ (e : List ℕ). before ++ told_text plan.outcome cut spec.name block shown e) (end_is ∙ cut_end plan.json plan top spec block short),
+      after_is,
     )
 
 -- the sample of fewer schedules is shown whole

@@ -22,13 +22,6 @@ took xs i x there =
     let next : suc i ≡ i + 1 = omega arith in
     subst (λ (n : ℕ). take n xs ≡ take i xs ++ x ∷ []) next (took_next xs i x there)
 
-pub written_more : (text : Counted → List ℕ) (outcomes : List Counted) (i : ℕ) (one : Counted) (start before after : List ℕ) → before ≡ start ++ flat_map text (take i outcomes) → slice_get outcomes i ≡ Some one → after ≡ before ++ text one → after ≡ start ++ flat_map text (take (i + 1) outcomes)
-written_more text outcomes i one start before after so_far there more =
-    more ∙ ap (λ (t : List ℕ). t ++ text one) so_far ∙ append_assoc start (flat_map text (take i outcomes)) (text one)
-    ∙ ap (λ (t : List ℕ). start ++ (flat_map text (take i outcomes) ++ t)) (sym (append-nil (text one)))
-    ∙ ap (λ (t : List ℕ). start ++ t) (sym (flat_map-append text (take i outcomes) (one ∷ [])))
-    ∙ ap (λ (taken : List Counted). start ++ flat_map text taken) (sym (took outcomes i one there))
-
 pub most_more : (count : List ProcessState → ℕ) (outcomes : List Counted) (i : ℕ) (one : Counted) (most after : ℕ) → most ≡ most_of count (take i outcomes) → slice_get outcomes i ≡ Some one → after ≡ max (count one.states) most → after ≡ most_of count (take (i + 1) outcomes)
 most_more count outcomes i one most after so_far there is =
     is ∙ ap (max (count one.states)) so_far

@@ -1,5 +1,5 @@
 -- A sample as JSON: an object a line.
-use Rattle.std.specs.Prelude.{ℕ, ◌-◌, Bool, true, List, length, map, take, Option, Some, None, slice_get, if◌then◌else◌, codes}
+use Rattle.std.specs.Prelude.{ℕ, Bool, true, List, length, map, Option, Some, None, if◌then◌else◌, codes}
 use Rattle.std.specs.List.{flat_map}
 use Rattle.serde_json.specs.Data.{Data, array, boolean, member, no_members, null, number, object, string, unsigned}
 use Rattle.serde_json.specs.View.{items_of}
@@ -7,12 +7,12 @@ use Rattle.json_lines.specs.Lines.{json_line}
 use Rattle.json_lines.specs.Values.{processes_data}
 use Rattle.room_spec.specs.Rooms.{RoomSpec}
 use Rattle.room_sample.specs.Samples.{Counted}
+use Rattle.room_sample.specs.Shown.{Shown}
 use Rattle.room_sample.specs.declared.sampling.Plan.{Plan}
 use Rattle.room_sample.specs.declared.stretch.Stretch.{Stretch}
 use Rattle.room_sample.specs.declared.stretch.Stretch.TheVariants.{Steps, Crash}
 use Rattle.view_sample.specs.Counts.{held_in, most_of, once_in, values_in}
 use Rattle.view_sample.specs.Tasks.{times_broken}
-use Rattle.view_sample.specs.Texts.{shown_count}
 
 abbrev pub stretch_data : Stretch → Data
 stretch_data (Steps simulator count) = object (member (codes "simulator") (number (unsigned simulator)) (member (codes "steps") (number (unsigned count)) no_members))
@@ -25,13 +25,16 @@ abbrev pub schedule_unless : Bool → List Stretch → Data
 schedule_unless brief schedule = if brief then null else schedule_data schedule
 
 -- an outcome: the states of the processes in it, a schedule that leads there, and how often it came
-abbrev pub outcome_data : List ℕ → Bool → Counted → Data
+abbrev pub outcome_data : List ℕ → Bool → Shown → Data
 outcome_data name brief one =
     object (member (codes "processes") (processes_data one.states) (member (codes "room") (string name)
     (member (codes "schedule") (schedule_unless brief one.schedule) (member (codes "times") (number (unsigned one.times)) no_members))))
 
-abbrev pub outcome_lines : List ℕ → Plan → List Counted → List ℕ
-outcome_lines name plan outcomes = flat_map (λ one. json_line (outcome_data name plan.brief one)) (take (shown_count plan.top (length outcomes)) outcomes)
+abbrev pub outcome_line : List ℕ → Bool → Shown → List ℕ
+outcome_line name brief one = json_line (outcome_data name brief one)
+
+abbrev pub outcome_lines : List ℕ → Bool → List Shown → List ℕ
+outcome_lines name brief shown = flat_map (outcome_line name brief) shown
 
 abbrev pub broken_by : Option ℕ → RoomSpec → List Counted → Data
 broken_by None spec outcomes = null
@@ -59,10 +62,10 @@ room_line spec plan outcomes = json_line (room_data spec plan outcomes)
 abbrev pub none_data : List ℕ → ℕ → ℕ → Data
 none_data name count n = object (member (codes "number") (number (unsigned n)) (member (codes "outcomes") (number (unsigned count)) (member (codes "room") (string name) no_members)))
 
-abbrev pub alone_data : List ℕ → Bool → ℕ → ℕ → Option Counted → Data
+abbrev pub alone_data : List ℕ → Bool → ℕ → ℕ → Option Shown → Data
 alone_data name brief count n None = none_data name count n
 alone_data name brief count n (Some one) = outcome_data name brief one
 
--- the outcome of this number, from 1; or, if there is none, how many outcomes there are
-abbrev pub alone_line : List ℕ → Bool → List Counted → ℕ → List ℕ
-alone_line name brief shown n = json_line (alone_data name brief (length shown) n (slice_get shown (n - 1)))
+-- the outcome of this number; or, if there is none, how many outcomes there are
+abbrev pub alone_line : List ℕ → Bool → ℕ → ℕ → Option Shown → List ℕ
+alone_line name brief count n shown = json_line (alone_data name brief count n shown)

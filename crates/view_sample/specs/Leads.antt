@@ -11,7 +11,7 @@ use Rattle.room_files.specs.declared.outcome.Outcome.TheVariants.{AllWell}
 use Rattle.script_play.specs.Play.{IsPlayFor}
 use Rattle.script_play.specs.ReplyTexts.{reply_text}
 use Rattle.script_play.specs.Script.{script_says}
-use Rattle.room_sample.specs.Samples.{Counted}
+use Rattle.room_sample.specs.Shown.{Shown}
 use Rattle.view_sample.specs.Texts.{script_text}
 use Rattle.room_sample.specs.declared.stretch.Stretch.{Stretch}
 use Rattle.room_sample.specs.declared.stretch.Stretch.TheVariants.{Steps, Crash}
@@ -34,6 +34,6 @@ pub record LeadsTo (name : List ℕ) (schedule : List Stretch) (states : List Pr
   pub states_are : report.states.items ≡ states
   pub played : (outcome : Outcome) (output : List ℕ) → IsPlayFor script (Ok outcome) output → (outcome ≡ AllWell) × (output ≡ replies_to_schedule name schedule report)
 
--- the script of an outcome that was counted leads to it
-abbrev pub HasScript : List ℕ → List ℕ → Counted → Type 0
+-- the script of an outcome leads to it
+abbrev pub HasScript : List ℕ → List ℕ → Shown → Type 0
 HasScript name block one = LeadsTo name one.schedule one.states (script_text name block one.schedule)

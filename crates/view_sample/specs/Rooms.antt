@@ -1,69 +1,82 @@
 -- Rooms that are sampled, and what is written of each.
-use Rattle.std.specs.Prelude.{◌≡◌, ◌≤◌, ◌⊎◌, ℕ, ◌-◌, take, Bool, true, false, ◌&&◌, Option, None, Some, is_some, slice_get, List, [], ◌∷◌, ◌++◌, length, Ok, IfSome, IsPermutation}
+use Rattle.std.specs.Prelude.{◌≡◌, ◌≤◌, ◌⊎◌, ℕ, ◌-◌, take, Bool, true, false, not, ◌&&◌, ◌||◌, Option, None, Some, is_some, slice_get, List, [], ◌∷◌, ◌++◌, length, Ok, IfSome, IsPermutation}
 use Rattle.std.specs.List.{All, concat}
 use Rattle.room_spec.specs.Blocks.{block_in}
 use Rattle.room_spec.specs.Rooms.{RoomSpec}
 use Rattle.view_sample.specs.Leads.{HasScript}
 use Rattle.room_sample.specs.Groups.{grouped_if}
 use Rattle.room_sample.specs.Samples.{AreAmongAll, AreMostFirst, Counted, IsSample}
-use Rattle.room_sample.specs.Shown.{AreKept}
+use Rattle.room_sample.specs.Shown.{AreShown, IsShownIf, Shown}
 use Rattle.view_sample.specs.Json.{alone_line, outcome_lines, room_line}
 use Rattle.view_sample.specs.Tasks.{first_broken}
 use Rattle.view_sample.specs.TaskTexts.{has_held, task_text}
 use Rattle.view_sample.specs.Texts.{alone_text, sample_text, shown_count}
 use Rattle.room_sample.specs.declared.sampling.Plan.{Plan}
 
--- the outcomes in this order, as text or as JSON
-abbrev pub shown_text : Bool → Plan → List ℕ → List ℕ → List Counted → List ℕ
-shown_text false plan name block shown = sample_text name block plan shown
-shown_text true plan name block shown = outcome_lines name plan shown
+-- the outcomes that are shown, in this order, as text or as JSON
+abbrev pub shown_text : Bool → Plan → List ℕ → List ℕ → List Counted → List Shown → List ℕ
+shown_text false plan name block outcomes shown = sample_text name block plan outcomes shown
+shown_text true plan name block outcomes shown = outcome_lines name plan.brief shown
 
--- what is said of its task; in JSON, of the room as a whole
-abbrev pub end_text : Bool → Plan → RoomSpec → List ℕ → List Counted → List ℕ
-end_text false plan spec block short = task_text spec block plan short
-end_text true plan spec block short = room_line spec plan short
+-- what is said of its task, with a script that breaks it; in JSON, of the room as a whole
+abbrev pub end_text : Bool → Plan → RoomSpec → List ℕ → List Counted → Option Shown → List ℕ
+end_text false plan spec block outcomes broken = task_text spec block plan outcomes broken
+end_text true plan spec block outcomes broken = room_line spec plan outcomes
 
 -- the script of the outcome of this number; in JSON, that outcome
-abbrev pub alone_shown : Bool → Plan → List ℕ → List ℕ → List Counted → ℕ → List ℕ
-alone_shown false plan name block shown number = alone_text name block shown number
-alone_shown true plan name block shown number = alone_line name plan.brief shown number
+abbrev pub alone_shown : Bool → Plan → List ℕ → List ℕ → ℕ → ℕ → Option Shown → List ℕ
+alone_shown false plan name block count number shown = alone_text name block count number shown
+alone_shown true plan name block count number shown = alone_line name plan.brief count number shown
+
+-- a script of an outcome that breaks the task is shown
+abbrev pub shows_breaking : Plan → Bool
+shows_breaking plan = not plan.brief && not plan.json
+
+-- the schedule of an outcome that is shown alone: left out in brief JSON
+abbrev pub shows_alone : Plan → Bool
+shows_alone plan = not plan.brief || not plan.json
+
+-- The text shows the outcomes of a room, those first that came most often, and each with a short script that leads to it. It then says in how many
+-- schedules the room's task was broken, with a script that leads to the first outcome that breaks it; all is well if none broke it.
+pub record IsListed (plan : Plan) (spec : RoomSpec) (block : List ℕ) (outcomes : List Counted) (well : Bool) (text : List ℕ) : Type 0 where
+  pub ordered : List Counted
+  pub all_ordered : IsPermutation outcomes ordered
+  pub most_first : AreMostFirst ordered
+  pub shown : List Shown
+  pub are_shown : AreShown spec plan.crashes (not plan.brief) (take (shown_count plan.top (length ordered)) ordered) shown
+  -- the script of each outcome leads to it
+  pub scripts : plan.brief ≡ false → All (HasScript spec.name block) shown
+  pub broken : Option Shown
+  pub broken_is : IsShownIf spec plan.crashes (shows_breaking plan) (first_broken spec outcomes) broken
+  pub breaking : shows_breaking plan ≡ true → IfSome broken (HasScript spec.name block)
+  pub well_is : well ≡ has_held spec outcomes
+  pub text_is : text ≡ shown_text plan.json plan spec.name block ordered shown ++ end_text plan.json plan spec block outcomes broken
+
+-- The text is the script of the outcome of this number among those of a room, in the same order; all is well if there is that outcome.
+pub record IsChosen (number : ℕ) (plan : Plan) (spec : RoomSpec) (block : List ℕ) (outcomes : List Counted) (well : Bool) (text : List ℕ) : Type 0 where
+  pub ordered : List Counted
+  pub all_ordered : IsPermutation outcomes ordered
+  pub most_first : AreMostFirst ordered
+  pub shown : Option Shown
+  pub is_shown : IsShownIf spec plan.crashes (shows_alone plan) (slice_get ordered (number - 1)) shown
+  pub script : shows_alone plan ≡ true → IfSome shown (HasScript spec.name block)
+  pub well_is : well ≡ is_some (slice_get ordered (number - 1))
+  pub text_is : text ≡ alone_shown plan.json plan spec.name block (length ordered) number shown
 
 -- what is written of a room: its outcomes, and its task; or one outcome alone
-abbrev pub told_text : Option ℕ → Plan → List ℕ → List ℕ → List Counted → List ℕ → List ℕ
-told_text None plan name block shown end = shown_text plan.json plan name block shown ++ end
-told_text (Some number) plan name block shown end = alone_shown plan.json plan name block shown number
+abbrev pub IsTold : Option ℕ → Plan → RoomSpec → List ℕ → List Counted → Bool → List ℕ → Type 0
+IsTold None plan spec block outcomes well text = IsListed plan spec block outcomes well text
+IsTold (Some number) plan spec block outcomes well text = IsChosen number plan spec block outcomes well text
 
-abbrev pub room_text : Option ℕ → Plan → RoomSpec → List ℕ → List Counted → List Counted → List ℕ
-room_text alone plan spec block short shown = told_text alone plan spec.name block shown (end_text plan.json plan spec block short)
-
--- no schedule broke the task; or there is that outcome
-abbrev pub is_told_well : Option ℕ → List Counted → Bool → Bool
-is_told_well None shown held = held
-is_told_well (Some number) shown held = is_some (slice_get shown (number - 1))
-
-abbrev pub is_well : Option ℕ → RoomSpec → List Counted → List Counted → Bool
-is_well alone spec short shown = is_told_well alone shown (has_held spec short)
-
--- The text shows a sample of the room, in groups if they are asked for: those outcomes first that came most often, each with a short script that leads to it, and each among
--- the outcomes of all runs of the room's protocol. It then says in how many schedules the room's task was broken, with a script that leads to an
--- outcome that breaks it; all is well if none broke it. The block says the room.
+-- The text shows a sample of the room, in groups if they are asked for: each outcome is among the outcomes of all runs of the room's protocol. The block
+-- says the room.
 pub record IsSampleText (plan : Plan) (spec : RoomSpec) (well : Bool) (text : List ℕ) : Type 0 where
   pub block : List ℕ
   pub says : block_in block ≡ Ok (spec, length block)
   pub outcomes : List Counted
   pub sample : IsSample spec plan outcomes
   pub among : AreAmongAll spec outcomes
-  -- these or their groups, with schedules that were made short
-  pub short : List Counted
-  pub kept : AreKept spec plan.crashes (grouped_if plan.group outcomes) short
-  pub shown : List Counted
-  pub all_shown : IsPermutation short shown
-  pub most_first : AreMostFirst shown
-  -- the script of each outcome leads to it
-  pub scripts : All (HasScript spec.name block) shown
-  pub breaking : IfSome (first_broken spec short) (HasScript spec.name block)
-  pub well_is : well ≡ is_well plan.outcome spec short shown
-  pub text_is : text ≡ room_text plan.outcome plan spec block short shown
+  pub told : IsTold plan.outcome plan spec block (grouped_if plan.group outcomes) well text
 
 -- a text for each room, in order; all is well if it is for each
 abbrev pub AreSampleTexts : Plan → List RoomSpec → Bool → List (List ℕ) → Type 0
@@ -111,10 +124,10 @@ pub record IsCutText (plan : Plan) (spec : RoomSpec) (text : List ℕ) : Type 0 
 abbrev pub AddsCut : Plan → RoomSpec → List ℕ → List ℕ → Type 0
 AddsCut plan spec before after = (after ≡ before) ⊎ ((text : List ℕ) × IsCutText plan spec text × (after ≡ before ++ text))
 
--- the same, before that is put in terms of samples: these outcomes and this end, or as much as there was memory for
-abbrev pub AddsFewer : Plan → List ℕ → List ℕ → List Counted → List ℕ → List ℕ → List ℕ → Type 0
-AddsFewer plan name block shown end before after =
-    (after ≡ before) ⊎ ((top : Option ℕ) × ShowsNoMore top plan.top × (after ≡ before ++ told_text plan.outcome (cut_plan plan plan.schedules top) name block shown end))
+-- nothing was added, or these outcomes, of which no more are shown
+abbrev pub ListsFewer : Plan → RoomSpec → List ℕ → List Counted → List ℕ → List ℕ → Type 0
+ListsFewer plan spec block outcomes before after =
+    (after ≡ before) ⊎ ((top : Option ℕ) × (well : Bool) × (text : List ℕ) × ShowsNoMore top plan.top × IsListed (cut_plan plan plan.schedules top) spec block outcomes well text × (after ≡ before ++ text))
 
 -- The texts of the first rooms were added, and what there was memory for of the next one.
 pub record AddsFirst (plan : Plan) (specs : List RoomSpec) (before after : List ℕ) : Type 0 where

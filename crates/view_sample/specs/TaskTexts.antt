@@ -2,6 +2,7 @@
 use Rattle.std.specs.Prelude.{ℕ, Bool, ◌||◌, List, [], ◌++◌, Option, Some, None, is_none, if◌then◌else◌, codes}
 use Rattle.room_spec.specs.Rooms.{RoomSpec}
 use Rattle.room_sample.specs.Samples.{Counted}
+use Rattle.room_sample.specs.Shown.{Shown}
 use Rattle.view_sample.specs.Tasks.{first_broken, times_broken}
 use Rattle.view_sample.specs.Texts.{number_line, number_words, script_unless}
 use Rattle.room_sample.specs.declared.sampling.Plan.{Plan}
@@ -26,13 +27,13 @@ abbrev pub broken_text : List ℕ → List ℕ → Plan → ℕ → List Stretch
 broken_text name block plan times schedule = broken_line name plan times ++ script_unless plan.brief name block schedule
 
 -- what is said of the task, with the script of the first schedule that broke it
-abbrev pub verdict_text : List ℕ → List ℕ → Plan → ℕ → Option Counted → List ℕ
+abbrev pub verdict_text : List ℕ → List ℕ → Plan → ℕ → Option Shown → List ℕ
 verdict_text name block plan times None = held_line name plan
 verdict_text name block plan times (Some one) = broken_text name block plan times one.schedule
 
 -- nothing is said of a room without a task
-abbrev pub task_text : RoomSpec → List ℕ → Plan → List Counted → List ℕ
-task_text spec block plan outcomes = if is_none spec.task then [] else verdict_text spec.name block plan (times_broken spec outcomes) (first_broken spec outcomes)
+abbrev pub task_text : RoomSpec → List ℕ → Plan → List Counted → Option Shown → List ℕ
+task_text spec block plan outcomes broken = if is_none spec.task then [] else verdict_text spec.name block plan (times_broken spec outcomes) broken
 
 -- no schedule broke the task
 abbrev pub has_held : RoomSpec → List Counted → Bool

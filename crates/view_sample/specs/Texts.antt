@@ -1,10 +1,11 @@
 -- What is written of a room that was sampled.
-use Rattle.std.specs.Prelude.{ℕ, min, Bool, List, [], ◌∷◌, ◌++◌, ◌-◌, length, take, Option, None, Some, slice_get, if◌then◌else◌, codes, decimal}
+use Rattle.std.specs.Prelude.{ℕ, min, Bool, List, [], ◌∷◌, ◌++◌, length, Option, None, Some, if◌then◌else◌, codes, decimal}
 use Rattle.std.specs.List.{flat_map}
 use Rattle.room_files.specs.BlockLists.{whole_block}
 use Rattle.report_text.specs.ReportTexts.{process_lines}
 use Rattle.view_sample.specs.Counts.{held_in, most_of, once_in, values_in}
 use Rattle.room_sample.specs.Samples.{Counted}
+use Rattle.room_sample.specs.Shown.{Shown}
 use Rattle.room_sample.specs.declared.sampling.Plan.{Plan}
 use Rattle.room_sample.specs.declared.stretch.Stretch.{Stretch}
 use Rattle.room_sample.specs.declared.stretch.Stretch.TheVariants.{Steps, Crash}
@@ -34,7 +35,7 @@ abbrev pub script_unless : Bool → List ℕ → List ℕ → List Stretch → L
 script_unless brief name block schedule = if brief then [] else script_text name block schedule
 
 -- how often an outcome came, the states of the processes in it, and a script that leads there
-abbrev pub outcome_text : Bool → List ℕ → List ℕ → Counted → List ℕ
+abbrev pub outcome_text : Bool → List ℕ → List ℕ → Shown → List ℕ
 outcome_text brief name block one =
     (codes "\n" ++ (name ++ (codes " came" ++ ((32 ∷ decimal one.times) ++ codes " times\n")))) ++ (process_lines name one.states ++ script_unless brief name block one.schedule)
 
@@ -55,8 +56,8 @@ abbrev pub shown_count : Option ℕ → ℕ → ℕ
 shown_count None count = count
 shown_count (Some top) count = min top count
 
-abbrev pub outcome_texts : List ℕ → List ℕ → Plan → List Counted → List ℕ
-outcome_texts name block plan outcomes = flat_map (outcome_text plan.brief name block) (take (shown_count plan.top (length outcomes)) outcomes)
+abbrev pub outcome_texts : Bool → List ℕ → List ℕ → List Shown → List ℕ
+outcome_texts brief name block shown = flat_map (outcome_text brief name block) shown
 
 -- how many outcomes there are, and how likely a further schedule leads to a new one: as often as one came that came only once (Good 1953)
 abbrev pub new_words : List ℕ → ℕ → ℕ → ℕ → List ℕ
@@ -66,8 +67,9 @@ new_words name count once schedules =
 abbrev pub new_line : List ℕ → Plan → List Counted → List ℕ
 new_line name plan outcomes = new_words name (length outcomes) (once_in outcomes) plan.schedules
 
-abbrev pub sample_text : List ℕ → List ℕ → Plan → List Counted → List ℕ
-sample_text name block plan outcomes = plan_line name plan ++ (outcome_texts name block plan outcomes ++ (most_lines name outcomes ++ new_line name plan outcomes))
+-- the outcomes, of which these are shown
+abbrev pub sample_text : List ℕ → List ℕ → Plan → List Counted → List Shown → List ℕ
+sample_text name block plan outcomes shown = plan_line name plan ++ (outcome_texts plan.brief name block shown ++ (most_lines name outcomes ++ new_line name plan outcomes))
 
 abbrev pub count_words : List ℕ → ℕ → List ℕ
 count_words name count = number_line name (codes " has") count (codes " outcomes, and none has the number")
@@ -75,10 +77,7 @@ count_words name count = number_line name (codes " has") count (codes " outcomes
 abbrev pub none_line : List ℕ → ℕ → ℕ → List ℕ
 none_line name count number = count_words name count ++ number_words number (codes "\n")
 
-abbrev pub alone_or_none : List ℕ → List ℕ → ℕ → ℕ → Option Counted → List ℕ
-alone_or_none name block count number None = none_line name count number
-alone_or_none name block count number (Some one) = script_text name block one.schedule
-
--- the script of the outcome of this number, from 1; or, if there is none, how many outcomes there are
-abbrev pub alone_text : List ℕ → List ℕ → List Counted → ℕ → List ℕ
-alone_text name block shown number = alone_or_none name block (length shown) number (slice_get shown (number - 1))
+-- the script of the outcome of this number; or, if there is none, how many outcomes there are
+abbrev pub alone_text : List ℕ → List ℕ → ℕ → ℕ → Option Shown → List ℕ
+alone_text name block count number None = none_line name count number
+alone_text name block count number (Some one) = script_text name block one.schedule

@@ -1,36 +1,32 @@
 //! A sample as JSON: an object a line.
-ghost use Rattle.std.specs.Prelude.{◌≡◌, ◌-◌, ◌≤◌, ◌++◌, IfOk, OnOk, is_some, slice_get};
+ghost use Rattle.std.specs.Prelude.{◌≡◌, ◌≤◌, ◌++◌, IfOk, OnOk, map, option_map};
 ghost use Rattle.std.specs.List.{sum_by};
 ghost use Rattle.serde_json.specs.View.{view};
-ghost use Rattle.room_sample.specs.Samples.{counted_of};
+ghost use Rattle.room_sample.specs.Shown.{shown_of};
 ghost use Rattle.json_lines.specs.Lines.{json_line};
-ghost use Rattle.view_sample.specs.Json.{alone_line, broken_data, none_data, outcome_data, outcome_lines, room_data, room_line, schedule_data, schedule_unless, stretch_data};
+ghost use Rattle.view_sample.specs.Json.{alone_line, broken_data, none_data, outcome_data, outcome_line, outcome_lines, room_data, room_line, schedule_data, schedule_unless, stretch_data};
 
 use crate::counts::{most_of, once_in};
 use crate::task::times_broken;
-use crate::text::shown_count;
 use io_text::Text;
 use json_lines::{processes_value, write_line};
-use room_sample::{Outcome, Plan, States, Stretch, Tally};
+use room_sample::{Example, Plan, Stretch, Tally};
 use room_spec::Spec;
 use serde_json::{Value, json};
 use std::alloc::{AllocError, Global};
 
-/// Writes the outcomes of the room of this name, an object a line.
+/// Writes these outcomes of the room of this name, an object a line.
 pub(crate) fn write_outcome_lines(
     alloc: Global,
     output: &mut Text,
     name: &str,
-    plan: &Plan,
-    outcomes: &Tally,
+    brief: bool,
+    shown: &[Example],
 ) -> Result<(), AllocError>
-    ensures { OnOk result (output.new ≡ output.old ++ outcome_lines name.now plan.now outcomes.now) }
+    ensures { OnOk result (output.new ≡ output.old ++ outcome_lines name.now brief (map shown_of shown.now)) }
 {
-    for index in 0..shown_count(plan.top, outcomes.len()) {
-        let Some((states, outcome)) = outcomes.get(index) else {
-            unreachable!() // there is an outcome of each index below their number
-        };
-        write_outcome_line(alloc, output, name, plan.brief, states, outcome)?;
+    for one in shown {
+        write_outcome_line(alloc, output, name, brief, one)?;
     }
     Ok(())
 }
@@ -40,33 +36,30 @@ fn write_outcome_line(
     output: &mut Text,
     name: &str,
     brief: bool,
-    states: &States,
-    outcome: &Outcome,
+    one: &Example,
 ) -> Result<(), AllocError>
-    ensures { OnOk result (output.new ≡ output.old ++ json_line (outcome_data name.now brief (counted_of (states.now, outcome.now)))) }
+    ensures { OnOk result (output.new ≡ output.old ++ outcome_line name.now brief (shown_of one.now)) }
 {
-    let value = outcome_value(alloc, name, brief, states, outcome)?;
+    let value = outcome_value(alloc, name, brief, one)?;
     write_line(alloc, output, &value)
 }
 
-/// Writes the outcome of this number, from 1, and nothing else; or, if there is none, how many outcomes there are. Gives whether there is one.
+/// Writes the outcome of this number, and nothing else; or, if there is none, how many outcomes there are.
 pub(crate) fn write_alone_line(
     alloc: Global,
     output: &mut Text,
     name: &str,
     brief: bool,
-    outcomes: &Tally,
+    count: usize,
     number: u32,
-) -> Result<bool, AllocError>
-    ensures text { OnOk result (output.new ≡ output.old ++ alone_line name.now brief outcomes.now number) }
-    ensures there { IfOk result (λ there. there ≡ is_some (slice_get outcomes.now (number - 1))) }
+    shown: Option<&Example>,
+) -> Result<(), AllocError>
+    ensures { OnOk result (output.new ≡ output.old ++ alone_line name.now brief count number (option_map (λ one. shown_of one.now) shown.entry)) }
 {
-    let Some((states, outcome)) = outcomes.get(number.saturating_sub(1) as usize) else {
-        write_none_line(alloc, output, name, outcomes.len(), number)?;
-        return Ok(false);
-    };
-    write_outcome_line(alloc, output, name, brief, states, outcome)?;
-    Ok(true)
+    match shown {
+        None => write_none_line(alloc, output, name, count, number),
+        Some(one) => write_outcome_line(alloc, output, name, brief, one),
+    }
 }
 
 /// Writes how many outcomes there are, none of which has this number.
@@ -105,18 +98,12 @@ pub(crate) fn write_room_line(
 }
 
 /// An outcome: how often it came, the states of the processes, and a schedule that leads to it, unless that is left out.
-fn outcome_value(
-    alloc: Global,
-    name: &str,
-    brief: bool,
-    states: &States,
-    outcome: &Outcome,
-) -> Result<Value, AllocError>
-    ensures { IfOk result (λ value. view value ≡ outcome_data name.now brief (counted_of (states.now, outcome.now))) }
+fn outcome_value(alloc: Global, name: &str, brief: bool, one: &Example) -> Result<Value, AllocError>
+    ensures { IfOk result (λ value. view value ≡ outcome_data name.now brief (shown_of one.now)) }
 {
-    let processes = processes_value(alloc, states.as_slice())?;
-    let schedule = schedule_unless(alloc, brief, outcome.schedule.as_slice())?;
-    let times = outcome.times;
+    let processes = processes_value(alloc, one.states.as_slice())?;
+    let schedule = schedule_unless(alloc, brief, one.schedule.as_slice())?;
+    let times = one.times;
     json!(in alloc; {"processes": processes, "room": name, "schedule": schedule, "times": times})
 }
 

@@ -1,21 +1,24 @@
 //! The samples of the rooms of a file.
-ghost use Rattle.std.specs.Prelude.{◌≡◌, ◌-◌, ◌≤◌, ◌++◌, ℕ, IfOk, List, Ok, OnErr, OnOk, is_some, length, slice_get};
-ghost use Rattle.std.specs.List.{sum_by};
+ghost use Rattle.std.specs.Prelude.{◌≡◌, ◌≤◌, ◌⊎◌, ◌++◌, ℕ, IfOk, List, Ok, OnErr, OnOk, length, map, option_map, take};
+ghost use Rattle.std.specs.List.{All, sum_by};
 ghost use Rattle.room_files.specs.BlockLists.{IsBlockAt};
 ghost use Rattle.room_spec.specs.Blocks.{block_in};
 ghost use Rattle.room_spec.specs.Rooms.{IsWithinLimits, RoomSpec};
 ghost use Rattle.room_sample.specs.Groups.{grouped_if};
-ghost use Rattle.room_sample.specs.Samples.{AreAmongAll, IsSample};
-ghost use Rattle.room_sample.specs.Shown.{AreKept};
-ghost use Rattle.view_sample.specs.Rooms.{AddsCut, AddsFewer, AddsFirst, AddsSamples, IsSampleText, alone_shown, end_text, is_told_well, shown_text, told_text};
-ghost use Rattle.view_sample.specs.TaskTexts.{has_held};
+ghost use Rattle.room_sample.specs.Samples.{AreAmongAll, CameByFirst, IsSample};
+ghost use Rattle.room_sample.specs.Shown.{IsShownIf, shown_of};
+ghost use Rattle.view_sample.specs.Rooms.{AddsCut, AddsFirst, AddsSamples, IsChosen, IsListed, IsSampleText, ListsFewer, alone_shown, end_text, shown_text, shows_alone, shows_breaking};
+ghost use Rattle.view_sample.specs.Tasks.{first_broken};
 
 use crate::json::{write_alone_line, write_outcome_lines, write_room_line};
+use crate::task::first_broken;
 use crate::task_text::{has_held, write_task};
 use crate::text::{shown_count, write_alone, write_sample};
 use io_text::Text;
 use room_files::{BlockList, read_room};
-use room_sample::{PartialSample, Plan, Tally, sample};
+use room_sample::{
+    Example, PartialExamples, PartialSample, Plan, Tally, example_of, examples_of, sample,
+};
 use room_spec::Spec;
 use run_search::Progress;
 use std::alloc::{AllocError, Global};
@@ -66,25 +69,6 @@ fn tries_for(plan: &Plan) -> u32 {
         0
     } else {
         plan.schedules.saturating_add(MORE_TRIES)
-    }
-}
-
-/// Makes the schedules short of which scripts are written: that of one outcome, or those of all. After an `Err` some are short.
-fn shorten_shown(
-    alloc: Global,
-    outcomes: &mut Tally,
-    spec: &Spec,
-    plan: &Plan,
-) -> Result<(), AllocError>
-    ensures { AreKept spec.now plan.now.crashes outcomes.old outcomes.new }
-{
-    let tries = tries_for(plan);
-    match plan.outcome {
-        None => outcomes.shorten(alloc, spec, plan.crashes, tries),
-        Some(number) => {
-            let place = number.saturating_sub(1) as usize;
-            outcomes.shorten_at(alloc, spec, plan.crashes, tries, place)
-        }
     }
 }
 
@@ -141,25 +125,89 @@ fn write_counted(
     ensures whole { IfOk result (λ well. (text : List ℕ) × IsSampleText plan.now spec.now well text × (output.new ≡ output.old ++ text)) }
     ensures cut { OnErr result (AddsCut plan.now spec.now output.old output.new) }
 {
-    let mut outcomes = grouped_if(alloc, plan.group, outcomes)?;
-    let shortened = shorten_shown(alloc, &mut outcomes, spec, plan);
-    let mut text = Text::new(alloc);
-    let held = write_end(alloc, &mut text, spec, block, plan, &outcomes)?;
+    let outcomes = grouped_if(alloc, plan.group, outcomes)?;
+    match plan.outcome {
+        None => write_listed(alloc, output, spec, block, plan, outcomes),
+        Some(number) => write_chosen(alloc, output, spec, block, plan, outcomes, number),
+    }
+}
+
+/// Writes these outcomes of a room, those first that came most often, and whether they keep its task. If an allocation fails, as many of them
+/// are written as there is memory for, or nothing.
+fn write_listed(
+    alloc: Global,
+    output: &mut Text,
+    spec: &Spec,
+    block: &[u8],
+    plan: &Plan,
+    mut outcomes: Tally,
+) -> Result<bool, AllocError>
+    requires limits { IsWithinLimits spec.now }
+    requires says { block_in block.now ≡ Ok (spec.now, length block.now) }
+    requires came { All (CameByFirst spec.now plan.now) outcomes }
+    requires few { sum_by (λ one. one.times) outcomes ≤ plan.now.schedules }
+    ensures whole { IfOk result (λ well. (text : List ℕ) × IsListed plan.now spec.now block.now outcomes well text × (output.new ≡ output.old ++ text)) }
+    ensures cut { OnErr result (ListsFewer plan.now spec.now block.now outcomes output.old output.new) }
+{
+    let held = has_held(spec, &outcomes);
+    let broken = broken_example(alloc, spec, plan, &outcomes)?;
+    let mut end = Text::new(alloc);
+    write_end(
+        alloc,
+        &mut end,
+        spec,
+        block,
+        plan,
+        &outcomes,
+        broken.as_ref(),
+    )?;
     outcomes.sort_by_times()?;
-    let end = End { text, held };
-    let well = write_most(alloc, output, spec, block, plan, &outcomes, &end)?;
-    shortened?;
-    Ok(well)
+    let most = shown_count(plan.top, outcomes.len());
+    let PartialExamples { examples, ending } = examples_of(
+        alloc,
+        spec,
+        plan,
+        !plan.brief,
+        &outcomes,
+        most,
+        tries_for(plan),
+    );
+    write_most(alloc, output, spec, block, plan, &outcomes, examples, &end)?;
+    ending?;
+    Ok(held)
 }
 
-/// What is said at the end of a room, and whether its task held.
-#[derive(Drop)]
-struct End {
-    text: Text,
-    held: bool,
+/// The first outcome that breaks the room's task, with a script if one is shown.
+fn broken_example(
+    alloc: Global,
+    spec: &Spec,
+    plan: &Plan,
+    outcomes: &Tally,
+) -> Result<Option<Example>, AllocError>
+    requires { All (CameByFirst spec.now plan.now) outcomes.now }
+    ensures { IfOk result (λ broken. IsShownIf spec.now plan.now.crashes (shows_breaking plan.now) (first_broken spec.now outcomes.now) (option_map shown_of broken)) }
+{
+    let scripts = shows_breaking(plan);
+    let found = first_broken(spec, outcomes);
+    example_of(alloc, spec, plan, scripts, found, tries_for(plan))
 }
 
-/// Writes these outcomes of a room and its end, or one outcome. If an allocation fails, it writes fewer outcomes: half as many each time.
+/// Whether a script that breaks the task is shown.
+fn shows_breaking(plan: &Plan) -> bool
+    ensures { result ≡ shows_breaking plan.now }
+{
+    !plan.brief && !plan.json
+}
+
+/// Whether the schedule of an outcome is shown that is alone.
+fn shows_alone(plan: &Plan) -> bool
+    ensures { result ≡ shows_alone plan.now }
+{
+    !plan.brief || !plan.json
+}
+
+/// Writes these outcomes of a room, of which some are shown, and the text after them. If an allocation fails, it shows fewer: half as many each
+/// time, and gives the memory of the others free.
 fn write_most(
     alloc: Global,
     output: &mut Text,
@@ -167,32 +215,30 @@ fn write_most(
     block: &[u8],
     plan: &Plan,
     outcomes: &Tally,
-    end: &End,
-) -> Result<bool, AllocError>
-    ensures text { OnOk result (output.new ≡ output.old ++ told_text plan.now.outcome plan.now spec.now.name block.now outcomes.now end.now.text) }
-    ensures well { IfOk result (λ well. well ≡ is_told_well plan.now.outcome outcomes.now end.now.held) }
-    ensures cut { OnErr result (AddsFewer plan.now spec.now.name block.now outcomes.now end.now.text output.old output.new) }
+    mut shown: Vec<Example>,
+    end: &Text,
+) -> Result<(), AllocError>
+    ensures text { OnOk result (output.new ≡ output.old ++ (shown_text plan.now.json plan.now spec.now.name block.now outcomes.now (map shown_of shown.items) ++ end.now)) }
+    ensures cut { OnErr result ((output.new ≡ output.old) ⊎ ((most : ℕ) × (most ≤ length shown.items) ×
+        (output.new ≡ output.old ++ (shown_text plan.now.json plan.now spec.now.name block.now outcomes.now (map shown_of (take most shown.items)) ++ end.now)))) }
 {
-    let written = write_told(alloc, output, spec, block, plan, outcomes, end);
+    let all = shown.as_slice();
+    let written = write_told(alloc, output, spec, block, plan, outcomes, all, end);
     if written.is_ok() {
         return written;
     }
-    let shown = shown_count(plan.top, outcomes.len());
-    let mut most = shown.min(u32::MAX as usize) as u32;
-    while most > 0 {
-        most /= 2;
-        let fewer = Plan {
-            top: Some(most),
-            ..*plan
-        };
-        if write_told(alloc, output, spec, block, &fewer, outcomes, end).is_ok() {
+    while !shown.is_empty() {
+        shown.truncate(shown.len() / 2);
+        shown.shrink_to_fit();
+        let fewer = shown.as_slice();
+        if write_told(alloc, output, spec, block, plan, outcomes, fewer, end).is_ok() {
             return Err(AllocError);
         }
     }
     written
 }
 
-/// Writes these outcomes of a room and its end, or one outcome. An `Err` leaves the output as it was.
+/// Writes these outcomes of a room, of which some are shown, and the text after them. An `Err` leaves the output as it was.
 fn write_told(
     alloc: Global,
     output: &mut Text,
@@ -200,46 +246,19 @@ fn write_told(
     block: &[u8],
     plan: &Plan,
     outcomes: &Tally,
-    end: &End,
-) -> Result<bool, AllocError>
-    ensures text { OnOk result (output.new ≡ output.old ++ told_text plan.now.outcome plan.now spec.now.name block.now outcomes.now end.now.text) }
-    ensures well { IfOk result (λ well. well ≡ is_told_well plan.now.outcome outcomes.now end.now.held) }
+    shown: &[Example],
+    end: &Text,
+) -> Result<(), AllocError>
+    ensures text { OnOk result (output.new ≡ output.old ++ (shown_text plan.now.json plan.now spec.now.name block.now outcomes.now (map shown_of shown.now) ++ end.now)) }
     ensures err { OnErr result (output.new ≡ output.old) }
 {
     let mut text = Text::new(alloc);
-    let well = match plan.outcome {
-        None => {
-            write_shown(alloc, &mut text, spec, block, plan, outcomes)?;
-            text.put(end.text.as_bytes())?;
-            end.held
-        }
-        Some(number) => write_chosen(alloc, &mut text, spec, block, plan, outcomes, number)?,
-    };
-    output.put_long(text.as_bytes())?;
-    Ok(well)
+    write_shown(alloc, &mut text, spec, block, plan, outcomes, shown)?;
+    text.put(end.as_bytes())?;
+    output.put_long(text.as_bytes())
 }
 
-/// Writes the script of the outcome of this number, or as JSON that outcome. Gives whether there is one.
-fn write_chosen(
-    alloc: Global,
-    output: &mut Text,
-    spec: &Spec,
-    block: &[u8],
-    plan: &Plan,
-    outcomes: &Tally,
-    number: u32,
-) -> Result<bool, AllocError>
-    ensures text { OnOk result (output.new ≡ output.old ++ alone_shown plan.now.json plan.now spec.now.name block.now outcomes.now number) }
-    ensures there { IfOk result (λ there. there ≡ is_some (slice_get outcomes.now (number - 1))) }
-{
-    let name = spec.name().as_str();
-    if plan.json {
-        return write_alone_line(alloc, output, name, plan.brief, outcomes, number);
-    }
-    write_alone(output, name.as_bytes(), block, outcomes, number)
-}
-
-/// Writes the outcomes of a room, as text or as JSON.
+/// Writes these outcomes of a room, of which some are shown, as text or as JSON.
 fn write_shown(
     alloc: Global,
     output: &mut Text,
@@ -247,17 +266,18 @@ fn write_shown(
     block: &[u8],
     plan: &Plan,
     outcomes: &Tally,
+    shown: &[Example],
 ) -> Result<(), AllocError>
-    ensures { OnOk result (output.new ≡ output.old ++ shown_text plan.now.json plan.now spec.now.name block.now outcomes.now) }
+    ensures { OnOk result (output.new ≡ output.old ++ shown_text plan.now.json plan.now spec.now.name block.now outcomes.now (map shown_of shown.now)) }
 {
     let name = spec.name().as_str();
     if plan.json {
-        return write_outcome_lines(alloc, output, name, plan, outcomes);
+        return write_outcome_lines(alloc, output, name, plan.brief, shown);
     }
-    write_sample(output, name.as_bytes(), block, plan, outcomes)
+    write_sample(output, name.as_bytes(), block, plan, outcomes, shown)
 }
 
-/// Writes what is said of the room's task, or, as JSON, of the room as a whole. Gives whether the task held.
+/// Writes what is said of the room's task, or, as JSON, of the room as a whole.
 fn write_end(
     alloc: Global,
     output: &mut Text,
@@ -265,14 +285,70 @@ fn write_end(
     block: &[u8],
     plan: &Plan,
     outcomes: &Tally,
-) -> Result<bool, AllocError>
+    broken: Option<&Example>,
+) -> Result<(), AllocError>
     requires { sum_by (λ one. one.times) outcomes.now ≤ plan.now.schedules }
-    ensures text { OnOk result (output.new ≡ output.old ++ end_text plan.now.json plan.now spec.now block.now outcomes.now) }
-    ensures held { IfOk result (λ held. held ≡ has_held spec.now outcomes.now) }
+    ensures { OnOk result (output.new ≡ output.old ++ end_text plan.now.json plan.now spec.now block.now outcomes.now (option_map (λ one. shown_of one.now) broken.entry)) }
 {
     if plan.json {
-        write_room_line(alloc, output, spec, plan, outcomes)?;
-        return Ok(has_held(spec, outcomes));
+        return write_room_line(alloc, output, spec, plan, outcomes);
     }
-    write_task(output, spec, block, plan, outcomes)
+    write_task(output, spec, block, plan, outcomes, broken)
+}
+
+/// Writes the script of the outcome of this number, from 1, among those of a room, those first that came most often; or, as JSON, that outcome.
+/// Gives whether there is one. An `Err` leaves the output as it was.
+fn write_chosen(
+    alloc: Global,
+    output: &mut Text,
+    spec: &Spec,
+    block: &[u8],
+    plan: &Plan,
+    mut outcomes: Tally,
+    number: u32,
+) -> Result<bool, AllocError>
+    requires limits { IsWithinLimits spec.now }
+    requires says { block_in block.now ≡ Ok (spec.now, length block.now) }
+    requires came { All (CameByFirst spec.now plan.now) outcomes }
+    ensures whole { IfOk result (λ well. (text : List ℕ) × IsChosen number plan.now spec.now block.now outcomes well text × (output.new ≡ output.old ++ text)) }
+    ensures err { OnErr result (output.new ≡ output.old) }
+{
+    outcomes.sort_by_times()?;
+    let scripts = shows_alone(plan);
+    let found = outcomes.get(number.saturating_sub(1) as usize);
+    let is_there = found.is_some();
+    let shown = example_of(alloc, spec, plan, scripts, found, tries_for(plan))?;
+    let mut text = Text::new(alloc);
+    write_one(
+        alloc,
+        &mut text,
+        spec,
+        block,
+        plan,
+        outcomes.len(),
+        number,
+        shown.as_ref(),
+    )?;
+    output.put_long(text.as_bytes())?;
+    Ok(is_there)
+}
+
+/// Writes the script of the outcome of this number, or as JSON that outcome; or how many outcomes there are, if there is none.
+fn write_one(
+    alloc: Global,
+    output: &mut Text,
+    spec: &Spec,
+    block: &[u8],
+    plan: &Plan,
+    count: usize,
+    number: u32,
+    shown: Option<&Example>,
+) -> Result<(), AllocError>
+    ensures { OnOk result (output.new ≡ output.old ++ alone_shown plan.now.json plan.now spec.now.name block.now count number (option_map (λ one. shown_of one.now) shown.entry)) }
+{
+    let name = spec.name().as_str();
+    if plan.json {
+        return write_alone_line(alloc, output, name, plan.brief, count, number, shown);
+    }
+    write_alone(output, name.as_bytes(), block, count, number, shown)
 }

@@ -1,48 +1,38 @@
 //! What a sample says of the room's task, as text.
-ghost use Rattle.std.specs.Prelude.{◌≡◌, ◌≤◌, ◌++◌, IfOk, OnOk};
+ghost use Rattle.std.specs.Prelude.{◌≡◌, ◌≤◌, ◌++◌, OnOk, option_map};
 ghost use Rattle.std.specs.List.{sum_by};
+ghost use Rattle.room_sample.specs.Shown.{shown_of};
 ghost use Rattle.view_sample.specs.TaskTexts.{broken_line, broken_text, has_held, held_line, of_words, task_text, times_words};
 
 use crate::task::{first_broken, times_broken};
 use crate::text::{write_number_line, write_number_words, write_script_unless};
 use io_text::Text;
-use room_sample::{Plan, Stretch, Tally};
+use room_sample::{Example, Plan, Stretch, Tally};
 use room_spec::Spec;
 use std::alloc::AllocError;
 
 /// Writes in how many schedules the task of the room that this block says was broken, with a script for `play` that breaks it; or that it
-/// held. Gives whether it held. Nothing is written of a room without a task.
+/// held. Nothing is written of a room without a task.
 pub(crate) fn write_task(
     output: &mut Text,
     spec: &Spec,
     block: &[u8],
     plan: &Plan,
     outcomes: &Tally,
-) -> Result<bool, AllocError>
+    broken: Option<&Example>,
+) -> Result<(), AllocError>
     requires { sum_by (λ one. one.times) outcomes.now ≤ plan.now.schedules }
-    ensures text { OnOk result (output.new ≡ output.old ++ task_text spec.now block.now plan.now outcomes.now) }
-    ensures held { IfOk result (λ held. held ≡ has_held spec.now outcomes.now) }
+    ensures { OnOk result (output.new ≡ output.old ++ task_text spec.now block.now plan.now outcomes.now (option_map (λ one. shown_of one.now) broken.entry)) }
 {
     if spec.task().is_none() {
-        return Ok(true);
+        return Ok(());
     }
     let name = spec.name().as_str().as_bytes();
-    match first_broken(spec, outcomes) {
-        None => {
-            write_held(output, name, plan)?;
-            Ok(true)
-        }
-        Some((_, outcome)) => {
+    match broken {
+        None => write_held(output, name, plan),
+        Some(one) => {
             let times = times_broken(spec, outcomes, plan.schedules);
-            write_broken(
-                output,
-                name,
-                block,
-                plan,
-                times,
-                outcome.schedule.as_slice(),
-            )?;
-            Ok(false)
+            write_broken(output, name, block, plan, times, one.schedule.as_slice())
         }
     }
 }

@@ -1,29 +1,30 @@
 //! A sample, as text.
-ghost use Rattle.std.specs.Prelude.{◌≡◌, ◌-◌, ◌≤◌, ◌++◌, ◌∷◌, IfOk, OnOk, codes, decimal, is_some, slice_get};
+ghost use Rattle.std.specs.Prelude.{◌≡◌, ◌≤◌, ◌++◌, ◌∷◌, OnOk, codes, decimal, map, option_map};
 ghost use Rattle.std.specs.List.{flat_map};
-ghost use Rattle.room_sample.specs.Samples.{counted_of};
+ghost use Rattle.room_sample.specs.Shown.{shown_of};
 ghost use Rattle.view_sample.specs.Texts.{alone_text, count_words, most_lines, new_line, new_words, none_line, number_line, number_words, outcome_text, outcome_texts, plan_end, plan_line, sample_text, script_text, script_unless, shown_count, stretch_line};
 
 use crate::counts::{most_of, once_in};
 use io_text::Text;
 use report_text::write_processes;
 use room_files::write_block;
-use room_sample::{Outcome, Plan, States, Stretch, Tally};
+use room_sample::{Example, Plan, Stretch, Tally};
 use std::alloc::AllocError;
 
-/// Writes the outcomes of the room of this name, whose block these bytes are: how often each came, and a script for `play` that
-/// leads to it.
+/// Writes the outcomes of the room of this name, whose block these bytes are: how often each of those came that are shown, and a script for
+/// `play` that leads to it.
 pub(crate) fn write_sample(
     output: &mut Text,
     name: &[u8],
     block: &[u8],
     plan: &Plan,
     outcomes: &Tally,
+    shown: &[Example],
 ) -> Result<(), AllocError>
-    ensures { OnOk result (output.new ≡ output.old ++ sample_text name.now block.now plan.now outcomes.now) }
+    ensures { OnOk result (output.new ≡ output.old ++ sample_text name.now block.now plan.now outcomes.now (map shown_of shown.now)) }
 {
     write_plan(output, name, plan)?;
-    write_outcomes(output, name, block, plan, outcomes)?;
+    write_outcomes(output, plan.brief, name, block, shown)?;
     write_most(output, name, outcomes)?;
     write_new(output, name, plan, outcomes)
 }
@@ -67,18 +68,15 @@ fn write_number(output: &mut Text, words: &[u8], number: u64) -> Result<(), Allo
 
 fn write_outcomes(
     output: &mut Text,
+    brief: bool,
     name: &[u8],
     block: &[u8],
-    plan: &Plan,
-    outcomes: &Tally,
+    shown: &[Example],
 ) -> Result<(), AllocError>
-    ensures { OnOk result (output.new ≡ output.old ++ outcome_texts name.now block.now plan.now outcomes.now) }
+    ensures { OnOk result (output.new ≡ output.old ++ outcome_texts brief name.now block.now (map shown_of shown.now)) }
 {
-    for index in 0..shown_count(plan.top, outcomes.len()) {
-        let Some((states, outcome)) = outcomes.get(index) else {
-            unreachable!() // there is an outcome of each index below their number
-        };
-        write_outcome(output, plan.brief, name, block, states, outcome)?;
+    for one in shown {
+        write_outcome(output, brief, name, block, one)?;
     }
     Ok(())
 }
@@ -99,14 +97,13 @@ fn write_outcome(
     brief: bool,
     name: &[u8],
     block: &[u8],
-    states: &States,
-    outcome: &Outcome,
+    one: &Example,
 ) -> Result<(), AllocError>
-    ensures { OnOk result (output.new ≡ output.old ++ outcome_text brief name.now block.now (counted_of (states.now, outcome.now))) }
+    ensures { OnOk result (output.new ≡ output.old ++ outcome_text brief name.now block.now (shown_of one.now)) }
 {
-    write_times(output, name, outcome.times)?;
-    write_processes(output, name, states.as_slice())?;
-    write_script_unless(output, brief, name, block, outcome.schedule.as_slice())
+    write_times(output, name, one.times)?;
+    write_processes(output, name, one.states.as_slice())?;
+    write_script_unless(output, brief, name, block, one.schedule.as_slice())
 }
 
 fn write_times(output: &mut Text, name: &[u8], times: u32) -> Result<(), AllocError>
@@ -133,23 +130,21 @@ pub(crate) fn write_script_unless(
     write_script(output, name, block, schedule)
 }
 
-/// Writes the script of the outcome of this number, from 1, and nothing else; or, if there is none, how many outcomes there are. Gives whether there is one.
+/// Writes the script of the outcome of this number, and nothing else; or, if there is none, how many outcomes there are.
 pub(crate) fn write_alone(
     output: &mut Text,
     name: &[u8],
     block: &[u8],
-    outcomes: &Tally,
+    count: usize,
     number: u32,
-) -> Result<bool, AllocError>
-    ensures text { OnOk result (output.new ≡ output.old ++ alone_text name.now block.now outcomes.now number) }
-    ensures there { IfOk result (λ there. there ≡ is_some (slice_get outcomes.now (number - 1))) }
+    shown: Option<&Example>,
+) -> Result<(), AllocError>
+    ensures { OnOk result (output.new ≡ output.old ++ alone_text name.now block.now count number (option_map (λ one. shown_of one.now) shown.entry)) }
 {
-    let Some((_, outcome)) = outcomes.get(number.saturating_sub(1) as usize) else {
-        write_none(output, name, outcomes.len() as u64, number)?;
-        return Ok(false);
-    };
-    write_script(output, name, block, outcome.schedule.as_slice())?;
-    Ok(true)
+    match shown {
+        None => write_none(output, name, count as u64, number),
+        Some(one) => write_script(output, name, block, one.schedule.as_slice()),
+    }
 }
 
 /// Writes how many outcomes there are, none of which has this number.

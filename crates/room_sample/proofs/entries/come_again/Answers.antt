@@ -7,6 +7,6 @@ use Rattle.room_sample.proofs.entries.come_again.Goals as goal
 pub returns-clause-more : goal.returns-clause-more
 returns-clause-more c =
     let before : Outcome = c.in-Some.known.now in
-    let after : Outcome = record { times = c.saturating_add-known.result; schedule = before.schedule } in
-    let more = λ (k : Key). ap (λ (n : ℕ). let one : Counted = record { states = k.items; schedule = before.schedule.items; times = n } in one) c.saturating_add-known.ensures in
+    let after : Outcome = record { times = c.saturating_add-known.result; first = before.first } in
+    let more = λ (k : Key). ap (λ (n : ℕ). let one : Counted = record { states = k.items; first = before.first; times = n } in one) c.saturating_add-known.ensures in
     more_there c.args.entries.now.entries c.args.index c.args.times before after (sym c.in-Some.ensures.value) more

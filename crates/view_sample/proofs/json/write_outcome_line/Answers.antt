@@ -1,8 +1,8 @@
 use Rattle.std.proofs.Common.{◌∙◌, ap}
 use Rattle.serde_json.specs.Written.{has_float}
-use Rattle.room_sample.specs.Samples.{counted_of}
+use Rattle.room_sample.specs.Shown.{shown_of}
 use Rattle.view_sample.proofs.JsonNumbers.{outcome_is}
 use Rattle.view_sample.proofs.json.write_outcome_line.Goals as goal
 
 pub write_line-requires : goal.write_line-requires
-write_line-requires c = ap has_float c.in_ok-value.ensures ∙ outcome_is c.args.name.now c.args.brief (counted_of (c.args.states.now, c.args.outcome.now))
+write_line-requires c = ap has_float c.in_ok-value.ensures ∙ outcome_is c.args.name.now c.args.brief (shown_of c.args.one.now)

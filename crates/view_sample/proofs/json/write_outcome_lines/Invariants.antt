@@ -1,8 +1,8 @@
-use Rattle.std.proofs.Common.{◌≡◌, ◌++◌, take}
+use Rattle.std.proofs.Common.{◌≡◌, ◌++◌, map, take}
 use Rattle.std.specs.List.{flat_map}
-use Rattle.json_lines.specs.Lines.{json_line}
-use Rattle.view_sample.specs.Json.{outcome_data}
+use Rattle.room_sample.specs.Shown.{shown_of}
+use Rattle.view_sample.specs.Json.{outcome_line}
 use Rattle.view_sample.proofs.json.write_outcome_lines.Given as goal
 
-abbrev pub invariant-loop-index : goal.invariant-loop-index
-invariant-loop-index l = l.output ≡ l.initial.output ++ flat_map (λ one. json_line (outcome_data l.name l.plan.brief one)) (take l.index l.outcomes)
+abbrev pub invariant-loop-one : goal.invariant-loop-one
+invariant-loop-one l = l.output ≡ l.initial.output ++ flat_map (outcome_line l.name l.brief) (map shown_of (take l.one-index l.shown))

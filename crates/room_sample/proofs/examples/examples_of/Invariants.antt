@@ -1,0 +1,7 @@
+use Rattle.std.proofs.Common.{map, take}
+use Rattle.room_sample.specs.Shown.{AreShown, shown_of}
+use Rattle.room_sample.proofs.examples.examples_of.Given as goal
+
+-- the first ones are shown
+abbrev pub invariant-loop-index : goal.invariant-loop-index
+invariant-loop-index l = AreShown l.spec l.plan.crashes l.scripts (take l.index l.outcomes) (map shown_of l.examples.items)
