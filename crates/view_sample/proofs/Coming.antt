@@ -1,5 +1,5 @@
 -- The scripts of a sample's outcomes.
-use Rattle.std.proofs.Common.{All, Bor, ◌≡◌, ℕ, zero, suc, ◌<◌, ◌≤◌, Bool, true, false, cond, List, [], ◌∷◌, Option, Some, None, Ok, length, min, map, take, get_or, refl, sym, ap, ◌∙◌, subst, arith}
+use Rattle.std.proofs.Common.{All, Bor, ◌≡◌, ℕ, zero, suc, ◌≤◌, Bool, true, false, cond, List, [], ◌∷◌, Option, Some, None, Ok, length, min, take, sym, ap, subst, arith}
 use Rattle.std.specs.Prelude.{IfSome, IsPermutation, is_some, option_map, slice_get}
 use Rattle.std.specs.List.{find}
 use Rattle.std.specs.Option.{option_copied}

@@ -1,8 +1,6 @@
-use Rattle.std.proofs.Common.{◌≡◌, ◌⊎◌, ◌∙◌, ◌≤◌, ◌++◌, length, map, min, take, List, OnOk, ℕ, ap, arith, subst}
+use Rattle.std.proofs.Common.{◌≡◌, ◌∙◌, ◌≤◌, length, min, OnOk, ap, arith, subst}
 use Rattle.std.specs.Prelude.{option_map}
 use Rattle.room_sample.specs.Shown.{shown_of}
-use Rattle.room_sample.specs.declared.examples.Example.{Example}
-use Rattle.view_sample.specs.Rooms.{shown_text}
 use Rattle.view_sample.specs.Texts.{shown_count}
 use Rattle.view_sample.proofs.Coming.{ordered_came}
 use Rattle.view_sample.proofs.RoomTexts.{ended, fewer_listed, made_listed, on_err, whole_listed}
