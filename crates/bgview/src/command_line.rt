@@ -317,7 +317,9 @@ fn top_option<'a>(alloc: Global) -> Arg<'a>
         .long("top")
         .value_name("K")
         .value_parser(value_parser!(u32).range(1..=1000000))
-        .help("Shows only the K most frequent outcomes of each room, and makes their scripts alone; without it, all")
+        .help(
+            "Shows only the K most frequent outcomes of each room, and makes their scripts alone; without it, all",
+        )
 }
 
 /// The option `--outcome K`.
