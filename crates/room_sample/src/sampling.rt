@@ -21,8 +21,8 @@ const MOST_WORKERS: u32 = 16;
 /// How many bytes are kept for the end of memory at least.
 const LEAST_KEPT: usize = 4 << 20;
 
-/// How many bytes are kept for each outcome: more than it takes to sort the outcomes.
-const KEPT_EACH: usize = 512;
+/// How many bytes are kept for each outcome: more than it takes to group and sort the outcomes.
+const KEPT_EACH: usize = 1024;
 
 /// How a room is sampled, and what is written of it.
 #[derive(Clone, Copy, Debug, PartialEq, Eq)]
