@@ -2,11 +2,8 @@
 ghost use Rattle.std.specs.Prelude.{◌≡◌, [], List, ℕ, false, IfOk, OnOk, Some, true};
 ghost use Rattle.std.specs.Map.{keys_of};
 ghost use Rattle.std.specs.Str.{bytes_eq};
-ghost use Rattle.room_spec.specs.Names.{is_name};
-ghost use Rattle.service_core.specs.Replies.{name_in};
 ghost use Rattle.service_core.specs.Rooms.{room_at};
-ghost use Rattle.service_core.specs.declared.command.Command.TheVariants.{Begin, Close, Step as StepCommand};
-ghost use Rattle.service_core.specs.declared.reply.Refusal.TheVariants.{NoRoom};
+ghost use Rattle.service_core.specs.declared.command.Command.TheVariants.{Begin, Close};
 ghost use Rattle.script_play.specs.Play.{IsBlockOf};
 ghost use Rattle.view_transcript.specs.Transcripts.{HasEndedIf, IsNotedOn, Sees, kept_at};
 
@@ -100,23 +97,6 @@ impl Transcriber {
         };
         kept.end(alloc, room)
     }
-
-    /// Asks for steps in the name of no room.
-    fn step_nobody(
-        &mut self,
-        name: &[u8],
-        sim: u8,
-        count: u16,
-    ) -> Result<Option<Refusal>, AllocError>
-        requires { is_name name.now ≡ false }
-        ensures noted { IfOk result (λ refusal. IsNotedOn self.old.service self.old.rooms.entries (StepCommand name.now sim count) refusal self.new.service self.new.rooms.entries) }
-        ensures nobody { IfOk result (λ refusal. refusal ≡ Some NoRoom) }
-    {
-        match self.service.step(name, sim, count) {
-            Err(refusal) => Ok(Some(refusal)),
-            Ok(_) => unreachable!(), // no room has such a name
-        }
-    }
 }
 
 impl Performs for Transcriber {
@@ -156,7 +136,10 @@ impl Performs for Transcriber {
         count: u16,
     ) -> Result<Option<Refusal>, AllocError> {
         let Some(name) = Name::read(name) else {
-            return self.step_nobody(name, sim, count);
+            let Err(refusal) = self.service.step(name, sim, count) else {
+                unreachable!() // no room has such a name
+            };
+            return Ok(Some(refusal));
         };
         self.lead(alloc, Command::Step { name, sim, count })
     }
