@@ -1,0 +1,68 @@
+"""What the scripts of this folder read of the repository's crates: which uses which, their sources, and a checksum of those."""
+
+import functools
+import hashlib
+import os
+import pathlib
+import shutil
+
+TOP = pathlib.Path(__file__).resolve().parent.parent
+CRATES = TOP / "crates"
+PARTS = ("src", "specs", "proofs")
+
+
+def lines():
+    """For each crate, its line in crates.txt without a comment."""
+    texts = [line.partition("#")[0].strip() for line in (TOP / "crates.txt").read_text().splitlines()]
+    return {text.partition(":")[0].split()[0]: text for text in texts if ":" in text}
+
+
+def libraries():
+    """For each crate, the crates of this repository that it uses directly, as crates.txt has them."""
+    uses = {crate: line.partition(":")[2].split() for crate, line in LINES.items()}
+    return {crate: [name for name in names if name in uses] for crate, names in uses.items()}
+
+
+LINES = lines()
+USES = libraries()
+
+
+@functools.cache
+def closure(crate):
+    """The crate and all below it, lowest first."""
+    found = dict.fromkeys(name for used in USES[crate] for name in closure(used))
+    return [*found, crate]
+
+
+@functools.cache
+def files_of(crate):
+    return sorted(file for part in PARTS for file in (CRATES / crate / part).rglob("*") if file.is_file())
+
+
+@functools.cache
+def sum_of(crate):
+    """A checksum of all that the proof of a crate reads, apart from the kit."""
+    handles = (TOP / "HANDLES").read_text() if (TOP / "HANDLES").is_file() else ""
+    made = hashlib.sha256(repr((handles, LINES[crate], [sum_of(name) for name in USES[crate]])).encode())
+    for file in files_of(crate):
+        made.update(repr(str(file.relative_to(CRATES))).encode() + file.read_bytes())
+    return made.hexdigest()
+
+
+def link(one, other):
+    """Gives a file a second name, or copies it to another disk."""
+    try:
+        os.link(one, other)
+    except OSError:
+        shutil.copy2(one, other)
+
+
+def copy_sources(crate, top):
+    """Puts the sources of a crate and of those below it into a repository of their own, by links, and lists them in its crates.txt."""
+    for name in closure(crate):
+        for part in PARTS:
+            if (CRATES / name / part).is_dir():
+                shutil.copytree(CRATES / name / part, top / "crates" / name / part, copy_function=link)
+    (top / "crates.txt").write_text("\n".join(LINES[name] for name in closure(crate)) + "\n")
+    if (TOP / "HANDLES").is_file():
+        shutil.copyfile(TOP / "HANDLES", top / "HANDLES")
