@@ -8,7 +8,7 @@ import shutil
 
 TOP = pathlib.Path(__file__).resolve().parent.parent
 CRATES = TOP / "crates"
-PARTS = ("src", "specs", "proofs")
+PARTS = ("proofs", "specs", "src")
 
 
 def lines():
@@ -36,17 +36,23 @@ def closure(crate):
 
 @functools.cache
 def files_of(crate):
-    return sorted(file for part in PARTS for file in (CRATES / crate / part).rglob("*") if file.is_file())
+    files = (file for part in PARTS for file in (CRATES / crate / part).rglob("*") if file.is_file() and not file.name.startswith("."))
+    return sorted(files, key=str)
+
+
+@functools.cache
+def line_of(file):
+    """The checksum and the path of a file, as `sha256sum` prints them."""
+    return f"{hashlib.sha256(file.read_bytes()).hexdigest()}  {file.relative_to(TOP)}\n"
 
 
 @functools.cache
 def sum_of(crate):
-    """A checksum of all that the proof of a crate reads, apart from the kit."""
-    handles = (TOP / "HANDLES").read_text() if (TOP / "HANDLES").is_file() else ""
-    made = hashlib.sha256(repr((handles, LINES[crate], [sum_of(name) for name in USES[crate]])).encode())
-    for file in files_of(crate):
-        made.update(repr(str(file.relative_to(CRATES))).encode() + file.read_bytes())
-    return made.hexdigest()
+    """A checksum of all that the proof of a crate reads, apart from the kit: of the text that `tools/sources CRATE` prints."""
+    names = sorted(closure(crate))
+    files = [TOP / "HANDLES", *(file for name in names for file in files_of(name))]
+    text = "".join([*map(line_of, files), *(f"# {LINES[name]}\n" for name in names)])
+    return hashlib.sha256(text.encode()).hexdigest()
 
 
 def link(one, other):
@@ -64,5 +70,4 @@ def copy_sources(crate, top):
             if (CRATES / name / part).is_dir():
                 shutil.copytree(CRATES / name / part, top / "crates" / name / part, copy_function=link)
     (top / "crates.txt").write_text("\n".join(LINES[name] for name in closure(crate)) + "\n")
-    if (TOP / "HANDLES").is_file():
-        shutil.copyfile(TOP / "HANDLES", top / "HANDLES")
+    shutil.copyfile(TOP / "HANDLES", top / "HANDLES")
