@@ -5,7 +5,7 @@ use Rattle.std.proofs.lemmas.Bool.{cases_lt}
 use Rattle.std.proofs.lemmas.List.{append_assoc, append-nil}
 use Rattle.std.specs.List.{flat_map}
 use Rattle.room_core.specs.Calls.{Settle}
-use Rattle.room_core.proofs.CallerLemmas.{same_spec}
+use Rattle.room_core.proofs.CallerLemmasOnSpecs.{same_spec}
 use Rattle.room_spec.specs.Rooms.{RoomSpec}
 use Rattle.scheduler.specs.Results.{AddsRoomRuns, AreRoomRuns, IsRoomRun}
 use Rattle.scheduler.specs.declared.rooms.RoomResult.{RoomResult}

@@ -7,23 +7,11 @@ ghost use Rattle.clap.specs.Values.{kind_of};
 ghost use Rattle.bgsim_console.specs.Endings.{IsAnswered, IsReadOrNot, IsStatusFor, input_named};
 ghost use Rattle.bgsim_console.specs.Ends.{ending_status, fault_status, unread_status, words_status};
 
-#[cfg(test)]
-mod device_tests;
 mod engine;
 mod fault;
 mod inputs;
 mod judge;
-#[cfg(test)]
-mod protocol_tests;
 mod run;
-#[cfg(test)]
-mod run_tests;
-#[cfg(test)]
-mod task_tests;
-#[cfg(test)]
-mod tests;
-#[cfg(test)]
-mod text_tests;
 
 use bgsim_command_line::{Line, Mode, line};
 use clap::error::ErrorKind;

@@ -14,7 +14,7 @@ use std::convert::AsStr;
 use view_outcomes::Search;
 
 /// What the words ask for.
-#[derive(Clone, Copy, Debug, PartialEq, Eq)]
+#[derive(Clone, Copy)]
 pub enum Mode {
     /// Says of a transcript's rooms whether they are runs, and why not.
     Why,
@@ -512,7 +512,7 @@ pub fn read_words<'a, S: AsStr>(alloc: Global, words: &'a [S]) -> Result<ArgMatc
 }
 
 /// What the subcommand and the words after it ask for.
-#[derive(Clone, Copy, Debug, PartialEq, Eq)]
+#[derive(Clone, Copy)]
 pub struct Line<'a> {
     pub command: Mode,
     /// The file to read. Without one standard input is read.
@@ -542,7 +542,7 @@ pub fn line_in<'a>(matches: &ArgMatches<'a>) -> Line<'a>
 }
 
 /// What a script is graded by.
-#[derive(Clone, Copy, Debug, PartialEq, Eq)]
+#[derive(Clone, Copy)]
 pub struct Grading<'a> {
     /// The goal, as text.
     pub goal: &'a str,
@@ -551,7 +551,7 @@ pub struct Grading<'a> {
 }
 
 /// What is requested of an input.
-#[derive(Clone, Copy, Debug, PartialEq, Eq)]
+#[derive(Clone, Copy)]
 pub struct Request<'a> {
     pub mode: Mode,
     /// Whether the answer is written as JSON, if the mode has such an answer.

@@ -11,7 +11,7 @@ use thiserror::Error;
 use view_grade::GoalFault;
 
 /// Why an answer was not written whole.
-#[derive(Clone, Copy, Debug, PartialEq, Eq, Error)]
+#[derive(Clone, Copy, Debug, Error)]
 pub enum ViewFault {
     /// Reading or writing failed, or an allocation failed.
     #[error("{0}")]

@@ -110,7 +110,7 @@ fn ending<H: Threads + Sync, I: Inputs, W: Write, P: Progress>(
         (record { before = W.contents writer.old.inner; after = W.contents writer.new.inner }) }
 {
     let line = line_in(matches);
-    if line.command == Mode::Fault {
+    if matches!(line.command, Mode::Fault) {
         return say_faults(alloc, matches, writer);
     }
     let ending = match line.file {
@@ -131,10 +131,10 @@ fn ending<H: Threads + Sync, I: Inputs, W: Write, P: Progress>(
             Err(_) => Err(ViewFault::Device(DeviceFault::Read)),
         },
     };
-    if ending == Err(ViewFault::Device(DeviceFault::Read)) {
+    if matches!(ending, Err(ViewFault::Device(DeviceFault::Read))) {
         note_unread(inputs, &line, notes);
     }
-    if ending == Ok(Outcome::SomeRefused) {
+    if matches!(ending, Ok(Outcome::SomeRefused)) {
         note_refused(line.command, notes);
     }
     ending

@@ -16,7 +16,7 @@ const MAX_NAME: usize = 32;
 const MORE_VALUES: usize = 15;
 
 /// What one byte of a form takes of a line: how many bytes, and whether they fit it. If not, they end where the line leaves the form.
-#[derive(Clone, Copy, Debug, PartialEq, Eq)]
+#[derive(Clone, Copy)]
 pub(crate) struct Step {
     pub len: usize,
     pub fits: bool,

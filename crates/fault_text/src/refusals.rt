@@ -25,7 +25,7 @@ const THE_BLOCK: &[u8] = b"    the block of room ";
 const IS_REFUSED: &[u8] = b" is refused: line";
 
 /// A block that opens no room.
-#[derive(Clone, Copy, Debug, PartialEq, Eq)]
+#[derive(Clone, Copy)]
 pub struct RefusedBlock {
     /// The line of the input that is the block's first, counted from 1.
     pub line: u64,

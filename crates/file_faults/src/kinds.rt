@@ -12,7 +12,7 @@ use script_play::read_command;
 use std::alloc::{AllocError, Global};
 
 /// What a file is read as.
-#[derive(Clone, Copy, Debug, PartialEq, Eq)]
+#[derive(Clone, Copy)]
 pub enum Kind {
     /// Room blocks alone.
     Rooms,

@@ -80,7 +80,7 @@ impl fmt::Display for NoRoom {
 impl Error for NoRoom {}
 
 /// Why a line was not fed.
-#[derive(Clone, Copy, Debug, PartialEq, Eq)]
+#[derive(Clone, Copy, Debug)]
 pub enum FeedFault {
     /// It says no event.
     BadLine(LineFault),

@@ -10,7 +10,7 @@ use room_spec::Spec;
 use transcript::Event;
 
 /// What a process may do next.
-#[derive(Clone, Copy, Debug, PartialEq, Eq)]
+#[derive(Clone, Copy)]
 pub enum Turn {
     /// Write this value.
     Write(u32),

@@ -10,7 +10,7 @@ use room_spec::Spec;
 use transcript::Event;
 
 /// The last write of a process before some event.
-#[derive(Clone, Copy, Debug, PartialEq, Eq)]
+#[derive(Clone, Copy)]
 pub struct LastWrite {
     pub value: u32,
     /// The index, from 0, of the event that wrote it.
@@ -18,7 +18,7 @@ pub struct LastWrite {
 }
 
 /// Why an event may not follow those before it. If several reasons hold, it is the first in this order.
-#[derive(Clone, Copy, Debug, PartialEq, Eq)]
+#[derive(Clone, Copy)]
 pub enum Reason {
     /// The room has no such process.
     NoProcess,
@@ -43,7 +43,7 @@ pub enum Reason {
 }
 
 /// The first event with which a list of events is no run.
-#[derive(Clone, Copy, Debug, PartialEq, Eq)]
+#[derive(Clone, Copy)]
 pub struct Break {
     /// The index, from 0, of the event.
     pub at: usize,

@@ -3,7 +3,7 @@ ghost use Rattle.std.specs.Prelude.{◌≡◌};
 ghost use Rattle.picture_shapes.specs.Attributes.{colour_of, hue_of};
 
 /// A colour of areas, lines and words.
-#[derive(Clone, Copy, Debug, PartialEq, Eq)]
+#[derive(Clone, Copy)]
 pub enum Colour {
     /// Nothing is drawn.
     Clear,

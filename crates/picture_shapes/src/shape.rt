@@ -6,14 +6,14 @@ use crate::colour::Colour;
 use io_text::Text;
 
 /// A place in a part of a picture, in units from its left and upper ends.
-#[derive(Clone, Copy, Debug, PartialEq, Eq)]
+#[derive(Clone, Copy)]
 pub struct Point {
     pub x: u64,
     pub y: u64,
 }
 
 /// The left and upper end of an area, and its sizes.
-#[derive(Clone, Copy, Debug, PartialEq, Eq)]
+#[derive(Clone, Copy)]
 pub struct Frame {
     pub x: u64,
     pub y: u64,
@@ -48,7 +48,7 @@ impl Frame {
 }
 
 /// Whether a line has gaps.
-#[derive(Clone, Copy, Debug, PartialEq, Eq)]
+#[derive(Clone, Copy)]
 pub enum Dashes {
     Solid,
     Short,
@@ -56,7 +56,7 @@ pub enum Dashes {
 }
 
 /// How letters look.
-#[derive(Clone, Copy, Debug, PartialEq, Eq)]
+#[derive(Clone, Copy)]
 pub enum Face {
     Plain,
     Bold,
@@ -67,14 +67,14 @@ pub enum Face {
 }
 
 /// Which end of its words a label's place is.
-#[derive(Clone, Copy, Debug, PartialEq, Eq)]
+#[derive(Clone, Copy)]
 pub enum Anchor {
     Start,
     Middle,
 }
 
 /// How a label looks.
-#[derive(Clone, Copy, Debug, PartialEq, Eq)]
+#[derive(Clone, Copy)]
 pub struct Font {
     /// How high its letters are.
     pub size: u8,

@@ -13,7 +13,7 @@ use io_text::Text;
 use std::alloc::AllocError;
 
 /// How large a picture is.
-#[derive(Clone, Copy, Debug, PartialEq, Eq)]
+#[derive(Clone, Copy)]
 pub struct Size {
     /// Its sizes in the units of its shapes,
     pub width: u64,

@@ -5,7 +5,7 @@ ghost use Rattle.protocol_lang.specs.Tokens.{is_end, word_spelling, word_of, sym
 use crate::tree::{Call, Comparator, Kind, Name, Operator};
 
 /// A word of the language.
-#[derive(Clone, Copy, PartialEq, Eq)]
+#[derive(Clone, Copy)]
 pub enum Word {
     First,
     When,
@@ -27,7 +27,7 @@ pub enum Word {
 }
 
 /// A token that is neither a word nor a number.
-#[derive(Clone, Copy, PartialEq, Eq)]
+#[derive(Clone, Copy)]
 pub enum Symbol {
     Semicolon,
     Open,
@@ -46,7 +46,7 @@ pub enum Symbol {
 }
 
 /// A token.
-#[derive(Clone, Copy, PartialEq, Eq)]
+#[derive(Clone, Copy)]
 pub enum Token {
     Word(Word),
     Number(u32),

@@ -3,11 +3,10 @@
 pub use Rattle.room_core.proofs.settling.Alone.{steps_within}
 pub use Rattle.room_core.proofs.settling.Certified.{never_spent}
 pub use Rattle.room_core.proofs.fields.Decoding.{agrees}
-pub use Rattle.room_core.proofs.fields.FieldCalls.{calls_in_fields, fields_stand, opening_in_fields, same_spec, step_in_fields}
+pub use Rattle.room_core.proofs.fields.FieldCalls.{calls_in_fields, fields_stand, opening_in_fields, step_in_fields}
 pub use Rattle.room_core.proofs.values.Knowing.{fields_known}
 pub use Rattle.room_core.proofs.values.LowValues.{fields_low, out_low}
 pub use Rattle.room_core.proofs.agreements.Promises.{rooms_agree}
-pub use Rattle.room_core.proofs.fields.Repeating.{same_spec_steps}
 pub use Rattle.room_core.proofs.fields.Replays.{is_room, shapes, under_crash_at_end, under_line_at_end}
 pub use Rattle.room_core.proofs.agreements.Stages.{one_inside}
 pub use Rattle.room_core.proofs.fields.States.{moved_data, opening_data, refill-set, woken_data}

@@ -1,4 +1,5 @@
 pub mod Settling
+pub mod SpecKept
 pub mod Alone
 pub mod Marks
 pub mod Blocking

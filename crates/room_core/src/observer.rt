@@ -23,7 +23,7 @@ pub trait Observer {
 }
 
 /// No observer.
-#[derive(Clone, Copy, Debug)]
+#[derive(Clone, Copy)]
 pub struct Unobserved;
 
 impl Observer for Unobserved {

@@ -11,7 +11,7 @@ use thiserror::Error;
 use transcript::LineFault;
 
 /// What is wrong with a line of an input that no block has, or with the input's end.
-#[derive(Clone, Copy, Debug, PartialEq, Eq)]
+#[derive(Clone, Copy, Debug)]
 pub enum TextFault {
     /// The line is no event line.
     BadEvent(LineFault),
@@ -72,7 +72,7 @@ impl From<FeedFault> for TextFault {
 }
 
 /// Why an input was not read.
-#[derive(Clone, Copy, Debug, PartialEq, Eq, Error)]
+#[derive(Clone, Copy, Debug, Error)]
 pub enum InputFault {
     /// It has this fault on this line, counted from 1. No line before it has one.
     #[error("line {line}: {fault}")]
@@ -98,7 +98,7 @@ impl From<AllocError> for InputFault {
 }
 
 /// Why a block opens no room.
-#[derive(Clone, Copy, Debug, PartialEq, Eq)]
+#[derive(Clone, Copy, Debug)]
 pub enum BlockFault {
     /// It has a fault of its own.
     Spec(SpecFault),

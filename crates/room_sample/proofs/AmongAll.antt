@@ -9,7 +9,8 @@ use Rattle.room_core.specs.Calls.{Call, RoomState, opening_state, room_after_cal
 use Rattle.room_core.specs.Calls.{Crash as CrashCall, Settle}
 use Rattle.room_core.specs.Fields.{Fields, fields_after_calls, fields_after_step, opening_fields}
 use Rattle.room_core.specs.Reading.{AreFieldsOf}
-use Rattle.room_core.proofs.CallerLemmas.{calls_in_fields, opening_in_fields, same_spec, same_spec_steps, step_in_fields}
+use Rattle.room_core.proofs.CallerLemmas.{calls_in_fields, opening_in_fields, step_in_fields}
+use Rattle.room_core.proofs.CallerLemmasOnSpecs.{same_spec, same_spec_steps}
 use Rattle.ws_history.specs.Reports.{states_of}
 use Rattle.ws_history.specs.declared.states.ProcessState.{ProcessState}
 use Rattle.run_search.specs.declared.ended.Ended.{Ended}

@@ -25,7 +25,7 @@ const LEAST_KEPT: usize = 4 << 20;
 const KEPT_EACH: usize = 1024;
 
 /// How a room is sampled, and what is written of it.
-#[derive(Clone, Copy, Debug, PartialEq, Eq)]
+#[derive(Clone, Copy)]
 pub struct Plan {
     /// By how many schedules each room is run.
     pub schedules: u32,

@@ -17,7 +17,7 @@ use ws_history::ProcessState;
 pub type States = ArrayVec<ProcessState, MAX_PROCESSES>;
 
 /// How often an outcome came, and by which schedule first.
-#[derive(Clone, Copy, Debug, PartialEq, Eq)]
+#[derive(Clone, Copy)]
 pub struct Outcome {
     /// By how many schedules it came.
     pub times: u32,

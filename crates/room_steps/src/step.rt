@@ -11,7 +11,7 @@ use simulator::{Goal, Line, Mind, Move};
 use view_table::{Place, place_at};
 
 /// An atomic step of one simulator, and what there was to see before and after it.
-#[derive(Clone, Copy, Debug, PartialEq, Eq)]
+#[derive(Clone, Copy)]
 pub struct AtomicStep {
     /// Which simulator took it.
     pub simulator: usize,

@@ -24,6 +24,3 @@ pub use keeper::Keeper;
 pub use room::{Gone, RuledRoom};
 pub use step::Simulator;
 pub use stop::Stop;
-
-#[cfg(test)]
-mod tests;

@@ -11,7 +11,7 @@ use std::marker::Model;
 pub const MAX_COLUMNS: usize = 400;
 
 /// How much of a run a column shows at most.
-#[derive(Clone, Copy, Debug, PartialEq, Eq)]
+#[derive(Clone, Copy)]
 pub enum Scale {
     /// One step.
     Steps,
@@ -22,7 +22,7 @@ pub enum Scale {
 }
 
 /// What a column changes about whether its simulator is inside an agreement.
-#[derive(Clone, Copy, Debug, PartialEq, Eq)]
+#[derive(Clone, Copy)]
 pub enum Change {
     Nothing,
     /// It is inside after the column.
@@ -34,7 +34,7 @@ pub enum Change {
 }
 
 /// A column of a run's picture: a crash, or one step or several of one simulator.
-#[derive(Clone, Copy, Debug)]
+#[derive(Clone, Copy)]
 pub struct Column {
     /// How many columns are before it.
     pub place: u16,

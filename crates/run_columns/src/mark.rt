@@ -5,7 +5,7 @@ ghost use Rattle.run_columns.specs.Columns.{simulator_of};
 use simulator::Turn;
 
 /// What an atomic step does for its process.
-#[derive(Clone, Copy, Debug, PartialEq, Eq)]
+#[derive(Clone, Copy)]
 pub enum Deed {
     /// It stores the process's next write.
     StoreWrite,
@@ -34,7 +34,7 @@ pub enum Deed {
 }
 
 /// An atomic step of a simulator.
-#[derive(Clone, Copy, Debug, PartialEq, Eq)]
+#[derive(Clone, Copy)]
 pub struct Step {
     /// To which of the simulator's turns it belongs, counted from 1.
     pub turn: u64,
@@ -53,7 +53,7 @@ pub struct Step {
 }
 
 /// Something that happens in a room.
-#[derive(Clone, Copy, Debug, PartialEq, Eq)]
+#[derive(Clone, Copy)]
 pub enum Mark {
     /// A simulator takes a step.
     Step(Step),

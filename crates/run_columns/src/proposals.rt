@@ -9,7 +9,7 @@ use room_spec::MAX_MEMORY_WORDS;
 use transcript::Event;
 
 /// The agreement on a snapshot of a process.
-#[derive(Clone, Copy, Debug, PartialEq, Eq)]
+#[derive(Clone, Copy)]
 pub struct Agreement {
     pub process: u8,
     /// Which of the process's snapshots it is, counted from 1.
@@ -17,7 +17,7 @@ pub struct Agreement {
 }
 
 /// What becomes of a proposal.
-#[derive(Clone, Copy, Debug, PartialEq, Eq)]
+#[derive(Clone, Copy)]
 pub enum Fate {
     /// The agreement isn't resolved, and may still choose it.
     Open,

@@ -7,7 +7,7 @@ use crate::mark::{Deed, Mark, Step};
 use std::alloc::{AllocError, Global};
 
 /// What steps are looked for by.
-#[derive(Clone, Copy, Debug)]
+#[derive(Clone, Copy)]
 pub struct Sought {
     pub deed: Deed,
     pub process: u8,

@@ -19,7 +19,7 @@ use transcript::Event;
 use ws_history::ProcessState;
 
 /// How far the lane of a process is drawn.
-#[derive(Clone, Copy, Debug)]
+#[derive(Clone, Copy)]
 struct Pen {
     /// The round of the process.
     round: u8,

@@ -21,7 +21,7 @@ use simulator_lanes::{
 use std::alloc::{AllocError, Global};
 
 /// How rooms are drawn.
-#[derive(Clone, Copy, Debug, PartialEq, Eq)]
+#[derive(Clone, Copy)]
 pub struct Style {
     /// How large the picture is: at 100 it is 1264 pixels wide, unless events or inputs are long.
     pub percent: u32,

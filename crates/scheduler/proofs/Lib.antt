@@ -6,4 +6,3 @@ mod Visits
 mod Returning
 mod Dealing
 mod Ending
-mod Minds

@@ -22,6 +22,3 @@ pub use gathers::Gathers;
 pub use opening::OpenRooms;
 pub use rooms::{RoomResult, RunFault, open_rooms, run_opened, run_rooms};
 pub use ruled_room::Stop;
-
-#[cfg(test)]
-mod tests;

@@ -97,7 +97,7 @@ pub(crate) fn read_within(least: u16, most: u16, field: &[u8]) -> Option<u16>
 }
 
 /// What comes first in a script.
-#[derive(Clone, Copy, Debug, PartialEq, Eq)]
+#[derive(Clone, Copy)]
 pub(crate) enum Entry<'a> {
     /// The line `open`, and this block after it: the bytes up to its line `end`, or else all.
     Block(&'a [u8]),

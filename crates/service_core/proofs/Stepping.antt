@@ -7,7 +7,8 @@ use Rattle.room_core.specs.Calls.{RoomState, Step, room_after_step, step_reply}
 use Rattle.room_core.specs.Fields.{Fields, step_reply_in, fields_after_step, fields_after_steps}
 use Rattle.room_core.specs.Reading.{AreFieldsOf}
 use Rattle.room_core.specs.Observing.{AreSeen, TakenStep, is_stepped, steps_of_steps}
-use Rattle.room_core.proofs.CallerLemmas.{same_spec, step_in_fields}
+use Rattle.room_core.proofs.CallerLemmas.{step_in_fields}
+use Rattle.room_core.proofs.CallerLemmasOnSpecs.{same_spec}
 use Rattle.service_core.specs.Replies.{Stepping, one_more, stepping}
 use Rattle.service_core.specs.Rooms.{IsSteppedTo, room_stepped}
 use Rattle.service_core.proofs.Leaving.{left_first}

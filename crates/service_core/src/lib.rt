@@ -14,6 +14,3 @@ mod service;
 pub use command::Command;
 pub use reply::{Refusal, Reply};
 pub use service::Service;
-
-#[cfg(test)]
-mod tests;

@@ -12,7 +12,7 @@ use run_columns::{Change, Column, Scale};
 use std::alloc::{AllocError, Global};
 
 /// Whether a simulator is inside an agreement, for one who draws its lane.
-#[derive(Clone, Copy, Debug, PartialEq, Eq)]
+#[derive(Clone, Copy)]
 pub(crate) enum Phase {
     Outside,
     Inside,

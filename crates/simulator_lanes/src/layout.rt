@@ -21,7 +21,7 @@ pub(crate) const LANE: u64 = 58;
 pub(crate) const PROCESS: u64 = 36;
 
 /// The columns of a room in rows, one below the other. In each row each simulator and each process has a lane.
-#[derive(Clone, Copy, Debug)]
+#[derive(Clone, Copy)]
 pub struct Grid {
     pub scale: Scale,
     /// How many columns a row has at most.

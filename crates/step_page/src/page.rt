@@ -9,7 +9,7 @@ use io_text::Text;
 use std::alloc::AllocError;
 
 /// What a file of a page is.
-#[derive(Clone, Copy, Debug, PartialEq, Eq)]
+#[derive(Clone, Copy)]
 pub enum FileKind {
     /// A script; the answer to it is its trace.
     Script,

@@ -11,7 +11,8 @@ use Rattle.room_core.specs.Calls.{RoomState, Step, configuration_of, has_crashed
 use Rattle.room_core.specs.declared.reply.StepReply.{StepReply}
 use Rattle.room_core.specs.declared.reply.StepReply.TheVariants.{Stepped, Crashed, NoSimulator}
 use Rattle.room_core.specs.Rooms.{IsOneInterleaving}
-use Rattle.room_core.proofs.CallerLemmas.{same_spec, shapes}
+use Rattle.room_core.proofs.CallerLemmas.{shapes}
+use Rattle.room_core.proofs.CallerLemmasOnSpecs.{same_spec}
 use Rattle.room_steps.specs.Steps.{IsStepOf, mind_in}
 use Rattle.room_steps.specs.declared.step.AtomicStep.{AtomicStep}
 use Rattle.step_words.specs.Lines.{IsStepIn}

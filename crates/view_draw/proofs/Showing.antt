@@ -16,7 +16,8 @@ use Rattle.room_core.specs.declared.reply.CrashReply.{CrashReply}
 use Rattle.room_core.specs.declared.reply.CrashReply.TheVariants as crash_replies
 use Rattle.room_core.specs.declared.reply.StepReply.{StepReply}
 use Rattle.room_core.specs.declared.reply.StepReply.TheVariants.{Stepped, Idle, OutOfTurns, Crashed, NoSimulator}
-use Rattle.room_core.proofs.CallerLemmas.{calls_in_fields, opening_data, same_spec, settling_follows, woken_data}
+use Rattle.room_core.proofs.CallerLemmas.{calls_in_fields, opening_data, settling_follows, woken_data}
+use Rattle.room_core.proofs.CallerLemmasOnSpecs.{same_spec}
 use Rattle.service_core.specs.declared.command.Command.{Command}
 use Rattle.service_core.specs.declared.command.Command.TheVariants as commands
 use Rattle.service_core.specs.declared.reply.Reply.{Reply}

@@ -7,7 +7,7 @@ use std::fmt;
 use std::marker::Model;
 
 /// A fact that a report may show.
-#[derive(Clone, Copy, Debug, PartialEq, Eq)]
+#[derive(Clone, Copy)]
 pub enum Fact {
     /// `decided J V`: process J has decided V.
     Decided { process: u8, value: u32 },
@@ -24,14 +24,14 @@ pub enum Fact {
 }
 
 /// How a claim is joined to those before it. `And` binds more strongly.
-#[derive(Clone, Copy, Debug, PartialEq, Eq)]
+#[derive(Clone, Copy)]
 pub enum Joint {
     And,
     Or,
 }
 
 /// A fact, or its negation.
-#[derive(Clone, Copy, Debug, PartialEq, Eq)]
+#[derive(Clone, Copy)]
 pub struct Claim {
     /// `Or` for the first claim.
     pub joint: Joint,
@@ -65,7 +65,7 @@ impl Goal {
 }
 
 /// Where a text stops being a goal.
-#[derive(Clone, Copy, Debug, PartialEq, Eq)]
+#[derive(Clone, Copy, Debug)]
 pub enum GoalFault {
     /// The claim of this number, counted from 1, is none.
     NoClaim(usize),

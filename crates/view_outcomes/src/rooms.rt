@@ -17,7 +17,7 @@ use std::alloc::{AllocError, Global};
 const MAX_LOCAL_STATES: u32 = 65536;
 
 /// How the outcomes of rooms are searched and written.
-#[derive(Clone, Copy, Debug, PartialEq, Eq)]
+#[derive(Clone, Copy)]
 pub struct Search {
     /// At most this number of processes stop; if it is not said, all but one.
     pub crashes: Option<u32>,

@@ -12,7 +12,8 @@ use Rattle.room_core.specs.Fields.{Fields, crash_reply_in, fields_after_crash, f
 use Rattle.room_core.specs.Calls.{Reply as CallReply, Crashing}
 use Rattle.room_core.specs.Reading.{AreFieldsOf}
 use Rattle.room_core.specs.Observing.{is_stepped}
-use Rattle.room_core.proofs.CallerLemmas.{calls_in_fields, opening_in_fields, same_spec, same_spec_steps, step_in_fields}
+use Rattle.room_core.proofs.CallerLemmas.{calls_in_fields, opening_in_fields, step_in_fields}
+use Rattle.room_core.proofs.CallerLemmasOnSpecs.{same_spec, same_spec_steps}
 use Rattle.ws_history.specs.Reports.{report_of}
 use Rattle.ws_history.specs.declared.states.ProcessState.{ProcessState}
 use Rattle.ws_history.specs.declared.states.Report.{Report as ReportData}

@@ -7,7 +7,8 @@ use Rattle.room_core.specs.Fields.{Fields, opening_fields, replay_fields}
 use Rattle.room_core.specs.Reading.{AreFieldsOf}
 use Rattle.room_core.specs.Rooms.{Configuration, ScheduleEvent}
 use Rattle.room_core.specs.Observing.{TakenStep, is_stepped}
-use Rattle.room_core.proofs.CallerLemmas.{opening_data, same_spec}
+use Rattle.room_core.proofs.CallerLemmas.{opening_data}
+use Rattle.room_core.proofs.CallerLemmasOnSpecs.{same_spec}
 use Rattle.ws_history.specs.Notes.{AreNotesOf, Notes}
 use Rattle.service_core.specs.declared.command.Command.{Command}
 use Rattle.service_core.specs.declared.command.Command.TheVariants as commands

@@ -36,7 +36,7 @@ impl Model for Told {
 }
 
 /// The first event with which a room's events are no run.
-#[derive(Clone, Copy, Debug, PartialEq, Eq)]
+#[derive(Clone, Copy)]
 pub struct LineBreak {
     /// The index, from 0, of the event among those of its room.
     pub at: usize,
@@ -48,7 +48,7 @@ pub struct LineBreak {
 }
 
 /// The first event that decides what its room's task doesn't allow.
-#[derive(Clone, Copy, Debug, PartialEq, Eq)]
+#[derive(Clone, Copy)]
 pub struct Excess {
     /// The index, from 0, of the event among those of its room.
     pub at: usize,
@@ -59,7 +59,7 @@ pub struct Excess {
 }
 
 /// A value that was decided.
-#[derive(Clone, Copy, Debug, PartialEq, Eq)]
+#[derive(Clone, Copy)]
 pub struct Decision {
     pub value: u32,
     /// The line of the first event that decides it.

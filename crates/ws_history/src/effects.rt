@@ -13,7 +13,7 @@ use crate::reading::{decided_in, greatest_step, process_count, shape_of, simulat
 use room_core::RoomCore;
 
 /// What takes effect at an atomic step, of which process.
-#[derive(Clone, Copy, Debug, PartialEq, Eq)]
+#[derive(Clone, Copy)]
 pub enum Effect {
     /// A write of this value: no simulator had counted it before.
     Write { process: usize, value: u32 },

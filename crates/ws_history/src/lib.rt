@@ -21,6 +21,3 @@ pub use linearization::linearize;
 pub use points::Points;
 pub use reports::{process_states, report, report_to};
 pub use states::{History, ProcessState, Report, Standing};
-
-#[cfg(test)]
-mod tests;

@@ -8,7 +8,8 @@ use Rattle.room_core.specs.Calls.{Call, RoomState, room_after_call}
 use Rattle.room_core.specs.Fields.{Fields, fields_after_call, fields_after_calls}
 use Rattle.room_core.specs.Reading.{AreFieldsOf}
 use Rattle.room_core.specs.Agreements.{AgreementsStay, decided_in, is_out, outs_at}
-use Rattle.room_core.proofs.fields.FieldCalls.{call_in_fields, same_spec}
+use Rattle.room_core.proofs.fields.FieldCalls.{call_in_fields}
+use Rattle.room_core.proofs.settling.SpecKept.{same_spec}
 use Rattle.room_core.proofs.values.Known.{IsKnown, decided_same}
 use Rattle.room_core.proofs.values.Knowing.{fields_known}
 use Rattle.room_core.proofs.agreements.Agreed.{agreed_call}

@@ -28,7 +28,8 @@ use Rattle.room_core.specs.Calls.{RoomState, configuration_of, opening_state, sw
 use Rattle.room_core.specs.Fields.{StepMap, Fields, changed, opening_fields, first_line_at, first_line, line_on, line, with_crash, fields_after, replay_fields, ready_in, fields_when, step_reply_in, fields_after_step, crash_reply_in, fields_after_crash, fields_kind, fields_after_settle, reply_in, fields_after_call, replies_in, fields_after_calls}
 use Rattle.room_core.specs.Reading.{worded, without_quiet, AreFieldsOf, Reads}
 use Rattle.room_core.specs.Tracks.{StandsFor}
-use Rattle.room_core.proofs.settling.Settling.{AreAlike, settled_alike, settled_keeps}
+use Rattle.room_core.proofs.settling.Settling.{AreAlike, settled_alike}
+use Rattle.room_core.proofs.settling.SpecKept.{same_spec, same_spec_step}
 use Rattle.room_core.proofs.fields.Replays.{replay-snoc, legal-snoc, shapes}
 use Rattle.room_core.proofs.fields.States.{mind_here, moved_data, woken_data, opening_data, sweep_count, has_line}
 use Rattle.room_core.proofs.fields.Maps.{changed_here, changed_else}
@@ -325,30 +326,6 @@ pub crash_by : (room after : RoomState) (reply : CrashReply) (i : ℕ) → IsWit
 crash_by room after reply i limits to fields are =
     let both = crash_in_fields room fields i limits are in
     (to.replied ∙ sym both.0, subst (λ (r : RoomState). AreFieldsOf r (fields_after_crash room.spec fields i)) (sym to.left) both.1)
-
--- ---- lists of calls
-
-spec_of : (P : RoomState → Type 0) (b : Bool) (x y : RoomState) → P x → P y → P (cond b x y)
-spec_of P true x y p q = p
-spec_of P false x y p q = q
-
-same_spec_when : (room : RoomState) (i : ℕ) (ready : Ready) → (room_when ready room i).spec ≡ room.spec
-same_spec_when room i ready.Step = refl
-same_spec_when room i ready.Idle = refl
-same_spec_when room i ready.OutOfTurns = refl
-
-pub same_spec_step : (room : RoomState) (i : ℕ) → (room_after_step room i).spec ≡ room.spec
-same_spec_step room i =
-    let P : RoomState → Type 0 = λ r. r.spec ≡ room.spec in
-    spec_of P (leb room.spec.simulators i) room (cond (has_crashed room i) room (room_when (ready_at room i) room i)) refl
-    (spec_of P (has_crashed room i) room (room_when (ready_at room i) room i) refl (same_spec_when room i (ready_at room i)))
-
-pub same_spec : (room : RoomState) (call : Call) → (room_after_call room call).spec ≡ room.spec
-same_spec room (Step i) = same_spec_step room i
-same_spec room (Crash i) =
-    let P : RoomState → Type 0 = λ r. r.spec ≡ room.spec in
-    spec_of P (leb room.spec.simulators i) room (cond (has_crashed room i) room (marked room i)) refl (spec_of P (has_crashed room i) room (marked room i) refl refl)
-same_spec room Settle = settled_keeps room_kind (λ r. r.spec ≡ room.spec) (λ i r is. same_spec_step r i ∙ is) (λ i r is. is) room refl
 
 -- ---- settling
 

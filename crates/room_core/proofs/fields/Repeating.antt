@@ -10,7 +10,8 @@ use Rattle.room_core.specs.Fields.{Fields, fields_after_calls, fields_after_step
 use Rattle.room_core.specs.Reading.{AreFieldsOf}
 use Rattle.room_core.specs.Agreements.{AgreementsStay}
 use Rattle.room_core.proofs.fields.States.{has_line}
-use Rattle.room_core.proofs.fields.FieldCalls.{ready_step, same_spec_step, step_in_fields}
+use Rattle.room_core.proofs.settling.SpecKept.{same_spec_step}
+use Rattle.room_core.proofs.fields.FieldCalls.{ready_step, step_in_fields}
 use Rattle.room_core.proofs.settling.Alone.{IsUp}
 use Rattle.room_core.proofs.agreements.Lasting.{agreements_last}
 
@@ -39,10 +40,6 @@ pub stops : (room : RoomState) (i : ℕ) → IsUp room i → ready_at room i ≢
 stops room i up other = λ is. by_answer (ready_at room i) other (replied room i (ready_at room i) up refl ∙ is)
 
 -- ---- in the fields
-
-pub same_spec_steps : (room : RoomState) (i count : ℕ) → (room_after_steps room i count).spec ≡ room.spec
-same_spec_steps room i zero = refl
-same_spec_steps room i (suc count) = same_spec_steps (room_after_step room i) i count ∙ same_spec_step room i
 
 -- the fields of the room after so many steps, and the reply to the next
 abbrev AreAfter : RoomSpec → RoomState → Fields → ℕ → Type 0

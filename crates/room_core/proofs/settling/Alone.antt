@@ -19,7 +19,8 @@ use Rattle.room_core.specs.declared.reply.StepReply.TheVariants.{Stepped}
 use Rattle.room_core.specs.Settling.{steps_while, turn_ended, ran_alone}
 use Rattle.room_core.proofs.fields.Replays.{shape_after, shapes}
 use Rattle.room_core.proofs.fields.States.{has_line, mind_ok, moved_data, operation_at, sweep_count, woken_data}
-use Rattle.room_core.proofs.fields.FieldCalls.{ready_step, same_spec_step}
+use Rattle.room_core.proofs.fields.FieldCalls.{ready_step}
+use Rattle.room_core.proofs.settling.SpecKept.{same_spec_step}
 use Rattle.room_core.proofs.settling.Settling.{ended_keeps, alone_keeps}
 
 -- ---- how many steps a simulator takes in all

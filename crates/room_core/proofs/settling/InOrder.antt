@@ -14,7 +14,8 @@ use Rattle.room_core.specs.Reading.{AreFieldsOf}
 use Rattle.room_core.specs.Settling.{steps_while, turn_ended, ran_alone, in_order}
 use Rattle.room_core.proofs.fields.Replays.{shapes}
 use Rattle.room_core.proofs.settling.Settling.{while_alike}
-use Rattle.room_core.proofs.fields.FieldCalls.{IsSettling, fields_stand, step_are, in_turn_alike, has_step_alike, same_spec_step, woken_fields}
+use Rattle.room_core.proofs.fields.FieldCalls.{IsSettling, fields_stand, step_are, in_turn_alike, has_step_alike, woken_fields}
+use Rattle.room_core.proofs.settling.SpecKept.{same_spec_step}
 use Rattle.room_core.proofs.settling.Alone.{IsUp, has_step, in_turn, has_step_means, in_turn_means, finished}
 use Rattle.room_core.proofs.fields.Maps.{changed_here}
 use Rattle.room_core.proofs.settling.Marks.{IsBlockedCount, blocked_anew}

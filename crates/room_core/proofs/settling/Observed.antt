@@ -6,7 +6,7 @@ use Rattle.room_core.specs.declared.reply.StepReply.{StepReply}
 use Rattle.room_core.specs.declared.reply.StepReply.TheVariants as replies
 use Rattle.room_core.specs.Settling.{each_in_order, in_order, ran_alone, settled, steps_while, turn_ended}
 use Rattle.room_core.specs.Observing.{AreSeen, IsObserved, TakenStep, Traced, is_stepped, steps_of_settling, traced_kind, traced_step}
-use Rattle.room_core.proofs.fields.FieldCalls.{same_spec_step}
+use Rattle.room_core.proofs.settling.SpecKept.{same_spec_step}
 use Rattle.room_core.proofs.settling.Alone.{IsUp, Means, has_step, has_step_means, in_turn, left, same_spec_alone, same_spec_ended, step_up, steps_of}
 use Rattle.room_core.proofs.settling.Settling.{AreAlike, alone_alike, ended_alike, settled_alike}
 

@@ -9,7 +9,8 @@ use Rattle.room_core.specs.Rooms.{IsRoom}
 use Rattle.room_core.specs.Settling.{each_in_order, in_order, ran_alone, steps_while, turn_ended}
 use Rattle.room_core.specs.Settles.{DoInOrder, Nobody, OneMore, EndsTurn, RunsAlone, Settles, StepsWhile, Stops, Steps}
 use Rattle.room_core.proofs.settling.Alone.{IsUp, Means, Ran, has_step, has_step_means, in_turn, in_turn_means, is_up, same_spec_alone, same_spec_ended, step_up, steps_of, woken_up}
-use Rattle.room_core.proofs.fields.FieldCalls.{has_fields, same_spec_step, step_in_fields, woken_fields}
+use Rattle.room_core.proofs.fields.FieldCalls.{has_fields, step_in_fields, woken_fields}
+use Rattle.room_core.proofs.settling.SpecKept.{same_spec_step}
 
 -- ---- one simulator
 

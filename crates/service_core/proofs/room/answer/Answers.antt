@@ -1,6 +1,6 @@
 use Rattle.std.proofs.Common.{◌∙◌, Some, length, ap, sym, subst}
 use Rattle.room_core.specs.Calls.{RoomState, Settle}
-use Rattle.room_core.proofs.CallerLemmas.{same_spec}
+use Rattle.room_core.proofs.CallerLemmasOnSpecs.{same_spec}
 use Rattle.service_core.specs.declared.command.Command.{Command}
 use Rattle.service_core.specs.declared.command.Command.TheVariants as commands
 use Rattle.service_core.specs.declared.reply.Reply.{Reply}

@@ -2,7 +2,7 @@ use Rattle.std.proofs.Common.{◌≡◌, ◌∙◌, ℕ, ap, sym, subst}
 use Rattle.room_core.specs.Calls.{RoomState, Crash}
 use Rattle.room_core.specs.Fields.{crash_reply_in, fields_after_crash}
 use Rattle.room_core.specs.Reading.{AreFieldsOf}
-use Rattle.room_core.proofs.CallerLemmas.{same_spec}
+use Rattle.room_core.proofs.CallerLemmasOnSpecs.{same_spec}
 use Rattle.service_core.proofs.Answering.{no_crash, crash_answers}
 use Rattle.service_core.proofs.room.crash.Goals as goal
 

@@ -6,7 +6,7 @@ use Rattle.room_core.specs.Calls.{RoomState, Step, room_after_step, room_after_s
 use Rattle.room_core.specs.Observing.{is_stepped, steps_of_steps}
 use Rattle.room_core.specs.Fields.{Fields, step_reply_in, fields_after_step, fields_after_steps}
 use Rattle.room_core.specs.Reading.{AreFieldsOf}
-use Rattle.room_core.proofs.CallerLemmas.{same_spec, same_spec_steps}
+use Rattle.room_core.proofs.CallerLemmasOnSpecs.{same_spec, same_spec_steps}
 use Rattle.service_core.specs.Rooms.{IsSteppedTo, room_stepped}
 use Rattle.service_core.proofs.Leaving.{HaveStepped, all_stepped, have_stepped, stopped_after}
 use Rattle.service_core.proofs.Stepping.{HasTaken, all_taken, ends, not_stepped, stops}

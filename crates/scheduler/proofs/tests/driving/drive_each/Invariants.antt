@@ -1,5 +1,0 @@
-use Rattle.std.proofs.Common.{◌≡◌}
-use Rattle.scheduler.proofs.tests.driving.drive_each.Given as goal
-
-abbrev pub invariant-loop-i : goal.invariant-loop-i
-invariant-loop-i l = (l.keeper.room ≡ l.room) × (l.keeper.room ≡ l.initial.keeper.room)
