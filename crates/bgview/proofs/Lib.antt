@@ -1,3 +1,2 @@
 mod Finding
 mod Reading
-mod Subcommands

@@ -19,10 +19,10 @@ use Rattle.view_page.specs.Pages.{IsPageFor, fault_among, fault_in}
 use Rattle.view_sample.specs.Sample.{IsSampleFor}
 use Rattle.view_trace.specs.Trace.{IsTraceIn}
 use Rattle.view_why.specs.Why.{IsExplanationIn}
-use Rattle.bgview.specs.declared.command_line.Grading.{Grading}
-use Rattle.bgview.specs.declared.command_line.Mode.{Mode}
-use Rattle.bgview.specs.declared.command_line.Mode.TheVariants.{Why, Trace, Draw, Page, Transcript, Fault, Grade, Sample, Outcomes, Lint}
-use Rattle.bgview.specs.declared.command_line.Request.{Request}
+use Rattle.bgview.specs.declared.request.Grading.{Grading}
+use Rattle.bgview_command_line.specs.declared.words.Mode.{Mode}
+use Rattle.bgview_command_line.specs.declared.words.Mode.TheVariants.{Why, Trace, Draw, Page, Transcript, Fault, Grade, Sample, Outcomes, Lint}
+use Rattle.bgview.specs.declared.request.Request.{Request}
 use Rattle.bgview.specs.declared.fault.ViewFault.{ViewFault}
 use Rattle.bgview.specs.declared.fault.ViewFault.TheVariants.{BadGoal, BadInput, Device, Incomplete}
 

@@ -8,12 +8,13 @@ use Rattle.clap.specs.declared.error.kind.ErrorKind.TheVariants.{OutOfMemory}
 use Rattle.io_text.specs.declared.fault.DeviceFault.TheVariants.{Read}
 use Rattle.room_files.specs.declared.outcome.Outcome.{Outcome}
 use Rattle.bgview.specs.Answers.{IsAnswer}
-use Rattle.bgview.specs.CommandLine.{IsRequestAmong, bgview_app, codes_among, file_among, mode_among, other_among}
+use Rattle.bgview_command_line.specs.CommandLine.{bgview_app, codes_among, file_among, mode_among, other_among}
 use Rattle.bgview.specs.Ends.{ending_status, words_status}
 use Rattle.bgview.specs.Faults.{AreFaultsSaid}
 use Rattle.bgview.specs.Pages.{IsPageAnswer}
-use Rattle.bgview.specs.declared.command_line.Mode.TheVariants.{Fault}
-use Rattle.bgview.specs.declared.command_line.Request.{Request}
+use Rattle.bgview.specs.Requests.{IsRequestAmong}
+use Rattle.bgview_command_line.specs.declared.words.Mode.TheVariants.{Fault}
+use Rattle.bgview.specs.declared.request.Request.{Request}
 use Rattle.bgview.specs.declared.fault.ViewFault.{ViewFault}
 use Rattle.bgview.specs.declared.fault.ViewFault.TheVariants.{Device}
 

@@ -7,8 +7,8 @@ use Rattle.file_faults.specs.Warnings.{file_warnings}
 use Rattle.view_grade.specs.Goals.{goal_forms}
 use Rattle.view_page.specs.Faults.{AreBothFaults, AreFileFaults, NamedFile}
 use Rattle.view_page.specs.Pages.{kind_of}
-use Rattle.bgview.specs.declared.command_line.Mode.{Mode}
-use Rattle.bgview.specs.declared.command_line.Mode.TheVariants.{Why, Trace, Draw, Page, Transcript, Fault, Grade, Sample, Outcomes, Lint}
+use Rattle.bgview_command_line.specs.declared.words.Mode.{Mode}
+use Rattle.bgview_command_line.specs.declared.words.Mode.TheVariants.{Why, Trace, Draw, Page, Transcript, Fault, Grade, Sample, Outcomes, Lint}
 use Rattle.bgview.specs.declared.fault.ViewFault.{ViewFault}
 use Rattle.bgview.specs.declared.fault.ViewFault.TheVariants.{BadGoal, BadInput, Device, Incomplete}
 

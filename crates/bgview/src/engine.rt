@@ -9,8 +9,8 @@ ghost use Rattle.bgview.specs.Faults.{AreFaultsSaid};
 ghost use Rattle.bgview.specs.Notes.{AreBothNotes, AreNotesIn};
 ghost use Rattle.bgview.specs.Pages.{IsPageAnswer};
 
-use crate::command_line::Request;
 use crate::fault::{ViewFault, written};
+use crate::request::Request;
 use crate::showing::show;
 use fault_words::say_faults;
 use io_text::{Device, Text, read_input, write_output};

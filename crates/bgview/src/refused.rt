@@ -1,7 +1,7 @@
 //! That commands were refused, for modes whose output doesn't show it.
 ghost use Rattle.std.specs.Prelude.{◌≡◌, ◌++◌, codes, OnOk};
 
-use crate::command_line::Mode;
+use bgview_command_line::Mode;
 use io_text::Text;
 use std::alloc::AllocError;
 

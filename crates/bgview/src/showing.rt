@@ -11,8 +11,9 @@ ghost use Rattle.view_why.specs.Why.{IsExplanationIn};
 ghost use Rattle.bgview.specs.Answers.{Ends, EndsRequest, IsGradeFor, IsShown, IsWhole, goal_fault_in, goal_text};
 ghost use Rattle.bgview.specs.Notes.{AreGoalNotes, AreGradeNotes, AreNotes, AreNotesIn, AreWhyNotes};
 
-use crate::command_line::{Grading, Mode, Request};
 use crate::fault::ViewFault;
+use crate::request::{Grading, Request};
+use bgview_command_line::Mode;
 use file_faults::{lint, room_faults, script_faults, transcript_faults, warnings_of};
 use io_text::{DeviceFault, Text};
 use room_files::{Answer, InputFault};

@@ -2,8 +2,8 @@
 ghost use Rattle.std.specs.Prelude.{◌≡◌, ◌++◌, OnOk};
 ghost use Rattle.bgview.specs.Unread.{unread_note, why_words};
 
-use crate::command_line::Line;
 use crate::inputs::Inputs;
+use bgview_command_line::Line;
 use io_text::Text;
 use std::alloc::AllocError;
 use std::io;

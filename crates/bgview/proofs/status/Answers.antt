@@ -1,6 +1,6 @@
 use Rattle.std.proofs.Common.{◌≡◌, List, ℕ, Option, map, sym, subst}
 use Rattle.clap.specs.Words.{Row, subcommand_of}
-use Rattle.bgview.specs.CommandLine.{bgview_app}
+use Rattle.bgview_command_line.specs.CommandLine.{bgview_app}
 use Rattle.bgview.specs.Endings.{Found, IsEnding, IsStatusFor, done, named_by, refused}
 use Rattle.bgview.proofs.status.Goals as goal
 

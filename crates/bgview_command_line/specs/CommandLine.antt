@@ -7,13 +7,8 @@ use Rattle.clap.specs.Lexer.{usize_max}
 use Rattle.clap.specs.Words.{App, Row, Rule, Shape, all_of, first_of, new_app, new_rule, with_rule, with_subcommand}
 use Rattle.clap.specs.declared.builder.action.ArgAction.TheVariants.{SetTrue}
 use Rattle.clap.specs.declared.builder.value_parser.ValueParser.TheVariants.{Signed}
-use Rattle.room_sample.specs.declared.sampling.Plan.{Plan}
-use Rattle.view_outcomes.specs.declared.rooms.Search.{Search}
-use Rattle.run_picture.specs.declared.picture.Style.{Style}
-use Rattle.bgview.specs.declared.command_line.Grading.{Grading}
-use Rattle.bgview.specs.declared.command_line.Mode.{Mode}
-use Rattle.bgview.specs.declared.command_line.Mode.TheVariants.{Why, Trace, Draw, Page, Transcript, Fault, Grade, Sample, Outcomes, Lint}
-use Rattle.bgview.specs.declared.command_line.Request.{Request}
+use Rattle.bgview_command_line.specs.declared.words.Mode.{Mode}
+use Rattle.bgview_command_line.specs.declared.words.Mode.TheVariants.{Why, Trace, Draw, Page, Transcript, Fault, Grade, Sample, Outcomes, Lint}
 
 -- the subcommand of a word, which takes a file
 abbrev pub file_app : List ℕ → App
@@ -165,43 +160,6 @@ abbrev pub is_given : Option (List ℕ) → Bool
 is_given None = false
 is_given (Some text) = bytes_eq text (codes "true")
 
--- the plan that the values of `sample` say
-pub record IsPlanAmong (found : Option (List ℕ × List Row)) (plan : Plan) : Type 0 where
-  pub schedules : IsNumber (value_among (codes "schedules") found) 1000 plan.schedules
-  pub crashes : IsNumber (value_among (codes "crashes") found) 1 plan.crashes
-  pub seed : IsNumber (value_among (codes "seed") found) 1 plan.seed
-  pub workers : IsNumber (value_among (codes "workers") found) 1 plan.workers
-  pub group : plan.group ≡ is_given (value_among (codes "group") found)
-  pub brief : plan.brief ≡ is_given (value_among (codes "brief") found)
-  pub json : plan.json ≡ is_given (value_among (codes "json") found)
-  pub top : IsNumberIfAny (value_among (codes "top") found) plan.top
-  pub outcome : IsNumberIfAny (value_among (codes "outcome") found) plan.outcome
-
--- the search that the values of `outcomes` say
-pub record IsSearchAmong (found : Option (List ℕ × List Row)) (search : Search) : Type 0 where
-  pub crashes : IsNumberIfAny (value_among (codes "crashes") found) search.crashes
-  pub states : IsNumber (value_among (codes "states") found) 1000000 search.states
-  pub brief : search.brief ≡ is_given (value_among (codes "brief") found)
-
--- what the values of `grade` say that a script is graded by
-pub record IsGradingAmong (found : Option (List ℕ × List Row)) (grading : Grading) : Type 0 where
-  pub goal : grading.goal.now ≡ unwrap_or (value_among (codes "goal") found) []
-  pub most : IsNumberIfAny (value_among (codes "commands") found) grading.most
-
--- how rooms are drawn, as the values of `draw` say
-pub record IsStyleAmong (found : Option (List ℕ × List Row)) (style : Style) : Type 0 where
-  pub percent : IsNumber (value_among (codes "scale") found) 100 style.percent
-  pub by_turns : style.by_turns ≡ is_given (value_among (codes "turns") found)
-
 -- JSON is asked for
 abbrev pub json_among : Option (List ℕ × List Row) → Bool
 json_among found = is_given (value_among (codes "json") found)
-
--- what the words request
-pub record IsRequestAmong (found : Option (List ℕ × List Row)) (request : Request) : Type 0 where
-  pub mode : request.mode ≡ mode_among found
-  pub json : request.json ≡ json_among found
-  pub plan : IsPlanAmong found request.plan
-  pub search : IsSearchAmong found request.search
-  pub grading : IsGradingAmong found request.grading
-  pub style : IsStyleAmong found request.style

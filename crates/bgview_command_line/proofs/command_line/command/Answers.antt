@@ -1,5 +1,5 @@
-use Rattle.bgview.proofs.Subcommands.{all_grown, grown}
-use Rattle.bgview.proofs.command_line.command.Goals as goal
+use Rattle.bgview_command_line.proofs.Subcommands.{all_grown, grown}
+use Rattle.bgview_command_line.proofs.command_line.command.Goals as goal
 
 pub returns : goal.returns
 returns c =

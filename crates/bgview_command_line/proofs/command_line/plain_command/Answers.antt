@@ -1,6 +1,6 @@
 use Rattle.std.proofs.Common.{ap, ◌∙◌, true}
 use Rattle.clap.specs.Simple.{app_of_fields, on_top}
-use Rattle.bgview.proofs.command_line.plain_command.Goals as goal
+use Rattle.bgview_command_line.proofs.command_line.plain_command.Goals as goal
 
 pub returns : goal.returns
 returns c =

@@ -5,8 +5,8 @@ use Rattle.clap.specs.Simple.{app_of_fields}
 use Rattle.clap.specs.Words.{Rule, app_of, new_app, new_rule, with_rule}
 use Rattle.clap.specs.Walk.{rule_of}
 use Rattle.clap.specs.declared.builder.range.ValueRange.{ValueRange}
-use Rattle.bgview.specs.CommandLine.{code_rule}
-use Rattle.bgview.proofs.command_line.fault_command.Goals as goal
+use Rattle.bgview_command_line.specs.CommandLine.{code_rule}
+use Rattle.bgview_command_line.proofs.command_line.fault_command.Goals as goal
 
 some_is : (found : Option ValueRange) (range : ValueRange) → IsSomeAnd found (λ r. r ≡ range) → found ≡ Some range
 some_is None range is = absurd is
