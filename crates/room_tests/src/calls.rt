@@ -58,11 +58,19 @@ fn are_replies(replies: &[Reply]) -> bool {
                 last: StepReply::Idle
             }
         )
-        && matches!(report, Reply::Report(report) if report.history.events().len() == 3)
+        && is_report(report)
         && others.len() == 2000
         && others
             .iter()
             .all(|reply| matches!(reply, Reply::Refused(Refusal::NoRoom)))
+}
+
+/// Whether a reply is a report of three events.
+fn is_report(reply: &Reply) -> bool {
+    match reply {
+        Reply::Report(report) => report.history.events().len() == 3,
+        _ => false,
+    }
 }
 
 #[test]

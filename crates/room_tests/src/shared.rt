@@ -57,11 +57,10 @@ fn alone(alloc: Global, text: &str, order: &[Stretch]) -> Result<RoomCore, Fail>
 
 fn step_alone(room: &mut RoomCore, i: usize, most: u64) {
     for _ in 0..most {
-        match state_of(room, i) {
-            Some((steps, _, _)) if steps < most => {}
-            _ => return,
-        }
-        if !matches!(room.step(i), StepReply::Stepped) {
+        let Some((steps, _, _)) = state_of(room, i) else {
+            return;
+        };
+        if steps >= most || !matches!(room.step(i), StepReply::Stepped) {
             return;
         }
     }
@@ -75,8 +74,8 @@ fn are_same(one: &RoomCore, other: &RoomCore) -> bool {
         && (0..one.spec().m()).all(|i| state_of(one, i) == state_of(other, i))
 }
 
-/// Whether an order over shared words comes to the same as over words of its own, also once both rooms are settled, and
-/// leaves these words.
+/// Whether an order has the same result over shared words as over words of its own, before both rooms are settled and after, and
+/// leaves these words before.
 fn leaves(
     alloc: Global,
     text: &str,
@@ -233,8 +232,13 @@ fn two_threads(rt: HostRuntime) -> Result<(), Fail> {
         assert!(rt; has_ended(&by_two_threads(&rt, rt.alloc(), Fuse::none())?));
         // The simulator that loads last sees what both have counted.
         let room = by_two_threads(&rt, rt.alloc(), Fuse::after(4))?;
-        let proposed = (word_at(&room, 3), word_at(&room, 6));
-        assert!(rt; matches!(proposed, (Some(1), Some(9)) | (Some(9), Some(8 | 9))));
+        let found = (word_at(&room, 3), word_at(&room, 6));
+        let wanted = [(1, 9), (9, 8), (9, 9)];
+        assert!(rt;
+            wanted
+                .iter()
+                .any(|(zero, one)| found == (Some(*zero), Some(*one)))
+        );
     }
     Ok(())
 }

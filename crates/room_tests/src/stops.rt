@@ -90,7 +90,7 @@ fn driven_until_it_stops(rt: HostRuntime) -> Result<(), Fail> {
             stop == wanted && found == Some((steps, turns, false)),
             "{stop}, {found:?}"
         );
-        assert!(rt; matches!(state_of(&room, 1), Some((0, 0, false))));
+        assert!(rt; state_of(&room, 1) == Some((0, 0, false)));
     }
     Ok(())
 }

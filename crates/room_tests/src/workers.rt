@@ -8,7 +8,7 @@ use std::sync::atomic::{AtomicU64, Ordering};
 use std::test::*;
 use std::thread;
 use std::thread::Threads;
-use transcript::{read_line, write_event};
+use transcript::{append_event, read_line, write_event};
 use ws_history::Report;
 
 /// How often a gate looks again, and yields, before it gives up.
@@ -42,7 +42,7 @@ impl Watch {
         }
     }
 
-    /// Whether just these workers came, each as a bit, and workers 0 and 1 made so many visits, each counted from 0.
+    /// Whether just these workers came, each as a bit, and workers 0 and 1 made `first` and `second` visits, each counted from 0.
     pub fn has_seen(&self, came: u64, first: u64, second: u64) -> bool {
         self.has_come(came)
             && self.first.load(Ordering::SeqCst) == first
@@ -117,26 +117,27 @@ fn lines(alloc: Global, name: &Name, report: &Report) -> Result<String, Fail> {
     let mut text = String::new(alloc);
     for event in report.history.events() {
         let line = write_event(alloc, name, event)?;
-        match read_line(line.as_slice()) {
-            Ok((_, found)) if found == *event => {}
-            _ => return Err(Fail::from("the same event")),
+        let (_, found) = read_line(line.as_slice()).ok().ok_or("an event")?;
+        if found != *event {
+            return Err(Fail::from("the same event"));
         }
-        text.push_str(str::from_utf8(line.as_slice())?)?;
+        append_event(&mut text, name, event)?;
         text.push_str("\n")?;
     }
     Ok(text)
 }
 
-/// The lines of the history of the pair, of which one of two workers was held until the other had come to its second visit.
+/// The lines of the history of the pair, of which one of two workers was held until the other had reached its second visit.
 fn held_pair<R: Threads + Wait + Sync>(rt: &R, alloc: Global, held: u64) -> Result<String, Fail> {
     let gate = Watch::new(held, 3);
     let results = ran(rt, alloc, PAIR, 1, 2, &gate)?;
-    match results.as_slice() {
-        [result] if gate.has_come(3) && result.report.crashed.is_empty() => {
-            lines(alloc, result.core.spec().name(), &result.report)
-        }
-        _ => Err(Fail::from("one room, and no worker held in vain")),
+    let [result] = results.as_slice() else {
+        return Err(Fail::from("one room"));
+    };
+    if !gate.has_come(3) || !result.report.crashed.is_empty() {
+        return Err(Fail::from("no crash, and no worker held in vain"));
     }
+    lines(alloc, result.core.spec().name(), &result.report)
 }
 
 #[test]
@@ -192,33 +193,34 @@ fn all_workers_come(rt: HostRuntime) -> Result<(), Fail> {
 const CRASHING: &str =
     "bgsim 1\nroom pair\ninputs 7 3\nsimulators 2\nrounds 1\nturns 100\ncrash 0 after 4\nprotocol\nfirst input;\nelse decide min;\nend\n";
 
-/// What became of the first simulator of the first of these rooms, once workers 0 and 1 have made so many visits.
+/// What became of the first simulator of the first of these rooms. `seen` has the workers that came, each as a bit, and the visits of
+/// workers 0 and 1.
 fn first_after<R: Threads + Wait + Sync>(
     rt: &R,
     alloc: Global,
-    text: &str,
-    count: usize,
+    rooms: (&str, usize),
     workers: u8,
-    visits: (u64, u64),
+    seen: (u64, u64, u64),
 ) -> Result<Option<(u64, u64, bool)>, Fail> {
     let gate = Watch::new(0, 0);
-    let results = ran(rt, alloc, text, count, workers, &gate)?;
+    let results = ran(rt, alloc, rooms.0, rooms.1, workers, &gate)?;
+    if !gate.has_seen(seen.0, seen.1, seen.2) {
+        return Err(Fail::from("these visits"));
+    }
     match results.first() {
-        Some(result) if gate.has_seen(2u64.pow(u32::from(workers)) - 1, visits.0, visits.1) => {
-            Ok(state_of(&result.core, 0))
-        }
-        _ => Err(Fail::from("so many visits")),
+        Some(result) => Ok(state_of(&result.core, 0)),
+        None => Ok(None),
     }
 }
 
 #[test]
 fn workers_go_round_their_simulators(rt: HostRuntime) -> Result<(), Fail> {
     // Each room has one simulator, which takes one turn and is then idle.
-    let found = first_after(&rt, rt.alloc(), ONE, 3, 2, (4, 2))?;
-    assert!(rt; matches!(found, Some((11, 1, false))));
+    let found = first_after(&rt, rt.alloc(), (ONE, 3), 2, (3, 4, 2))?;
+    assert!(rt; found == Some((11, 1, false)));
     // A simulator that has crashed is not visited again.
-    let found = first_after(&rt, rt.alloc(), CRASHING, 1, 1, (4, 0))?;
-    assert!(rt; matches!(found, Some((4, _, true))));
+    let found = first_after(&rt, rt.alloc(), (CRASHING, 1), 1, (1, 4, 0))?;
+    assert!(rt; found == Some((4, 1, true)));
     Ok(())
 }
 
