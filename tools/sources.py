@@ -64,10 +64,11 @@ def link(one, other):
 
 
 def copy_sources(crate, top):
-    """Puts the sources of a crate and of those below it into a repository of their own, by links, and lists them in its crates.txt."""
+    """Puts the sources of a crate and of those below it into a repository of their own, and lists them in its crates.txt. `rt` keeps no
+    result of a crate if a link to a file of it is made meanwhile, so they are copied."""
     for name in closure(crate):
         for part in PARTS:
             if (CRATES / name / part).is_dir():
-                shutil.copytree(CRATES / name / part, top / "crates" / name / part, copy_function=link)
+                shutil.copytree(CRATES / name / part, top / "crates" / name / part)
     (top / "crates.txt").write_text("\n".join(LINES[name] for name in closure(crate)) + "\n")
     shutil.copyfile(TOP / "HANDLES", top / "HANDLES")
