@@ -1,46 +1,39 @@
 //! Calls that only the user of a library makes: of services, printed protocols, certified rooms, faults as texts, and devices.
-use history_checker::{Rooms, TaskVerdict, Verdict, certified};
+use crate::fixture::{FULL, ONE, PAIR, spec};
+use history_checker::certified;
+use indexmap::IndexMap;
 use io_text::Device;
 use protocol_lang::{parse, print, threshold};
-use room_core::StepReply;
+use room_core::{RoomCore, StepReply};
 use room_files::{InputFault, TextFault};
-use room_spec::{Name, Spec, SpecFault, read_block};
+use room_spec::{Name, Spec, SpecFault};
 use service_core::{Command, Refusal, Reply, Service};
 use std::alloc::{AllocError, Global};
 use std::io;
-use std::io::{Read, Write};
+use std::io::Write;
 use std::test::*;
-use transcript::{EventLine, LineFault};
+use transcript::LineFault;
 
 fn name(text: &str) -> Result<Name, Fail> {
     Ok(Name::read(text.as_bytes()).ok_or("a name")?)
 }
 
-/// A command by which the room of this name begins.
-fn begins(alloc: Global, name: &str) -> Result<Command, Fail> {
-    let text = format!(in alloc;
-        "bgsim 1\nroom {name}\ninputs 5\nsimulators 1\nrounds 1\nturns 10\nprotocol\nfirst input;\nelse decide mine;\nend\n"
-    )?;
-    let (spec, _) = read_block(alloc, text.as_bytes()).ok().ok_or("a block")?;
-    Ok(Command::Begin(spec))
+fn step(room: &str, count: u16) -> Result<Command, Fail> {
+    Ok(Command::Step {
+        name: name(room)?,
+        sim: 0,
+        count,
+    })
 }
 
 /// A room that begins, takes all its steps and is reported, and many steps of a room that isn't there.
 fn commands(alloc: Global) -> Result<Vec<Command>, Fail> {
     let mut commands = Vec::new(alloc);
-    commands.push(begins(alloc, "one")?)?;
-    commands.push(Command::Step {
-        name: name("one")?,
-        sim: 0,
-        count: 100,
-    })?;
+    commands.push(Command::Begin(spec(alloc, ONE)?))?;
+    commands.push(step("one", 100)?)?;
     commands.push(Command::Report(name("one")?))?;
     for _ in 0..2000 {
-        commands.push(Command::Step {
-            name: name("nobody")?,
-            sim: 0,
-            count: 1,
-        })?;
+        commands.push(step("nobody", 1)?)?;
     }
     Ok(commands)
 }
@@ -80,19 +73,32 @@ fn replies_to_a_list(rt: HostRuntime) -> Result<(), Fail> {
     Ok(())
 }
 
+/// Opens a room of this text, and says whether it is open.
+fn opens(alloc: Global, service: &mut Service, text: &str) -> Result<bool, Fail> {
+    let command = Command::Begin(spec(alloc, text)?);
+    Ok(matches!(service.apply(alloc, command), Reply::Begun))
+}
+
+fn closes(alloc: Global, service: &mut Service, room: &str) -> Result<bool, Fail> {
+    let command = Command::Close(name(room)?);
+    Ok(matches!(service.apply(alloc, command), Reply::Closed))
+}
+
+fn has_room(rooms: &IndexMap<Name, RoomCore>, room: &str) -> Option<bool> {
+    let name = Name::read(room.as_bytes())?;
+    Some(rooms.contains_key(&name))
+}
+
 #[test]
 fn rooms_that_are_left(rt: HostRuntime) -> Result<(), Fail> {
     let mut service = Service::new(rt.alloc());
-    for name in ["r0", "r1", "r2"] {
-        let command = begins(rt.alloc(), name)?;
-        assert!(rt; matches!(service.apply(rt.alloc(), command), Reply::Begun));
+    for text in [ONE, PAIR, FULL] {
+        assert!(rt; opens(rt.alloc(), &mut service, text)?);
     }
-    let closed = service.apply(rt.alloc(), Command::Close(name("r1")?));
-    assert!(rt; matches!(closed, Reply::Closed));
+    assert!(rt; closes(rt.alloc(), &mut service, "pair")?);
     let rooms = service.into_rooms();
-    assert!(rt;
-        rooms.len() == 2 && rooms.contains_key(&name("r0")?) && rooms.contains_key(&name("r2")?)
-    );
+    assert!(rt; rooms.len() == 2 && has_room(&rooms, "one") == Some(true));
+    assert!(rt; has_room(&rooms, "pair") == Some(false) && has_room(&rooms, "full") == Some(true));
     Ok(())
 }
 
@@ -120,6 +126,13 @@ fn repeated(
     Ok(text)
 }
 
+/// Whether the printed text of the protocol of `text` is `printed`, and that of `printed` too.
+fn prints(alloc: Global, text: &str, printed: &str) -> Result<bool, AllocError> {
+    let once = reprinted(alloc, text)?;
+    let twice = reprinted(alloc, printed)?;
+    Ok(once.as_str() == printed && twice.as_str() == printed)
+}
+
 #[test]
 fn shortest_texts(rt: HostRuntime) -> Result<(), Fail> {
     for (text, printed) in [
@@ -140,31 +153,34 @@ fn shortest_texts(rt: HostRuntime) -> Result<(), Fail> {
             "first0;when1<2and3<=4and5>6decide7;when id!=n write round+0;else decide max;",
         ),
     ] {
-        assert!(rt;
-            reprinted(rt.alloc(), text)?.as_str() == printed,
-            "for {text}"
-        );
-        assert!(rt;
-            reprinted(rt.alloc(), printed)?.as_str() == printed,
-            "again for {text}"
-        );
+        assert!(rt; prints(rt.alloc(), text, printed)?, "{text}");
     }
-    for text in [
-        repeated(rt.alloc(), "first1", "-1", 2000, ";else decide n;")?,
-        repeated(rt.alloc(), "first1;", "when1==1write1;", 32, "else write1;")?,
-    ] {
-        assert!(rt; reprinted(rt.alloc(), &text)? == text);
-    }
+    let chain = repeated(rt.alloc(), "first1", "-1", 2000, ";else decide n;")?;
+    assert!(rt; prints(rt.alloc(), &chain, &chain)?);
+    let rules = repeated(rt.alloc(), "first1;", "when1==1write1;", 32, "else write1;")?;
+    assert!(rt; prints(rt.alloc(), &rules, &rules)?);
     Ok(())
 }
 
-/// A room of three processes, which decide after this test, and whose task allows one value.
+const VOTE: &str =
+    "bgsim 1\nroom vote\ninputs 5 3 9\nsimulators 2\nrounds 3\nturns 100\nprotocol\nfirst input;\nwhen ";
+
+/// A room of three processes, which decide after this test.
 fn vote(alloc: Global, test: &str) -> Result<Spec, Fail> {
-    let text = format!(in alloc;
-        "bgsim 2\nroom vote\ninputs 5 3 9\nsimulators 2\nrounds 3\nturns 100\ntask agree 1\nprotocol\nfirst input;\nwhen {test} decide min;\nelse write mine;\nend\n"
+    let text = repeated(
+        alloc,
+        VOTE,
+        test,
+        1,
+        " decide min;\nelse write mine;\nend\n",
     )?;
-    let (spec, _) = read_block(alloc, text.as_bytes()).ok().ok_or("a block")?;
-    Ok(spec)
+    spec(alloc, &text)
+}
+
+/// How many processes the room's protocol doesn't wait for, and how many values a run of the room decides at most.
+fn bounds(alloc: Global, test: &str) -> Result<(Option<u32>, Option<u8>), Fail> {
+    let spec = vote(alloc, test)?;
+    Ok((threshold(spec.protocol()), certified(&spec)))
 }
 
 #[test]
@@ -176,29 +192,9 @@ fn certified_rooms(rt: HostRuntime) -> Result<(), Fail> {
         ("count >= 2", None, None),
         ("count > n - 1", None, None),
     ] {
-        let spec = vote(rt.alloc(), test)?;
-        assert!(rt; threshold(spec.protocol()) == missed, "{test}");
-        assert!(rt; certified(&spec) == most, "{test}");
+        let found = bounds(rt.alloc(), test)?;
+        assert!(rt; found == (missed, most), "{test}");
     }
-    Ok(())
-}
-
-/// The program prints no verdict on the task of a room that is no run.
-#[test]
-fn task_of_no_run(rt: HostRuntime) -> Result<(), Fail> {
-    let mut rooms = Rooms::new(rt.alloc());
-    assert!(rt;
-        rooms
-            .add(rt.alloc(), vote(rt.alloc(), "count >= n - 1")?)
-            .is_ok()
-    );
-    for (line, number) in [("vote 0 decide 5", 1), ("vote 1 decide 3", 2)] {
-        let line = EventLine::split(line.as_bytes())?;
-        assert!(rt; rooms.feed_line(&line, number).is_ok());
-    }
-    assert!(rt; matches!(rooms.verdict(0), Some(Verdict::Broken(1))));
-    assert!(rt; matches!(rooms.task_verdict(0), Some(TaskVerdict::Broken(2))));
-    assert!(rt; rooms.task_verdict(1).is_none());
     Ok(())
 }
 
@@ -223,32 +219,13 @@ fn texts_of_faults(rt: HostRuntime) -> Result<(), Fail> {
     Ok(())
 }
 
-/// It fails its second call and gives or takes no bytes from the third on; no flush of it succeeds.
+/// It takes all bytes, and fails when it is to hand them on.
 #[derive(Drop)]
-struct Flaky {
-    calls: u8,
-}
+struct Unflushed {}
 
-impl Flaky {
-    fn call(&mut self) -> io::Result<usize> {
-        self.calls = self.calls.saturating_add(1);
-        match self.calls {
-            1 => Ok(1),
-            2 => Err(io::ErrorKind::Interrupted.into()),
-            _ => Ok(0),
-        }
-    }
-}
-
-impl Read for Flaky {
-    fn read(&mut self, buffer: &mut [u8]) -> io::Result<usize> {
-        Ok(self.call()?.min(buffer.len()))
-    }
-}
-
-impl Write for Flaky {
+impl Write for Unflushed {
     fn write(&mut self, bytes: &[u8]) -> io::Result<usize> {
-        Ok(self.call()?.min(bytes.len()))
+        Ok(bytes.len())
     }
 
     fn flush(&mut self) -> io::Result<()> {
@@ -257,16 +234,7 @@ impl Write for Flaky {
 }
 
 #[test]
-fn devices_that_fail(rt: HostRuntime) {
-    let mut reader = Device::new(Flaky { calls: 0 });
-    for (answer, failed) in [(Some(1), false), (None, true), (Some(0), true)] {
-        assert!(rt; reader.read(&mut [0; 4]).ok() == answer && reader.has_failed() == failed);
-    }
-    let mut writer = Device::new(Flaky { calls: 0 });
-    for (answer, failed) in [(Some(1), false), (None, true), (None, true)] {
-        assert!(rt; writer.write(b"ab").ok() == answer && writer.has_failed() == failed);
-    }
-    assert!(rt; reader.calls() == 3 && writer.calls() == 3);
-    let mut unflushed = Device::new(Flaky { calls: 0 });
-    assert!(rt; unflushed.flush().is_err() && unflushed.has_failed());
+fn a_flush_that_fails(rt: HostRuntime) {
+    let mut device = Device::new(Unflushed {});
+    assert!(rt; device.flush().is_err() && device.has_failed());
 }

@@ -93,37 +93,45 @@ fn leaves(
     Ok(is_left && is_same && are_same(&shared, &alone))
 }
 
+/// An order in a room, and the values of some of its words then.
+type Row = (&'static str, &'static [Stretch], &'static [(usize, u64)]);
+
+const ROWS: [Row; 10] = [
+    (PAIR, &[(0, 5, true), (1, ALL, false)], &[]),
+    (PAIR, &[(0, 4, true), (1, ALL, false)], &[]),
+    (PAIR, &[(0, 4, false), (1, ALL, false), (0, 5, true)], &[]),
+    (TWO, &[(0, 2, false), (1, ALL, false), (0, ALL, false)], &[]),
+    (THREE, &[(0, 5, true), (1, 5, true), (2, ALL, false)], &[]),
+    (WRITER, &[(0, ALL, false)], &[]),
+    // Each simulator proposes the step numbers that it has loaded by its third step.
+    (
+        PAIR,
+        &[(0, 3, false), (1, 3, false), (0, 4, false), (1, 4, false)],
+        &[(3, 1), (6, 9)],
+    ),
+    (
+        PAIR,
+        &[(1, 3, false), (0, 3, false), (0, 4, false), (1, 4, false)],
+        &[(3, 9), (6, 8)],
+    ),
+    // In both agreements simulator 0 stays at level 2, and simulator 1 is at level 0 again.
+    (PAIR, &[(0, ALL, false), (1, ALL, false)], &[(1, 2), (2, 2)]),
+    // Each simulator has counted three writes of each process, so each bit of the memory is 1.
+    (
+        FULL,
+        &[
+            (0, 380, false),
+            (1, ALL, false),
+            (2, ALL, false),
+            (3, ALL, false),
+        ],
+        &[(0, u64::MAX)],
+    ),
+];
+
 #[test]
 fn shared_words_in_order(rt: HostRuntime) -> Result<(), Fail> {
-    let half_done = [(0, 5, true), (1, ALL, false)];
-    let before = [(0, 4, true), (1, ALL, false)];
-    let resolved = [(0, 4, false), (1, ALL, false), (0, 5, true)];
-    let too_large = [(0, 2, false), (1, ALL, false), (0, ALL, false)];
-    let two_crash = [(0, 5, true), (1, 5, true), (2, ALL, false)];
-    // Each simulator proposes the step numbers that it has loaded by its third step.
-    let zero_first = [(0, 3, false), (1, 3, false), (0, 4, false), (1, 4, false)];
-    let one_first = [(1, 3, false), (0, 3, false), (0, 4, false), (1, 4, false)];
-    // In both agreements simulator 0 stays at level 2, and simulator 1 is at level 0 again.
-    let late = [(0, ALL, false), (1, ALL, false)];
-    // Each simulator has counted three writes of each process, so each bit of the memory is 1.
-    let full = [
-        (0, 380, false),
-        (1, ALL, false),
-        (2, ALL, false),
-        (3, ALL, false),
-    ];
-    for (text, order, wanted) in [
-        (PAIR, half_done.as_slice(), [].as_slice()),
-        (PAIR, before.as_slice(), [].as_slice()),
-        (PAIR, resolved.as_slice(), [].as_slice()),
-        (TWO, too_large.as_slice(), [].as_slice()),
-        (THREE, two_crash.as_slice(), [].as_slice()),
-        (WRITER, [(0, ALL, false)].as_slice(), [].as_slice()),
-        (PAIR, zero_first.as_slice(), [(3, 1), (6, 9)].as_slice()),
-        (PAIR, one_first.as_slice(), [(3, 9), (6, 8)].as_slice()),
-        (PAIR, late.as_slice(), [(1, 2), (2, 2)].as_slice()),
-        (FULL, full.as_slice(), [(0, u64::MAX)].as_slice()),
-    ] {
+    for (text, order, wanted) in &ROWS {
         assert!(rt;
             leaves(rt.alloc(), text, order, wanted)?,
             "{order:?} in {text}"

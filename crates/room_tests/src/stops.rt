@@ -73,24 +73,37 @@ fn driven<G: Gate>(
 const SHORT: &str =
     "bgsim 1\nroom pair\ninputs 7 3\nsimulators 2\nrounds 1\nturns 1\nprotocol\nfirst input;\nelse decide min;\nend\n";
 
+/// Whether simulator 0, driven alone with this fuse, stops for this reason, after these steps and turns, and simulator 1 has taken none.
+fn stops_so(
+    alloc: Global,
+    text: &str,
+    fuse: Fuse,
+    wanted: &str,
+    taken: (u64, u64),
+) -> Result<bool, Fail> {
+    let (room, stop) = driven(alloc, text, 0, fuse, &FreeGate)?;
+    Ok(
+        stop == wanted
+            && state_of(&room, 0) == Some((taken.0, taken.1, false))
+            && state_of(&room, 1) == Some((0, 0, false)),
+    )
+}
+
 #[test]
 fn driven_until_it_stops(rt: HostRuntime) -> Result<(), Fail> {
-    for (text, fuse, wanted, steps, turns) in [
-        (PAIR, Fuse::none(), "idle", 23, 2),
-        (PAIR, Fuse::after(24), "idle", 23, 2),
-        (PAIR, Fuse::after(23), "crashed", 23, 2),
-        (PAIR, Fuse::after(5), "crashed", 5, 1),
-        (PAIR, Fuse::after(0), "crashed", 0, 0),
-        (SHORT, Fuse::none(), "out of turns", 11, 1),
-        (FULL, Fuse::after(381), "idle", 380, 24),
+    for (text, fuse, wanted, taken) in [
+        (PAIR, Fuse::none(), "idle", (23, 2)),
+        (PAIR, Fuse::after(24), "idle", (23, 2)),
+        (PAIR, Fuse::after(23), "crashed", (23, 2)),
+        (PAIR, Fuse::after(5), "crashed", (5, 1)),
+        (PAIR, Fuse::after(0), "crashed", (0, 0)),
+        (SHORT, Fuse::none(), "out of turns", (11, 1)),
+        (FULL, Fuse::after(381), "idle", (380, 24)),
     ] {
-        let (room, stop) = driven(rt.alloc(), text, 0, fuse, &FreeGate)?;
-        let found = state_of(&room, 0);
         assert!(rt;
-            stop == wanted && found == Some((steps, turns, false)),
-            "{stop}, {found:?}"
+            stops_so(rt.alloc(), text, fuse, wanted, taken)?,
+            "{wanted} in {text}"
         );
-        assert!(rt; state_of(&room, 1) == Some((0, 0, false)));
     }
     Ok(())
 }

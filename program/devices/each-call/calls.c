@@ -1,6 +1,6 @@
 /* Between the program and the C library: notes each read of descriptor 0, each write of descriptor 1 and each thread that is started as a letter on
    descriptor 9. With SLOW=1 each such read and write moves a byte at most. The read or write whose number, from 0, is in FAILED_READ or FAILED_WRITE
-   fails, with FAILED_WRITE=none the first write takes nothing, and with FAILED_WRITE=interrupted it is interrupted. It is loaded before the C library. */
+   fails; with the value `interrupted` the first one is interrupted, and with FAILED_WRITE=none the first write takes nothing. It is loaded before the C library. */
 typedef unsigned long size_t;
 extern long __read(int, void *, size_t), __write(int, const void *, size_t);
 extern char *getenv(const char *);
@@ -39,6 +39,8 @@ long read(int from, void *bytes, size_t size) {
     note("r");
     if (is_number("FAILED_READ", reads++))
         return fails(5); /* EIO */
+    if (reads == 1 && begins("FAILED_READ", 'i'))
+        return fails(4); /* EINTR */
     return __read(from, bytes, moved(size));
 }
 
@@ -49,7 +51,7 @@ long write(int to, const void *bytes, size_t size) {
     if (is_number("FAILED_WRITE", writes++))
         return fails(5);
     if (writes == 1 && begins("FAILED_WRITE", 'i'))
-        return fails(4); /* EINTR */
+        return fails(4);
     if (writes == 1 && begins("FAILED_WRITE", 'n'))
         return 0;
     return __write(to, bytes, moved(size));
