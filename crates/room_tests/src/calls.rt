@@ -84,21 +84,33 @@ fn closes(alloc: Global, service: &mut Service, room: &str) -> Result<bool, Fail
     Ok(matches!(service.apply(alloc, command), Reply::Closed))
 }
 
+/// Opens three rooms and closes one, and says whether that was done.
+fn fill(alloc: Global, service: &mut Service) -> Result<bool, Fail> {
+    Ok(
+        opens(alloc, service, ONE)?
+            && opens(alloc, service, PAIR)?
+            && opens(alloc, service, FULL)?
+            && closes(alloc, service, "pair")?,
+    )
+}
+
 fn has_room(rooms: &IndexMap<Name, RoomCore>, room: &str) -> Option<bool> {
     let name = Name::read(room.as_bytes())?;
     Some(rooms.contains_key(&name))
 }
 
+fn are_left(rooms: &IndexMap<Name, RoomCore>) -> bool {
+    rooms.len() == 2
+        && has_room(rooms, "one") == Some(true)
+        && has_room(rooms, "pair") == Some(false)
+        && has_room(rooms, "full") == Some(true)
+}
+
 #[test]
 fn rooms_that_are_left(rt: HostRuntime) -> Result<(), Fail> {
     let mut service = Service::new(rt.alloc());
-    for text in [ONE, PAIR, FULL] {
-        assert!(rt; opens(rt.alloc(), &mut service, text)?);
-    }
-    assert!(rt; closes(rt.alloc(), &mut service, "pair")?);
-    let rooms = service.into_rooms();
-    assert!(rt; rooms.len() == 2 && has_room(&rooms, "one") == Some(true));
-    assert!(rt; has_room(&rooms, "pair") == Some(false) && has_room(&rooms, "full") == Some(true));
+    assert!(rt; fill(rt.alloc(), &mut service)?);
+    assert!(rt; are_left(&service.into_rooms()));
     Ok(())
 }
 
@@ -133,6 +145,13 @@ fn prints(alloc: Global, text: &str, printed: &str) -> Result<bool, AllocError> 
     Ok(once.as_str() == printed && twice.as_str() == printed)
 }
 
+/// Whether a chain of two thousand operators and a protocol of the most rules are printed as they are.
+fn prints_long_ones(alloc: Global) -> Result<bool, AllocError> {
+    let chain = repeated(alloc, "first1", "-1", 2000, ";else decide n;")?;
+    let rules = repeated(alloc, "first1;", "when1==1write1;", 32, "else write1;")?;
+    Ok(prints(alloc, &chain, &chain)? && prints(alloc, &rules, &rules)?)
+}
+
 #[test]
 fn shortest_texts(rt: HostRuntime) -> Result<(), Fail> {
     for (text, printed) in [
@@ -155,10 +174,7 @@ fn shortest_texts(rt: HostRuntime) -> Result<(), Fail> {
     ] {
         assert!(rt; prints(rt.alloc(), text, printed)?, "{text}");
     }
-    let chain = repeated(rt.alloc(), "first1", "-1", 2000, ";else decide n;")?;
-    assert!(rt; prints(rt.alloc(), &chain, &chain)?);
-    let rules = repeated(rt.alloc(), "first1;", "when1==1write1;", 32, "else write1;")?;
-    assert!(rt; prints(rt.alloc(), &rules, &rules)?);
+    assert!(rt; prints_long_ones(rt.alloc())?);
     Ok(())
 }
 
