@@ -1,5 +1,5 @@
 -- How the program ends, by the words that it is given and the input that they name.
-use Rattle.std.specs.Prelude.{◌≡◌, ◌≢◌, ◌⊎◌, ℕ, Bool, List, [], Option, Some, None, Result, Err, IfSome}
+use Rattle.std.specs.Prelude.{◌≡◌, ◌≢◌, ◌⊎◌, ℕ, Bool, List, [], Option, Some, None, Result, Err, IfSome, IsSome}
 use Rattle.std.specs.Io.KnownBytes.{Appends}
 use Rattle.clap.specs.Kinds.{IsAmong}
 use Rattle.clap.specs.Words.{subcommand_of}
@@ -42,12 +42,12 @@ abbrev pub input_named : Option (List ℕ) → (List ℕ → Option (List ℕ)) 
 input_named standard file None = standard
 input_named standard file (Some path) = file path
 
--- it was not opened, and nothing is written; or it is answered, if what it gives is known
-abbrev pub IsReadOrNot : Mode → ℕ → Option (List ℕ) → Result Outcome IoFault → Writes → Type 0
-IsReadOrNot mode workers input result writes = ((result ≡ Err Read) × HasAppended writes []) ⊎ IfSome input (λ bytes. IsAnswered mode workers bytes result writes)
+-- the words name a file, which was not opened, and nothing is written; or the input is answered, if what it gives is known
+abbrev pub IsReadOrNot : Mode → ℕ → Option (List ℕ) → Option (List ℕ) → Result Outcome IoFault → Writes → Type 0
+IsReadOrNot mode workers file input result writes = (IsSome file × (result ≡ Err Read) × HasAppended writes []) ⊎ IfSome input (λ bytes. IsAnswered mode workers bytes result writes)
 
 -- The exit status for these words: that of what they ask for; or they ask for nothing, for a reason of this kind. Words that are plainly
--- a mode and a file are refused only if memory ends.
+-- a mode and a file are refused only if memory ends. Of words that are refused nothing is written.
 pub data IsStatusFor (standard : Option (List ℕ)) (file : List ℕ → Option (List ℕ)) (words : List (List ℕ)) (writes : Writes) (status : ℕ) : Type 0 where
-  done : (asked : Asked) (result : Result Outcome IoFault) → words_fault words ≡ [] → AreAsked words asked → IsReadOrNot asked.mode asked.workers (input_named standard file asked.file) result writes → status ≡ ending_status result → IsStatusFor standard file words writes status
-  refused : (kind : ErrorKind) (is_printed : Bool) → (kind ≡ OutOfMemory) ⊎ IsAmong kind (words_fault words) → ((mode : Mode) → IsPlainly words mode → kind ≡ OutOfMemory) → status ≡ words_status kind is_printed → IsStatusFor standard file words writes status
+  done : (asked : Asked) (result : Result Outcome IoFault) → words_fault words ≡ [] → AreAsked words asked → IsReadOrNot asked.mode asked.workers asked.file (input_named standard file asked.file) result writes → status ≡ ending_status result → IsStatusFor standard file words writes status
+  refused : (kind : ErrorKind) (is_printed : Bool) → (kind ≡ OutOfMemory) ⊎ IsAmong kind (words_fault words) → ((mode : Mode) → IsPlainly words mode → kind ≡ OutOfMemory) → HasAppended writes [] → status ≡ words_status kind is_printed → IsStatusFor standard file words writes status

@@ -75,7 +75,7 @@ fn ending<H: Threads + Wait + Sync, I: Inputs, W: Write>(
     line: &Line<'_>,
 ) -> Result<Outcome, IoFault>
     requires { writer.old.failed ≡ false }
-    ensures { IsReadOrNot line.now.command line.now.workers
+    ensures { IsReadOrNot line.now.command line.now.workers (option_map (λ file. file.now) line.now.file)
         (input_named (I.standard_bytes inputs.now) (I.file_bytes inputs.now) (option_map (λ file. file.now) line.now.file)) result
         (record { before = W.contents writer.old.inner; after = W.contents writer.new.inner }) }
 {

@@ -2,7 +2,7 @@
 use Rattle.std.specs.Prelude.{◌≡◌, ◌<◌, ◌^◌, ℕ, pos, Bool, true, false, List, [], Option, None, Some, codes, option_and_then, unwrap_or, if◌then◌else◌}
 use Rattle.std.specs.Option.{option_map_or}
 use Rattle.std.specs.Str.{bytes_eq}
-use Rattle.std.specs.Str.Parse.{IsNumeral, digits_value, without_leading_plus}
+use Rattle.std.specs.Str.Parse.{IsNumeral, signed_digits_value, without_leading_sign}
 use Rattle.clap.specs.Lexer.{usize_max}
 use Rattle.clap.specs.Words.{App, Row, Rule, Shape, all_of, first_of, new_app, new_rule, with_rule, with_subcommand}
 use Rattle.clap.specs.declared.builder.action.ArgAction.TheVariants.{SetTrue}
@@ -144,16 +144,21 @@ other_among found = value_among (codes "OTHER") found
 abbrev pub codes_among : Option (List ℕ × List Row) → List (List ℕ)
 codes_among found = unwrap_or (option_and_then (λ sub. all_of (codes "CODE") sub.1) found) []
 
+-- The text is a numeral, which may have a sign, of this value. `clap` takes no other text for an option with a number: `-0` is 0.
+pub record IsValueOf (text : List ℕ) (value : ℕ) : Type 0 where
+  pub numeral : IsNumeral 10 (without_leading_sign text)
+  pub small : value < 2 ^ 32
+  pub is : signed_digits_value 10 text ≡ pos value
+
 -- the number that a text gives, or this one without a text
 abbrev pub IsNumber : Option (List ℕ) → ℕ → ℕ → Type 0
 IsNumber None default number = number ≡ default
-IsNumber (Some text) default number =
-    IsNumeral 10 (without_leading_plus text) → digits_value 10 (without_leading_plus text) < 2 ^ 32 → number ≡ digits_value 10 (without_leading_plus text)
+IsNumber (Some text) default number = (value : ℕ) → IsValueOf text value → number ≡ value
 
 -- the number that a text gives, or none without a text
 abbrev pub IsNumberIfAny : Option (List ℕ) → Option ℕ → Type 0
 IsNumberIfAny None number = number ≡ None
-IsNumberIfAny (Some text) number = IsNumeral 10 (without_leading_plus text) → digits_value 10 (without_leading_plus text) < 2 ^ 32 → number ≡ Some (digits_value 10 (without_leading_plus text))
+IsNumberIfAny (Some text) number = (value : ℕ) → IsValueOf text value → number ≡ Some value
 
 -- the flag is given
 abbrev pub is_given : Option (List ℕ) → Bool

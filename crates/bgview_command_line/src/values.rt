@@ -79,9 +79,12 @@ pub fn is_given(matches: &ArgMatches<'_>, name: &str) -> bool
     }
 }
 
-/// The number that a text gives. `clap` takes no text that is no number.
+/// The number that a text gives, which may have a sign. `clap` takes no text that is no number.
 fn number_in(text: &str, default: u32) -> u32
     ensures { IsNumber (Some text.now) default result }
 {
-    text.parse::<u32>().unwrap_or(default)
+    match text.parse::<i64>() {
+        Ok(number) => u32::try_from(number).unwrap_or(default),
+        Err(_) => default,
+    }
 }

@@ -1,12 +1,14 @@
 -- What could follow a part of a protocol's text.
 use Rattle.std.specs.Prelude.{ℕ, suc, ◌==◌, Bool, true, false, List, [], ◌∷◌, ◌++◌, length, map, Option, Some, None, Result, Ok, Err, nat_lt, codes, if◌then◌else◌}
-use Rattle.std.specs.List.{flat_map}
+use Rattle.std.specs.List.{flat_map, list_any}
 use Rattle.std.specs.Str.{bytes_eq}
 use Rattle.protocol_lang.specs.FirstFaults.{place_of}
 use Rattle.protocol_lang.specs.Reading.{reading}
 use Rattle.protocol_lang.specs.declared.fault.ParseFault.{ParseFault}
 use Rattle.protocol_lang.specs.declared.protocol.Protocol.{Protocol}
-use Rattle.fault_text.specs.declared.choices.TheConstants.{TOKENS}
+use Rattle.protocol_lang.specs.declared.token.Symbol.{Symbol}
+use Rattle.protocol_lang.specs.declared.token.Symbol.TheVariants.{Semicolon, Open, Close, Plus, Minus, Times, Divide, Remainder, Equal, NotEqual, Less, LessOrEqual, Greater, GreaterOrEqual}
+use Rattle.protocol_lang.specs.Tokens.{symbol_spelling, word_spelling, words}
 
 -- a fault is at a place, and that is after this one
 abbrev pub is_fault_behind : ℕ → Option ℕ → Bool
@@ -28,9 +30,21 @@ choice_words token = if bytes_eq token (codes "0") then codes " NUMBER" else cod
 abbrev pub choice_if : List ℕ → List ℕ → List ℕ
 choice_if before token = if can_stand before token then choice_words token else []
 
+-- the symbols in the order in which they are said
+abbrev pub said_symbols : List Symbol
+said_symbols = Open ∷ Close ∷ Semicolon ∷ Plus ∷ Minus ∷ Times ∷ Divide ∷ Remainder ∷ Equal ∷ NotEqual ∷ Less ∷ LessOrEqual ∷ Greater ∷ GreaterOrEqual ∷ []
+
+-- the tokens of the language: its words, a number for all numbers, and its symbols
+abbrev pub language_tokens : List (List ℕ)
+language_tokens = map word_spelling words ++ codes "0" ∷ map symbol_spelling said_symbols
+
+-- a token with this spelling is among them
+abbrev pub is_tried : List ℕ → Bool
+is_tried spelling = list_any (bytes_eq spelling) language_tokens
+
 -- the tokens that are allowed there
 unfoldable pub choices : List ℕ → List ℕ
-choices before = flat_map (choice_if before) (map (λ token. token.now) TOKENS)
+choices before = flat_map (choice_if before) language_tokens
 
 abbrev pub choices_words : List ℕ → List ℕ
 choices_words words = if length words == 0 then codes "nothing could stand there" else codes "what could stand there:" ++ words

@@ -8,7 +8,11 @@ use Rattle.room_files.specs.declared.fault.BlockFault.TheVariants as blocks
 use Rattle.fault_text.specs.Blocks.{block_fault, line_fault}
 use Rattle.fault_text.specs.Lines.{from_line, line_at}
 use Rattle.fault_text.specs.declared.refusals.RefusedBlock.{RefusedBlock}
-use Rattle.fault_text.specs.declared.refusals.TheConstants.{ENOUGH, IS_REFUSED, MOST_EXPLAINED, THE_BLOCK}
+use Rattle.fault_text.specs.declared.refusals.TheConstants.{ENOUGH, IS_REFUSED, THE_BLOCK}
+
+-- how many lines and blocks of an input are explained
+abbrev pub most_explained : ℕ
+most_explained = 100
 
 -- what is said of the fault, if the block may be valid but for its name
 abbrev pub why_said : ℕ → List ℕ → BlockFault → List ℕ
@@ -33,7 +37,7 @@ enough_if (refusal ∷ others) = ENOUGH.now
 
 -- what is said of all refused blocks of an input: the first are explained, and of each further one there is the line alone
 unfoldable pub said_refusals : List ℕ → List RefusedBlock → List ℕ
-said_refusals input refusals = all_said input (take MOST_EXPLAINED refusals) ++ (enough_if (drop MOST_EXPLAINED refusals) ++ flat_map refusal_line (drop MOST_EXPLAINED refusals))
+said_refusals input refusals = all_said input (take most_explained refusals) ++ (enough_if (drop most_explained refusals) ++ flat_map refusal_line (drop most_explained refusals))
 
 -- the same as lines for people alone, of the first
 unfoldable pub noted_refusal : List ℕ → RefusedBlock → List ℕ
@@ -43,7 +47,7 @@ abbrev pub all_noted : List ℕ → List RefusedBlock → List ℕ
 all_noted input refusals = flat_map (λ refusal. noted_refusal (from_line refusal.line input) refusal) refusals
 
 unfoldable pub noted_refusals : List ℕ → List RefusedBlock → List ℕ
-noted_refusals input refusals = all_noted input (take MOST_EXPLAINED refusals) ++ enough_if (drop MOST_EXPLAINED refusals)
+noted_refusals input refusals = all_noted input (take most_explained refusals) ++ enough_if (drop most_explained refusals)
 
 -- ---- rooms that there are not, since their blocks are refused
 
@@ -66,4 +70,4 @@ all_named input name refusals = flat_map (λ refusal. named_if name (from_line r
 
 -- the blocks of a room of this name that are refused, of those that are explained
 abbrev pub named_refusals : List ℕ → List ℕ → List RefusedBlock → List ℕ
-named_refusals input name refusals = all_named input name (take MOST_EXPLAINED refusals)
+named_refusals input name refusals = all_named input name (take most_explained refusals)

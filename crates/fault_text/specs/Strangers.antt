@@ -2,9 +2,8 @@
 use Rattle.std.specs.Prelude.{ℕ, ◌+◌, ◌==◌, Bool, List, [], ◌∷◌, ◌++◌, length, min, nat_lt, codes, decimal, if◌then◌else◌}
 use Rattle.std.specs.List.{flat_map, list_any}
 use Rattle.std.specs.Str.{bytes_eq}
-use Rattle.fault_text.specs.Refusals.{named_refusals}
+use Rattle.fault_text.specs.Refusals.{most_explained, named_refusals}
 use Rattle.fault_text.specs.declared.refusals.RefusedBlock.{RefusedBlock}
-use Rattle.fault_text.specs.declared.refusals.TheConstants.{MOST_EXPLAINED}
 
 -- the names that were met first, and how many more came with one of them
 pub record MetNames : Type 0 where
@@ -18,7 +17,7 @@ is_met name strangers = list_any (λ known. bytes_eq known name) strangers.names
 abbrev pub met : List ℕ → MetNames → MetNames
 met name strangers =
     if is_met name strangers then record { names = strangers.names; more = min (strangers.more + 1) 18446744073709551615 }
-    else if nat_lt (length strangers.names) MOST_EXPLAINED then record { names = strangers.names ++ name ∷ []; more = strangers.more }
+    else if nat_lt (length strangers.names) most_explained then record { names = strangers.names ++ name ∷ []; more = strangers.more }
     else strangers
 
 -- which blocks of rooms of these names are refused, of the first hundred

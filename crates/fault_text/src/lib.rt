@@ -5,6 +5,7 @@ mod blocks;
 mod choices;
 mod forms;
 mod hints;
+pub mod laws;
 mod lines;
 mod phrases;
 mod places;

@@ -6,6 +6,7 @@ pub use Rattle.room_core.proofs.fields.Decoding.{agrees}
 pub use Rattle.room_core.proofs.fields.FieldCalls.{calls_in_fields, fields_stand, opening_in_fields, step_in_fields}
 pub use Rattle.room_core.proofs.values.Knowing.{fields_known}
 pub use Rattle.room_core.proofs.values.LowValues.{fields_low, out_low}
+pub use Rattle.room_core.proofs.agreements.FixedTests.{fixed_aside, fixed_back, fixed_of, in_line, test_of}
 pub use Rattle.room_core.proofs.agreements.Promises.{rooms_agree}
 pub use Rattle.room_core.proofs.fields.Replays.{is_room, shapes, under_crash_at_end, under_line_at_end}
 pub use Rattle.room_core.proofs.agreements.Stages.{one_inside}
@@ -17,5 +18,6 @@ pub use Rattle.room_core.proofs.moments.Moments.{at_before, at_end, length-snoc}
 pub use Rattle.room_core.proofs.points.LastReads.{last_now, last_same, slice_get-push}
 pub use Rattle.room_core.proofs.points.OneProcess.{left_alone}
 pub use Rattle.room_core.proofs.points.RealTimes.{decision_stays}
+pub use Rattle.room_core.proofs.points.Growing.{GoesOn, goes_on}
 pub use Rattle.room_core.proofs.points.RoomPoints.{effects_at, timeline_of_run, timelines}
 pub use Rattle.room_core.proofs.settling.Following.{settling_follows, steps_follow}

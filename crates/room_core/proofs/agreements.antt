@@ -3,6 +3,7 @@ pub mod PhaseSteps
 pub mod Resolving
 pub mod Sound
 pub mod Fixing
+pub mod FixedTests
 pub mod Staying
 pub mod Deciding
 pub mod Exact

@@ -6,4 +6,6 @@ pub mod Timelines
 pub mod RoomPoints
 pub mod OneEffect
 pub mod RealTimes
+pub mod Growing
+pub mod InTurn
 pub mod OneProcess

@@ -7,7 +7,7 @@ use Rattle.protocol_lang.specs.Meaning.{first_value, next_action}
 use Rattle.protocol_lang.specs.declared.meaning.Action.{Action}
 use Rattle.protocol_lang.specs.declared.meaning.Action.TheVariants as actions
 use Rattle.room_spec.specs.Rooms.{RoomSpec, processes}
-use Rattle.safe_agreement.specs.Levels.{least_two}
+use Rattle.safe_agreement.specs.Levels.{has_level, least_two}
 use Rattle.safe_agreement.specs.Levels as agreement
 use Rattle.sim_memory.specs.Steps.{IsRowAtMost, merged_of, row_of}
 use Rattle.simulator.specs.declared.line.Line.{Line}
@@ -66,6 +66,17 @@ pub record IsFixedAt (spec : RoomSpec) (fields : Fields) (j k : ℕ) : Type 0 wh
   pub below : simulator < spec.simulators
   pub two : fields.level simulator j k ≡ 2
   pub seen : (i : ℕ) → i < spec.simulators → HasLookedBlind fields i j k → ⊥
+
+-- the same as a test
+abbrev pub leaves_blind : Line → Bool
+leaves_blind (Leave saw_two) = not saw_two
+leaves_blind line = false
+
+abbrev pub has_looked_blind : Fields → ℕ → ℕ → ℕ → Bool
+has_looked_blind fields i j k = leaves_blind (fields.mind i).line && (((fields.mind i).process == j) && (current_round (fields.mind i) == k))
+
+abbrev pub is_fixed : RoomSpec → Fields → ℕ → ℕ → Bool
+is_fixed spec fields j k = has_level 2 (levels_at spec fields j k) && not (list_any (λ i. has_looked_blind fields i j k) (range_with_len 0 spec.simulators))
 
 -- ---- what it shows
 
@@ -127,12 +138,14 @@ DoCompare row other = IsRowAtMost row other ⊎ IsRowAtMost other row
 
 -- What makes the history of these fields a run: what each row shows, and why each write and each decision was made.
 pub record HasAgreed (spec : RoomSpec) (fields : Fields) : Type 0 where
+  -- whatever was passed is fixed
+  pub passed_is_fixed : (j k : ℕ) → j < processes spec → 1 ≤ k → is_passed spec fields j k ≡ true → IsFixedAt spec fields j k
   -- a row shows of its own process the writes up to its round
-  pub own_entry_is_exact : (j k : ℕ) → j < processes spec → 1 ≤ k → k ≤ spec.rounds → is_passed spec fields j k ≡ true → slice_index (row_at spec fields j k) j ≡ k
-  pub snapshots_compare : (j k p r : ℕ) → j < processes spec → 1 ≤ k → k ≤ spec.rounds → is_passed spec fields j k ≡ true → p < processes spec → 1 ≤ r → r ≤ spec.rounds → is_passed spec fields p r ≡ true
+  pub own_entry_is_exact : (j k : ℕ) → j < processes spec → 1 ≤ k → k ≤ spec.rounds → IsFixedAt spec fields j k → slice_index (row_at spec fields j k) j ≡ k
+  pub snapshots_compare : (j k p r : ℕ) → j < processes spec → 1 ≤ k → k ≤ spec.rounds → IsFixedAt spec fields j k → p < processes spec → 1 ≤ r → r ≤ spec.rounds → IsFixedAt spec fields p r
       → DoCompare (row_at spec fields j k) (row_at spec fields p r)
   -- a row shows no write that no simulator has counted
-  pub row_is_within : (j k p : ℕ) → j < processes spec → 1 ≤ k → k ≤ spec.rounds → is_passed spec fields j k ≡ true → p < processes spec → slice_index (row_at spec fields j k) p ≤ greatest_step spec fields p
+  pub row_is_within : (j k p : ℕ) → j < processes spec → 1 ≤ k → k ≤ spec.rounds → IsFixedAt spec fields j k → p < processes spec → slice_index (row_at spec fields j k) p ≤ greatest_step spec fields p
   pub steps_are_within : (p : ℕ) → p < processes spec → greatest_step spec fields p ≤ spec.rounds
   pub first_is_due : (p : ℕ) → p < processes spec → 1 ≤ greatest_step spec fields p → written spec fields p 1 ≡ first_value spec.protocol (slice_index spec.inputs p) p (processes spec)
   pub next_is_due : (p r : ℕ) → p < processes spec → 1 ≤ r → r < greatest_step spec fields p → asks spec fields p r ≡ actions.Write (written spec fields p (r + 1))

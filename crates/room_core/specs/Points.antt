@@ -8,7 +8,7 @@ use Rattle.simulator.specs.Minds.{current_round}
 use Rattle.simulator.specs.Turns.{words_in}
 use Rattle.room_core.specs.Rooms.{ScheduleEvent, steps, crashes}
 use Rattle.room_core.specs.Fields.{Fields}
-use Rattle.room_core.specs.Agreements.{decided_in, greatest_step, has_out, is_passed, shown_of}
+use Rattle.room_core.specs.Agreements.{IsFixedAt, decided_in, greatest_step, has_out, is_fixed, shown_of}
 use Rattle.room_core.specs.Moments.{fields_at}
 
 -- ---- when a proposal was read
@@ -55,24 +55,27 @@ pub data Point : Type 0 where
   Snaps : (p r : ℕ) → Point
   Decides : (p decision : ℕ) → Point
 
--- of these agreements the one on the snapshot of process p in round r was passed
-pub record IsPassedIn (n rounds : ℕ) (passed : ℕ → ℕ → Bool) (p r : ℕ) : Type 0 where
+-- of these agreements the one on the snapshot of process p in round r is fixed
+pub record IsFixedIn (n rounds : ℕ) (fixed : ℕ → ℕ → Bool) (p r : ℕ) : Type 0 where
   pub process : p < n
   pub first : 1 ≤ r
   pub last : r ≤ rounds
-  pub is : passed p r ≡ true
+  pub is : fixed p r ≡ true
 
--- the snapshot of process p in round r is agreed on in these fields
-abbrev pub HasPassed : RoomSpec → Fields → ℕ → ℕ → Type 0
-HasPassed spec fields p r = IsPassedIn (processes spec) spec.rounds (is_passed spec fields) p r
+-- the agreement on the snapshot of process p in round r is fixed in these fields: what it shows can't change any more
+pub record HasFixed (spec : RoomSpec) (fields : Fields) (p r : ℕ) : Type 0 where
+  pub process : p < processes spec
+  pub first : 1 ≤ r
+  pub last : r ≤ spec.rounds
+  pub is : IsFixedAt spec fields p r
 
 -- What takes effect at the step of this time; `final` are the fields in the end. A write takes effect at the step by which it is first
--- counted; a snapshot that is agreed on in the end, at the step by which the proposal that was chosen was read; a decision at the step by
+-- counted; a snapshot whose agreement is fixed in the end, at the step by which the proposal that was chosen was read; a decision at the step by
 -- which it is first stored.
 pub data TakesEffect (spec : RoomSpec) (schedule : List ScheduleEvent) (final : Fields) (time : ℕ) : Point → Type 0 where
   write_counted : (p r : ℕ) → p < processes spec → greatest_step spec (fields_at spec schedule time) p < r → greatest_step spec (fields_at spec schedule (time + 1)) p ≡ r
       → TakesEffect spec schedule final time (Writes p r)
-  snapshot_read : (p r : ℕ) → HasPassed spec final p r → read_time spec schedule final p r ≡ time → TakesEffect spec schedule final time (Snaps p r)
+  snapshot_read : (p r : ℕ) → HasFixed spec final p r → read_time spec schedule final p r ≡ time → TakesEffect spec schedule final time (Snaps p r)
   decision_stored : (p decision : ℕ) → p < processes spec → has_out spec (fields_at spec schedule time) p ≡ false → has_out spec (fields_at spec schedule (time + 1)) p ≡ true → decided_in spec final p ≡ Some decision
       → TakesEffect spec schedule final time (Decides p decision)
 
@@ -87,7 +90,7 @@ pub data AreEffects (spec : RoomSpec) (schedule : List ScheduleEvent) (final : F
 -- by this step the snapshot was read that is agreed on in the end
 abbrev pub is_read : RoomSpec → List ScheduleEvent → Fields → ℕ → ℕ → ℕ → ℕ → Bool
 is_read spec schedule final time i j k =
-    (reads_at spec schedule time i j k && is_passed spec final j k) && ((shown_of spec final j k == i) && (read_time spec schedule final j k == time))
+    (reads_at spec schedule time i j k && is_fixed spec final j k) && ((shown_of spec final j k == i) && (read_time spec schedule final j k == time))
 
 abbrev pub decision_of : ℕ → Option ℕ → List Point
 decision_of p None = []

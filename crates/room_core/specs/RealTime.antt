@@ -1,11 +1,11 @@
 -- Real time: when a simulated write, snapshot or decision begins, and when it has ended (Herlihy and Wing 1990).
-use Rattle.std.specs.Prelude.{◌≡◌, ◌⊎◌, ℕ, ◌<◌, ◌≤◌, true, List, length}
-use Rattle.room_spec.specs.Rooms.{RoomSpec}
+use Rattle.std.specs.Prelude.{◌≡◌, ◌⊎◌, ℕ, ◌<◌, ◌≤◌, true, List, length, Some}
+use Rattle.room_spec.specs.Rooms.{RoomSpec, processes}
 use Rattle.simulator.specs.declared.line.Line.TheVariants.{Raise}
 use Rattle.simulator.specs.Minds.{current_round}
 use Rattle.room_core.specs.Rooms.{ScheduleEvent}
 use Rattle.room_core.specs.Fields.{Fields}
-use Rattle.room_core.specs.Agreements.{IsFixedAt, greatest_step, has_out}
+use Rattle.room_core.specs.Agreements.{IsFixedAt, decided_in, greatest_step, has_out}
 use Rattle.room_core.specs.Moments.{fields_at}
 use Rattle.room_core.specs.Points.{Point, Writes, Snaps, Decides}
 
@@ -26,6 +26,12 @@ abbrev pub HasEnded : RoomSpec → Fields → Point → Type 0
 HasEnded spec fields (Writes p r) = r ≤ greatest_step spec fields p
 HasEnded spec fields (Snaps p r) = IsFixedAt spec fields p r
 HasEnded spec fields (Decides p decision) = has_out spec fields p ≡ true
+
+-- a write or snapshot of one of the room's processes, within its rounds, or the decision that a process has in the end
+abbrev pub IsOperation : RoomSpec → Fields → Point → Type 0
+IsOperation spec final (Writes p r) = (p < processes spec) × (1 ≤ r)
+IsOperation spec final (Snaps p r) = (p < processes spec) × (1 ≤ r) × (r ≤ spec.rounds)
+IsOperation spec final (Decides p decision) = (p < processes spec) × (decided_in spec final p ≡ Some decision)
 
 -- In real time the one is before the other: at some moment it had ended, and the other had not begun.
 pub record Precedes (spec : RoomSpec) (schedule : List ScheduleEvent) (one other : Point) : Type 0 where

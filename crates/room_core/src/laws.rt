@@ -3,7 +3,7 @@ ghost use Rattle.std.specs.Prelude.{length, slice_index, false, ℕ, ◌≡◌, 
 ghost use Rattle.room_spec.specs.Rooms.{IsCertified, RoomSpec, IsWithinLimits, processes};
 ghost use Rattle.safe_agreement.specs.Levels.{IsClean, least_two};
 ghost use Rattle.room_core.specs.Contents.{IsDue};
-ghost use Rattle.room_core.specs.Agreements.{AgreementsStay, DoCompare, HasAgreed, IsFixedAt, IsInsideTurn, asks, greatest_step, has_out, is_clean, is_passed, row_at, shown_of, view_at};
+ghost use Rattle.room_core.specs.Agreements.{AgreementsStay, DoCompare, HasAgreed, IsFixedAt, IsInsideTurn, asks, greatest_step, has_out, is_clean, is_fixed, is_passed, row_at, shown_of, view_at};
 ghost use Rattle.protocol_lang.specs.Numbers.{greatest};
 ghost use Rattle.protocol_lang.specs.declared.meaning.Action.TheVariants.{Decide, Write};
 ghost use Rattle.simulator.specs.Minds.{goal_at};
@@ -12,8 +12,8 @@ ghost use Rattle.room_core.specs.Moments.{IsMoment, IsScan, fields_at};
 ghost use Rattle.room_core.specs.Counting.{events_so_far};
 ghost use Rattle.room_core.specs.Observing.{Follow, steps_of_settling, steps_of_steps};
 ghost use Rattle.room_core.specs.declared.reply.StepReply.TheVariants.{Stepped};
-ghost use Rattle.room_core.specs.Points.{AreEffects, HasPassed, Point, TakesEffect, points_at, read_time, reads_at};
-ghost use Rattle.room_core.specs.RealTime.{HasBegun, HasEnded, Precedes};
+ghost use Rattle.room_core.specs.Points.{AreEffects, Decides, HasFixed, Point, Snaps, TakesEffect, Writes, points_at, read_time, reads_at};
+ghost use Rattle.room_core.specs.RealTime.{HasBegun, HasEnded, IsOperation, Precedes};
 ghost use Rattle.room_core.specs.Timelines.{IsTimeline, timeline_of};
 ghost use Rattle.simulator.specs.Minds.{current_round};
 ghost use Rattle.simulator.specs.declared.line.Line.TheVariants.{Rest, Show};
@@ -287,16 +287,16 @@ pub fn points()
         AreEffects room.spec are.run.schedule fields time (points_at room.spec are.run.schedule fields time) }
     // A snapshot was read by a step of the simulator whose proposal was chosen,
     ensures read { (room : RoomState) (fields : Fields) →
-        IsWithinLimits room.spec → (are : AreFieldsOf room fields) → (j k : ℕ) → HasPassed room.spec fields j k →
+        IsWithinLimits room.spec → (are : AreFieldsOf room fields) → (j k : ℕ) → HasFixed room.spec fields j k →
         (read_time room.spec are.run.schedule fields j k < length are.run.schedule) ×
         (reads_at room.spec are.run.schedule (read_time room.spec are.run.schedule fields j k) (shown_of room.spec fields j k) j k ≡ true) }
     // after its process's write of the round had been counted, and before the next one was,
     ensures counted { (room : RoomState) (fields : Fields) →
-        IsWithinLimits room.spec → (are : AreFieldsOf room fields) → (j k : ℕ) → HasPassed room.spec fields j k →
+        IsWithinLimits room.spec → (are : AreFieldsOf room fields) → (j k : ℕ) → HasFixed room.spec fields j k →
         greatest_step room.spec (fields_at room.spec are.run.schedule (read_time room.spec are.run.schedule fields j k)) j ≡ k }
     // and before its agreement was fixed, so before any simulator could find it resolved.
     ensures fixed { (room : RoomState) (fields : Fields) →
-        IsWithinLimits room.spec → (are : AreFieldsOf room fields) → (j k time : ℕ) → HasPassed room.spec fields j k →
+        IsWithinLimits room.spec → (are : AreFieldsOf room fields) → (j k time : ℕ) → HasFixed room.spec fields j k →
         time ≤ length are.run.schedule → IsFixedAt room.spec (fields_at room.spec are.run.schedule time) j k →
         read_time room.spec are.run.schedule fields j k < time }
     // What a snapshot shows had been counted when it was read; and whatever else crates above rest on.
@@ -323,6 +323,41 @@ pub fn real_time()
         IsWithinLimits room.spec → (are : AreFieldsOf room fields) → (one other : Point) (s t : ℕ) → s < length are.run.schedule →
         TakesEffect room.spec are.run.schedule fields s one → TakesEffect room.spec are.run.schedule fields t other →
         Precedes room.spec are.run.schedule one other → s < t }
+{}
+
+/// The operations of a process follow one another: when a write after the first begins, or a decision, the snapshot before it has ended; and
+/// when a snapshot begins, its write has.
+pub fn operations_follow()
+    ensures writes { (room : RoomState) (fields : Fields) →
+        IsWithinLimits room.spec → AreFieldsOf room fields → (p r : ℕ) → p < processes room.spec → 1 ≤ r →
+        HasBegun room.spec fields (Writes p (r + 1)) → HasEnded room.spec fields (Snaps p r) }
+    ensures snaps { (spec : RoomSpec) (fields : Fields) (p r : ℕ) → HasBegun spec fields (Snaps p r) → HasEnded spec fields (Writes p r) }
+    ensures decides { (room : RoomState) (fields : Fields) →
+        IsWithinLimits room.spec → AreFieldsOf room fields → (p decision : ℕ) → p < processes room.spec →
+        HasBegun room.spec fields (Decides p decision) → HasEnded room.spec fields (Snaps p (greatest_step room.spec fields p)) }
+{}
+
+/// Each operation that has ended takes effect (Herlihy and Wing 1990): each write that was counted, each snapshot whose agreement is fixed, and
+/// each decision that is stored, at a step before it had ended.
+pub fn complete()
+    ensures { (room : RoomState) (fields : Fields) →
+        IsWithinLimits room.spec → (are : AreFieldsOf room fields) → (moment : ℕ) (point : Point) → moment ≤ length are.run.schedule →
+        IsOperation room.spec fields point → HasEnded room.spec (fields_at room.spec are.run.schedule moment) point →
+        (time : ℕ) × (time < moment) × TakesEffect room.spec are.run.schedule fields time point }
+{}
+
+/// What takes effect in a schedule still does when the schedule goes on, at the same step.
+pub fn grows()
+    ensures { (room later : RoomState) (fields final : Fields) →
+        IsWithinLimits room.spec → (are : AreFieldsOf room fields) → (ares : AreFieldsOf later final) → room.spec ≡ later.spec →
+        (more : List ScheduleEvent) → ares.run.schedule ≡ are.run.schedule ++ more → (time : ℕ) (point : Point) →
+        time < length are.run.schedule → TakesEffect room.spec are.run.schedule fields time point →
+        TakesEffect later.spec ares.run.schedule final time point }
+{}
+
+/// An agreement is fixed exactly if the test says so.
+pub fn fixed_as_test()
+    ensures { (spec : RoomSpec) (fields : Fields) (j k : ℕ) → (is_fixed spec fields j k ≡ true) ↔ IsFixedAt spec fields j k }
 {}
 
 /// A schedule has as many events as its simulators have taken atomic steps and crashed.

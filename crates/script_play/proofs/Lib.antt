@@ -1,4 +1,5 @@
 pub mod CallerLemmas
 mod Commands
+mod OwnBlocks
 mod Playing
 mod Scripts

@@ -114,9 +114,9 @@ IsPlayFor input ending output = (entries : List Entry) × (script_says input ≡
 
 -- ---- the one that executes the commands
 
--- a block says this room
+-- these bytes are a block that says this room, and nothing more
 abbrev pub IsBlockOf : RoomSpec → List ℕ → Type 0
-IsBlockOf spec block = (len : ℕ) × (block_in block ≡ Ok (spec, len))
+IsBlockOf spec block = block_in block ≡ Ok (spec, length block)
 
 abbrev pub OpensNone : Command → Type 0
 OpensNone (Begin spec) = ⊥

@@ -77,6 +77,7 @@ impl<P: Performs> Player<P> {
     }
 
     /// Opens the room of a block whose first line has this number.
+    #[tactic(auto, using(crate::proofs::OwnBlocks::block_within, crate::proofs::OwnBlocks::own_block))]
     #[inline(never)]
     fn open(&mut self, alloc: Global, number: u64, block: &[u8]) -> Result<(), AllocError>
         ensures { OnOk result (PlaysOn (Open number block.now)
@@ -84,7 +85,7 @@ impl<P: Performs> Player<P> {
             (HasPlayed (P.rooms self.new.performer) (P.has_done self.new.performer) self.new.ending)) }
     {
         match read_room(alloc, block) {
-            Ok(Ok((spec, _))) => self.begin(alloc, block, spec),
+            Ok(Ok((spec, len))) => self.begin(alloc, &block[..len], spec),
             Ok(Err(fault)) => {
                 self.ending = self.ending.and(Ok(Outcome::SomeRefused));
                 self.performer.refuse(number, fault)

@@ -30,7 +30,7 @@ pub trait Performs: Drop {
     // This is all that was done, in order.
     ghost has_done: { Self → List Done → Type 0 };
 
-    /// Opens the room that a block says. Gives why it was refused, if it was.
+    /// Opens the room that these bytes of a block say. Gives why it was refused, if it was.
     fn open(
         &mut self,
         alloc: Global,

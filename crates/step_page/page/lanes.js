@@ -54,14 +54,15 @@ function drawLane(room, simulator, first, count, y) {
   return lane;
 }
 
-// An event in the lane of its process, tied to the square of the step at which it takes effect. One that isn't known yet is paler.
+// An event in the lane of its process, tied to the square of the step at which it takes effect. One that isn't known yet is paler; one that
+// a report doesn't have yet has a dashed border.
 function drawEvent(room, event, first, count, y, left) {
   const x = LEFT + (event.at - first) * SQUARE + SQUARE / 2;
   const hue = hueOf(event.process);
   const from = TOP + room.moments[event.at].simulator * LANE + 24;
   const filled = event.text.startsWith('decide');
   return `<g opacity="${event.known < count ? 1 : 0.35}"><path d="M ${x} ${from} L ${Math.max(x, left + 8)} ${y}" stroke="${hue}" stroke-dasharray="2 3"/>`
-    + `<rect x="${left}" y="${y}" width="${widthOf(event)}" height="20" rx="${event.text.startsWith('snap') ? 10 : 3}" fill="${filled ? hue : 'var(--paper)'}" stroke="${hue}"/>`
+    + `<rect x="${left}" y="${y}" width="${widthOf(event)}" height="20" rx="${event.text.startsWith('snap') ? 10 : 3}" fill="${filled ? hue : 'var(--paper)'}" stroke="${hue}"${room.unreported.has(event.at) ? ' stroke-dasharray="4 2"' : ''}/>`
     + textAt(left + 5, y + 14, event.text, `font-family="monospace" font-size="12" fill="${filled ? 'var(--paper)' : 'var(--ink)'}"`) + '</g>';
 }
 
@@ -84,6 +85,7 @@ function drawLanes(room, count) {
   const height = top + room.inputs.length * EVENTS + 6;
   const width = LEFT + (Math.min(total, layout.columns) + 1) * SQUARE + 60;
   room.events ??= eventsOf(stateAt(room, total), room);
+  room.unreported = new Set(eventsOf(stateAt(room, count), room).filter(event => !event.isReported).map(event => event.at));
   const events = room.events.filter(event => event.at >= first && event.at < first + layout.columns);
   const now = LEFT + (count - first) * SQUARE;
   return `<svg viewBox="0 0 ${Math.max(width, layout.width)} ${height}" role="img" aria-label="Lanes of simulators and processes" font-family="Helvetica, Arial, sans-serif" font-size="14">`

@@ -7,14 +7,18 @@ function stepNumbers(room, state, moment) {
   return section('Step numbers', table(['', ...range(room.inputs.length).map(p => 'p' + p)], rows));
 }
 
-// The state of an agreement: open, blocked for ever, or resolved.
+const named = simulators => (simulators.length === 1 ? 'simulator ' : 'simulators ') + simulators.join(', ').replace(/, (\d+)$/, ' and $1');
+
+// The state of an agreement: open, fixed, resolved, or blocked for ever.
 function resultOf(state, key, levels) {
   const chosen = state.chosen.get(key);
-  const inside = levels.indexOf(1);
-  if (chosen) return `resolved: the proposal of simulator ${chosen.simulator}`;
-  if (inside < 0) return 'no proposal stands';
-  const blocker = levels.findIndex((level, i) => level === 1 && state.crashed[i]);
-  return blocker >= 0 ? `blocked for ever by simulator ${blocker}` : `open: simulator ${inside} is inside`;
+  const inside = range(levels.length).filter(i => levels[i] === 1);
+  const blockers = inside.filter(i => state.crashed[i]);
+  const are = inside.length === 1 ? 'is' : 'are';
+  if (isResolved(levels)) return `resolved: the proposal of simulator ${chosen.simulator}`;
+  if (blockers.length > 0) return `blocked for ever by ${named(blockers)}`;
+  if (chosen) return `chosen: simulator ${chosen.simulator}'s; not readable while ${named(inside)} ${are} inside`;
+  return inside.length > 0 ? `open: ${named(inside)} ${are} inside` : 'no proposal stands';
 }
 
 function agreementRow(room, state, moment, key) {
@@ -42,7 +46,7 @@ function agreements(room, state, moment) {
 function standingOf(room, state, process) {
   if (state.decided.has(process)) return 'decided ' + state.decided.get(process);
   const keys = [...state.levels.keys()].filter(key => key.startsWith(process + ','));
-  const held = keys.map(key => levelsOf(state, room, key).findIndex((level, i) => level === 1 && state.crashed[i])).find(i => i >= 0);
+  const held = range(room.simulators).find(i => state.crashed[i] && keys.some(key => levelsOf(state, room, key)[i] === 1));
   return held === undefined ? '' : `held by simulator ${held}`;
 }
 
@@ -55,12 +59,15 @@ function values(room, state, moment) {
   return section('Values', table(['', ...range(rounds).map(index => 'r' + (index + 1))], rows));
 }
 
+// An event as the table has it, which says so if the report of this moment doesn't have it yet.
+const eventText = event => escaped(event.text) + (event.isReported ? '' : ' <small>(not in a report)</small>');
+
 function processes(room, state, count) {
   const events = eventsOf(state, room);
   const told = room.report.map(line => / process (\d+) (.*)$/.exec(line)).filter(Boolean);
   const rows = range(room.inputs.length).map(p => {
     const reported = count === room.moments.length && told.find(found => +found[1] === p);
-    return [headCell('p' + p), cell(escaped(events.filter(event => event.process === p).map(event => event.text).join('; ')), 'text', 'row'),
+    return [headCell('p' + p), cell(events.filter(event => event.process === p).map(eventText).join('; '), 'text', 'row'),
       cell(reported ? reported[2] : standingOf(room, state, p), 'text')];
   });
   return section('Simulated processes', table(['', 'events', 'state'], rows));

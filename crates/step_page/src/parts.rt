@@ -209,7 +209,8 @@ function emptyState(room) {
     levels: new Map(), // of an agreement, by process and round: one level for each simulator
     proposals: new Map(), // by simulator, process and round
     read: new Map(), // by simulator, process and round: the moment at which the snapshot takes effect if it is chosen
-    chosen: new Map(), // of an agreement: which simulator's proposal, and since which moment
+    blind: new Set(), // simulator, process and round, if the simulator is inside and has looked before any proposal stood
+    chosen: new Map(), // of an agreement that is fixed: which simulator's proposal, and since which moment
     values: new Map(), // by simulator, process and round
     decided: new Map(), // by process
     events: [], // those that are known by now
@@ -218,17 +219,28 @@ function emptyState(room) {
 
 const levelsOf = (state, room, key) => state.levels.get(key) || range(room.simulators).map(() => 0);
 
-// An agreement is resolved once a simulator is at level 2 and none is at level 1; then the least simulator at level 2 has its proposal chosen.
-function resolve(state, levels, key, at) {
-  if (!state.chosen.has(key) && !levels.includes(1) && levels.includes(2)) state.chosen.set(key, { simulator: levels.indexOf(2), at });
+// An agreement is fixed once a simulator is at level 2 and none inside has looked before one was: whoever looks now withdraws. Then the least
+// simulator at level 2 has its proposal chosen for good.
+function fix(state, key, levels, at) {
+  const mayCome = levels.some((level, i) => level === 1 && state.blind.has(keyOf(i, key)));
+  if (!state.chosen.has(key) && levels.includes(2) && !mayCome) state.chosen.set(key, { simulator: levels.indexOf(2), at });
 }
+
+// An agreement is resolved, so that its result can be read, once a simulator is at level 2 and none is at level 1.
+const isResolved = levels => levels.includes(2) && !levels.includes(1);
 
 function raise(state, room, step, change, at) {
   const key = keyOf(step.process, step.round);
   const levels = [...levelsOf(state, room, key)];
   levels[step.simulator] += change;
   state.levels.set(key, levels);
-  resolve(state, levels, key, at);
+  fix(state, key, levels, at);
+}
+
+// A simulator inside an agreement looks at its levels.
+function look(state, room, { simulator, process, round }) {
+  const levels = levelsOf(state, room, keyOf(process, round));
+  if (levels[simulator] === 1 && !levels.includes(2)) state.blind.add(keyOf(simulator, process, round));
 }
 
 // The state after one more moment, whose number is `at`.
@@ -245,10 +257,11 @@ function apply(state, room, moment, at) {
     case 'V': state.proposals.set(own, joined(moment.word > 0 ? state.proposals.get(own) : null, moment.sight.split(' '))); break;
     case '1': case '2': raise(state, room, moment, 1, at); break;
     case '0': raise(state, room, moment, -1, at); break;
+    case '?': look(state, room, moment); break;
     case 'D': state.decided.set(moment.process, /decides (\d+)/.exec(moment.sight)[1]); break;
   }
   if (moment.here.startsWith('here, if')) state.read.set(own, at);
-  if (effect) state.events.push({ at, known: at, process: +effect[1], text: effect[2].replace(/s$/, '') + ' ' + effect[3] });
+  if (effect) state.events.push({ at, known: at, process: +effect[1], text: effect[2].replace(/s$/, '') + ' ' + effect[3], isReported: true });
 }
 
 function stateAt(room, count) {
@@ -262,13 +275,19 @@ function valueOf(state, room, process, round) {
   return range(room.simulators).map(i => state.values.get(keyOf(i, process, round))).find(value => value !== undefined);
 }
 
+// A report has the snapshot of an agreement once that is resolved, or something rests on it: a later write of the process, or its decision.
+function isReported(state, room, process, round) {
+  const writes = Math.max(...state.counted.map(row => row[process]));
+  return isResolved(levelsOf(state, room, keyOf(process, round))) || round < writes || state.decided.has(process);
+}
+
 // The snapshots that are agreed on, each at the moment at which the chosen proposal was read.
 function snapshotsOf(state, room) {
   return [...state.chosen].map(([key, { simulator, at }]) => {
     const [process, round] = key.split(',').map(Number);
     const row = state.proposals.get(keyOf(simulator, process, round)) || [];
     const shown = row.map((entry, p) => (entry === '.' ? '.' : valueOf(state, room, p, +entry)));
-    return { at: state.read.get(keyOf(simulator, process, round)), known: at, process, text: 'snap ' + shown.join(' ') };
+    return { at: state.read.get(keyOf(simulator, process, round)), known: at, process, text: 'snap ' + shown.join(' '), isReported: isReported(state, room, process, round) };
   });
 }
 
@@ -331,14 +350,15 @@ function drawLane(room, simulator, first, count, y) {
   return lane;
 }
 
-// An event in the lane of its process, tied to the square of the step at which it takes effect. One that isn't known yet is paler.
+// An event in the lane of its process, tied to the square of the step at which it takes effect. One that isn't known yet is paler; one that
+// a report doesn't have yet has a dashed border.
 function drawEvent(room, event, first, count, y, left) {
   const x = LEFT + (event.at - first) * SQUARE + SQUARE / 2;
   const hue = hueOf(event.process);
   const from = TOP + room.moments[event.at].simulator * LANE + 24;
   const filled = event.text.startsWith('decide');
   return `<g opacity="${event.known < count ? 1 : 0.35}"><path d="M ${x} ${from} L ${Math.max(x, left + 8)} ${y}" stroke="${hue}" stroke-dasharray="2 3"/>`
-    + `<rect x="${left}" y="${y}" width="${widthOf(event)}" height="20" rx="${event.text.startsWith('snap') ? 10 : 3}" fill="${filled ? hue : 'var(--paper)'}" stroke="${hue}"/>`
+    + `<rect x="${left}" y="${y}" width="${widthOf(event)}" height="20" rx="${event.text.startsWith('snap') ? 10 : 3}" fill="${filled ? hue : 'var(--paper)'}" stroke="${hue}"${room.unreported.has(event.at) ? ' stroke-dasharray="4 2"' : ''}/>`
     + textAt(left + 5, y + 14, event.text, `font-family="monospace" font-size="12" fill="${filled ? 'var(--paper)' : 'var(--ink)'}"`) + '</g>';
 }
 
@@ -361,6 +381,7 @@ function drawLanes(room, count) {
   const height = top + room.inputs.length * EVENTS + 6;
   const width = LEFT + (Math.min(total, layout.columns) + 1) * SQUARE + 60;
   room.events ??= eventsOf(stateAt(room, total), room);
+  room.unreported = new Set(eventsOf(stateAt(room, count), room).filter(event => !event.isReported).map(event => event.at));
   const events = room.events.filter(event => event.at >= first && event.at < first + layout.columns);
   const now = LEFT + (count - first) * SQUARE;
   return `<svg viewBox="0 0 ${Math.max(width, layout.width)} ${height}" role="img" aria-label="Lanes of simulators and processes" font-family="Helvetica, Arial, sans-serif" font-size="14">`
@@ -380,14 +401,18 @@ function stepNumbers(room, state, moment) {
   return section('Step numbers', table(['', ...range(room.inputs.length).map(p => 'p' + p)], rows));
 }
 
-// The state of an agreement: open, blocked for ever, or resolved.
+const named = simulators => (simulators.length === 1 ? 'simulator ' : 'simulators ') + simulators.join(', ').replace(/, (\d+)$/, ' and $1');
+
+// The state of an agreement: open, fixed, resolved, or blocked for ever.
 function resultOf(state, key, levels) {
   const chosen = state.chosen.get(key);
-  const inside = levels.indexOf(1);
-  if (chosen) return `resolved: the proposal of simulator ${chosen.simulator}`;
-  if (inside < 0) return 'no proposal stands';
-  const blocker = levels.findIndex((level, i) => level === 1 && state.crashed[i]);
-  return blocker >= 0 ? `blocked for ever by simulator ${blocker}` : `open: simulator ${inside} is inside`;
+  const inside = range(levels.length).filter(i => levels[i] === 1);
+  const blockers = inside.filter(i => state.crashed[i]);
+  const are = inside.length === 1 ? 'is' : 'are';
+  if (isResolved(levels)) return `resolved: the proposal of simulator ${chosen.simulator}`;
+  if (blockers.length > 0) return `blocked for ever by ${named(blockers)}`;
+  if (chosen) return `chosen: simulator ${chosen.simulator}'s; not readable while ${named(inside)} ${are} inside`;
+  return inside.length > 0 ? `open: ${named(inside)} ${are} inside` : 'no proposal stands';
 }
 
 function agreementRow(room, state, moment, key) {
@@ -415,7 +440,7 @@ function agreements(room, state, moment) {
 function standingOf(room, state, process) {
   if (state.decided.has(process)) return 'decided ' + state.decided.get(process);
   const keys = [...state.levels.keys()].filter(key => key.startsWith(process + ','));
-  const held = keys.map(key => levelsOf(state, room, key).findIndex((level, i) => level === 1 && state.crashed[i])).find(i => i >= 0);
+  const held = range(room.simulators).find(i => state.crashed[i] && keys.some(key => levelsOf(state, room, key)[i] === 1));
   return held === undefined ? '' : `held by simulator ${held}`;
 }
 
@@ -428,12 +453,15 @@ function values(room, state, moment) {
   return section('Values', table(['', ...range(rounds).map(index => 'r' + (index + 1))], rows));
 }
 
+// An event as the table has it, which says so if the report of this moment doesn't have it yet.
+const eventText = event => escaped(event.text) + (event.isReported ? '' : ' <small>(not in a report)</small>');
+
 function processes(room, state, count) {
   const events = eventsOf(state, room);
   const told = room.report.map(line => / process (\d+) (.*)$/.exec(line)).filter(Boolean);
   const rows = range(room.inputs.length).map(p => {
     const reported = count === room.moments.length && told.find(found => +found[1] === p);
-    return [headCell('p' + p), cell(escaped(events.filter(event => event.process === p).map(event => event.text).join('; ')), 'text', 'row'),
+    return [headCell('p' + p), cell(events.filter(event => event.process === p).map(eventText).join('; '), 'text', 'row'),
       cell(reported ? reported[2] : standingOf(room, state, p), 'text')];
   });
   return section('Simulated processes', table(['', 'events', 'state'], rows));

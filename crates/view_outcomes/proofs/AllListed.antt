@@ -1,16 +1,21 @@
 -- Outcomes that are listed one by one.
-use Rattle.std.proofs.Common.{Bool, ◌≡◌, ◌∙◌, ℕ, ◌+◌, List, [], ◌∷◌, ◌++◌, Some, length, take, sym, ap, subst, arith, inl, inr}
-use Rattle.std.specs.Prelude.{slice_get}
+use Rattle.std.proofs.Common.{Bool, ◌≡◌, ◌∙◌, ℕ, ◌+◌, List, [], ◌∷◌, ◌++◌, Option, None, Some, length, take, sym, ap, subst, arith, inl, inr}
+use Rattle.std.specs.Prelude.{IfNone, IfSome, slice_get}
 use Rattle.std.specs.List.{Contains}
+use Rattle.std.specs.Option.{option_map}
 use Rattle.std.proofs.lemmas.Bool.{cases_lt}
 use Rattle.std.proofs.lemmas.List.{length_push, map-append, take_more}
 use Rattle.std.proofs.lemmas.Option.{get_or_from_slice_get, same_Some, slice_get_within}
 use Rattle.room_spec.specs.Rooms.{RoomSpec}
+use Rattle.transcript.specs.Runs.{IsRun}
+use Rattle.transcript.specs.Tasks.{KeepsOwnTask}
+use Rattle.transcript.specs.declared.event.Event.{Event}
 use Rattle.transcript.proofs.CallerLemmas.{slice_get-append, slice_get-push}
 use Rattle.run_search.specs.declared.ended.Ended.{Ended}
 use Rattle.run_search.specs.Outcomes.{IsRunOutcome}
+use Rattle.run_search.specs.Tasks.{IsBreakingRun, IsShortestBreaking}
 use Rattle.view_outcomes.specs.declared.listing.Listed.{Listed}
-use Rattle.view_outcomes.specs.Listing.{AreAllListed, HasRun, listed_ends}
+use Rattle.view_outcomes.specs.Listing.{AreAllListed, HasRun, IsTaskOfRuns, listed_ends}
 
 abbrev pub Runs : RoomSpec → Bool → List Listed → Type 0
 Runs spec brief all = (i : ℕ) (one : Listed) → slice_get all i ≡ Some one → HasRun spec brief one
@@ -46,3 +51,9 @@ all_listed spec crashes brief all outcomes runs ends complete sound distinct = r
   complete = λ outcome is. subst (λ (l : List (List Ended)). Contains l outcome) (sym ends) (complete outcome is);
   distinct = λ i j outcome first second. distinct i j outcome (ap (λ (l : List (List Ended)). slice_get l i) (sym ends) ∙ first) (ap (λ (l : List (List Ended)). slice_get l j) (sym ends) ∙ second);
 }
+
+-- what is found of the task: none, or a shortest run that breaks it
+pub task_of : {A : Type 0} (spec : RoomSpec) (items : A → List Event) (found : Option A) → IfNone found ((events : List Event) → IsRun spec events → KeepsOwnTask spec events)
+    → IfSome found (λ events. IsBreakingRun spec (items events)) → IfSome found (λ events. IsShortestBreaking spec (items events)) → IsTaskOfRuns spec (option_map items found)
+task_of spec items None keeps breaks shortest = keeps
+task_of spec items (Some events) keeps breaks shortest = (breaks, shortest)

@@ -8,7 +8,7 @@ use Rattle.transcript.specs.Tasks.{KeepsOwnTask}
 use Rattle.run_search.specs.declared.ended.Ended.{Ended}
 use Rattle.run_search.specs.Outcomes.{IsRunOutcome, IsShortest, outcome_of}
 use Rattle.run_search.specs.Reached.{AreAllReachable, State}
-use Rattle.run_search.specs.Tasks.{IsBreakingRun}
+use Rattle.run_search.specs.Tasks.{IsBreakingRun, IsShortestBreaking}
 use Rattle.view_outcomes.specs.declared.listing.Listed.{Listed}
 
 -- the events are a shortest run that has the outcome; there are none exactly if it is brief
@@ -30,7 +30,7 @@ pub record AreAllListed (spec : RoomSpec) (crashes : ℕ) (brief : Bool) (all : 
 abbrev pub HasStates : RoomSpec → ℕ → ℕ → Type 0
 HasStates spec limit count = (states : List State) × AreAllReachable spec states × (length states ≡ count) × (count ≤ limit)
 
--- each run keeps the room's task, or these are the events of one that breaks it
+-- each run keeps the room's task, or these are the events of a shortest one that breaks it
 abbrev pub IsTaskOfRuns : RoomSpec → Option (List Event) → Type 0
 IsTaskOfRuns spec None = (events : List Event) → IsRun spec events → KeepsOwnTask spec events
-IsTaskOfRuns spec (Some events) = IsBreakingRun spec events
+IsTaskOfRuns spec (Some events) = IsBreakingRun spec events × IsShortestBreaking spec events

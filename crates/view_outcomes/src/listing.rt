@@ -27,7 +27,7 @@ pub struct AllOutcomes {
     pub listed: Vec<Listed>,
     /// How many states the runs have.
     pub states: usize,
-    /// The events of a run that breaks the room's task, if one does.
+    /// The events of a shortest run that breaks the room's task, if one does.
     pub breaking: Option<Vec<Event>>,
 }
 

@@ -12,7 +12,7 @@ use Rattle.room_core.specs.Fields.{Fields}
 use Rattle.room_core.specs.Reading.{AreFieldsOf}
 use Rattle.room_core.specs.Rooms.{IsLegal, ScheduleEvent, opening, replay}
 use Rattle.room_core.specs.Observing.{AreSeen, TakenStep}
-use Rattle.ws_history.specs.Linearizations.{AreEventsAtSteps, events_of}
+use Rattle.ws_history.specs.Linearizations.{AreEventsAtSteps, LackAtMostASnapshot, events_of}
 use Rattle.ws_history.specs.Notes.{AreNotesOf, IsNoted, Notes}
 use Rattle.ws_history.specs.Sources.{history_of}
 use Rattle.room_files.specs.declared.outcome.Outcome.{Outcome}
@@ -41,8 +41,8 @@ pub record AreInOrder (room : RoomState) (schedule : List ScheduleEvent) (events
   pub events_are : events ≡ map (λ event. event.1) timed
   -- they are a run of the room's processes,
   pub run : IsRun room.spec events
-  -- in which each does what it does in the room's history
-  pub same : (fields : Fields) → AreFieldsOf room fields → (p : ℕ) → p < processes room.spec → events_of p events ≡ events_of p (history_of room.spec fields)
+  -- in which each does what it does in the room's history, and at most a last snapshot more
+  pub same : (fields : Fields) → AreFieldsOf room fields → (p : ℕ) → p < processes room.spec → LackAtMostASnapshot p (events_of p (history_of room.spec fields)) (events_of p events)
 
 -- a room as it is written
 pub record Written : Type 0 where

@@ -1,5 +1,5 @@
 -- Fields that are the same at each simulator, process and round have the same agreements.
-use Rattle.std.proofs.Common.{◌≡◌, ℕ, zero, suc, ◌-◌, ◌<◌, ◌≤◌, Bool, cond, eqb, List, length, map, get_or, Option, Some, None, refl, inl, inr, sym, ap, ◌∙◌, subst, arith}
+use Rattle.std.proofs.Common.{◌≡◌, ℕ, zero, suc, ◌+◌, ◌-◌, ◌<◌, ◌≤◌, Bool, cond, eqb, List, length, map, get_or, Option, Some, None, refl, inl, inr, sym, ap, ◌∙◌, subst, arith}
 use Rattle.std.proofs.lemmas.Bool.{cases_lt, lt-ltb, le-ltb}
 use Rattle.std.proofs.lemmas.List.FromFn.{length-map-range_with_len}
 use Rattle.std.specs.Prelude.{not, position, unwrap_or, nat_le, nat_lt, ◌==◌, ◌&&◌, ◌||◌, slice_index}
@@ -11,8 +11,9 @@ use Rattle.room_spec.specs.Sizes.{sizes_in}
 use Rattle.safe_agreement.specs.Levels.{has_level, least_two}
 use Rattle.sim_memory.specs.Steps.{AreSameSteps}
 use Rattle.sim_memory.proofs.CallerLemmas.{merged_same, row_same}
-use Rattle.room_core.specs.Agreements.{asks, decided_in, first_with, greatest_step, has_out, is_clean, is_out, is_passed, outs_at, row_at, shown, shown_by, shown_of, view_at, written}
-use Rattle.room_core.specs.Fields.{Fields, levels_at}
+use Rattle.room_core.specs.Agreements.{asks, decided_in, first_with, greatest_step, has_looked_blind, has_out, is_clean, is_fixed, is_out, is_passed, leaves_blind, outs_at, row_at, shown, shown_by, shown_of, view_at, written}
+use Rattle.simulator.specs.Minds.{MindOf, current_round}
+use Rattle.room_core.specs.Fields.{Fields, StepMap, levels_at}
 use Rattle.room_core.specs.Reading.{AgreeIn}
 use Rattle.ws_history.proofs.Walking.{map_same}
 
@@ -27,6 +28,12 @@ pub shown_low : (spec : RoomSpec) (fields : Fields) → 0 < spec.simulators → 
 shown_low spec fields some j k =
     let long = length-map-range_with_len (λ (i : ℕ). fields.level i j k) 0 spec.simulators in
     subst (λ (m : ℕ). shown_of spec fields j k < m) long (found_low (λ (one : ℕ). one == 2) (levels_at spec fields j k) (omega (arith, long, some)))
+
+any_same : (p q : ℕ → Bool) (a n : ℕ) → ((i : ℕ) → a ≤ i → i < a + n → p i ≡ q i) → list_any p (range_with_len a n) ≡ list_any q (range_with_len a n)
+any_same p q a zero same = refl
+any_same p q a (suc n) same =
+    ap (λ (b : Bool). b || list_any p (range_with_len (a + 1) n)) (same a (omega arith) (omega arith))
+    ∙ ap (λ (b : Bool). q a || b) (any_same p q (a + 1) n (λ i low high. same i (omega (arith, low)) (omega (arith, high))))
 
 module _ (spec : RoomSpec) (F G : Fields) (some : 0 < spec.simulators) (agree : AgreeIn (sizes_in spec) F G) where
   pub same_greatest : (p : ℕ) → p < processes spec → greatest_step spec F p ≡ greatest_step spec G p
@@ -52,6 +59,17 @@ module _ (spec : RoomSpec) (F G : Fields) (some : 0 < spec.simulators) (agree : 
       ap (λ (b : Bool). b || nat_lt k (greatest_step spec F j) || (has_out spec F j && (greatest_step spec F j == k))) (same_clean j k below first last)
       ∙ ap (λ (g : ℕ). is_clean spec G j k || nat_lt k g || (has_out spec F j && (g == k))) (same_greatest j below)
       ∙ ap (λ (l : List ℕ). is_clean spec G j k || nat_lt k (greatest_step spec G j) || (list_any is_out l && (greatest_step spec G j == k))) (same_outs j below)
+
+  pub same_fixed : (j k : ℕ) → j < processes spec → 1 ≤ k → k ≤ spec.rounds → is_fixed spec F j k ≡ is_fixed spec G j k
+  same_fixed j k below first last =
+      ap (λ (l : List ℕ). has_level 2 l && not (list_any (λ i. has_looked_blind F i j k) (range_with_len 0 spec.simulators))) (same_levels j k below first last)
+      ∙ ap (λ (b : Bool). has_level 2 (levels_at spec G j k) && not b) (any_same (λ i. has_looked_blind F i j k) (λ i. has_looked_blind G i j k) 0 spec.simulators (λ i low high. same_blind i (omega (arith, high))))
+    where
+      blind_on : MindOf StepMap → Bool
+      blind_on mind = leaves_blind mind.line && ((mind.process == j) && (current_round mind == k))
+
+      same_blind : (i : ℕ) → i < spec.simulators → has_looked_blind F i j k ≡ has_looked_blind G i j k
+      same_blind i low = ap blind_on (agree.mind i low).rest
 
   pub same_shown : (j k : ℕ) → j < processes spec → 1 ≤ k → k ≤ spec.rounds → shown_of spec F j k ≡ shown_of spec G j k
   same_shown j k below first last = ap (λ (l : List ℕ). unwrap_or (least_two l) 0) (same_levels j k below first last)

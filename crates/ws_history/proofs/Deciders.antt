@@ -30,7 +30,7 @@ decided_by : (out : Option ℕ) (spent : Bool) (holder : Option ℕ) (v : ℕ) �
 decided_by (Some w) spent holder v is = let same : w ≡ v = cc in ap Some same
 decided_by None spent holder v is = absurd (no_decision spent holder v is)
 
-out_found : (spec : RoomSpec) (fields : Fields) (i j : ℕ) → i < spec.simulators → fields.out i j ≢ 0 → has_out spec fields j ≡ true
+pub out_found : (spec : RoomSpec) (fields : Fields) (i j : ℕ) → i < spec.simulators → fields.out i j ≢ 0 → has_out spec fields j ≡ true
 out_found spec fields i j below some =
     let outs = outs_at spec fields j in
     let long = length-map-range_with_len (λ (a : ℕ). fields.out a j) 0 spec.simulators in

@@ -14,7 +14,9 @@ mod PassedSources
 mod Decisions
 mod Counts
 mod SourceIs
+mod FixedHistories
 mod Linearized
+mod GrowingEvents
 mod Looking
 mod Said
 mod Noted

@@ -1,5 +1,5 @@
 -- The history of a room in the order of time is a run.
-use Rattle.std.proofs.Common.{subst, length, List, ◌≡◌, ℕ, ◌<◌, cond, eqb, Bool, true, false, Option, Some, None, refl, sym, ap, ◌∙◌, inl, inr}
+use Rattle.std.proofs.Common.{subst, length, map, List, ◌≡◌, ℕ, ◌<◌, cond, eqb, Bool, true, false, Option, Some, None, refl, sym, ap, ◌∙◌, inl, inr}
 use Rattle.std.proofs.lemmas.Bool.{cases_Bool, eq-eqb, eqb-true}
 use Rattle.room_spec.specs.Rooms.{IsWithinLimits, processes}
 use Rattle.transcript.specs.Runs.{IsRun}
@@ -10,9 +10,12 @@ use Rattle.room_core.specs.Agreements.{decided_in, greatest_step}
 use Rattle.room_core.specs.Points.{AreEffects, points_at}
 use Rattle.room_core.specs.Timelines.{IsTimeline, timeline_of}
 use Rattle.room_core.proofs.CallerLemmas.{effects_at, rooms_agree, timelines}
-use Rattle.ws_history.specs.Sources.{source_of, history_of}
-use Rattle.ws_history.specs.Linearizations.{IsLinearization, IsSourceOf, Timed, events_in, events_of, linearized}
-use Rattle.ws_history.proofs.SourceIs.{is_of_passed}
+use Rattle.ws_history.specs.Sources.{fixed_source_of, source_of, history_of}
+use Rattle.ws_history.specs.Linearizations.{LackAtMostASnapshot, IsLinearization, IsSourceOf, Timed, event_of, events_before, events_in, events_of, linearized}
+use Rattle.ws_history.proofs.SourceIs.{is_of_fixed}
+use Rattle.ws_history.proofs.FixedHistories.{history_begins, map_events, same_before}
+use Rattle.ws_history.specs.Histories.{history_from}
+use Rattle.transcript.specs.declared.event.Event.{Event}
 use Rattle.ws_history.proofs.Linearizing.{timeline_is_run}
 use Rattle.ws_history.proofs.SameEvents.{same_events}
 use Rattle.ws_history.proofs.Unique.{events_are, is_one, only_one, timed_before}
@@ -44,11 +47,29 @@ module _ (room : RoomState) (fields : Fields) (limits : IsWithinLimits room.spec
     decides_last = λ p r decision is'. last_either (greatest_step room.spec fields p) r decision (decided_in room.spec fields p) is';
   }
 
-  pub linearized_run : IsRun room.spec (linearized room.spec are.run.schedule fields)
-  linearized_run = timeline_is_run room.spec (source_of room.spec fields) (timeline_of room.spec are.run.schedule fields) (points_at room.spec are.run.schedule fields) (is_of_passed room.spec fields (rooms_agree room fields limits are)) (timelines room fields limits are) of_history
+  of_fixed : IsSourceOf (processes room.spec) (fixed_source_of room.spec fields) (timeline_of room.spec are.run.schedule fields)
+  of_fixed = record { greatest = of_history.greatest; row = of_history.row; decision = of_history.decision; undecided = of_history.undecided; decides_last = of_history.decides_last }
 
-  pub linearized_events : (p : ℕ) → p < processes room.spec → events_of p (linearized room.spec are.run.schedule fields) ≡ events_of p (history_of room.spec fields)
-  linearized_events p low = same_events room.spec (source_of room.spec fields) (timeline_of room.spec are.run.schedule fields) (points_at room.spec are.run.schedule fields) (is_of_passed room.spec fields (rooms_agree room fields limits are)) (timelines room fields limits are) of_history p low
+  abbrev fixed_events : List Event
+  fixed_events = events_before (λ t. map (event_of (fixed_source_of room.spec fields)) (points_at room.spec are.run.schedule fields t)) (length are.run.schedule)
+
+  same_as_fixed : fixed_events ≡ linearized room.spec are.run.schedule fields
+  same_as_fixed = same_before _ _ (length are.run.schedule) (λ t. map_events room.spec fields (points_at room.spec are.run.schedule fields t))
+
+  pub linearized_run : IsRun room.spec (linearized room.spec are.run.schedule fields)
+  linearized_run =
+      subst (IsRun room.spec) same_as_fixed
+      (timeline_is_run room.spec (fixed_source_of room.spec fields) (timeline_of room.spec are.run.schedule fields) (points_at room.spec are.run.schedule fields) (is_of_fixed room.spec fields (rooms_agree room fields limits are)) (timelines room fields limits are) of_fixed)
+
+  -- each process does what it does in the history of the fixed agreements
+  pub linearized_fixed : (p : ℕ) → p < processes room.spec → events_of p (linearized room.spec are.run.schedule fields) ≡ events_of p (history_from room.spec (fixed_source_of room.spec fields))
+  linearized_fixed p low =
+      ap (events_of p) (sym same_as_fixed)
+      ∙ same_events room.spec (fixed_source_of room.spec fields) (timeline_of room.spec are.run.schedule fields) (points_at room.spec are.run.schedule fields) (is_of_fixed room.spec fields (rooms_agree room fields limits are)) (timelines room fields limits are) of_fixed p low
+
+  pub linearized_events : (p : ℕ) → p < processes room.spec → LackAtMostASnapshot p (events_of p (history_of room.spec fields)) (events_of p (linearized room.spec are.run.schedule fields))
+  linearized_events p low =
+      subst (LackAtMostASnapshot p (events_of p (history_of room.spec fields))) (sym (linearized_fixed p low)) (history_begins room.spec fields (rooms_agree room fields limits are) p low)
 
   room_effects : (time : ℕ) → time < length are.run.schedule → AreEffects room.spec are.run.schedule fields time (points_at room.spec are.run.schedule fields time)
   room_effects time early = effects_at room fields limits are time early
@@ -65,5 +86,6 @@ module _ (room : RoomState) (fields : Fields) (limits : IsWithinLimits room.spec
   pub linearization_run : (points : List Timed) → Linearizes points → IsRun room.spec (events_in (source_of room.spec fields) points)
   linearization_run points is = subst (IsRun room.spec) (sym (is_linearized points is)) linearized_run
 
-  pub linearization_events : (points : List Timed) → Linearizes points → (p : ℕ) → p < processes room.spec → events_of p (events_in (source_of room.spec fields) points) ≡ events_of p (history_of room.spec fields)
-  linearization_events points is p low = ap (events_of p) (is_linearized points is) ∙ linearized_events p low
+  pub linearization_events : (points : List Timed) → Linearizes points → (p : ℕ) → p < processes room.spec → LackAtMostASnapshot p (events_of p (history_of room.spec fields)) (events_of p (events_in (source_of room.spec fields) points))
+  linearization_events points is p low =
+      subst (λ (events : List Event). LackAtMostASnapshot p (events_of p (history_of room.spec fields)) (events_of p events)) (sym (is_linearized points is)) (linearized_events p low)

@@ -6,7 +6,7 @@ use Rattle.sim_memory.proofs.CallerLemmas.{row_length}
 use Rattle.transcript.specs.declared.event.Event.{Event}
 use Rattle.transcript.specs.declared.event.Event.TheVariants.{Write, Snap}
 use Rattle.transcript.specs.Runs.{IsRun}
-use Rattle.room_core.specs.Agreements.{greatest_step, is_passed, row_at, shown_by, shown_of, view_at}
+use Rattle.room_core.specs.Agreements.{greatest_step, is_fixed, row_at, shown_by, shown_of, view_at}
 use Rattle.room_core.specs.Calls.{RoomState, configuration_of, sweep_at}
 use Rattle.room_core.specs.Fields.{Fields, opening_fields, replay_fields}
 use Rattle.room_core.specs.Moments.{fields_at}
@@ -14,9 +14,9 @@ use Rattle.room_core.specs.Points.{AreEffects, Point, Writes, Snaps, TakesEffect
 use Rattle.room_core.specs.Reading.{AreFieldsOf}
 use Rattle.room_core.specs.Rooms.{IsOneInterleaving, ScheduleEvent}
 use Rattle.room_core.specs.Timelines.{IsTimeline, timeline_of}
-use Rattle.room_core.proofs.CallerLemmas.{at_end, effects_at, rooms_agree, timeline_of_run}
+use Rattle.room_core.proofs.CallerLemmas.{at_end, effects_at, fixed_aside, fixed_back, rooms_agree, timeline_of_run}
 use Rattle.ws_history.specs.Histories.{Source, shown, shown_row}
-use Rattle.ws_history.specs.Linearizations.{AreEventsAtSteps, IsLinearization, Timed, event_of, events_in, events_of, timed_event}
+use Rattle.ws_history.specs.Linearizations.{AreEventsAtSteps, LackAtMostASnapshot, IsLinearization, Timed, event_of, events_in, events_of, timed_event}
 use Rattle.ws_history.specs.Notes.{AreNotesOf, Notes}
 use Rattle.ws_history.specs.Ordered.{all_points, decision_at, decision_points, events_by_time, points_of, put_event, put_in, read_points, round_points, write_points}
 use Rattle.ws_history.specs.Readings.{read_of}
@@ -27,7 +27,7 @@ use Rattle.ws_history.proofs.NotedPoints.{Effective, from_all, into_all}
 use Rattle.ws_history.proofs.Order.{not_empty}
 use Rattle.ws_history.proofs.Placed.{events_folded, from_folded, placed, rising_folded, to_folded}
 use Rattle.ws_history.proofs.RoomFields.{history_in, low_rows}
-use Rattle.ws_history.proofs.Said.{agree, said_count, said_decided, said_passed, said_shown}
+use Rattle.ws_history.proofs.Said.{agree, said_count, said_decided, said_fixed, said_shown}
 use Rattle.ws_history.proofs.Walking.{map_same}
 
 -- ---- two that take effect at one step are one
@@ -44,12 +44,12 @@ module _ (spec : RoomSpec) (schedule : List ScheduleEvent) (fields : Fields) (qu
 
   to_aside : (time : ℕ) (point : Point) → TakesEffect spec schedule fields time point → TakesEffect spec schedule (record fields { quiet = quiet }) time point
   to_aside time point (write_counted p r low less now) = write_counted p r low less now
-  to_aside time point (snapshot_read p r passed read) = snapshot_read p r (record { process = passed.process; first = passed.first; last = passed.last; is = passed.is }) read
+  to_aside time point (snapshot_read p r passed read) = snapshot_read p r (fixed_aside spec fields quiet p r passed) read
   to_aside time point (decision_stored p decision low none now is) = decision_stored p decision low none now is
 
   from_aside : (time : ℕ) (point : Point) → TakesEffect spec schedule (record fields { quiet = quiet }) time point → TakesEffect spec schedule fields time point
   from_aside time point (write_counted p r low less now) = write_counted p r low less now
-  from_aside time point (snapshot_read p r passed read) = snapshot_read p r (record { process = passed.process; first = passed.first; last = passed.last; is = passed.is }) read
+  from_aside time point (snapshot_read p r passed read) = snapshot_read p r (fixed_back spec fields quiet p r passed) read
   from_aside time point (decision_stored p decision low none now is) = decision_stored p decision low none now is
 
 -- ---- the same points by the words and by the fields
@@ -65,8 +65,8 @@ module _ (room : RoomState) (limits : IsWithinLimits room.spec) (one : IsOneInte
       → write_points room.spec (read_of room) notes p r ++ read_points room.spec (read_of room) notes p r ≡ write_points room.spec base notes p r ++ read_points room.spec base notes p r
   same_round p r low first last =
       ap (λ (g : ℕ). cond (leb r g) ((record { time = Rattle.ws_history.specs.Notes.counted_at room.spec notes p r; point = Writes p r }) ∷ []) [] ++ read_points room.spec (read_of room) notes p r) (said_count room limits one p low)
-      ∙ ap (λ (b : Bool). write_points room.spec base notes p r ++ cond b ((record { time = Rattle.ws_history.specs.Notes.read_at room.spec notes (shown_of room.spec (read_of room) p r) p r; point = Snaps p r }) ∷ []) []) (said_passed room limits one p r low first last)
-      ∙ ap (λ (i : ℕ). write_points room.spec base notes p r ++ cond (is_passed room.spec base p r) ((record { time = Rattle.ws_history.specs.Notes.read_at room.spec notes i p r; point = Snaps p r }) ∷ []) []) (said_shown room limits one p r low first last)
+      ∙ ap (λ (b : Bool). write_points room.spec base notes p r ++ cond b ((record { time = Rattle.ws_history.specs.Notes.read_at room.spec notes (shown_of room.spec (read_of room) p r) p r; point = Snaps p r }) ∷ []) []) (said_fixed room limits one p r low first last)
+      ∙ ap (λ (i : ℕ). write_points room.spec base notes p r ++ cond (is_fixed room.spec base p r) ((record { time = Rattle.ws_history.specs.Notes.read_at room.spec notes i p r; point = Snaps p r }) ∷ []) []) (said_shown room limits one p r low first last)
 
   same_rounds : (p r : ℕ) → p < processes room.spec → r ≤ room.spec.rounds → round_points room.spec (read_of room) notes p r ≡ round_points room.spec base notes p r
   same_rounds p zero low last = refl
@@ -239,8 +239,8 @@ module _ (room : RoomState) (limits : IsWithinLimits room.spec) (schedule : List
   pub order_runs : IsRun room.spec (map (λ (e : ℕ × Event). e.1) (events_by_time room notes))
   order_runs = subst (IsRun room.spec) (sym its_events) (linearization_run room counted_fields limits fields_are in_order aside_linearization)
 
-  pub same_of_each : (fields : Fields) → AreFieldsOf room fields → (p : ℕ) → p < processes room.spec → events_of p (map (λ (e : ℕ × Event). e.1) (events_by_time room notes)) ≡ events_of p (history_of room.spec fields)
+  pub same_of_each : (fields : Fields) → AreFieldsOf room fields → (p : ℕ) → p < processes room.spec → LackAtMostASnapshot p (events_of p (history_of room.spec fields)) (events_of p (map (λ (e : ℕ × Event). e.1) (events_by_time room notes)))
   same_of_each fields fields_of p low =
-      ap (events_of p) its_events
-      ∙ linearization_events room counted_fields limits fields_are in_order aside_linearization p low
-      ∙ ap (events_of p) (sym (history_in room counted_fields limits fields_are) ∙ history_in room fields limits fields_of)
+      subst (λ (events : List Event). LackAtMostASnapshot p (events_of p events) (events_of p (map (λ (e : ℕ × Event). e.1) (events_by_time room notes)))) (sym (history_in room counted_fields limits fields_are) ∙ history_in room fields limits fields_of)
+      (subst (λ (events : List Event). LackAtMostASnapshot p (events_of p (history_of room.spec counted_fields)) (events_of p events)) (sym its_events)
+      (linearization_events room counted_fields limits fields_are in_order aside_linearization p low))

@@ -9,7 +9,7 @@ use Rattle.transcript.specs.declared.event.Event.{Event}
 use Rattle.transcript.specs.declared.event.Event.TheVariants.{Write, Snap, Decide}
 use Rattle.transcript.specs.Runs.{IsRun}
 use Rattle.transcript.proofs.CallerLemmas.{IsRun-nil, IsRun-push}
-use Rattle.room_core.specs.Points.{Point, IsPassedIn}
+use Rattle.room_core.specs.Points.{Point, IsFixedIn}
 use Rattle.room_core.specs.Timelines.{Timeline, IsTimeline, IsUnread, AreCounted, AreDecided, Moves, nothing, writes, snaps, decides}
 use Rattle.ws_history.specs.Histories.{Source, Snapshot, row_of, entry_of, shown, shown_row, asks_after}
 use Rattle.ws_history.specs.Passed.{IsOfPassed, IsKnown}
@@ -42,14 +42,14 @@ taken_later true read time count other = elim (cases_lt read time) [
 ]
 taken_later false read time count other = refl
 
-module _ (spec : RoomSpec) (src : Source) (line : Timeline) (at : ℕ → List Point) (known : IsOfPassed spec src line.passed) (is : IsTimeline (processes spec) spec.rounds line at) (of : IsSourceOf (processes spec) src line) where
+module _ (spec : RoomSpec) (src : Source) (line : Timeline) (at : ℕ → List Point) (known : IsOfPassed spec src line.fixed) (is : IsTimeline (processes spec) spec.rounds line at) (of : IsSourceOf (processes spec) src line) where
   abbrev pub taken : ℕ → ℕ → ℕ
-  taken time p = taken_by (line.passed p (line.counted time p)) (line.read p (line.counted time p)) time (line.counted time p)
+  taken time p = taken_by (line.fixed p (line.counted time p)) (line.read p (line.counted time p)) time (line.counted time p)
 
   abbrev pub Passed : ℕ → ℕ → Type 0
-  Passed p r = IsPassedIn (processes spec) spec.rounds line.passed p r
+  Passed p r = IsFixedIn (processes spec) spec.rounds line.fixed p r
 
-  known_of : (p r : ℕ) → Passed p r → IsKnown spec src line.passed (record { process = p; round = r })
+  known_of : (p r : ℕ) → Passed p r → IsKnown spec src line.fixed (record { process = p; round = r })
   known_of p r passed = known.known (record { process = p; round = r }) (record { process = passed.process; positive = passed.first; within = passed.last; is = passed.is })
 
   -- a snapshot shows its own last write
@@ -85,15 +85,15 @@ module _ (spec : RoomSpec) (src : Source) (line : Timeline) (at : ℕ → List P
 
   -- ---- how many snapshots were taken
 
-  positive : (p count : ℕ) → line.passed p count ≡ true → p < processes spec → 1 ≤ count → count ≤ spec.rounds → Passed p count
+  positive : (p count : ℕ) → line.fixed p count ≡ true → p < processes spec → 1 ≤ count → count ≤ spec.rounds → Passed p count
   positive p count yes_it low first last = record { process = low; first = first; last = last; is = yes_it }
 
   taken_same : (time p : ℕ) → time < line.length → p < processes spec → line.counted (time + 1) p ≡ line.counted time p → (1 ≤ line.counted time p → Passed p (line.counted time p) → line.read p (line.counted time p) ≢ time) → taken (time + 1) p ≡ taken time p
   taken_same time p early low same unread =
-      ap (λ (count : ℕ). taken_by (line.passed p count) (line.read p count) (time + 1) count) same
+      ap (λ (count : ℕ). taken_by (line.fixed p count) (line.read p count) (time + 1) count) same
       ∙ elim (cases_lt 0 (line.counted time p)) [
-        | inl some ↦ taken_later (line.passed p (line.counted time p)) (line.read p (line.counted time p)) time (line.counted time p) (λ yes_it. unread (omega arith) (positive p (line.counted time p) yes_it low (omega arith) (few time p (omega arith) low)))
-        | inr none ↦ none_taken (line.passed p (line.counted time p)) (line.read p (line.counted time p)) (time + 1) (line.counted time p) (omega arith) ∙ sym (none_taken (line.passed p (line.counted time p)) (line.read p (line.counted time p)) time (line.counted time p) (omega arith))
+        | inl some ↦ taken_later (line.fixed p (line.counted time p)) (line.read p (line.counted time p)) time (line.counted time p) (λ yes_it. unread (omega arith) (positive p (line.counted time p) yes_it low (omega arith) (few time p (omega arith) low)))
+        | inr none ↦ none_taken (line.fixed p (line.counted time p)) (line.read p (line.counted time p)) (time + 1) (line.counted time p) (omega arith) ∙ sym (none_taken (line.fixed p (line.counted time p)) (line.read p (line.counted time p)) time (line.counted time p) (omega arith))
       ]
     where
       none_taken : (passed : Bool) (read time count : ℕ) → count ≡ 0 → taken_by passed read time count ≡ 0
@@ -190,7 +190,7 @@ module _ (spec : RoomSpec) (src : Source) (line : Timeline) (at : ℕ → List P
 
       -- its snapshots are as many as its writes
       level_by : (count : ℕ) → line.counted time p ≡ count → taken time p ≡ line.counted time p
-      level_by zero none = zero_of (line.passed p (line.counted time p)) (line.read p (line.counted time p)) time (line.counted time p) none
+      level_by zero none = zero_of (line.fixed p (line.counted time p)) (line.read p (line.counted time p)) time (line.counted time p) none
         where
           zero_of : (passed : Bool) (read time count : ℕ) → count ≡ 0 → taken_by passed read time count ≡ count
           zero_of passed read time count none = elim (cases_Bool (passed && ltb read time)) [ inl both ↦ rw both refl | inr not_both ↦ rw not_both (omega (arith, none)) ]
@@ -198,7 +198,7 @@ module _ (spec : RoomSpec) (src : Source) (line : Timeline) (at : ℕ → List P
           let passed = prior (omega (arith, some)) in
           let soon = read_behind (time + 1) p (line.counted time p) (omega arith) low passed.first (omega (arith, before, after)) in
           let apart = unread p (line.counted time p) passed in
-          taken_when (line.passed p (line.counted time p)) (line.read p (line.counted time p)) time (line.counted time p) passed.is (omega (arith, soon, apart))
+          taken_when (line.fixed p (line.counted time p)) (line.read p (line.counted time p)) time (line.counted time p) passed.is (omega (arith, soon, apart))
 
       level : taken time p ≡ line.counted time p
       level = level_by (line.counted time p) refl
@@ -206,8 +206,8 @@ module _ (spec : RoomSpec) (src : Source) (line : Timeline) (at : ℕ → List P
       -- the new one is behind no snapshot yet
       level_after : taken (time + 1) p ≡ line.counted time p
       level_after =
-          ap (λ (count : ℕ). taken_by (line.passed p count) (line.read p count) (time + 1) count) after
-          ∙ taken_not (line.passed p r) (line.read p r) (time + 1) r (λ yes_it soon.
+          ap (λ (count : ℕ). taken_by (line.fixed p count) (line.read p count) (time + 1) count) after
+          ∙ taken_not (line.fixed p r) (line.read p r) (time + 1) r (λ yes_it soon.
           let passed = positive p r yes_it low (omega (arith, before)) (let m = few (time + 1) p (omega arith) low in omega (arith, m, after)) in
           let apart = unread p r passed in
           let most = read_counted time p r passed (omega (arith, soon, apart)) (omega arith) in
@@ -281,13 +281,13 @@ module _ (spec : RoomSpec) (src : Source) (line : Timeline) (at : ℕ → List P
       round = sym (counted p passed.process) ∙ ap (λ (t : ℕ). line.counted (t + 1) p) (sym read) ∙ own p r passed
 
       taken_is : taken time p ≡ r - 1
-      taken_is = ap (λ (count : ℕ). taken_by (line.passed p count) (line.read p count) time count) round ∙ taken_not (line.passed p r) (line.read p r) time r (λ yes_it soon. omega (arith, soon, read))
+      taken_is = ap (λ (count : ℕ). taken_by (line.fixed p count) (line.read p count) time count) round ∙ taken_not (line.fixed p r) (line.read p r) time r (λ yes_it soon. omega (arith, soon, read))
 
       ahead : line.counted time p ≡ taken time p + 1
       ahead = let first = passed.first in omega (arith, round, taken_is, first)
 
       taken_after : taken (time + 1) p ≡ r
-      taken_after = ap (λ (count : ℕ). taken_by (line.passed p count) (line.read p count) (time + 1) count) (counted p passed.process ∙ round) ∙ taken_when (line.passed p r) (line.read p r) (time + 1) r passed.is (omega (arith, read))
+      taken_after = ap (λ (count : ℕ). taken_by (line.fixed p count) (line.read p count) (time + 1) count) (counted p passed.process ∙ round) ∙ taken_when (line.fixed p r) (line.read p r) (time + 1) r passed.is (omega (arith, read))
 
       wide : length (shown_row src s) ≡ processes spec
       wide = length-map-range_with_len (λ q. shown src q (entry_of src s q)) 0 (length (row_of src s)) ∙ (known_of p r passed).width
@@ -359,7 +359,7 @@ module _ (spec : RoomSpec) (src : Source) (line : Timeline) (at : ℕ → List P
       event = Decide p v
 
       level : taken time p ≡ line.counted time p
-      level = taken_when (line.passed p (line.counted time p)) (line.read p (line.counted time p)) time (line.counted time p) passed.is read
+      level = taken_when (line.fixed p (line.counted time p)) (line.read p (line.counted time p)) time (line.counted time p) passed.is read
 
       level_now : IsNow spec src events p (line.counted time p) (line.counted time p) (line.has_decided time p)
       level_now = subst (λ (c : ℕ). IsNow spec src events p (line.counted time p) c (line.has_decided time p)) level (stand.each p low)
@@ -412,7 +412,7 @@ module _ (spec : RoomSpec) (src : Source) (line : Timeline) (at : ℕ → List P
   }
     where
       none_taken : (q : ℕ) → taken 0 q ≡ 0
-      none_taken q = taken_not (line.passed q (line.counted 0 q)) (line.read q (line.counted 0 q)) 0 (line.counted 0 q) (λ yes_it less. omega (arith, less)) ∙ (let none = is.none q in omega (arith, none))
+      none_taken q = taken_not (line.fixed q (line.counted 0 q)) (line.read q (line.counted 0 q)) 0 (line.counted 0 q) (λ yes_it less. omega (arith, less)) ∙ (let none = is.none q in omega (arith, none))
 
   pub stands : (time : ℕ) → time ≤ line.length → Stand time (events_before (λ t. map (event_of src) (at t)) time)
   stands zero early = stand_opening

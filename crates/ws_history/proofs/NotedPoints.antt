@@ -4,13 +4,13 @@ use Rattle.std.specs.Prelude.{◌&&◌}
 use Rattle.std.proofs.lemmas.Bool.{and_parts, cases_Bool, cases_eq, cases_lt, eq-eqb, eqb-true, lt-ltb, ltb-true, leb-true, le-leb, not-true}
 use Rattle.std.proofs.lemmas.List.Elements.{Contains-append_left, Contains-append_right, Contains-append_cases}
 use Rattle.room_spec.specs.Rooms.{RoomSpec, processes}
-use Rattle.room_core.specs.Agreements.{decided_in, greatest_step, has_out, is_passed, shown_of}
+use Rattle.room_core.specs.Agreements.{decided_in, greatest_step, has_out, is_fixed, shown_of}
 use Rattle.room_core.specs.Fields.{Fields}
 use Rattle.room_core.specs.Moments.{fields_at}
-use Rattle.room_core.specs.Points.{Point, Writes, Snaps, Decides, HasPassed, TakesEffect, last_when, write_counted, snapshot_read, decision_stored, points_at, read_time}
+use Rattle.room_core.specs.Points.{Point, Writes, Snaps, Decides, HasFixed, TakesEffect, last_when, write_counted, snapshot_read, decision_stored, points_at, read_time}
 use Rattle.room_core.specs.Rooms.{Configuration, ScheduleEvent}
 use Rattle.room_core.specs.Timelines.{IsTimeline, Moves, nothing, writes, snaps, decides, timeline_of}
-use Rattle.room_core.proofs.CallerLemmas.{decision_stays}
+use Rattle.room_core.proofs.CallerLemmas.{decision_stays, fixed_of, in_line, test_of}
 use Rattle.ws_history.specs.Linearizations.{Timed}
 use Rattle.ws_history.specs.Notes.{AreNotesOf, Notes, counted_at, counts_in, read_at, stored_at, stores_in}
 use Rattle.ws_history.specs.Ordered.{all_points, decision_at, decision_points, points_of, read_points, round_points, write_points}
@@ -136,10 +136,10 @@ module _ (room : Configuration) (schedule : List ScheduleEvent) (notes : Notes) 
   read_is_time : (p r : ℕ) → p < processes spec → r ≤ room.spec.rounds → read_at room.spec notes (shown_of room.spec final p r) p r ≡ read_time room.spec schedule final p r
   read_is_time p r low last = are.read (shown_of room.spec final p r) p r (shown_low room.spec final some p r) low last
 
-  snapshot_effective : (p r : ℕ) → HasPassed room.spec final p r → Effective (record { time = read_at room.spec notes (shown_of room.spec final p r) p r; point = Snaps p r })
+  snapshot_effective : (p r : ℕ) → HasFixed room.spec final p r → Effective (record { time = read_at room.spec notes (shown_of room.spec final p r) p r; point = Snaps p r })
   snapshot_effective p r passed =
       let time = read_is_time p r passed.process passed.last in
-      subst (λ (t : ℕ). Effective (record { time = t; point = Snaps p r })) (sym time) (is.early p r passed, snapshot_read p r passed refl)
+      subst (λ (t : ℕ). Effective (record { time = t; point = Snaps p r })) (sym time) (is.early p r (in_line room.spec final p r passed), snapshot_read p r passed refl)
 
   -- ---- what the notes say takes effect
 
@@ -150,8 +150,8 @@ module _ (room : Configuration) (schedule : List ScheduleEvent) (notes : Notes) 
 
   from_read : (p r : ℕ) (z : Timed) → p < processes spec → 1 ≤ r → r ≤ room.spec.rounds → Contains (read_points room.spec final notes p r) z → Effective z
   from_read p r z low first last has =
-      let there = if_there (is_passed room.spec final p r) (record { time = read_at room.spec notes (shown_of room.spec final p r) p r; point = Snaps p r }) z has in
-      subst Effective there.1 (snapshot_effective p r (record { process = low; first = first; last = last; is = there.0 }))
+      let there = if_there (is_fixed room.spec final p r) (record { time = read_at room.spec notes (shown_of room.spec final p r) p r; point = Snaps p r }) z has in
+      subst Effective there.1 (snapshot_effective p r (record { process = low; first = first; last = last; is = fixed_of room.spec final p r there.0 }))
 
   from_rounds : (p r : ℕ) (z : Timed) → p < processes spec → r ≤ room.spec.rounds → Contains (round_points room.spec final notes p r) z → Effective z
   from_rounds p zero z low last has = absurd (not_empty z has)
@@ -250,7 +250,7 @@ module _ (room : Configuration) (schedule : List ScheduleEvent) (notes : Notes) 
       subst (λ (t : ℕ). Contains (all_points room.spec final notes (processes spec)) (record { time = t; point = Snaps p r })) same
       (in_round p r (record { time = at; point = Snaps p r }) passed.process passed.first passed.last
       (Contains-append_right (write_points room.spec final notes p r) (read_points room.spec final notes p r) (record { time = at; point = Snaps p r })
-      (there_if (is_passed room.spec final p r) (record { time = at; point = Snaps p r }) passed.is)))
+      (there_if (is_fixed room.spec final p r) (record { time = at; point = Snaps p r }) (test_of room.spec final p r passed.is))))
   to_effect time point early (decision_stored p decision low none now decided) =
       let noted = decision_effective p decision low decided in
       let then = store_time (stored_at notes p) p decision (Decides p decision) refl noted.1 in

@@ -3,13 +3,13 @@ use Rattle.std.proofs.Common.{◌≡◌, ℕ, ◌<◌, ◌≤◌, refl, ap, arit
 use Rattle.room_spec.specs.Rooms.{IsWithinLimits, processes}
 use Rattle.room_spec.specs.Sizes.{sizes_in}
 use Rattle.simulator.specs.Minds.{MindOf, MindState, current_round}
-use Rattle.room_core.specs.Agreements.{decided_in, greatest_step, has_out, is_passed, shown_of}
+use Rattle.room_core.specs.Agreements.{decided_in, greatest_step, has_out, is_fixed, is_passed, shown_of}
 use Rattle.room_core.specs.Calls.{RoomState, configuration_of, sweep_at}
 use Rattle.room_core.specs.Fields.{Fields, StepMap, opening_fields, replay_fields}
 use Rattle.room_core.specs.Reading.{AgreeIn, AreFieldsOf}
 use Rattle.room_core.specs.Rooms.{IsOneInterleaving}
 use Rattle.ws_history.specs.Readings.{read_of}
-use Rattle.ws_history.proofs.Agreeing.{same_decided, same_greatest, same_out, same_passed, same_shown}
+use Rattle.ws_history.proofs.Agreeing.{same_decided, same_fixed, same_greatest, same_out, same_passed, same_shown}
 use Rattle.ws_history.proofs.RoomFields.{read_agrees}
 
 -- a simulator's mind is that of its fields
@@ -47,6 +47,9 @@ module _ (room : RoomState) (limits : IsWithinLimits room.spec) (one : IsOneInte
 
   pub said_passed : (p r : ℕ) → p < processes room.spec → 1 ≤ r → r ≤ room.spec.rounds → is_passed room.spec (read_of room) p r ≡ is_passed room.spec base p r
   said_passed p r low first last = same_passed room.spec (read_of room) fields some agree p r low first last
+
+  pub said_fixed : (p r : ℕ) → p < processes room.spec → 1 ≤ r → r ≤ room.spec.rounds → is_fixed room.spec (read_of room) p r ≡ is_fixed room.spec base p r
+  said_fixed p r low first last = same_fixed room.spec (read_of room) fields some agree p r low first last
 
   pub said_shown : (p r : ℕ) → p < processes room.spec → 1 ≤ r → r ≤ room.spec.rounds → shown_of room.spec (read_of room) p r ≡ shown_of room.spec base p r
   said_shown p r low first last = same_shown room.spec (read_of room) fields some agree p r low first last

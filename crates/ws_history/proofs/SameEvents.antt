@@ -3,7 +3,7 @@ use Rattle.std.proofs.Common.{◌≡◌, ◌≢◌, ℕ, zero, suc, ◌-◌, ◌
 use Rattle.std.specs.Prelude.{◌&&◌}
 use Rattle.std.proofs.lemmas.Bool.{cases_lt, cases_Bool}
 use Rattle.room_spec.specs.Rooms.{RoomSpec, processes}
-use Rattle.room_core.specs.Points.{Point, IsPassedIn}
+use Rattle.room_core.specs.Points.{Point, IsFixedIn}
 use Rattle.room_core.specs.Timelines.{Timeline, IsTimeline}
 use Rattle.ws_history.specs.Histories.{Snapshot, Source, entry_of, decided, history_from}
 use Rattle.ws_history.specs.Orders.{all_passed, IsPassed}
@@ -15,12 +15,12 @@ use Rattle.ws_history.proofs.PassedSources.{is_source}
 use Rattle.ws_history.proofs.OwnEvents.{deciding, decision_behind, told_same, history_told}
 use Rattle.ws_history.proofs.Linearizing.{taken, taken_by, taken_when, taken_not, last_of, stands}
 
-module _ (spec : RoomSpec) (src : Source) (line : Timeline) (at : ℕ → List Point) (known : IsOfPassed spec src line.passed) (is : IsTimeline (processes spec) spec.rounds line at) (of : IsSourceOf (processes spec) src line) where
-  from : (s : Snapshot) → Contains src.order s → IsPassed line.passed (processes spec) spec.rounds s
-  from s has = from_passed line.passed (processes spec) spec.rounds s (from_order src.row (all_passed line.passed (processes spec) spec.rounds) s (subst (λ (xs : List Snapshot). Contains xs s) known.order has))
+module _ (spec : RoomSpec) (src : Source) (line : Timeline) (at : ℕ → List Point) (known : IsOfPassed spec src line.fixed) (is : IsTimeline (processes spec) spec.rounds line at) (of : IsSourceOf (processes spec) src line) where
+  from : (s : Snapshot) → Contains src.order s → IsPassed line.fixed (processes spec) spec.rounds s
+  from s has = from_passed line.fixed (processes spec) spec.rounds s (from_order src.row (all_passed line.fixed (processes spec) spec.rounds) s (subst (λ (xs : List Snapshot). Contains xs s) known.order has))
 
-  to : (s : Snapshot) → IsPassed line.passed (processes spec) spec.rounds s → Contains src.order s
-  to s passed = subst (λ (xs : List Snapshot). Contains xs s) (sym known.order) (to_order src.row (all_passed line.passed (processes spec) spec.rounds) s (to_passed line.passed (processes spec) spec.rounds s passed))
+  to : (s : Snapshot) → IsPassed line.fixed (processes spec) spec.rounds s → Contains src.order s
+  to s passed = subst (λ (xs : List Snapshot). Contains xs s) (sym known.order) (to_order src.row (all_passed line.fixed (processes spec) spec.rounds) s (to_passed line.fixed (processes spec) spec.rounds s passed))
 
   abbrev total : ℕ → ℕ
   total q = line.counted line.length q
@@ -38,20 +38,20 @@ module _ (spec : RoomSpec) (src : Source) (line : Timeline) (at : ℕ → List P
   same_rounds : (q : ℕ) → q < processes spec → taken spec src line at known is of line.length q ≡ last_round src.order q
   same_rounds q low = elim (cases_lt 0 (total q)) [
     | inr none ↦
-        taken_none (line.passed q (total q)) (line.read q (total q)) line.length (total q) (omega (arith, none))
+        taken_none (line.fixed q (total q)) (line.read q (total q)) line.length (total q) (omega (arith, none))
         ∙ (let most = round_least src.order q 0 (λ t has same. let w = within q low t has same in omega (arith, w, none)) in omega (arith, most))
-    | inl some ↦ elim (cases_Bool (line.passed q (total q))) [
+    | inl some ↦ elim (cases_Bool (line.fixed q (total q))) [
       | inl yes_it ↦
-          let passed : IsPassedIn (processes spec) spec.rounds line.passed q (total q) = record { process = low; first = omega (arith, some); last = few q low; is = yes_it } in
+          let passed : IsFixedIn (processes spec) spec.rounds line.fixed q (total q) = record { process = low; first = omega (arith, some); last = few q low; is = yes_it } in
           let most = round_least src.order q (total q) (λ t has same. within q low t has same) in
           let least = round_most src.order (record { process = q; round = total q }) (to (record { process = q; round = total q }) (record { process = low; positive = omega (arith, some); within = few q low; is = yes_it })) in
-          taken_when (line.passed q (total q)) (line.read q (total q)) line.length (total q) yes_it (is.early q (total q) passed) ∙ omega (arith, most, least)
+          taken_when (line.fixed q (total q)) (line.read q (total q)) line.length (total q) yes_it (is.early q (total q) passed) ∙ omega (arith, most, least)
       | inr no_it ↦
           let most = round_least src.order q (total q - 1) (λ t has same.
           let w = within q low t has same in
-          let apart : t.round ≢ total q = λ e. let it = (from t has).is in let wrong : true ≡ false = sym it ∙ ap (λ (p : ℕ). line.passed p t.round) same ∙ ap (line.passed q) e ∙ no_it in cc in
+          let apart : t.round ≢ total q = λ e. let it = (from t has).is in let wrong : true ≡ false = sym it ∙ ap (λ (p : ℕ). line.fixed p t.round) same ∙ ap (line.fixed q) e ∙ no_it in cc in
           omega (arith, w, apart)) in
-          taken_not (line.passed q (total q)) (line.read q (total q)) line.length (total q) (λ yes_it less. let wrong : true ≡ false = sym yes_it ∙ no_it in cc)
+          taken_not (line.fixed q (total q)) (line.read q (total q)) line.length (total q) (λ yes_it less. let wrong : true ≡ false = sym yes_it ∙ no_it in cc)
           ∙ (let least = before q low in omega (arith, most, least))
     ]
   ]
@@ -93,11 +93,11 @@ module _ (spec : RoomSpec) (src : Source) (line : Timeline) (at : ℕ → List P
       has true is' = refl
       has false is' = absurd (let none = is.over q is' in let wrong : None ≡ Some v = sym none ∙ some in cc)
 
-      passed : IsPassedIn (processes spec) spec.rounds line.passed q (total q)
-      passed = subst (IsPassedIn (processes spec) spec.rounds line.passed q) (sym (is.ends q)) (is.last q v low some)
+      passed : IsFixedIn (processes spec) spec.rounds line.fixed q (total q)
+      passed = subst (IsFixedIn (processes spec) spec.rounds line.fixed q) (sym (is.ends q)) (is.last q v low some)
 
       round_is : last_round src.order q ≡ total q
-      round_is = sym (same_rounds q low) ∙ taken_when (line.passed q (total q)) (line.read q (total q)) line.length (total q) passed.is (is.early q (total q) passed)
+      round_is = sym (same_rounds q low) ∙ taken_when (line.fixed q (total q)) (line.read q (total q)) line.length (total q) passed.is (is.early q (total q) passed)
 
       behind : (c : ℕ) → c ≡ total q → decision_behind src q c ≡ Some v
       behind zero none = absurd (let first = passed.first in omega (arith, none, first))
@@ -108,4 +108,4 @@ module _ (spec : RoomSpec) (src : Source) (line : Timeline) (at : ℕ → List P
       (stands spec src line at known is of line.length (omega arith)).mine q low
       ∙ told_same src q (line.counted line.length q) (taken spec src line at known is of line.length q) (src.greatest q) (last_round src.order q) (last_of spec src line at known is of line.length q) (decided q (decision_behind src q (last_round src.order q)))
       (sym (of.greatest q low)) (same_rounds q low) (same_last q low (line.decided q) refl)
-      ∙ sym (history_told spec src (is_source spec src line.passed known) of.decides_last q low)
+      ∙ sym (history_told spec src (is_source spec src line.fixed known) of.decides_last q low)

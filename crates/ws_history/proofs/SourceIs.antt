@@ -1,5 +1,5 @@
 -- What a room promises of its agreements makes the source of its history one of passed agreements.
-use Rattle.std.proofs.Common.{◌≡◌, ◌≢◌, ℕ, ◌-◌, ◌<◌, true, not, eqb, List, [], ◌∷◌, map, find, Contains, Some, refl, sym, ap, ◌∙◌, subst, arith, inl, inr}
+use Rattle.std.proofs.Common.{◌≡◌, ◌≢◌, ℕ, ◌-◌, ◌<◌, ◌≤◌, true, not, eqb, List, [], ◌∷◌, map, find, Contains, Some, refl, sym, ap, ◌∙◌, subst, arith, inl, inr}
 use Rattle.std.specs.List.{range_with_len}
 use Rattle.std.specs.Option.{option_map}
 use Rattle.std.proofs.lemmas.Bool.{cases_Bool, or_left, or_right, lt-ltb, eqb-true, eqb-false, not-true}
@@ -11,11 +11,13 @@ use Rattle.room_spec.specs.Rooms.{RoomSpec, processes}
 use Rattle.transcript.specs.Runs.{IsRun}
 use Rattle.ws_history.specs.Histories.{Snapshot, asks_after, history_from}
 use Rattle.ws_history.specs.Passed.{IsOfPassed}
+use Rattle.ws_history.specs.Orders.{IsPassed}
+use Rattle.room_core.proofs.CallerLemmas.{fixed_of, test_of}
 use Rattle.sim_memory.proofs.CallerLemmas.{row_length}
 use Rattle.room_core.specs.Fields.{Fields}
-use Rattle.room_core.specs.Agreements.{outs_at, greatest_step, decided_in, is_passed, view_at, row_at, shown, HasAgreed}
+use Rattle.room_core.specs.Agreements.{IsFixedAt, outs_at, greatest_step, decided_in, is_fixed, is_passed, view_at, row_at, shown, HasAgreed}
 use Rattle.room_core.specs.Agreements as room
-use Rattle.ws_history.specs.Sources.{decision_after, source_of}
+use Rattle.ws_history.specs.Sources.{decision_after, fixed_source_of, source_of}
 use Rattle.ws_history.proofs.Order.{cons_first, cons_rest}
 use Rattle.ws_history.proofs.PassedSources.{passed_is_run}
 
@@ -58,7 +60,7 @@ decision_is spec fields has j k v low is = elim (cases_Bool (eqb (greatest_step 
 
 -- ---- what somebody has gone beyond is passed
 
-gone_beyond : (spec : RoomSpec) (fields : Fields) (p r : ℕ) → r < greatest_step spec fields p → is_passed spec fields p r ≡ true
+pub gone_beyond : (spec : RoomSpec) (fields : Fields) (p r : ℕ) → r < greatest_step spec fields p → is_passed spec fields p r ≡ true
 gone_beyond spec fields p r less = or_left _ _ (or_right _ _ (lt-ltb r (greatest_step spec fields p) less))
 
 -- ---- the source
@@ -75,17 +77,44 @@ is_of_passed spec fields has = record {
   order = refl;
   known = λ s is. record {
     width = length-map-range_with_len _ 0 (processes spec);
-    own = has.own_entry_is_exact s.process s.round is.process is.positive is.within is.is;
-    before = λ p r low pos less. gone_beyond spec fields p r (let most = has.row_is_within s.process s.round p is.process is.positive is.within is.is low in omega arith);
-    shows = λ p low. has.row_is_within s.process s.round p is.process is.positive is.within is.is low;
+    own = has.own_entry_is_exact s.process s.round is.process is.positive is.within (fixed s is);
+    before = λ p r low pos less. gone_beyond spec fields p r (let most = has.row_is_within s.process s.round p is.process is.positive is.within (fixed s is) low in omega arith);
+    shows = λ p low. has.row_is_within s.process s.round p is.process is.positive is.within (fixed s is) low;
     goes_on = λ less. asks_are spec fields s ∙ has.next_is_due s.process s.round is.process is.positive less;
     decides = λ v it. let at = decision_is spec fields has s.process s.round v is.process it in (asks_are spec fields s ∙ at.0, at.1);
   };
-  compare = λ s t first second. has.snapshots_compare s.process s.round t.process t.round first.process first.positive first.within first.is second.process second.positive second.within second.is;
+  compare = λ s t first second. has.snapshots_compare s.process s.round t.process t.round first.process first.positive first.within (fixed s first) second.process second.positive second.within (fixed t second);
   rounds = has.steps_are_within;
   behind = λ p r low pos less. gone_beyond spec fields p r less;
   begins = has.first_is_due;
 }
+  where
+    fixed : (s : Snapshot) → IsPassed (is_passed spec fields) (processes spec) spec.rounds s → IsFixedAt spec fields s.process s.round
+    fixed s is = has.passed_is_fixed s.process s.round is.process is.positive is.is
+
+-- the same of all whose agreements are fixed
+pub is_of_fixed : (spec : RoomSpec) (fields : Fields) → HasAgreed spec fields → IsOfPassed spec (fixed_source_of spec fields) (is_fixed spec fields)
+is_of_fixed spec fields has = record {
+  order = refl;
+  known = λ s is. record {
+    width = length-map-range_with_len _ 0 (processes spec);
+    own = has.own_entry_is_exact s.process s.round is.process is.positive is.within (fixed s is);
+    before = λ p r low pos less. beyond_fixed p r low pos (let most = has.row_is_within s.process s.round p is.process is.positive is.within (fixed s is) low in omega arith);
+    shows = λ p low. has.row_is_within s.process s.round p is.process is.positive is.within (fixed s is) low;
+    goes_on = λ less. asks_are spec fields s ∙ has.next_is_due s.process s.round is.process is.positive less;
+    decides = λ v it. let at = decision_is spec fields has s.process s.round v is.process it in (asks_are spec fields s ∙ at.0, at.1);
+  };
+  compare = λ s t first second. has.snapshots_compare s.process s.round t.process t.round first.process first.positive first.within (fixed s first) second.process second.positive second.within (fixed t second);
+  rounds = has.steps_are_within;
+  behind = λ p r low pos less. beyond_fixed p r low pos less;
+  begins = has.first_is_due;
+}
+  where
+    fixed : (s : Snapshot) → IsPassed (is_fixed spec fields) (processes spec) spec.rounds s → IsFixedAt spec fields s.process s.round
+    fixed s is = fixed_of spec fields s.process s.round is.is
+
+    beyond_fixed : (p r : ℕ) → p < processes spec → 1 ≤ r → r < greatest_step spec fields p → is_fixed spec fields p r ≡ true
+    beyond_fixed p r low pos less = test_of spec fields p r (has.passed_is_fixed p r low pos (gone_beyond spec fields p r less))
 
 pub fields_run : (spec : RoomSpec) (fields : Fields) → HasAgreed spec fields → IsRun spec (history_from spec (source_of spec fields))
 fields_run spec fields has = passed_is_run spec (source_of spec fields) (is_passed spec fields) (is_of_passed spec fields has)

@@ -1,10 +1,10 @@
 -- The linearization of a room's simulated execution: the events of its history, each at the step at which it takes effect.
-use Rattle.std.specs.Prelude.{⊤, ◌∷◌, ◌↔◌, ◌≡◌, ℕ, zero, suc, ◌<◌, Bool, ◌==◌, List, [], ◌++◌, length, map, Some, None}
+use Rattle.std.specs.Prelude.{⊤, ◌∷◌, ◌↔◌, ◌≡◌, ◌⊎◌, ℕ, zero, suc, ◌<◌, Bool, true, ◌==◌, List, [], ◌++◌, length, map, Some, None}
 use Rattle.std.specs.List.{Contains, filter}
 use Rattle.room_spec.specs.Rooms.{RoomSpec}
 use Rattle.transcript.specs.declared.event.Event.{Event}
 use Rattle.transcript.specs.declared.event.Event.TheVariants.{Write, Snap, Decide}
-use Rattle.transcript.specs.Runs.{process_of}
+use Rattle.transcript.specs.Runs.{is_snap_by, process_of}
 use Rattle.room_core.specs.Rooms.{ScheduleEvent}
 use Rattle.room_core.specs.Fields.{Fields}
 use Rattle.room_core.specs.Moments.{fields_at}
@@ -53,6 +53,15 @@ is_by p event = process_of event == p
 
 abbrev pub events_of : ℕ → List Event → List Event
 events_of p events = filter (is_by p) events
+
+-- the second events are the first, or those and a snapshot of process p more
+abbrev pub LackAtMostASnapshot : ℕ → List Event → List Event → Type 0
+LackAtMostASnapshot p first second = (second ≡ first) ⊎ ((event : Event) × (is_snap_by p event ≡ true) × (second ≡ first ++ event ∷ []))
+
+-- the first events begin the second
+pub record Begins (first second : List Event) : Type 0 where
+  pub rest : List Event
+  pub is : second ≡ first ++ rest
 
 -- ---- the same, step by step
 

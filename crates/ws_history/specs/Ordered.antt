@@ -5,7 +5,7 @@ use Rattle.std.specs.BTreeMap.{insert_entry}
 use Rattle.std.specs.Ordering.{nat_cmp}
 use Rattle.room_spec.specs.Rooms.{RoomSpec, processes}
 use Rattle.transcript.specs.declared.event.Event.{Event}
-use Rattle.room_core.specs.Agreements.{decided_in, greatest_step, is_passed, shown_of}
+use Rattle.room_core.specs.Agreements.{decided_in, greatest_step, is_fixed, shown_of}
 use Rattle.room_core.specs.Calls.{RoomState}
 use Rattle.room_core.specs.Fields.{Fields}
 use Rattle.room_core.specs.Points.{Writes, Snaps, Decides}
@@ -19,7 +19,7 @@ abbrev pub write_points : RoomSpec → Fields → Notes → ℕ → ℕ → List
 write_points spec fields notes p r = if nat_le r (greatest_step spec fields p) then (record { time = counted_at spec notes p r; point = Writes p r }) ∷ [] else []
 
 abbrev pub read_points : RoomSpec → Fields → Notes → ℕ → ℕ → List Timed
-read_points spec fields notes p r = if is_passed spec fields p r then (record { time = read_at spec notes (shown_of spec fields p r) p r; point = Snaps p r }) ∷ [] else []
+read_points spec fields notes p r = if is_fixed spec fields p r then (record { time = read_at spec notes (shown_of spec fields p r) p r; point = Snaps p r }) ∷ [] else []
 
 abbrev pub decision_at : ℕ → ℕ → Option ℕ → List Timed
 decision_at time p None = []

@@ -3,7 +3,7 @@ use Rattle.std.specs.Prelude.{ℕ, List, Option, None, ◌==◌, if◌then◌els
 use Rattle.room_spec.specs.Rooms.{RoomSpec, processes}
 use Rattle.transcript.specs.declared.event.Event.{Event}
 use Rattle.room_core.specs.Fields.{Fields}
-use Rattle.room_core.specs.Agreements.{decided_in, greatest_step, is_passed, row_at, written}
+use Rattle.room_core.specs.Agreements.{decided_in, greatest_step, is_fixed, is_passed, row_at, written}
 use Rattle.ws_history.specs.Histories.{Source, history_from}
 use Rattle.ws_history.specs.Orders.{all_passed, in_order}
 
@@ -15,6 +15,16 @@ abbrev pub source_of : RoomSpec → Fields → Source
 source_of spec fields = record {
   written = written spec fields;
   order = in_order (row_at spec fields) (all_passed (is_passed spec fields) (processes spec) spec.rounds);
+  row = row_at spec fields;
+  greatest = greatest_step spec fields;
+  decision = decision_after spec fields;
+}
+
+-- the same with each snapshot whose agreement is fixed, also where nothing rests on it yet
+abbrev pub fixed_source_of : RoomSpec → Fields → Source
+fixed_source_of spec fields = record {
+  written = written spec fields;
+  order = in_order (row_at spec fields) (all_passed (is_fixed spec fields) (processes spec) spec.rounds);
   row = row_at spec fields;
   greatest = greatest_step spec fields;
   decision = decision_after spec fields;

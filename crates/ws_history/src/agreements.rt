@@ -1,12 +1,14 @@
 //! What the agreements of a room show.
 ghost use Rattle.std.specs.Prelude.{◌≡◌, ℕ, ◌+◌, ◌<◌, ◌≤◌, ◌==◌, drop, length, slice_index};
+ghost use Rattle.std.specs.List.{list_any, range_with_len};
 ghost use Rattle.room_spec.specs.Rooms.{IsWithinLimits, processes};
 ghost use Rattle.room_spec.specs.Sizes.{memory_words, sizes_in};
 ghost use Rattle.view_table.specs.Places.{IsRound, words_of};
 ghost use Rattle.sim_memory.specs.Steps.{row_of, step_in};
-ghost use Rattle.room_core.specs.Agreements.{asks, first_with, greatest_step, has_out, is_clean, is_passed, row_at, shown, shown_by, shown_of, written};
+ghost use Rattle.room_core.specs.Agreements.{asks, first_with, greatest_step, has_looked_blind, has_out, is_clean, is_fixed, is_passed, row_at, shown, shown_by, shown_of, written};
 ghost use Rattle.ws_history.specs.Readings.{read_of, view_start};
 
+use crate::points::has_looked_blind;
 use crate::reading::{
     least_with, levels_word, process_count, round_count, row_of, shape_of, simulator_count, step,
     value,
@@ -34,6 +36,29 @@ pub(crate) fn is_passed(room: &RoomCore, j: usize, k: usize, greatest: usize, ou
     ensures { result ≡ is_passed room.now.spec (read_of room.now) j k }
 {
     k < greatest || (out && greatest == k) || is_clean(room, j, k)
+}
+
+/// Whether this agreement is fixed: some simulator is at level 2 in it, and no other can come there any more.
+#[tactic(auto, unfolding(crate::specs::Readings::read_of))]
+pub(crate) fn is_fixed(room: &RoomCore, j: usize, k: usize) -> bool
+    requires process { j < processes room.now.spec }
+    requires round { IsRound (sizes_in room.now.spec) k }
+    ensures { result ≡ is_fixed room.now.spec (read_of room.now) j k }
+{
+    safe_agreement::has_level(levels_word(room, j, k), simulator_count(room), 2)
+        && !is_any_blind(room, j, k)
+}
+
+/// Whether some simulator is about to bring its proposal to level 2.
+fn is_any_blind(room: &RoomCore, j: usize, k: usize) -> bool
+    ensures { result ≡ list_any (λ i. has_looked_blind (read_of room.now) i j k) (range_with_len 0 room.now.spec.simulators) }
+{
+    for i in 0..simulator_count(room) {
+        if has_looked_blind(room, i, j, k) {
+            return true;
+        }
+    }
+    false
 }
 
 /// The least simulator at level 2 in this agreement, or 0.

@@ -16,7 +16,7 @@ ghost use Rattle.room_core.specs.Calls.{configuration_of, marked, room_after_set
 ghost use Rattle.room_core.specs.Rooms.{IsAlive, ScheduleEvent, crashes};
 ghost use Rattle.room_core.specs.Observing.{AreSeen, steps_of_settling, steps_of_steps};
 ghost use Rattle.ws_history.specs.Notes.{AreNotesOf, IsNoted, Notes, events_taken};
-ghost use Rattle.ws_history.specs.Linearizations.{IsLinearization, Timed, events_in, events_of, linearized};
+ghost use Rattle.ws_history.specs.Linearizations.{Begins, LackAtMostASnapshot, IsLinearization, Timed, events_in, events_of, linearized};
 ghost use Rattle.ws_history.specs.Histories.{Snapshot, Source, IsSource, history_from};
 ghost use Rattle.ws_history.specs.Passed.{IsOfPassed, IsDecided};
 
@@ -66,12 +66,12 @@ pub fn linearizations()
         IsWithinLimits room.spec → (are : AreFieldsOf room fields) → (points : List Timed) →
         IsLinearization room.spec are.run.schedule fields points →
         IsRun room.spec (events_in (source_of room.spec fields) points) }
-    // in which each process does what it does in the history.
+    // in which each process does what it does in the history; at most a last snapshot comes after it.
     ensures same { (room : RoomState) (fields : Fields) →
         IsWithinLimits room.spec → (are : AreFieldsOf room fields) → (points : List Timed) →
         IsLinearization room.spec are.run.schedule fields points → (p : ℕ) →
         p < processes room.spec →
-        events_of p (events_in (source_of room.spec fields) points) ≡ events_of p (history_of room.spec fields) }
+        LackAtMostASnapshot p (events_of p (history_of room.spec fields)) (events_of p (events_in (source_of room.spec fields) points)) }
 {}
 
 /// The linearization is one, and is found step by step.
@@ -85,7 +85,16 @@ pub fn linearized_runs()
         IsRun room.spec (linearized room.spec are.run.schedule fields) }
     ensures same { (room : RoomState) (fields : Fields) →
         IsWithinLimits room.spec → (are : AreFieldsOf room fields) → (p : ℕ) → p < processes room.spec →
-        events_of p (linearized room.spec are.run.schedule fields) ≡ events_of p (history_of room.spec fields) }
+        LackAtMostASnapshot p (events_of p (history_of room.spec fields)) (events_of p (linearized room.spec are.run.schedule fields)) }
+{}
+
+/// As a schedule goes on, what a process does in its linearization begins what it does in the linearization later.
+pub fn linearized_runs_grow()
+    ensures { (room later : RoomState) (fields final : Fields) →
+        IsWithinLimits room.spec → (are : AreFieldsOf room fields) → (ares : AreFieldsOf later final) → room.spec ≡ later.spec →
+        (more : List ScheduleEvent) → ares.run.schedule ≡ are.run.schedule ++ more → (p : ℕ) → p < processes room.spec →
+        Begins (events_of p (linearized room.spec are.run.schedule fields))
+        (events_of p (linearized later.spec ares.run.schedule final)) }
 {}
 
 /// Notes that a [`Points`](crate::Points) takes of a room stay notes of its schedule: by the steps of a command, each of which it saw, and by a crash.

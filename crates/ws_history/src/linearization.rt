@@ -5,32 +5,33 @@ ghost use Rattle.room_spec.specs.Rooms.{processes};
 ghost use Rattle.room_spec.specs.Sizes.{sizes_in};
 ghost use Rattle.view_table.specs.Places.{IsRound};
 ghost use Rattle.transcript.specs.Runs.{IsRun};
-ghost use Rattle.room_core.specs.Agreements.{greatest_step, has_out, row_at, shown_by};
+ghost use Rattle.room_core.specs.Agreements.{greatest_step, row_at, shown_by};
 ghost use Rattle.transcript.specs.declared.event.Event.TheVariants.{Snap};
 ghost use Rattle.room_core.specs.Calls.{configuration_of};
 ghost use Rattle.room_core.specs.Fields.{Fields};
 ghost use Rattle.room_core.specs.Reading.{AreFieldsOf};
 ghost use Rattle.room_core.specs.Rooms.{ScheduleEvent};
-ghost use Rattle.ws_history.specs.Linearizations.{AreEventsAtSteps, events_of};
+ghost use Rattle.ws_history.specs.Linearizations.{AreEventsAtSteps, LackAtMostASnapshot, events_of};
 ghost use Rattle.ws_history.specs.Notes.{AreNotesOf};
 ghost use Rattle.ws_history.specs.Ordered.{decision_points, events_by_time, points_of, put_in, read_points, write_points};
 ghost use Rattle.ws_history.specs.Readings.{read_of};
 ghost use Rattle.ws_history.specs.Sources.{history_of};
 
-use crate::agreements::{is_passed, shown_by, shown_of, view_at, written};
+use crate::agreements::{is_fixed, shown_by, shown_of, view_at, written};
 use crate::points::Points;
 use crate::reading::{
-    decided_in, greatest_step, has_out, number_of, process_count, round_count, row_of, shape_of,
+    decided_in, greatest_step, number_of, process_count, round_count, row_of, shape_of,
 };
 use room_core::RoomCore;
 use std::alloc::{AllocError, Global};
 use std::collections::BTreeMap;
 use transcript::Event;
 
-/// The events of the room's history by the steps at which they take effect, if these are the notes of its steps: a write by the step that
-/// first counted it, a snapshot by the step by which the proposal that was chosen was read, a decision by the step that first stored it. A
-/// step's number is that of the event of the schedule, counted from 0: atomic steps and crashes alike. In this order the events are a run of
-/// the processes on write-snapshot memory, as they are in that of [`history`](crate::history), and each process does the same in both.
+/// The events of the room by the steps at which they take effect, if these are the notes of its steps: a write by the step that first
+/// counted it, a snapshot whose agreement is fixed by the step by which the proposal that was chosen was read, a decision by the step that
+/// first stored it. A step's number is that of the event of the schedule, counted from 0: atomic steps and crashes alike. In this order the
+/// events are a run of the processes on write-snapshot memory. What each process does in [`history`](crate::history) begins what it does here:
+/// at most a last snapshot follows, on which nothing rests yet.
 ///
 /// # Errors
 ///
@@ -48,10 +49,10 @@ pub fn linearize(
     ensures run { (schedule : List ScheduleEvent) →
         AreNotesOf (configuration_of room.now) schedule points.now →
         IfOk result (λ events. IsRun room.now.spec (map (λ e. e.1) events.entries)) }
-    // in which each process does what it does in the history.
+    // in which each process does what it does in the history; at most a last snapshot comes after it.
     ensures same { (schedule : List ScheduleEvent) (fields : Fields) →
         AreNotesOf (configuration_of room.now) schedule points.now → AreFieldsOf room.now fields → (p : ℕ) → p < processes room.now.spec →
-        IfOk result (λ events. events_of p (map (λ e. e.1) events.entries) ≡ events_of p (history_of room.now.spec fields)) }
+        IfOk result (λ events. LackAtMostASnapshot p (events_of p (history_of room.now.spec fields)) (events_of p (map (λ e. e.1) events.entries))) }
 {
     let _shape = shape_of(room); // for the proof: the room stands for some fields
     let events = events_by_time(alloc, room, points)?;
@@ -84,10 +85,9 @@ fn put_process(
     ensures { OnOk result (events.new.entries ≡ fold (put_in room.now) events.old.entries (points_of room.now.spec (read_of room.now) points.now p)) }
 {
     let greatest = greatest_step(room, p);
-    let out = has_out(room, p);
     for k in 0..round_count(room) {
         put_write(events, room, points, p, k + 1, greatest)?;
-        put_snapshot(events, room, points, p, k + 1, greatest, out)?;
+        put_snapshot(events, room, points, p, k + 1)?;
     }
     put_decision(events, room, points, p)
 }
@@ -119,23 +119,19 @@ fn put_write(
     Ok(())
 }
 
-/// Its snapshot in round `r`, if that was agreed on: by how many writes of it were counted, and whether a decision is stored.
+/// Its snapshot in round `r`, if its agreement is fixed.
 fn put_snapshot(
     events: &mut BTreeMap<u64, Event>,
     room: &RoomCore,
     points: &Points,
     p: usize,
     r: usize,
-    greatest: usize,
-    out: bool,
 ) -> Result<(), AllocError>
     requires process { p < processes room.now.spec }
     requires round { IsRound (sizes_in room.now.spec) r }
-    requires greatest { greatest ≡ greatest_step room.now.spec (read_of room.now) p }
-    requires out { out ≡ has_out room.now.spec (read_of room.now) p }
     ensures { OnOk result (events.new.entries ≡ fold (put_in room.now) events.old.entries (read_points room.now.spec (read_of room.now) points.now p r)) }
 {
-    if is_passed(room, p, r, greatest, out) {
+    if is_fixed(room, p, r) {
         let time = points.read_at(room, shown_of(room, p, r), p, r);
         events.insert(time, snapshot_of(room, p, r))?;
     }

@@ -7,7 +7,9 @@ ghost use Rattle.simulator.specs.Sweeps.{is_resting};
 ghost use Rattle.simulator.specs.Turns.{words_in};
 ghost use Rattle.room_core.specs.Calls.{configuration_of, sweep_at};
 ghost use Rattle.room_core.specs.Counting.{events_of, events_so_far};
+ghost use Rattle.room_core.specs.Agreements.{has_looked_blind, leaves_blind};
 ghost use Rattle.room_core.specs.Points.{is_snap};
+ghost use Rattle.ws_history.specs.Readings.{read_of};
 ghost use Rattle.room_core.specs.Rooms.{opening};
 ghost use Rattle.room_core.specs.declared.reply.StepReply.TheVariants.{Stepped};
 ghost use Rattle.ws_history.specs.Notes.{AreNotesOf, counted_at, place, read_at, stored_at};
@@ -237,6 +239,34 @@ fn round_on(room: &RoomCore, i: usize, process: usize) -> usize
     ensures range { result ≤ room.now.spec.rounds }
 {
     usize::from(mind_of(room, i).goal(process).round())
+}
+
+/// Whether simulator `i` has looked into the agreement on process `j` and round `k`, has seen no level 2, and has not left it yet.
+#[tactic(auto, unfolding(crate::specs::Readings::read_of))]
+pub(crate) fn has_looked_blind(room: &RoomCore, i: usize, j: usize, k: usize) -> bool
+    requires { i < room.now.spec.simulators }
+    ensures { result ≡ has_looked_blind (read_of room.now) i j k }
+{
+    leaves_blind(room, i) && works_at(room, i, j, k)
+}
+
+/// Whether the next step of simulator `i` takes its proposal to level 2.
+fn leaves_blind(room: &RoomCore, i: usize) -> bool
+    requires { i < room.now.spec.simulators }
+    ensures value { result ≡ leaves_blind (sweep_at room.now i).mind.line }
+    ensures open { result ≡ true → is_resting (sweep_at room.now i).mind.line ≡ false }
+{
+    matches!(mind_of(room, i).line(), Line::Leave { saw_two: false })
+}
+
+/// Whether the open turn of simulator `i` works on process `j` and round `k`.
+fn works_at(room: &RoomCore, i: usize, j: usize, k: usize) -> bool
+    requires simulator { i < room.now.spec.simulators }
+    requires open { is_resting (sweep_at room.now i).mind.line ≡ false }
+    ensures { result ≡ ((sweep_at room.now i).mind.process == j) && (current_round (sweep_at room.now i).mind == k) }
+{
+    let process = process_on(room, i);
+    process == j && round_on(room, i, process) == k
 }
 
 /// Whether the next step of simulator `i` loads the last memory word of a collect.

@@ -2,8 +2,9 @@
 """layout.py PICTURE TRANSCRIPT: checks where the shapes of a picture are, and whether its events have the transcript's order.
 
 Nothing is outside the picture, no two squares, events or proposals overlap, and the events of each room, from left to right and from
-the first row to the last, are those of the transcript in its order. For each snapshot one proposal is framed, and shows the same
-processes. Prints how many squares, events and proposals there are.
+the first row to the last, are those of the transcript in its order, but for the last snapshot of a process whose agreement the picture
+says is not resolved. For each snapshot one proposal is framed, and shows the same processes. Prints how many squares, events and
+proposals there are.
 """
 
 import re
@@ -82,6 +83,21 @@ def proposals_in(name, shapes, events):
     return framed
 
 
+def reported(name, shapes, drawn, wanted):
+    """The transcript's events without the last snapshot of each process that isn't drawn. Of its agreement it is said that it is not resolved."""
+    said = [words for shape in shapes for words in [shape.text or "", *(hint.text or "" for hint in shape)]]
+    left = list(wanted)
+    for process in {event.split(" ")[0] for event in wanted}:
+        theirs, ours = ([event for event in events if event.split(" ")[0] == process] for events in (wanted, drawn))
+        if len(theirs) != len(ours) + 1 or theirs[-1].split(" ")[1] != "snap":
+            continue
+        round_ = sum(event.split(" ")[1] == "snap" for event in theirs)
+        if not any(re.match(rf"round {round_} is not resolved", words) for words in said):
+            print(f"{name}: the snapshot {round_} of process {process} is not drawn, and nothing says that it is not resolved")
+        del left[len(left) - 1 - left[::-1].index(theirs[-1])]
+    return left
+
+
 def events_of(transcript):
     """The events of each room: what follows the line `events`."""
     rooms = {}
@@ -127,9 +143,10 @@ def main():
     for name, (numbers, shapes) in drawn.items():
         if name in folded:
             continue
-        if (events := events_in(numbers, shapes)) != wanted.get(name, []):
+        events = events_in(numbers, shapes)
+        if events != reported(name, shapes, events, wanted.get(name, [])):
             print(f"{name}: drawn {events}, but in the transcript {wanted.get(name)}")
-        chosen += proposals_in(name, shapes, wanted.get(name, []))
+        chosen += proposals_in(name, shapes, events)
     print(f"{len(squares)} squares, {len(boxes)} events, {chosen} of {len(proposals)} proposals chosen, {len(drawn)} rooms step by step, {len(folded)} folded")
 
 

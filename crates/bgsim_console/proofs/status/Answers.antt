@@ -1,3 +1,4 @@
+use Rattle.std.proofs.Common.{rules}
 use Rattle.bgsim_console.specs.Endings.{done, refused}
 use Rattle.bgsim_console.proofs.status.Goals as goal
 
@@ -9,4 +10,4 @@ returns-in-Ok-clause-value g c =
     c.ending_status.ensures
 
 pub returns-in-Err-clause-value : goal.returns-in-Err-clause-value
-returns-in-Err-clause-value g c = refused _ c.words_status.ensures.0 c.in-Err.ensures.kinds c.in-Err.ensures.plain c.words_status.ensures.1
+returns-in-Err-clause-value g c = refused _ c.words_status.ensures.0 c.in-Err.ensures.kinds c.in-Err.ensures.plain (search rules) c.words_status.ensures.1

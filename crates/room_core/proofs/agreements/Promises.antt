@@ -43,7 +43,7 @@ clean_by levels two one =
       no_one = λ i below. no_level_at 1 levels i one below;
     }
 
-some_out : (spec : RoomSpec) (fields : Fields) (j : ℕ) → has_out spec fields j ≡ true → (i : ℕ) × (i < spec.simulators) × (fields.out i j ≢ 0)
+pub some_out : (spec : RoomSpec) (fields : Fields) (j : ℕ) → has_out spec fields j ≡ true → (i : ℕ) × (i < spec.simulators) × (fields.out i j ≢ 0)
 some_out spec fields j has =
     let outs = outs_at spec fields j in
     let at = Any-from_list_any is_out outs has in
@@ -112,26 +112,22 @@ module _ (room : RoomState) (fields : Fields) (limits : IsWithinLimits room.spec
   row_is : (j k : ℕ) (at : IsFixedAt room.spec fields j k) → passed.row_at room.spec fields j k ≡ row_of room.spec.simulators (processes room.spec) (fields.view (fixed_has_least room.spec fields j k at).0 j k)
   row_is j k at = ap (λ (view : StepMap). row_of room.spec.simulators (processes room.spec) view) (view_is room.spec fields (fields_within room fields limits are) j k at)
 
-  own_entry : (j k : ℕ) → j < processes room.spec → 1 ≤ k → is_passed room.spec fields j k ≡ true → get_or (passed.row_at room.spec fields j k) j 0 ≡ k
-  own_entry j k within first is =
-      let at = passed_fixed j k within first is in
+  own_entry : (j k : ℕ) → j < processes room.spec → 1 ≤ k → IsFixedAt room.spec fields j k → get_or (passed.row_at room.spec fields j k) j 0 ≡ k
+  own_entry j k within first at =
       let least = fixed_has_least room.spec fields j k at in
       ap (λ (row : List ℕ). get_or row j 0) (row_is j k at) ∙ row_at room.spec.simulators (processes room.spec) (fields.view least.0 j k) j within ∙ room_entry room fields limits are least.0 j k least.1 first least.3
 
-  compare : (j k p r : ℕ) → j < processes room.spec → 1 ≤ k → is_passed room.spec fields j k ≡ true → p < processes room.spec → 1 ≤ r → is_passed room.spec fields p r ≡ true
+  compare : (j k p r : ℕ) → j < processes room.spec → 1 ≤ k → IsFixedAt room.spec fields j k → p < processes room.spec → 1 ≤ r → IsFixedAt room.spec fields p r
       → IsRowAtMost (passed.row_at room.spec fields j k) (passed.row_at room.spec fields p r) ⊎ IsRowAtMost (passed.row_at room.spec fields p r) (passed.row_at room.spec fields j k)
-  compare j k p r within first is within' first' is' =
-      let at = passed_fixed j k within first is in
-      let at' = passed_fixed p r within' first' is' in
+  compare j k p r within first at within' first' at' =
       let one = fixed_has_least room.spec fields j k at in
       let two = fixed_has_least room.spec fields p r at' in
       subst (λ (row : List ℕ). IsRowAtMost row (passed.row_at room.spec fields p r) ⊎ IsRowAtMost (passed.row_at room.spec fields p r) row) (sym (row_is j k at))
       (subst (λ (row : List ℕ). IsRowAtMost (row_of room.spec.simulators (processes room.spec) (fields.view one.0 j k)) row ⊎ IsRowAtMost row (row_of room.spec.simulators (processes room.spec) (fields.view one.0 j k))) (sym (row_is p r at'))
       (room_rows room fields limits are one.0 j k two.0 p r one.1 two.1 first first' one.3 two.3))
 
-  within_steps : (j k p : ℕ) → j < processes room.spec → 1 ≤ k → is_passed room.spec fields j k ≡ true → p < processes room.spec → get_or (passed.row_at room.spec fields j k) p 0 ≤ greatest_step room.spec fields p
-  within_steps j k p within first is below =
-      let at = passed_fixed j k within first is in
+  pub within_steps : (j k p : ℕ) → j < processes room.spec → 1 ≤ k → IsFixedAt room.spec fields j k → p < processes room.spec → get_or (passed.row_at room.spec fields j k) p 0 ≤ greatest_step room.spec fields p
+  within_steps j k p within first at below =
       let view = passed.view_at room.spec fields j k in
       let most = view_within room.spec fields (fields_within room fields limits are) j k first at in
       let row : get_or (passed.row_at room.spec fields j k) p 0 ≡ merged_of room.spec.simulators view p = row_at room.spec.simulators (processes room.spec) view p below in
@@ -142,8 +138,9 @@ module _ (room : RoomState) (fields : Fields) (limits : IsWithinLimits room.spec
   -- a round before one that is passed was counted by whoever raised that one
   pub all_before : (j k r : ℕ) → j < processes room.spec → 1 ≤ k → k < r → is_passed room.spec fields j r ≡ true → is_passed room.spec fields j k ≡ true
   all_before j k r within first less is =
-      let own = own_entry j r within (omega arith) is in
-      let most = within_steps j r j within (omega arith) is within in
+      let at = passed_fixed j r within (omega arith) is in
+      let own = own_entry j r within (omega arith) at in
+      let most = within_steps j r j within (omega arith) at within in
       let counted : ltb k (greatest_step room.spec fields j) ≡ true = lt-ltb k (greatest_step room.spec fields j) (omega arith) in
       or_left (is_clean room.spec fields j k || ltb k (greatest_step room.spec fields j)) _ (or_right (is_clean room.spec fields j k) _ counted)
 
@@ -167,6 +164,7 @@ module _ (room : RoomState) (fields : Fields) (limits : IsWithinLimits room.spec
 
   pub rooms_agree : HasAgreed room.spec fields
   rooms_agree = record {
+    passed_is_fixed = λ j k within first is. passed_fixed j k within first is;
     own_entry_is_exact = λ j k within first last is. own_entry j k within first is;
     snapshots_compare = λ j k p r within first last is within' first' last' is'. compare j k p r within first is within' first' is';
     row_is_within = λ j k p within first last is below. within_steps j k p within first is below;

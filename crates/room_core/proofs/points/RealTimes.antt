@@ -1,6 +1,6 @@
 -- In the order of the points what is before in real time comes first.
-use Rattle.std.proofs.Common.{◌≡◌, ℕ, zero, suc, ◌+◌, ◌-◌, ◌<◌, ◌≤◌, true, false, List, length, inl, inr, sym, ap, ◌∙◌, subst, arith}
-use Rattle.std.proofs.lemmas.Bool.{cases_eq, cases_lt}
+use Rattle.std.proofs.Common.{◌≡◌, ℕ, zero, suc, ◌+◌, ◌-◌, ◌<◌, ◌≤◌, true, false, List, length, inl, inr, refl, sym, ap, ◌∙◌, subst, arith}
+use Rattle.std.proofs.lemmas.Bool.{cases_Bool, cases_eq, cases_lt}
 use Rattle.room_spec.specs.Rooms.{IsWithinLimits, processes}
 use Rattle.sim_memory.proofs.CallerLemmas.{merged_reached}
 use Rattle.room_core.specs.Calls.{RoomState}
@@ -8,10 +8,11 @@ use Rattle.room_core.specs.Fields.{Fields}
 use Rattle.room_core.specs.Reading.{AreFieldsOf}
 use Rattle.room_core.specs.Agreements.{greatest_step, has_out}
 use Rattle.room_core.specs.Moments.{fields_at}
-use Rattle.room_core.specs.Points.{Point, TakesEffect, write_counted, snapshot_read, decision_stored, points_at}
+use Rattle.room_core.specs.Points.{Point, Writes, Snaps, Decides, HasFixed, TakesEffect, read_time, write_counted, snapshot_read, decision_stored, points_at}
 use Rattle.room_core.specs.Timelines.{Timeline, IsTimeline, Moves, nothing, writes, snaps, decides, timeline_of}
-use Rattle.room_core.specs.RealTime.{HasBegun, HasEnded, Precedes}
-use Rattle.room_core.proofs.points.RoomPoints.{read_counted, read_first, timelines}
+use Rattle.room_core.specs.RealTime.{HasBegun, HasEnded, IsOperation, Precedes}
+use Rattle.room_core.proofs.agreements.FixedTests.{fixed_of}
+use Rattle.room_core.proofs.points.RoomPoints.{fixed_lasts, read_counted, read_first, timelines}
 
 -- ---- decisions stay
 
@@ -36,6 +37,38 @@ module _ (n rounds : ℕ) (line : Timeline) (at : ℕ → List Point) (is : IsTi
   decision_stays s t p before within low has =
       let same : s + (t - s) ≡ t = omega arith in
       subst (λ (u : ℕ). line.has_decided u p ≡ true) same (stays_for (t - s) s p (omega (arith, before, within)) low has)
+
+-- ---- what has come about came about at some step
+
+module _ (n rounds : ℕ) (line : Timeline) (at : ℕ → List Point) (is : IsTimeline n rounds line at) where
+  at_most_one : (time p : ℕ) (points : List Point) → Moves n rounds line time points → p < n → line.counted (time + 1) p ≤ line.counted time p + 1
+  at_most_one time p points (nothing counted decided unread) low = let e = counted p low in omega (arith, e)
+  at_most_one time p points (writes q r low' before after others decided unread) low = elim (cases_eq p q) [
+    | inl same ↦ subst (λ (o : ℕ). line.counted (time + 1) o ≤ line.counted time o + 1) (sym same) (omega (arith, before, after))
+    | inr apart ↦ let e = others p low apart in omega (arith, e)
+  ]
+  at_most_one time p points (snaps q r passed read alone counted decided) low = let e = counted p low in omega (arith, e)
+  at_most_one time p points (decides q decision low' live done others counted unread is' last passed read) low = let e = counted p low in omega (arith, e)
+
+  pub counted_once : (moment p r : ℕ) → moment ≤ line.length → p < n → 1 ≤ r → r ≤ line.counted moment p → (time : ℕ) × (time < moment) × (line.counted time p < r) × (line.counted (time + 1) p ≡ r)
+  counted_once zero p r within low first most = absurd (let e = is.none p in omega (arith, e, first, most))
+  counted_once (suc moment) p r within low first most = elim (cases_lt (line.counted moment p) r) [
+    | inl less ↦
+        let next : moment + 1 ≡ suc moment = omega arith in
+        let one = at_most_one moment p (at moment) (is.moves moment (omega arith)) low in
+        let most' : r ≤ line.counted (moment + 1) p = subst (λ (t : ℕ). r ≤ line.counted t p) (sym next) most in
+        (moment, omega arith, less, omega (arith, one, less, most'))
+    | inr enough ↦ let before = counted_once moment p r (omega arith) low first enough in (before.0, let e = before.1 in omega (arith, e), before.2, before.3)
+  ]
+
+  pub decided_once : (moment p : ℕ) → line.has_decided moment p ≡ true → (time : ℕ) × (time < moment) × (line.has_decided time p ≡ false) × (line.has_decided (time + 1) p ≡ true)
+  decided_once zero p has = absurd (let wrong : true ≡ false = sym has ∙ is.undecided p in cc)
+  decided_once (suc moment) p has = elim (cases_Bool (line.has_decided moment p)) [
+    | inl before ↦ let it = decided_once moment p before in (it.0, let e = it.1 in omega (arith, e), it.2, it.3)
+    | inr none ↦
+        let next : suc moment ≡ moment + 1 = omega arith in
+        (moment, omega arith, none, subst (λ (t : ℕ). line.has_decided t p ≡ true) next has)
+  ]
 
 -- ---- before and after a moment
 
@@ -68,6 +101,18 @@ module _ (room : RoomState) (fields : Fields) (limits : IsWithinLimits room.spec
     | inl before ↦ before
     | inr late ↦ absurd (let has = out_stays moment time p late (omega (arith, early)) low ended in let wrong : true ≡ false = sym has ∙ none in cc)
   ]
+
+  -- and whatever has ended took effect
+  pub complete_by : (point : Point) → IsOperation room.spec fields point → HasEnded room.spec Then point → (time : ℕ) × (time < moment) × TakesAt time point
+  complete_by (Writes p r) operation ended =
+      let at = counted_once (processes room.spec) room.spec.rounds (timeline_of room.spec are.run.schedule fields) (points_at room.spec are.run.schedule fields) line_is moment p r within operation.0 operation.1 ended in
+      (at.0, at.1, write_counted p r operation.0 at.2 at.3)
+  complete_by (Snaps p r) operation ended =
+      let passed : HasFixed room.spec fields p r = record { process = operation.0; first = operation.1; last = operation.2; is = fixed_of room.spec fields p r (fixed_lasts room fields limits are p r moment within ended) } in
+      (read_time room.spec are.run.schedule fields p r, read_first room fields limits are p r moment passed within ended, snapshot_read p r passed refl)
+  complete_by (Decides p decision) operation ended =
+      let at = decided_once (processes room.spec) room.spec.rounds (timeline_of room.spec are.run.schedule fields) (points_at room.spec are.run.schedule fields) line_is moment p ended in
+      (at.0, at.1, decision_stored p decision operation.0 at.2 at.3 operation.1)
 
   -- what has taken effect had begun
   pub begun_by : (time : ℕ) (point : Point) → TakesAt time point → time < moment → HasBegun room.spec Then point

@@ -6,25 +6,23 @@ use Rattle.room_spec.specs.Rooms.{RoomSpec, IsWithinLimits, processes}
 use Rattle.room_core.specs.Calls.{RoomState, configuration_of}
 use Rattle.room_core.specs.Fields.{Fields, opening_fields, replay_fields}
 use Rattle.room_core.specs.Reading.{AreFieldsOf}
-use Rattle.room_core.specs.Agreements.{IsFixedAt, greatest_step, is_passed, shown_of}
+use Rattle.room_core.specs.Agreements.{IsFixedAt, greatest_step, is_fixed, shown_of}
 use Rattle.room_core.specs.Moments.{fields_at}
-use Rattle.room_core.specs.Points.{AreEffects, HasPassed, points_at, points_by, read_time, reads_at}
+use Rattle.room_core.specs.Points.{AreEffects, HasFixed, IsFixedIn, points_at, points_by, read_time, reads_at}
 use Rattle.room_core.specs.Timelines.{IsTimeline, Moves, timeline_of}
 use Rattle.room_core.specs.Tracks.{KeepsTrack}
-use Rattle.room_core.proofs.agreements.Promises.{passed_fixed, rooms_agree}
+use Rattle.room_core.proofs.agreements.FixedTests.{in_line, test_of}
+use Rattle.room_core.proofs.agreements.Promises.{rooms_agree}
 use Rattle.room_core.proofs.fields.FieldCalls.{leads_of, with_quiet}
 use Rattle.room_core.proofs.fields.FieldReplays.{stands_for}
 use Rattle.room_core.proofs.moments.Moments.{at_end}
 use Rattle.room_core.proofs.points.OneEffect.{effects, still_read}
-use Rattle.room_core.proofs.points.Passing.{PassedAfter, passed_run}
-use Rattle.room_core.proofs.points.Timelines.{is_timeline, passed_read, read_before}
+use Rattle.room_core.proofs.points.Passing.{Lasts, PassedAfter, passed_run}
+use Rattle.room_core.proofs.points.Timelines.{is_timeline, lasts_final, passed_read, read_before}
 use Rattle.room_core.proofs.values.Known.{IsKnown}
 use Rattle.room_core.proofs.values.SmallValues.{small_values}
 
 -- ---- quiet counts don't matter
-
-fixed_aside : (spec : RoomSpec) (fields : Fields) (quiet : ℕ → ℕ) (j k : ℕ) → IsFixedAt spec (with_quiet fields quiet) j k → IsFixedAt spec fields j k
-fixed_aside spec fields quiet j k at = record { simulator = at.simulator; below = at.below; two = at.two; seen = λ i below blind. at.seen i below (record { process = blind.process; round = blind.round; line = blind.line }) }
 
 points_aside : (spec : RoomSpec) (schedule : List ScheduleEvent) (fields : Fields) (quiet : ℕ → ℕ) (time : ℕ) (event : Option ScheduleEvent) → points_by event spec schedule fields time ≡ points_by event spec schedule (with_quiet fields quiet) time
 points_aside spec schedule fields quiet time None = refl
@@ -68,44 +66,46 @@ module _ (room : RoomState) (fields : Fields) (limits : IsWithinLimits room.spec
   known : IsKnown room.spec (replay_fields room.spec (opening_fields room.spec) are.run.schedule)
   known = (all.0).2 (small_values room.spec limits)
 
-  fixed : (j k : ℕ) → j < processes room.spec → 1 ≤ k → is_passed room.spec (replay_fields room.spec (opening_fields room.spec) are.run.schedule) j k ≡ true → IsFixedAt room.spec (replay_fields room.spec (opening_fields room.spec) are.run.schedule) j k
-  fixed j k low first is =
-      fixed_aside room.spec base fields.quiet j k
-      (subst (λ (f : Fields). IsFixedAt room.spec f j k) same (passed_fixed room fields limits are j k low first (subst (λ (f : Fields). is_passed room.spec f j k ≡ true) (sym same) is)))
-
-  passed_in_base : (j k : ℕ) → HasPassed room.spec fields j k → HasPassed room.spec (replay_fields room.spec (opening_fields room.spec) are.run.schedule) j k
-  passed_in_base j k passed = record { process = passed.process; first = passed.first; last = passed.last; is = subst (λ (f : Fields). is_passed room.spec f j k ≡ true) same passed.is }
+  passed_in_base : (j k : ℕ) → HasFixed room.spec fields j k → IsFixedIn (processes room.spec) room.spec.rounds (is_fixed room.spec (replay_fields room.spec (opening_fields room.spec) are.run.schedule)) j k
+  passed_in_base j k passed = record { process = passed.process; first = passed.first; last = passed.last; is = subst (λ (f : Fields). is_fixed room.spec f j k ≡ true) same (test_of room.spec fields j k passed.is) }
 
   pub timeline_of_run : IsTimeline (processes room.spec) room.spec.rounds (timeline_of room.spec are.run.schedule (replay_fields room.spec (opening_fields room.spec) are.run.schedule)) (points_at room.spec are.run.schedule (replay_fields room.spec (opening_fields room.spec) are.run.schedule))
-  timeline_of_run = is_timeline room.spec are.run.schedule base ends tracks (all.0).0 all.1 all.2 known fixed
+  timeline_of_run = is_timeline room.spec are.run.schedule base ends tracks (all.0).0 all.1 all.2 known
 
   pub timelines : IsTimeline (processes room.spec) room.spec.rounds (timeline_of room.spec are.run.schedule fields) (points_at room.spec are.run.schedule fields)
   timelines =
       subst (λ (f : Fields). IsTimeline (processes room.spec) room.spec.rounds (timeline_of room.spec are.run.schedule f) (points_at room.spec are.run.schedule f)) (sym same)
       (timeline_aside room.spec are.run.schedule base fields.quiet timeline_of_run)
 
+  -- what stays from any moment to the end
+  pub lasts_base : (moment : ℕ) → moment ≤ length are.run.schedule → Lasts room.spec (fields_at room.spec are.run.schedule moment) (replay_fields room.spec (opening_fields room.spec) are.run.schedule)
+  lasts_base moment within = lasts_final room.spec are.run.schedule base ends tracks (all.0).0 all.1 all.2 known moment within
+
+  pub fixed_lasts : (j k moment : ℕ) → moment ≤ length are.run.schedule → IsFixedAt room.spec (fields_at room.spec are.run.schedule moment) j k → is_fixed room.spec fields j k ≡ true
+  fixed_lasts j k moment within at = subst (λ (f : Fields). is_fixed room.spec f j k ≡ true) (sym same) (test_of room.spec base j k ((lasts_base moment within).levels.fixed j k at))
+
   -- at most one write, snapshot or decision takes effect at a step
   pub effects_at : (time : ℕ) → time < length are.run.schedule → AreEffects room.spec are.run.schedule fields time (points_at room.spec are.run.schedule fields time)
   effects_at time early = effects room.spec are.run.schedule fields time (points_at room.spec are.run.schedule fields time) (timelines.moves time early)
 
   -- a snapshot that is agreed on in the end was read by a step of the simulator whose proposal it is,
-  pub read_then : (j k : ℕ) → HasPassed room.spec fields j k → reads_at room.spec are.run.schedule (read_time room.spec are.run.schedule fields j k) (shown_of room.spec fields j k) j k ≡ true
+  pub read_then : (j k : ℕ) → HasFixed room.spec fields j k → reads_at room.spec are.run.schedule (read_time room.spec are.run.schedule fields j k) (shown_of room.spec fields j k) j k ≡ true
   read_then j k passed =
       subst (λ (f : Fields). reads_at room.spec are.run.schedule (read_time room.spec are.run.schedule f j k) (shown_of room.spec f j k) j k ≡ true) (sym same)
-      (passed_read room.spec are.run.schedule base ends tracks (all.0).0 all.1 all.2 known fixed j k (passed_in_base j k passed)).reads
+      (passed_read room.spec are.run.schedule base ends tracks (all.0).0 all.1 all.2 known j k (passed_in_base j k passed)).reads
 
-  pub read_early : (j k : ℕ) → HasPassed room.spec fields j k → read_time room.spec are.run.schedule fields j k < length are.run.schedule
-  read_early j k passed = timelines.early j k passed
+  pub read_early : (j k : ℕ) → HasFixed room.spec fields j k → read_time room.spec are.run.schedule fields j k < length are.run.schedule
+  read_early j k passed = timelines.early j k (in_line room.spec fields j k passed)
 
   -- when its process had counted just its round's write,
-  pub read_counted : (j k : ℕ) → HasPassed room.spec fields j k → greatest_step room.spec (fields_at room.spec are.run.schedule (read_time room.spec are.run.schedule fields j k)) j ≡ k
+  pub read_counted : (j k : ℕ) → HasFixed room.spec fields j k → greatest_step room.spec (fields_at room.spec are.run.schedule (read_time room.spec are.run.schedule fields j k)) j ≡ k
   read_counted j k passed =
       let time = read_time room.spec are.run.schedule fields j k in
-      sym (still_read (processes room.spec) room.spec.rounds (timeline_of room.spec are.run.schedule fields) j k (points_at room.spec are.run.schedule fields time) (timelines.moves time (timelines.early j k passed)) passed j passed.process)
-      ∙ sym (timelines.shows j k j passed passed.process) ∙ (rooms_agree room fields limits are).own_entry_is_exact j k passed.process passed.first passed.last passed.is
+      sym (still_read (processes room.spec) room.spec.rounds (timeline_of room.spec are.run.schedule fields) j k (points_at room.spec are.run.schedule fields time) (timelines.moves time (timelines.early j k (in_line room.spec fields j k passed))) (in_line room.spec fields j k passed) j passed.process)
+      ∙ sym (timelines.shows j k j (in_line room.spec fields j k passed) passed.process) ∙ (rooms_agree room fields limits are).own_entry_is_exact j k passed.process passed.first passed.last passed.is
 
   -- and before its agreement was fixed
-  pub read_first : (j k time : ℕ) → HasPassed room.spec fields j k → time ≤ length are.run.schedule → IsFixedAt room.spec (fields_at room.spec are.run.schedule time) j k → read_time room.spec are.run.schedule fields j k < time
+  pub read_first : (j k time : ℕ) → HasFixed room.spec fields j k → time ≤ length are.run.schedule → IsFixedAt room.spec (fields_at room.spec are.run.schedule time) j k → read_time room.spec are.run.schedule fields j k < time
   read_first j k time passed within at =
       subst (λ (f : Fields). read_time room.spec are.run.schedule f j k < time) (sym same)
-      (read_before room.spec are.run.schedule base ends tracks (all.0).0 all.1 all.2 known fixed j k time (passed_in_base j k passed) within at)
+      (read_before room.spec are.run.schedule base ends tracks (all.0).0 all.1 all.2 known j k time (passed_in_base j k passed) within at)

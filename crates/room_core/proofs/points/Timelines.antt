@@ -15,14 +15,15 @@ use Rattle.simulator.specs.Minds.{current_round}
 use Rattle.room_core.specs.Rooms.{ScheduleEvent, steps, crashes}
 use Rattle.room_core.specs.Fields.{Fields, changed}
 use Rattle.room_core.specs.Moments.{fields_at}
-use Rattle.room_core.specs.Agreements.{IsFixedAt, decided_in, greatest_step, has_out, is_out, is_passed, outs_at, shown_of, view_at}
-use Rattle.room_core.specs.Points.{Point, Writes, Snaps, Decides, HasPassed, points_on, points_by, points_at, is_read, read_time, reads_at}
+use Rattle.room_core.specs.Agreements.{IsFixedAt, decided_in, greatest_step, has_out, is_out, is_fixed, outs_at, shown_of, view_at}
+use Rattle.room_core.specs.Points.{Point, Writes, Snaps, Decides, IsFixedIn, points_on, points_by, points_at, is_read, read_time, reads_at}
 use Rattle.room_core.specs.Timelines.{Timeline, timeline_of, IsTimeline, IsUnread, AreCounted, AreDecided, Moves, nothing, writes, snaps, decides}
 use Rattle.room_core.specs.Tracks.{KeepsTrack}
 use Rattle.room_core.proofs.fields.Effects.{Own, own_of, process_on, round_on, IsTurn, IsLineOf}
 use Rattle.room_core.proofs.fields.Maps.{changed_here, changed_else}
 use Rattle.room_core.proofs.agreements.Exact.{at_two}
 use Rattle.room_core.proofs.agreements.Fixing.{fixed_has_least}
+use Rattle.room_core.proofs.agreements.FixedTests.{fixed_of, test_of}
 use Rattle.room_core.proofs.values.Entries.{or_zero}
 use Rattle.room_core.proofs.values.Known.{IsKnown, IsDeciding, decided_last, no_write_after}
 use Rattle.room_core.proofs.agreements.Lasting.{decided_out, out_decided}
@@ -148,8 +149,7 @@ module _ (spec : RoomSpec) (before after : Fields) (i : ℕ) (effect : IsLineOf 
       (λ (e : a ≡ i). ap (λ (b : ℕ). after.out b q) e ∙ ap (λ (r : ℕ → ℕ). r q) is ∙ changed_else (before.out i) j entry q apart ∙ ap (λ (b : ℕ). before.out b q) (sym e))
       (λ (n : a ≢ i). ap (λ (own : Own). own.out q) (effect.others a n))
 
-module _ (spec : RoomSpec) (schedule : List ScheduleEvent) (final : Fields) (leads : fields_at spec schedule (length schedule) ≡ final) (tracks : KeepsTrack spec final) (history : IsHistory spec schedule final) (pointed : IsPointed spec schedule final) (all : ArePassed spec schedule) (known : IsKnown spec final)
-    (fixed : (j k : ℕ) → j < processes spec → 1 ≤ k → is_passed spec final j k ≡ true → IsFixedAt spec final j k) where
+module _ (spec : RoomSpec) (schedule : List ScheduleEvent) (final : Fields) (leads : fields_at spec schedule (length schedule) ≡ final) (tracks : KeepsTrack spec final) (history : IsHistory spec schedule final) (pointed : IsPointed spec schedule final) (all : ArePassed spec schedule) (known : IsKnown spec final) where
   abbrev pub timeline : Timeline
   timeline = timeline_of spec schedule final
 
@@ -157,7 +157,7 @@ module _ (spec : RoomSpec) (schedule : List ScheduleEvent) (final : Fields) (lea
   at_time time = fields_at spec schedule time
 
   abbrev pub Passed : ℕ → ℕ → Type 0
-  Passed p r = HasPassed spec final p r
+  Passed p r = IsFixedIn (processes spec) spec.rounds (is_fixed spec final) p r
 
   abbrev ReadsAt : ℕ → ℕ → ℕ → ℕ → Type 0
   ReadsAt time i p r = IsReadAt spec (slice_get schedule time) (fields_at spec schedule time) (fields_at spec schedule (time + 1)) i p r
@@ -169,7 +169,7 @@ module _ (spec : RoomSpec) (schedule : List ScheduleEvent) (final : Fields) (lea
 
   pub passed_read : (p r : ℕ) → Passed p r → IsRead spec schedule (shown_of spec final p r) p r (view_at spec final p r)
   passed_read p r passed =
-      let at = fixed p r passed.process passed.first passed.is in
+      let at = fixed_of spec final p r passed.is in
       let least = fixed_has_least spec final p r at in
       let who : least.0 ≡ shown_of spec final p r = ap or_zero (sym least.2) in
       subst (λ (a : ℕ). IsRead spec schedule a p r (final.view a p r)) who (pointed.shown least.0 p r least.1 passed.first (at_two spec final least.0 p r tracks least.3))
@@ -187,10 +187,10 @@ module _ (spec : RoomSpec) (schedule : List ScheduleEvent) (final : Fields) (lea
       let same : a ≡ i = same_event a i (sym reads.event_is ∙ is) in
       other (ap (λ (b : ℕ). ((fields_at spec schedule time).mind b).line) (sym same) ∙ reads.line))
 
-  read_parts : (time i j k : ℕ) → is_read spec schedule final time i j k ≡ true → ReadsAt time i j k × (is_passed spec final j k ≡ true) × (shown_of spec final j k ≡ i) × (read_time spec schedule final j k ≡ time)
+  read_parts : (time i j k : ℕ) → is_read spec schedule final time i j k ≡ true → ReadsAt time i j k × (is_fixed spec final j k ≡ true) × (shown_of spec final j k ≡ i) × (read_time spec schedule final j k ≡ time)
   read_parts time i j k is =
-      let both = and_parts (reads_at spec schedule time i j k && is_passed spec final j k) (eqb (shown_of spec final j k) i && eqb (read_time spec schedule final j k) time) is in
-      let one = and_parts (reads_at spec schedule time i j k) (is_passed spec final j k) both.0 in
+      let both = and_parts (reads_at spec schedule time i j k && is_fixed spec final j k) (eqb (shown_of spec final j k) i && eqb (read_time spec schedule final j k) time) is in
+      let one = and_parts (reads_at spec schedule time i j k) (is_fixed spec final j k) both.0 in
       let two = and_parts (eqb (shown_of spec final j k) i) (eqb (read_time spec schedule final j k) time) both.1 in (
         read_is spec (slice_get schedule time) (fields_at spec schedule time) (fields_at spec schedule (time + 1)) i j k one.0,
         one.1,
@@ -208,7 +208,7 @@ module _ (spec : RoomSpec) (schedule : List ScheduleEvent) (final : Fields) (lea
       let same : s + (t - s) ≡ t = omega arith in
       subst (λ (u : ℕ). Lasts spec (fields_at spec schedule s) (fields_at spec schedule u)) same (lasts spec schedule all s (t - s) (omega (arith, before, within)))
 
-  lasts_final : (s : ℕ) → s ≤ length schedule → Lasts spec (fields_at spec schedule s) final
+  pub lasts_final : (s : ℕ) → s ≤ length schedule → Lasts spec (fields_at spec schedule s) final
   lasts_final s within = subst (λ (f : Fields). Lasts spec (fields_at spec schedule s) f) leads (lasts_to s (length schedule) within (omega arith))
 
   known_at : (t : ℕ) → t ≤ length schedule → IsKnown spec (fields_at spec schedule t)
@@ -322,8 +322,8 @@ module _ (spec : RoomSpec) (schedule : List ScheduleEvent) (final : Fields) (lea
           (nothing (all_counted same) (all_decided same') (λ q s passed there.
           let at = place q s passed there in
           let it : is_read spec schedule final time i q s ≡ true =
-          both_true (reads_at spec schedule time i q s && is_passed spec final q s) (eqb (shown_of spec final q s) i && eqb (read_time spec schedule final q s) time)
-          (both_true (reads_at spec schedule time i q s) (is_passed spec final q s) (subst (λ (a : ℕ). reads_at spec schedule time a q s ≡ true) at.0 (subst (λ (t : ℕ). reads_at spec schedule t (shown_of spec final q s) q s ≡ true) there (passed_read q s passed).reads)) passed.is)
+          both_true (reads_at spec schedule time i q s && is_fixed spec final q s) (eqb (shown_of spec final q s) i && eqb (read_time spec schedule final q s) time)
+          (both_true (reads_at spec schedule time i q s) (is_fixed spec final q s) (subst (λ (a : ℕ). reads_at spec schedule time a q s ≡ true) at.0 (subst (λ (t : ℕ). reads_at spec schedule t (shown_of spec final q s) q s ≡ true) there (passed_read q s passed).reads)) passed.is)
           (both_true (eqb (shown_of spec final q s) i) (eqb (read_time spec schedule final q s) time) (eq-eqb (shown_of spec final q s) i at.0) (eq-eqb (read_time spec schedule final q s) time there)) in
           let wrong : true ≡ false = sym it ∙ ap (λ (p : ℕ). is_read spec schedule final time i p s) at.1 ∙ ap (λ (r : ℕ). is_read spec schedule final time i j r) at.2 ∙ unread in
           cc))
@@ -413,7 +413,7 @@ module _ (spec : RoomSpec) (schedule : List ScheduleEvent) (final : Fields) (lea
           process = turn.process;
           first = turn.first;
           last = turn.last;
-          is = or_right _ _ (both_true (has_out spec final j) (eqb (greatest_step spec final j) k) (has_from spec final i j effect.below (λ zero_out. let s = stored_final in omega (arith, zero_out, s))) (eq-eqb (greatest_step spec final j) k final_is));
+          is = test_of spec final j k in_end.fixed;
         }
 
         before_time : read_time spec schedule final j k < time
@@ -452,7 +452,7 @@ module _ (spec : RoomSpec) (schedule : List ScheduleEvent) (final : Fields) (lea
         process = low;
         first = omega (arith, most, least, first);
         last = omega (arith, most, least, few);
-        is = or_right _ _ (both_true (has_out spec final p) (eqb (greatest_step spec final p) (greatest_step spec final p)) (has_from spec final out.0 p out.1 (λ zero_out. let o = out.2 in omega (arith, zero_out, o))) (eq-eqb (greatest_step spec final p) (greatest_step spec final p) refl));
+        is = subst (λ (r : ℕ). is_fixed spec final p r ≡ true) (omega (arith, most, least)) (test_of spec final p (final.step out.0 p) at.fixed);
       }
 
   pub is_timeline : IsTimeline (processes spec) spec.rounds timeline (points_at spec schedule final)

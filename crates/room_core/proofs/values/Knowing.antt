@@ -46,7 +46,7 @@ use Rattle.room_core.proofs.values.Known.{full, IsChosen, IsGathered, IsDeciding
 use Rattle.room_core.proofs.fields.FieldCalls.{leads_of}
 
 -- a turn at Raise has a write for its goal
-write_of : (rounds : ℕ) (goal : Goal) (step : ℕ) → Counts rounds goal stages.Stored step → (value : ℕ) × (goal ≡ goals.Write (round_of goal) value)
+pub write_of : (rounds : ℕ) (goal : Goal) (step : ℕ) → Counts rounds goal stages.Stored step → (value : ℕ) × (goal ≡ goals.Write (round_of goal) value)
 write_of rounds (goals.Write k value) step counts = (value, refl)
 write_of rounds (goals.Ask k) step counts = absurd counts
 write_of rounds goals.Done step counts = absurd counts

@@ -3,7 +3,7 @@ use Rattle.std.specs.BTreeMap.{insert_entry}
 use Rattle.std.specs.Ordering.{nat_cmp}
 use Rattle.transcript.specs.declared.event.Event.{Event}
 use Rattle.transcript.specs.declared.event.Event.TheVariants.{Snap}
-use Rattle.room_core.specs.Agreements.{is_passed, shown_of}
+use Rattle.room_core.specs.Agreements.{is_fixed, shown_of}
 use Rattle.room_core.specs.Points.{Snaps}
 use Rattle.ws_history.specs.Linearizations.{Timed, event_of}
 use Rattle.ws_history.specs.Notes.{read_at}
@@ -20,7 +20,7 @@ returns-in_ok-insert c =
     let p = c.args.p in
     let r = c.args.r in
     let point : Timed = record { time = read_at room.spec c.args.points.now (shown_of room.spec (read_of room) p r) p r; point = Snaps p r } in
-    let passed : is_passed room.spec (read_of room) p r ≡ true = sym c.is_passed.ensures ∙ c.if-is_passed.true in
+    let passed : is_fixed room.spec (read_of room) p r ≡ true = sym c.is_fixed.ensures ∙ c.if-is_fixed.true in
     let time = c.read_at-time.ensures ∙ ap (λ (i : ℕ). read_at room.spec c.args.points.now i p r) c.shown_of.ensures.value in
     let event : c.snapshot_of.result ≡ event_of (source_of room.spec (read_of room)) (Snaps p r) =
     c.snapshot_of.ensures ∙ ap (λ (row : List (Option ℕ)). Snap p (record { items = row })) (sym (row_shown room.spec (read_of room) p r)) in

@@ -1,0 +1,324 @@
+"""What a page has to show of the rooms of a script, computed anew from what `bgview trace` answers to it, and its events from `bgview transcript`
+of the script up to each step."""
+
+import re
+
+from differing import Differs, answered, holds
+
+TURN = re.compile(r"simulator (\d+), turn (\d+), process (\d+), round (\d+)")
+# A step's line: its number, its turn if that begins there, what was done, and what came of it.
+COLUMNS = re.compile(r"^ {4}(\d+) +(?:(simulator \d+, turn \d+, process \d+, round \d+) +)?(.*?\)|load the step numbers(?:, word \d+)?)(, word \d+)? +(.*)$")
+SQUARE, LANE, EVENTS, LEFT, TOP = 27, 42, 28, 104, 16
+CROSS = "\u2715"
+UNREPORTED = " (not in a report)"
+
+
+# ---- the rooms and their commands
+
+
+def entries_of(script):
+    """The block of each entry that opens a room, and each other line."""
+    lines = script.split("\n")
+    at = 0
+    while at < len(lines):
+        if lines[at] == "open":
+            end = lines.index("end", at) if "end" in lines[at:] else len(lines)
+            yield "open", lines[at + 1: end + 1]
+            at = end + 1
+        else:
+            if lines[at]:
+                yield lines[at], None
+            at += 1
+
+
+def replies_of(trace):
+    """Each reply with the lines under it, and the lines of its report."""
+    replies, is_report = [], False
+    for line in trace.splitlines():
+        if line.startswith("    "):
+            replies[-1]["notes"].append(line)
+        elif is_report:
+            replies[-1]["report"].append(line)
+            is_report = line.split(" ")[1] != "end"
+        else:
+            replies.append({"line": line, "notes": [], "report": []})
+            is_report = line.split(" ")[1:] == ["report"]
+    return replies
+
+
+def rooms_of_script(script, trace):
+    """The rooms that were opened, in order: the block, the commands, and the moments, each a step or a crash."""
+    rooms, opened = [], {}
+    for (entry, block), reply in zip(entries_of(script), replies_of(trace)):
+        words = reply["line"].split(" ")
+        if words[1] == "opened":
+            opened[words[0]] = {"name": words[0], "block": block, "commands": [], "moments": [], "report": [], "compare": compare_simulated}
+            rooms.append(opened[words[0]])
+        elif " refused " not in reply["line"] and words[0] in opened:
+            play_command(opened[words[0]], entry, words, reply)
+        if words[1:] == ["closed"]:
+            del opened[words[0]]
+    for room in rooms:
+        room["sentences"] = ["Nobody has taken a step.", *map(sentence_of, room["moments"])]
+    return rooms
+
+
+def play_command(room, entry, words, reply):
+    before = len(room["moments"])
+    for line in reply["notes"]:
+        read_note(room["moments"], line)
+    if words[1] == "crash" and words[3] == "crashed":
+        room["moments"].append({"crash": True, "i": int(words[2]), "turn": None, "notes": [], "operation": "", "sight": ""})
+    room["report"] = reply["report"] or room["report"]
+    room["commands"].append((entry.split(" "), len(room["moments"]) - before))
+
+
+def read_note(moments, line):
+    """A step of a turn that its line names, or that goes on with the turn of the last step; or what is said of the last step."""
+    if line.startswith("         "):
+        moments[-1]["notes"].append(line.strip())
+        return
+    found = COLUMNS.match(line)
+    if found: # what is said of refused blocks after all replies is no step
+        turn = found[2] or next(moment["turn"] for moment in reversed(moments) if moment["turn"])
+        i, _, p, r = map(int, TURN.match(turn).groups())
+        moments.append({"crash": False, "i": i, "p": p, "r": r, "turn": turn, "notes": [], "operation": found[3] + (found[4] or ""), "sight": found[5]})
+
+
+def sentence_of(moment):
+    if moment["crash"]:
+        return f"simulator {moment['i']}| crashes"
+    return "|".join([moment["turn"], f": {moment['operation']} \u2192 ", moment["sight"], *moment["notes"]])
+
+
+# ---- the events of each moment
+
+
+def prefix_of(room, count, name):
+    """The room under another name, with its commands up to this moment."""
+    lines = ["open", *(f"room {name}" if line.startswith("room ") else line for line in room["block"])]
+    done = 0
+    for words, moments in room["commands"]:
+        taken = min(moments, count - done)
+        if done < count and words[0] in ("step", "crash", "settle"):
+            lines += part_of(words, name, taken == moments, room["moments"][done: done + taken])
+        done += taken
+    return [*lines, f"report {name}"]
+
+
+def part_of(words, name, is_whole, own):
+    """A command of a room under another name, or what of it takes only these moments. One that takes no step may still find that a simulator is idle."""
+    if is_whole:
+        return [" ".join([words[0], name, *words[2:]])]
+    return [f"step {name} {moment['i']} 1" for moment in own]
+
+
+def events_in(lines):
+    """The events by their lines, by the name of the room."""
+    found = {}
+    for line in lines:
+        name, process, event = line.split(" ", 2)
+        found.setdefault(name, []).append((int(process), event))
+    return found
+
+
+def note_events(room, folder):
+    """For each moment of a room: the events that have taken effect, and those of a report. None if the commands up to there take other steps: in the
+    midst of settling, a simulator goes on that is idle by itself."""
+    total = len(room["moments"])
+    script = folder / "prefixes.txt"
+    script.write_text("\n".join(line for count in range(total + 1) for line in prefix_of(room, count, f"m{count}")) + "\n")
+    taken, reported = {}, {}
+    for reply in replies_of(answered(["trace"], script).stdout):
+        name, *words = reply["line"].split(" ")
+        taken[name] = taken.get(name, 0) + sum(bool(COLUMNS.match(note)) for note in reply["notes"]) + (words[0] == "crash" and words[2] == "crashed")
+        if words == ["report"]:
+            reported[name] = events_in(line for line in reply["report"] if re.match(r"\S+ \d+ (write|snap|decide) ", line)).get(name, [])
+    transcript = answered(["transcript"], script).stdout.split("\n")
+    took = events_in(line for line in transcript[transcript.index("events") + 1:] if line)
+    names = [f"m{count}" for count in range(total + 1)]
+    room["events"] = [(took.get(name, []), reported[name]) if taken[name] == count else None for count, name in enumerate(names)]
+    if None in room["events"] and not any(words[0] == "settle" for words, _ in room["commands"]):
+        raise Differs(f"{room['name']}: the script up to step {room['events'].index(None)} takes other steps")
+
+
+# ---- what a page shows besides
+
+
+def letter(moment):
+    operation, sight = moment["operation"], moment["sight"]
+    for begin, shown in (("add 1 to step", "+"), ("add 1 to level", sight[5:6]), ("subtract", "0"), ("load the step", "S"), ("load view", "G"), ("load value", "r")):
+        if operation.startswith(begin):
+            return shown
+    if operation.startswith("load the levels"):
+        return "?" if "proposal stands" in sight else "A"
+    return next(shown for part, shown in ((" in value(", "W"), (" in out(", "D"), (" in view(", "V")) if part in operation)
+
+
+EMPTY = {"crashed": [], "counted": {}, "levels": {}, "blind": [], "proposals": {}, "chosen": {}, "values": {}, "events": [], "read": {}, "decided": {}}
+
+
+def situations(room):
+    """After each moment: who has crashed, the step numbers, levels, proposals, choices, values and events of the room."""
+    now = EMPTY
+    yield now
+    for at, moment in enumerate(room["moments"]):
+        now = {name: (list(of) if isinstance(of, list) else dict(of)) for name, of in now.items()}
+        if moment["crash"]:
+            now["crashed"].append(moment["i"])
+        else:
+            store(now, moment)
+            take_effect(now, moment, at)
+            change_level(now, moment, at)
+        yield now
+
+
+def store(now, moment):
+    key, own = (moment["p"], moment["r"]), (moment["i"], moment["p"], moment["r"])
+    operation, sight = moment["operation"], moment["sight"]
+    value = re.match(r"store (\d+) in value", operation)
+    if value:
+        now["values"][key] = value[1]
+    if " in view(" in operation:
+        old = now["proposals"].get(own) if re.search(r", word [1-9]", operation) else None
+        now["proposals"][own] = [old[p] if old and entry == "." else entry for p, entry in enumerate(sight.split(" "))]
+    if " in out(" in operation:
+        now["decided"][moment["p"]] = re.search(r"decides (\d+)", sight)[1]
+    if operation.startswith("add 1 to step"):
+        now["counted"][moment["i"], moment["p"]] = int(sight.split(" ")[2])
+    if letter(moment) == "?" and "no proposal stands" in sight:
+        now["blind"].append(own)
+
+
+def take_effect(now, moment, at):
+    for note in moment["notes"]:
+        event = re.match(r"here: process (\d+) (write|decide)s (\d+)$", note)
+        if event:
+            now["events"].append((at, int(event[1]), f"{event[2]} {event[3]}"))
+        if note.startswith("here, if"):
+            now["read"][moment["i"], moment["p"], moment["r"]] = at
+
+
+def change_level(now, moment, at):
+    """A level changes; with it the agreement may become fixed: a proposal stands, and none can come to stand any more."""
+    key = (moment["p"], moment["r"])
+    if not re.match(r"(?:add 1 to|subtract 1 from) level", moment["operation"]):
+        return
+    of = now["levels"][key] = {**now["levels"].get(key, {}), moment["i"]: int(re.match(r"\d+ to (\d+)", moment["sight"])[1])}
+    standing = [i for i, level in of.items() if level == 2]
+    coming = [i for i, level in of.items() if level == 1 and (i, *key) in now["blind"]]
+    if key not in now["chosen"] and standing and not coming:
+        i = now["chosen"][key] = min(standing)
+        row = [entry if entry == "." else now["values"][p, int(entry)] for p, entry in enumerate(now["proposals"][i, *key])]
+        now["events"].append((now["read"][i, *key], moment["p"], "snap " + " ".join(row)))
+
+
+# ---- the comparison
+
+
+def compare_simulated(room, panels, columns):
+    all_now = list(situations(room))
+    for count, (panel, now) in enumerate(zip(panels, all_now)):
+        where = f"{room['name']}, step {count}"
+        holds(f"{where}: the sentence", panel["sentence"], room["sentences"][count])
+        compare_words(where, panel, now)
+        compare_agreements(where, panel, now)
+        compare_processes(where, room, panel, now, count)
+        compare_lanes(where, room, panel, now, all_now[-1], count, columns)
+
+
+def compare_words(where, panel, now):
+    numbers, _, values, _ = panel["tables"]
+    for i, row in enumerate(numbers):
+        holds(f"{where}: the step numbers of simulator {i}", row, [f"simulator {i}" + (f" {CROSS}" if i in now["crashed"] else ""), *(str(now["counted"].get((i, p), 0)) for p in range(len(row) - 1))])
+    for p, row in enumerate(values):
+        holds(f"{where}: the values of process {p}", [(r, value) for r, value in enumerate(row[1:], 1) if value], [(r, value) for (q, r), value in sorted(now["values"].items()) if q == p])
+
+
+def named(simulators):
+    words = [str(i) for i in simulators]
+    return ("simulator " if len(words) == 1 else "simulators ") + (", ".join(words[:-1]) + " and " if words[1:] else "") + words[-1]
+
+
+def result_of(of, chosen, crashed):
+    inside = sorted(i for i, level in of.items() if level == 1)
+    blocked = [i for i in inside if i in crashed]
+    are = "is" if len(inside) == 1 else "are"
+    if chosen is not None and not inside:
+        return f"resolved: the proposal of simulator {chosen}"
+    if blocked:
+        return f"blocked for ever by {named(blocked)}"
+    if chosen is not None:
+        return f"chosen: simulator {chosen}'s; not readable while {named(inside)} {are} inside"
+    return f"open: {named(inside)} {are} inside" if inside else "no proposal stands"
+
+
+def compare_agreements(where, panel, now):
+    shown = {tuple(map(int, re.match(r"p(\d+) r(\d+)", row[0]).groups())): (row, marks) for row, marks in zip(panel["tables"][1], panel["classes"][1])}
+    holds(f"{where}: the agreements", set(shown), set(now["levels"]) | {key[1:] for key in now["proposals"]})
+    for key, (row, classes) in shown.items():
+        of, chosen = now["levels"].get(key, {}), now["chosen"].get(key)
+        holds(f"{where}: the result of agreement {key}", row[-1], result_of(of, chosen, now["crashed"]))
+        for i, cell in enumerate(row[1:-1]):
+            proposal = now["proposals"].get((i, *key))
+            marks = classes[i + 1].split()
+            holds(f"{where}: simulator {i} in agreement {key}", cell, str(of.get(i, 0)) + (f" \u27e8{' '.join(proposal)}\u27e9" if proposal else ""))
+            holds(f"{where}: the frame of simulator {i} in agreement {key}", "chosen" in marks, chosen == i)
+            holds(f"{where}: whether simulator {i} has lost in agreement {key}", "lost" in marks, bool(proposal) and chosen is not None and chosen != i)
+
+
+def state_of(room, now, process, is_end):
+    told = re.search(rf" process {process} (.*)", "\n".join(room["report"])) if is_end else None
+    if told:
+        return told[1]
+    held = sorted(i for (q, _), of in now["levels"].items() if q == process for i, level in of.items() if level == 1 and i in now["crashed"])
+    return f"decided {now['decided'][process]}" if process in now["decided"] else f"held by simulator {held[0]}" if held else ""
+
+
+def compare_processes(where, room, panel, now, count):
+    """The events that have taken effect are those of the transcript, in its order; of each process a report has them all, or all but a last snapshot,
+    which is marked."""
+    events = [(p, text) for _, p, text in sorted(now["events"])]
+    took, reported = room["events"][count] or (events, None)
+    holds(f"{where}: the events that the lines of the trace lead to", events, took)
+    for p, row in enumerate(panel["tables"][3]):
+        own = [text for q, text in took if q == p]
+        known = own if reported is None else [text for q, text in reported if q == p]
+        if own[: len(known)] != known or len(own) > len(known) + 1 or any(not text.startswith("snap") for text in own[len(known):]):
+            raise Differs(f"{where}: process {p} has {own} in the transcript and {known} in the report")
+        shown = "; ".join(known + [text + UNREPORTED for text in own[len(known):]])
+        holds(f"{where}: the events of process {p}", row[1] if reported is not None else row[1].replace(UNREPORTED, ""), shown)
+        holds(f"{where}: the state of process {p}", row[2], state_of(room, now, p, count == len(room["moments"])))
+
+
+def compare_lanes(where, room, panel, now, final, count, columns):
+    moments, simulators = room["moments"], len(panel["tables"][0])
+    first = max(0, min(count - -(-columns // 2), len(moments) - columns))
+    last = min(first + columns, len(moments))
+    place = lambda at: LEFT + (at - first) * SQUARE
+    top = TOP + simulators * LANE + 6
+    squares = [(letter(moment), place(at) + 1, TOP + moment["i"] * LANE, at >= count) for at, moment in enumerate(moments) if first <= at < last and not moment["crash"]]
+    boxes = panel["drawn"]["boxes"]
+    holds(f"{where}: the squares", sorted((box["text"], box["x"], box["y"], box["pale"]) for box in boxes if box["y"] < top), sorted(squares))
+    known = set(now["events"])
+    holds(f"{where}: the events in the lanes", sorted((box["text"], box["y"], box["pale"], *box["from"]) for box in boxes if box["y"] >= top),
+        sorted((text, top + p * EVENTS, (at, p, text) not in known, place(at) + SQUARE / 2, TOP + moments[at]["i"] * LANE + 24) for at, p, text in final["events"] if first <= at < last))
+    marked = [(p, row[1].split("; ")[-1].removesuffix(UNREPORTED)) for p, row in enumerate(panel["tables"][3]) if row[1].endswith(UNREPORTED)]
+    holds(f"{where}: the events with a dashed border", sorted(((box["y"] - top) // EVENTS, box["text"]) for box in boxes if box["y"] >= top and box["dashed"]),
+        sorted((p, text) for at, p, text in now["events"] if (p, text) in marked and at == max(a for a, q, other in now["events"] if (q, other) == (p, text)) and first <= at < last))
+    holds(f"{where}: the crosses", sorted(panel["drawn"]["crosses"]), sorted([place(at) + SQUARE / 2, TOP + moment["i"] * LANE + 19] for at, moment in enumerate(moments) if moment["crash"] and first <= at < last))
+    parts = [(i, max(begin, first), min(end, last)) for i, begin, end in inside_parts(moments)]
+    holds(f"{where}: the hatching", sorted(panel["drawn"]["hatched"]), sorted([place(begin), TOP + i * LANE - 4, (end - begin) * SQUARE] for i, begin, end in parts if begin < end))
+    holds(f"{where}: the current moment", panel["drawn"]["now"], place(count))
+
+
+def inside_parts(moments):
+    """Where a simulator is in the unsafe section: from which moment to which."""
+    parts = []
+    for at, moment in enumerate(moments):
+        own = "" if moment["crash"] else letter(moment)
+        if own == "1":
+            parts.append([moment["i"], at, len(moments)])
+        if own in ("2", "0"):
+            next(part for part in reversed(parts) if part[0] == moment["i"])[2] = at + 1
+    return parts
