@@ -25,6 +25,7 @@ def libraries():
 
 LINES = lines()
 USES = libraries()
+STATIC = {crate for crate, line in LINES.items() if " staticlib" in line.partition(":")[0]}
 
 
 @functools.cache

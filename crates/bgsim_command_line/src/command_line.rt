@@ -90,9 +90,11 @@ fn plain_command<'a>(alloc: Global) -> Command<'a>
             "Simulates rooms of protocols on write-snapshot memory, and judges their transcripts",
         )
         .after_help(
-            "Without arguments, bgsim does what `bgsim check` does.\n\nExit status: 0 if nothing was refused, broken or malformed; 1 if something was refused or broken; 2 for a usage error, a malformed input or an I/O error; 3 if memory ran out.",
+            "Without arguments, bgsim does what `bgsim check` does.\n\nBegin with `bgview lint FILE`: it says in words what is wrong with a file of your own. The other modes of bgview explain what bgsim answers (`bgview --help`).\n\nExit status: 0 if nothing was refused, broken or malformed; 1 if something was refused or broken; 2 for a usage error, a malformed input or an I/O error; 3 if memory ran out.",
         )
-        .override_usage("bgsim [COMMAND]")
+        .override_usage(
+            "bgsim [COMMAND]\n       bgview COMMAND, for why, trace, draw, page, transcript, fault, sample, outcomes, lint and grade",
+        )
         .no_binary_name(true)
         .disable_help_subcommand(true)
         .subcommand_required(true)

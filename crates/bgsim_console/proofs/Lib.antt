@@ -1,2 +1,1 @@
 mod RunTexts
-mod Verdicts

@@ -1,17 +1,11 @@
 -- What `check` answers for an input.
 use Rattle.std.specs.Prelude.{◌≡◌, ℕ, ◌≤◌, ◌<◌, List, [], ◌++◌, length, Result, Ok, Err}
-use Rattle.history_checker.specs.Verdicts.{FedEvent}
+use Rattle.file_verdicts.specs.Check.{IsOutputFor}
 use Rattle.io_text.specs.Reading.{most_bytes}
-use Rattle.room_files.specs.Blocks.{Setup}
 use Rattle.room_files.specs.Inputs.{input_says, with_code}
-use Rattle.room_files.specs.Verdicts.{IsOutput}
 use Rattle.room_files.specs.declared.outcome.Outcome.{Outcome}
 use Rattle.bgsim_console.specs.declared.fault.IoFault.{IoFault}
 use Rattle.bgsim_console.specs.declared.fault.IoFault.TheVariants.{Read, Write, TooLong, BadInput, Incomplete, Run as RunFailed, Memory}
-
--- the output for an input that has no fault
-abbrev pub IsOutputFor : List ℕ → Outcome → List ℕ → Type 0
-IsOutputFor input outcome output = (setup : Setup) × (fed : List FedEvent) × (input_says input ≡ Ok (setup, fed)) × IsOutput setup.rooms setup.refused fed outcome output
 
 -- a beginning of the output for an input that has no fault
 abbrev pub IsPartFor : List ℕ → List ℕ → Type 0

@@ -4,3 +4,4 @@ pub mod Ends
 pub mod Modes
 pub mod Play
 pub mod Run
+pub mod Said

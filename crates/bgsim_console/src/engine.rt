@@ -8,8 +8,8 @@ ghost use Rattle.bgsim_console.specs.Run.{IsRan};
 ghost use Rattle.bgsim_console.specs.Ends.{is_read_failed, is_write_failed};
 
 use crate::fault::{IoFault, written};
-use crate::judge::judge;
 use crate::run::run_blocks;
+use file_verdicts::judge;
 use io_text::{Device, read_input, write_output};
 use room_files::Outcome;
 use scheduler::Gate;

@@ -7,31 +7,23 @@ use io_text::DeviceFault;
 use room_files::{InputFault, Outcome};
 use scheduler::RunFault;
 use std::alloc::AllocError;
-use thiserror::Error;
 
 /// Why an engine ended early.
-#[derive(Clone, Copy, Debug, PartialEq, Eq, Error)]
+#[derive(Clone, Copy, Debug, PartialEq, Eq)]
 pub enum IoFault {
     /// The reader failed.
-    #[error("read failed")]
     Read,
     /// The writer failed.
-    #[error("write failed")]
     Write,
     /// The input has more than 16777216 bytes.
-    #[error("input too long")]
     TooLong,
     /// The input has a fault of this code on this line, counted from 1.
-    #[error("line {line}: fault {code}")]
     BadInput { line: u64, code: u16 },
     /// The rooms could not be run to their end.
-    #[error("{0}")]
     Run(RunFault),
     /// An allocation failed.
-    #[error("out of memory")]
     Memory,
     /// The answer was written, and says for which command an allocation failed.
-    #[error("out of memory")]
     Incomplete,
 }
 

@@ -1,68 +1,70 @@
 //! Simulates rooms of protocols on write-snapshot memory, and judges their transcripts.
 #![tactic(auto)]
 
-ghost use Rattle.std.specs.Prelude.{◌≡◌, ◌≤◌, Bool, IfSome, false, map, option_map};
-ghost use Rattle.std.specs.IoError.{error_kind};
-ghost use Rattle.clap.specs.Values.{kind_of};
-ghost use Rattle.bgsim_console.specs.Endings.{IsAnswered, IsReadOrNot, IsStatusFor, input_named};
-ghost use Rattle.bgsim_console.specs.Ends.{ending_status, fault_status, unread_status, words_status};
+ghost use Rattle.std.specs.Prelude.{◌≡◌, ◌≤◌, IfSome, false, map, option_map};
+ghost use Rattle.program_io.specs.Named.{input_named};
+ghost use Rattle.bgsim_console.specs.Endings.{IsAnswered, IsReadOrNot, IsStatusFor};
+ghost use Rattle.bgsim_console.specs.Ends.{ending_status};
 
 mod engine;
 mod fault;
-mod inputs;
-mod judge;
 mod run;
+mod said;
 
 use bgsim_command_line::{Line, Mode, line};
-use clap::error::ErrorKind;
 use fault::IoFault;
-use inputs::Inputs;
 use io_text::Device;
+use program_io::{Inputs, unread_status, words, words_status};
 use room_files::Outcome;
+use said::say_end;
 use scheduler::FreeGate;
 use std::alloc::Global;
 use std::convert::AsStr;
-use std::io;
 use std::io::{Read, Write};
 use std::process::ExitCode;
 use std::sync::Wait;
 use std::thread::Threads;
 
 fn main(rt: HostRuntime) -> ExitCode {
+    let mut errors = Device::new(rt.stderr());
     let status = match words(&rt) {
         Ok(words) => status(
             &rt,
             &rt,
             &rt,
             &mut Device::new(rt.stdout()),
+            &mut errors,
             words.as_slice(),
         ),
-        Err(error) => unread_status(&rt, &error),
+        Err(error) => unread_status(&mut errors, "bgsim", &error),
     };
     ExitCode::from(status)
 }
 
-/// The words after the program's name. One that is not UTF-8 is an error.
-fn words(rt: &HostRuntime) -> io::Result<Vec<String>> {
-    Ok(std::env::args(rt)?.skip(1).collect(rt.alloc())?)
-}
-
-/// The exit status for these words, after what they ask for is done. `threads` is the runtime too, as it starts threads.
-fn status<H: Threads + Wait + Sync, I: Inputs, W: Write, S: AsStr>(
+/// The exit status for these words, after what they ask for is done, and a fault is said on standard error. `threads` is the runtime too, as
+/// it starts threads.
+fn status<H: Threads + Wait + Sync, I: Inputs, W: Write, E: Write, S: AsStr>(
     rt: &HostRuntime,
     threads: &H,
     inputs: &I,
     writer: &mut Device<W>,
+    errors: &mut Device<E>,
     words: &[S],
 ) -> u8
-    requires { writer.old.failed ≡ false }
+    requires writer { writer.old.failed ≡ false }
+    requires errors { errors.old.failed ≡ false }
     ensures value { IsStatusFor (I.standard_bytes inputs.now) (I.file_bytes inputs.now) (map S.text words.entry.now)
-        (record { before = W.contents writer.old.inner; after = W.contents writer.new.inner }) result }
+        (record { before = W.contents writer.old.inner; after = W.contents writer.new.inner })
+        (record { before = E.contents errors.old.inner; after = E.contents errors.new.inner; failed = errors.new.failed }) result }
     ensures small { result ≤ 3 }
 {
     match line(rt.alloc(), words) {
-        Ok(line) => ending_status(rt, ending(threads, rt.alloc(), inputs, writer, &line)),
-        Err(error) => words_status(rt, &error),
+        Ok(line) => {
+            let ending = ending(threads, rt.alloc(), inputs, writer, &line);
+            say_end(errors, ending);
+            status_of(ending)
+        }
+        Err(error) => words_status(rt, errors, "bgsim", &error),
     }
 }
 
@@ -108,44 +110,12 @@ fn answer<H: Threads + Wait + Sync, R: Read + Drop, W: Write>(
     }
 }
 
-fn ending_status(rt: &HostRuntime, ending: Result<Outcome, IoFault>) -> u8
+/// The program's exit status after an engine.
+fn status_of(ending: Result<Outcome, IoFault>) -> u8
     ensures { result ≡ ending_status ending }
 {
     match ending {
         Ok(outcome) => outcome.status(),
-        Err(fault) => fault_status(rt, fault),
+        Err(fault) => fault.status(),
     }
-}
-
-/// The status of a run that this fault ended, once it is printed on standard error.
-fn fault_status(rt: &HostRuntime, fault: IoFault) -> u8
-    ensures { result ≡ fault_status fault }
-{
-    let _ = eprintln!(rt; "bgsim: {fault}");
-    fault.status()
-}
-
-/// The status where the words could not be taken over, once that is printed on standard error.
-fn unread_status(rt: &HostRuntime, error: &io::Error) -> u8
-    ensures { result ≡ unread_status (error_kind error.now) }
-{
-    if error.kind() == io::ErrorKind::OutOfMemory {
-        return fault_status(rt, IoFault::Memory);
-    }
-    let _ = eprintln!(rt; "bgsim: a word of the command line is not UTF-8");
-    2
-}
-
-/// The status where the words gave no line, once `clap`'s text is printed.
-fn words_status(rt: &HostRuntime, error: &clap::Error) -> u8
-    ensures { (is_printed : Bool) × (result ≡ words_status (kind_of error.now) is_printed) }
-{
-    if error.kind() == ErrorKind::OutOfMemory {
-        return fault_status(rt, IoFault::Memory);
-    }
-    let is_printed = error.print(rt).is_ok();
-    if error.use_stderr() || is_printed {
-        return error.exit_code() as u8;
-    }
-    fault_status(rt, IoFault::Write)
 }

@@ -1,10 +1,6 @@
 -- How the program ends.
-use Rattle.std.specs.Prelude.{ℕ, Bool, true, false, Result, Ok, Err, if◌then◌else◌}
+use Rattle.std.specs.Prelude.{ℕ, Bool, true, false, Result, Ok, Err}
 use Rattle.std.specs.declared.alloc.AllocError.{AllocError}
-use Rattle.std.specs.declared.io.ErrorKind.{ErrorKind as WordsFault}
-use Rattle.std.specs.declared.io.ErrorKind.TheVariants as words
-use Rattle.clap.specs.declared.error.kind.ErrorKind.{ErrorKind}
-use Rattle.clap.specs.declared.error.kind.ErrorKind.TheVariants.{DisplayHelp, DisplayVersion, OutOfMemory}
 use Rattle.io_text.specs.declared.fault.DeviceFault.TheVariants.{Read, Write, TooLong, Memory}
 use Rattle.room_files.specs.declared.fault.InputFault.{InputFault}
 use Rattle.room_files.specs.declared.fault.InputFault.TheVariants as inputs
@@ -25,18 +21,6 @@ fault_status (BadInput line fault) = 2
 abbrev pub ending_status : Result Outcome ViewFault → ℕ
 ending_status (Ok outcome) = outcome_status outcome
 ending_status (Err fault) = fault_status fault
-
--- where the words couldn't be taken over: one is no text, unless an allocation failed
-abbrev pub unread_status : WordsFault → ℕ
-unread_status words.OutOfMemory = 3
-unread_status _ = 2
-
--- where the words gave no line: help and the version are no mistake, if their text was written
-abbrev pub words_status : ErrorKind → Bool → ℕ
-words_status DisplayHelp is_printed = if is_printed then 0 else 2
-words_status DisplayVersion is_printed = if is_printed then 0 else 2
-words_status OutOfMemory is_printed = 3
-words_status _ is_printed = 2
 
 -- the fault of an input ends the program
 abbrev pub input_fault : InputFault → ViewFault

@@ -5,4 +5,5 @@ pub mod Faults
 pub mod Notes
 pub mod Pages
 pub mod Requests
+pub mod Said
 pub mod Unread

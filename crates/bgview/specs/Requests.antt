@@ -23,7 +23,7 @@ pub record IsPlanAmong (found : Option (List ℕ × List Row)) (plan : Plan) : T
 -- the search that the values of `outcomes` say
 pub record IsSearchAmong (found : Option (List ℕ × List Row)) (search : Search) : Type 0 where
   pub crashes : IsNumberIfAny (value_among (codes "crashes") found) search.crashes
-  pub states : IsNumber (value_among (codes "states") found) 1000000 search.states
+  pub nodes : IsNumber (value_among (codes "nodes") found) 1000000 search.nodes
   pub brief : search.brief ≡ is_given (value_among (codes "brief") found)
 
 -- what the values of `grade` say that a script is graded by

@@ -1,5 +1,5 @@
 //! Reads inputs, and writes the answers to them.
-ghost use Rattle.std.specs.Prelude.{◌≡◌, ◌+◌, ◌≤◌, ◌∷◌, [], List, ℕ, false, length, map, IfSome};
+ghost use Rattle.std.specs.Prelude.{◌≡◌, ◌+◌, ◌≤◌, ◌||◌, ◌∷◌, [], List, ℕ, false, length, map, IfSome};
 ghost use Rattle.std.specs.Io.KnownBytes.{Appends};
 ghost use Rattle.io_text.specs.Devices.{HasRead, HasWritten, failed_writes};
 ghost use Rattle.io_text.specs.Reading.{most_bytes};
@@ -97,6 +97,8 @@ pub fn pages_io<R: Read, S: Read, W: Write>(
         (output : List ℕ) × IsPageAnswer (file ∷ next ∷ []) result output
         × Appends (W.contents writer.old.inner) (W.contents writer.new.inner) output
         × (writer.new.calls ≤ writer.old.calls + length output + failed_writes (is_write_failed result)))) }
+    // One of the readers failed exactly if reading ended the call.
+    ensures read { is_read_failed result ≡ (reader.new.failed || other.new.failed) }
     ensures writer { HasWritten writer.old writer.new result (is_write_failed result) }
     ensures notes { IfSome (R.remaining reader.old.inner) (λ file. IfSome (S.remaining other.old.inner) (λ next.
         AreBothNotes (record { name = name.now; bytes = file }) (record { name = next_name.now; bytes = next }) result notes.new)) }
@@ -122,6 +124,7 @@ fn write_both<W: Write>(
     ensures text { (output : List ℕ) × IsPageAnswer (file.now ∷ next.now ∷ []) result output
         × Appends (W.contents writer.old.inner) (W.contents writer.new.inner) output
         × (writer.new.calls ≤ writer.old.calls + length output + failed_writes (is_write_failed result)) }
+    ensures read { is_read_failed result ≡ false }
     ensures writer { HasWritten writer.old writer.new result (is_write_failed result) }
     ensures notes { AreBothNotes (record { name = name.now; bytes = file.now }) (record { name = next_name.now; bytes = next.now }) result notes.new }
 {

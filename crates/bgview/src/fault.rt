@@ -7,23 +7,18 @@ ghost use Rattle.io_text.specs.declared.fault.DeviceFault.TheVariants.{Memory};
 use io_text::DeviceFault;
 use room_files::{InputFault, Outcome, TextFault};
 use std::alloc::AllocError;
-use thiserror::Error;
 use view_grade::GoalFault;
 
 /// Why an answer was not written whole.
-#[derive(Clone, Copy, Debug, Error)]
+#[derive(Clone, Copy, Debug)]
 pub enum ViewFault {
     /// Reading or writing failed, or an allocation failed.
-    #[error("{0}")]
     Device(DeviceFault),
     /// What there is memory for was written: an allocation failed for a command of a script, or for a room's sample.
-    #[error("out of memory")]
     Incomplete,
     /// The input has this fault on this line, counted from 1. A message has the fault's number.
-    #[error("line {line}: fault {}", .fault.code())]
     BadInput { line: u64, fault: TextFault },
     /// The goal that a script is graded by has this fault.
-    #[error("{0}")]
     BadGoal(GoalFault),
 }
 

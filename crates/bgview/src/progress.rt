@@ -1,24 +1,51 @@
 //! How far a long answer is, on a terminal.
+use crate::request::Request;
+use bgview_command_line::Mode;
 use run_search::Progress;
-use std::fs;
 use std::io::Write;
+use std::{fs, io};
 
 /// How many parts of an answer are done from one time that it is shown to the next.
-const PARTS: u64 = 1000;
+const STRIDE: u64 = 1000;
+
+/// What an answer has parts of, and of how many for each room, if that is known before.
+#[derive(Clone, Copy)]
+pub struct Parts {
+    name: &'static str,
+    total: Option<u64>,
+}
+
+impl Parts {
+    /// The parts of the answer to this request: schedules of a sample, or nodes of a search.
+    pub fn of(request: &Request<'_>) -> Parts {
+        match request.mode {
+            Mode::Sample => Parts {
+                name: "schedules",
+                total: Some(u64::from(request.plan.schedules)),
+            },
+            _ => Parts {
+                name: "nodes",
+                total: None,
+            },
+        }
+    }
+}
 
 /// One line on a terminal, written over each time, that says how far an answer is.
 #[derive(Drop)]
 pub struct Counter<W> {
     /// Where to write, if that is a terminal.
     terminal: Option<W>,
+    parts: Parts,
     is_shown: bool,
 }
 
 impl<W: Write> Counter<W> {
-    /// A counter that writes to a terminal, if there is one.
-    pub fn new(terminal: Option<W>) -> Counter<W> {
+    /// A counter of these parts that writes to a terminal, if there is one.
+    pub fn new(terminal: Option<W>, parts: Parts) -> Counter<W> {
         Counter {
             terminal,
+            parts,
             is_shown: false,
         }
     }
@@ -37,13 +64,39 @@ impl<W: Write> Counter<W> {
 
 impl<W: Write> Progress for Counter<W> {
     fn reached(&mut self, count: u64) {
-        if count == 0 || count % PARTS != 0 {
+        if count == 0 || count % STRIDE != 0 {
             return;
         }
         if let Some(terminal) = &mut self.terminal {
             self.is_shown = true;
-            let _ = write!(terminal, "\rbgview: {count} done");
+            let _ = write_count(terminal, count, self.parts);
         }
+    }
+}
+
+/// Writes how many parts are done over the line that was there.
+fn write_count<W: Write>(terminal: &mut W, count: u64, parts: Parts) -> io::Result<()> {
+    terminal.write_all(b"\rbgview: ")?;
+    write_grouped(terminal, count)?;
+    if let Some(total) = parts.total {
+        terminal.write_all(b" of ")?;
+        write_grouped(terminal, total)?;
+    }
+    let name = parts.name;
+    write!(terminal, " {name}\x1b[K")
+}
+
+/// Writes a number below 10^9 with commas between its thousands.
+fn write_grouped<W: Write>(terminal: &mut W, number: u64) -> io::Result<()> {
+    let millions = number / 1_000_000;
+    let thousands = number / 1000 % 1000;
+    let ones = number % 1000;
+    if millions > 0 {
+        write!(terminal, "{millions},{thousands:03},{ones:03}")
+    } else if thousands > 0 {
+        write!(terminal, "{thousands},{ones:03}")
+    } else {
+        write!(terminal, "{ones}")
     }
 }
 

@@ -86,7 +86,7 @@ fn search_in(matches: &ArgMatches<'_>) -> Search
 {
     Search {
         crashes: number_if_any(matches, "crashes"),
-        states: number_among(matches, "states", 1000000),
+        nodes: number_among(matches, "nodes", 1000000),
         brief: is_given(matches, "brief"),
     }
 }

@@ -82,12 +82,12 @@ sample_app = with_rule (with_rule (with_rule choosing_app workers_rule) json_rul
 abbrev pub stopped_rule : Rule
 stopped_rule = number_rule (codes "crashes") 0 16
 
-abbrev pub states_rule : Rule
-states_rule = number_rule (codes "states") 1 100000000
+abbrev pub nodes_rule : Rule
+nodes_rule = number_rule (codes "nodes") 1 100000000
 
 -- the subcommand `outcomes`, which takes a file, two numbers and a flag
 abbrev pub outcomes_app : App
-outcomes_app = with_rule (with_rule (with_rule (file_app (codes "outcomes")) stopped_rule) states_rule) brief_rule
+outcomes_app = with_rule (with_rule (with_rule (file_app (codes "outcomes")) stopped_rule) nodes_rule) brief_rule
 
 -- an option that takes a text, and has to be there
 abbrev pub goal_rule : Rule

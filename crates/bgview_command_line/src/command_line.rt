@@ -4,7 +4,7 @@ ghost use Rattle.clap.specs.Kinds.{FailsBy};
 ghost use Rattle.clap.specs.declared.builder.command.Command.TheViews.{out-Command};
 ghost use Rattle.clap.specs.Words.{app_of, fault_of, subcommand_of, subcommand_rows_of, with_subcommand};
 ghost use Rattle.clap.specs.Walk.{rule_of};
-ghost use Rattle.bgview_command_line.specs.CommandLine.{bgview_app, brief_rule, choosing_app, commands_rule, crashes_rule, draw_app, drawing_app, fault_app, file_app, goal_rule, grade_app, group_rule, json_rule, outcome_rule, outcomes_app, page_app, plain_app, sample_app, scale_rule, schedules_rule, seed_rule, states_rule, stopped_rule, telling_app, top_rule, turns_rule, workers_rule};
+ghost use Rattle.bgview_command_line.specs.CommandLine.{bgview_app, brief_rule, choosing_app, commands_rule, crashes_rule, draw_app, drawing_app, fault_app, file_app, goal_rule, grade_app, group_rule, json_rule, outcome_rule, outcomes_app, page_app, plain_app, sample_app, scale_rule, schedules_rule, seed_rule, nodes_rule, stopped_rule, telling_app, top_rule, turns_rule, workers_rule};
 
 use clap::{Arg, ArgAction, ArgMatches, Command, Error, value_parser};
 use std::alloc::{AllocError, Global};
@@ -286,12 +286,12 @@ fn outcomes_command<'a>(alloc: Global) -> Result<Command<'a>, AllocError>
         alloc,
         "outcomes",
         "Searches all runs of each room's protocol, and lists all outcomes",
-        "bgview outcomes [--crashes F] [--states N] [--brief] [FILE]",
+        "bgview outcomes [--crashes F] [--nodes N] [--brief] [FILE]",
         "The rooms; without it, standard input is read",
     )?;
     let with_crashes = outcomes.arg(stopped_option(alloc))?;
-    let with_states = with_crashes.arg(states_option(alloc))?;
-    with_states.arg(brief_option(alloc, "Leaves out the transcripts"))
+    let with_nodes = with_crashes.arg(nodes_option(alloc))?;
+    with_nodes.arg(brief_option(alloc, "Leaves out the transcripts"))
 }
 
 /// The option `--crashes F` of `outcomes`.
@@ -306,16 +306,16 @@ fn stopped_option<'a>(alloc: Global) -> Arg<'a>
         .help("How many processes stop in a run at most, 0 to 16; without it, all but one")
 }
 
-/// The option `--states N`.
-fn states_option<'a>(alloc: Global) -> Arg<'a>
-    ensures rule { rule_of result ≡ states_rule }
+/// The option `--nodes N`.
+fn nodes_option<'a>(alloc: Global) -> Arg<'a>
+    ensures rule { rule_of result ≡ nodes_rule }
     ensures local { result.global ≡ false }
 {
-    Arg::new(alloc, "states")
-        .long("states")
+    Arg::new(alloc, "nodes")
+        .long("nodes")
         .value_name("N")
         .value_parser(value_parser!(u32).range(1..=100000000))
-        .help("How many states of a room are searched at most, 1 to 100000000; without it, 1000000")
+        .help("How many nodes of a room are searched at most, 1 to 100000000; without it, 1000000")
 }
 
 /// The option `--brief`.
@@ -410,7 +410,7 @@ fn plain_command<'a>(alloc: Global) -> Command<'a>
         .after_help(
             "Exit status: 0 if all is well; 1 if something was refused, broken, not found or not reached; 2 for a usage error, a malformed input or an I/O error; 3 if memory ran out.",
         )
-        .override_usage("bgview COMMAND")
+        .override_usage("bgview COMMAND\n       bgsim COMMAND, for check, play and run")
         .no_binary_name(true)
         .disable_help_subcommand(true)
         .subcommand_required(true)

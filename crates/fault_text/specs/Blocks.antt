@@ -1,25 +1,27 @@
 -- What the fault of a block is about.
-use Rattle.std.specs.Prelude.{ℕ, zero, suc, ◌+◌, ◌-◌, ◌==◌, ◌&&◌, Bool, List, [], ◌∷◌, ◌++◌, map, min, take, drop, Option, Some, None, nat_le, codes, if◌then◌else◌}
+use Rattle.std.specs.Prelude.{ℕ, zero, suc, ◌+◌, ◌-◌, ◌==◌, ◌&&◌, ◌||◌, Bool, List, [], ◌∷◌, ◌++◌, map, min, take, drop, Option, Some, None, nat_le, codes, if◌then◌else◌}
 use Rattle.std.specs.List.{count_by}
-use Rattle.std.specs.Str.{bytes_eq}
+use Rattle.std.specs.Str.{bytes_eq, str_eq_ignore_ascii_case}
 use Rattle.protocol_lang.specs.Faults.{sentence_of as protocol_sentence}
 use Rattle.protocol_lang.specs.FirstFaults.{place_of}
 use Rattle.protocol_lang.specs.declared.fault.ParseFault.{ParseFault}
-use Rattle.protocol_lang.specs.declared.fault.ParseFault.TheVariants.{BadToken, Unexpected}
+use Rattle.protocol_lang.specs.declared.fault.ParseFault.TheVariants.{BadToken, Unexpected, ViewInFirst}
 use Rattle.room_spec.specs.Blocks.{is_protocol}
 use Rattle.room_spec.specs.Texts.{first_line, is_line_end, later_lines}
 use Rattle.room_spec.specs.declared.fault.SpecFault.{SpecFault}
 use Rattle.room_spec.specs.declared.fault.SpecFault.TheVariants.{Truncated, BadLine, BadName, BadProtocol, Inputs, Simulators, Rounds, Turns, TooWide, CrashLine, Repeated, TaskLine}
 use Rattle.room_files.specs.Faults.{block_sentence}
+use Rattle.room_files.specs.Lines.{text_lines}
 use Rattle.room_files.specs.declared.fault.BlockFault.{BlockFault}
 use Rattle.room_files.specs.declared.fault.BlockFault.TheVariants as blocks
-use Rattle.fault_text.specs.Choices.{choices_note}
-use Rattle.fault_text.specs.Hints.{advice, hint, token_hints, unknown_hints}
+use Rattle.fault_text.specs.Choices.{choices_note, comparison_hint, last_rule_hint}
+use Rattle.fault_text.specs.Hints.{advice, hint, letters_of, token_hints, unknown_hints}
 use Rattle.fault_text.specs.Lines.{indented, indented_all, last_line, line_at}
-use Rattle.fault_text.specs.Phrases.{form_fault}
+use Rattle.fault_text.specs.Phrases.{fits_one, form_fault}
 use Rattle.fault_text.specs.Places.{heading, place_notes}
-use Rattle.fault_text.specs.declared.blocks.TheConstants.{HEAD_LINES, LATER_LINES, WIDTHS}
+use Rattle.fault_text.specs.declared.blocks.TheConstants.{END_MISSING, FIRST_WORDS, HEAD_LINES, LATER_LINES, NOT_END, WIDTHS}
 use Rattle.fault_text.specs.declared.hints.TheConstants.{NO_BLOCK}
+use Rattle.fault_text.specs.declared.phrases.TheConstants.{COMMANDS}
 
 -- the number of a line that is this many after another; no input has as many lines as numbers can count
 abbrev pub later_line : ℕ → ℕ → ℕ
@@ -89,13 +91,12 @@ choices_if before (Unexpected place) = indented (choices_note before)
 choices_if before (BadToken place) = indented (choices_note before)
 choices_if before fault = []
 
--- what may help at the place of the fault, which these bytes begin with
-abbrev pub unknown_if : List ℕ → ParseFault → List ℕ
-unknown_if back (BadToken place) = unknown_hints back
-unknown_if back fault = []
-
-abbrev pub token_fault_hints : List ℕ → ParseFault → List ℕ
-token_fault_hints back fault = token_hints back ++ unknown_if back fault
+-- what may help with a text that has these bytes before the place of its fault, these from one before it on, and these from there on
+abbrev pub token_fault_hints : List ℕ → List ℕ → List ℕ → ParseFault → List ℕ
+token_fault_hints before around back (BadToken place) = token_hints around back ++ (last_rule_hint before ++ unknown_hints back)
+token_fault_hints before around back (Unexpected place) = token_hints around back ++ (last_rule_hint before ++ comparison_hint before)
+token_fault_hints before around back (ViewInFirst place) = indented FIRST_WORDS.now
+token_fault_hints before around back fault = []
 
 -- the sentence about a place of a protocol's text, which has these bytes before it and after it; before the text there are this many lines of
 -- the block
@@ -107,7 +108,7 @@ abbrev pub fault_in : ℕ → ℕ × List ℕ → ParseFault → Option ℕ → 
 fault_in first program fault None = indented (heading (later_line first program.0) (protocol_sentence fault))
 fault_in first program fault (Some place) =
     program_place first program.0 (protocol_sentence fault) (take place program.1) (drop place program.1)
-    ++ (choices_if (take place program.1) fault ++ token_fault_hints (first_line (drop place program.1)) fault)
+    ++ (choices_if (take place program.1) fault ++ token_fault_hints (take place program.1) (drop (place - 1) program.1) (first_line (drop place program.1)) fault)
 
 -- how many lines a block has up to its line `protocol`, and what comes after that line
 abbrev pub program_of : List ℕ → ℕ × List ℕ
@@ -118,12 +119,46 @@ program_fault first text fault = fault_in first (program_of text) fault (place_o
 
 -- ---- blocks
 
--- how many bits step numbers take, if they take too many
-abbrev pub widths_if : SpecFault → List ℕ
-widths_if TooWide = indented WIDTHS.now
-widths_if fault = []
+-- which simulators the room has, by the line that says how many they are
+abbrev pub crash_note : List ℕ → List ℕ
+crash_note simulators = indented (codes "the room has `" ++ (simulators ++ codes "`, which are counted from 0"))
+
+-- the first word of the line is `end` in small or capital letters
+abbrev pub is_like_end : List ℕ → Bool
+is_like_end line = str_eq_ignore_ascii_case (take (letters_of line) line) (codes "end")
+
+-- the line may be meant as a block's last, or is one of a script or a transcript that can't be in a block
+abbrev pub is_end_place : List ℕ → Bool
+is_end_place line = is_like_end line || (bytes_eq line (codes "events") || fits_one line (map (λ form. form.now) COMMANDS))
+
+-- the first such line, with its number, if the first of these lines has this number
+unfoldable pub end_place : ℕ → List (List ℕ) → Option (ℕ × List ℕ)
+end_place number [] = None
+end_place number (line ∷ lines) = if is_end_place line then Some (number, line) else end_place (later_line number 1) lines
+
+abbrev pub end_note : ℕ → List ℕ → List ℕ
+end_note number line = if is_like_end line then indented_all (place_notes number NOT_END.now [] line) else indented_all (place_notes number END_MISSING.now [] line)
+
+abbrev pub end_note_if : Option (ℕ × List ℕ) → List ℕ
+end_note_if None = []
+end_note_if (Some place) = end_note place.0 place.1
+
+-- which line of a text may be meant as the last of the block with which it begins, or comes after it; the block has no line `end`
+abbrev pub end_notes : ℕ → List ℕ → List ℕ
+end_notes first text = if fits_one (first_line text) (first_form 1 ∷ []) then end_note_if (end_place (later_line first 1) (text_lines (later_lines text))) else []
+
+-- besides what is said of the fault's line: how many bits step numbers take, which simulators there are, which line may be meant as the last
+abbrev pub block_notes : ℕ → List ℕ → SpecFault → List ℕ
+block_notes first text TooWide = indented WIDTHS.now
+block_notes first text (CrashLine line) = crash_note (line_at 4 text)
+block_notes first text Truncated = end_notes first text
+block_notes first text fault = []
+
+-- what is said of a fault that is not one of the protocol's text
+abbrev pub head_fault : ℕ → List ℕ → SpecFault → List ℕ
+head_fault first text fault = line_fault first text (line_of fault) (blocks.Spec fault) ++ block_notes first text fault
 
 -- what is said of a block's fault, with which this text begins; its first line has this number in the input
 abbrev pub block_fault : ℕ → List ℕ → SpecFault → List ℕ
 block_fault first text (BadProtocol fault) = program_fault first text fault
-block_fault first text fault = line_fault first text (line_of fault) (blocks.Spec fault) ++ widths_if fault
+block_fault first text fault = head_fault first text fault

@@ -9,6 +9,8 @@ use Rattle.protocol_lang.specs.declared.protocol.Protocol.{Protocol}
 use Rattle.protocol_lang.specs.declared.token.Symbol.{Symbol}
 use Rattle.protocol_lang.specs.declared.token.Symbol.TheVariants.{Semicolon, Open, Close, Plus, Minus, Times, Divide, Remainder, Equal, NotEqual, Less, LessOrEqual, Greater, GreaterOrEqual}
 use Rattle.protocol_lang.specs.Tokens.{symbol_spelling, word_spelling, words}
+use Rattle.fault_text.specs.Lines.{indented}
+use Rattle.fault_text.specs.declared.choices.TheConstants.{COMPARISON, LAST_RULE}
 
 -- a fault is at a place, and that is after this one
 abbrev pub is_fault_behind : ℕ → Option ℕ → Bool
@@ -51,3 +53,17 @@ choices_words words = if length words == 0 then codes "nothing could stand there
 
 abbrev pub choices_note : List ℕ → List ℕ
 choices_note before = choices_words (choices before)
+
+-- ---- what may help there
+
+abbrev pub is_whole : Result Protocol ParseFault → Bool
+is_whole (Ok protocol) = true
+is_whole (Err fault) = false
+
+-- only the end can follow a whole protocol
+abbrev pub last_rule_hint : List ℕ → List ℕ
+last_rule_hint before = if is_whole (reading before) then indented LAST_RULE.now else []
+
+-- the sign of a comparison can follow, so a condition lacks it
+abbrev pub comparison_hint : List ℕ → List ℕ
+comparison_hint before = if can_stand before (codes "==") then indented COMPARISON.now else []

@@ -1,11 +1,11 @@
 -- What may help at a place of a line.
-use Rattle.std.specs.Prelude.{ℕ, ◌==◌, ◌&&◌, ◌||◌, Bool, false, List, [], ◌∷◌, ◌++◌, length, take, map, nat_eq, nat_le, nat_lt, codes, if◌then◌else◌}
-use Rattle.std.specs.List.{prefix_len, starts_with}
-use Rattle.std.specs.Str.{bytes_eq}
+use Rattle.std.specs.Prelude.{ℕ, ◌==◌, ◌&&◌, ◌||◌, Bool, false, not, List, [], ◌∷◌, ◌++◌, length, take, map, nat_eq, nat_le, nat_lt, codes, if◌then◌else◌}
+use Rattle.std.specs.List.{ends_with, prefix_len, starts_with}
+use Rattle.std.specs.Str.{bytes_eq, str_eq_ignore_ascii_case}
 use Rattle.room_spec.specs.Texts.{first_line, later_lines}
 use Rattle.fault_text.specs.Lines.{indented, word_len}
 use Rattle.fault_text.specs.Places.{is_blank}
-use Rattle.fault_text.specs.declared.hints.TheConstants.{AT_PLACE, AT_START, AT_TOKEN, LINE_WORDS, OTHER_WORDS, WORDS}
+use Rattle.fault_text.specs.declared.hints.TheConstants.{AROUND_TOKEN, AT_PLACE, AT_START, AT_TOKEN, LINE_WORDS, OTHER_WORDS, WORDS}
 
 -- ---- tables
 
@@ -43,10 +43,14 @@ is_one_edit [] known = length known == 1
 is_one_edit (x ∷ xs) [] = length xs == 0
 is_one_edit (x ∷ xs) (y ∷ ys) = if x == y then is_one_edit xs ys else differs_once x xs y ys
 
--- the first of these words that is one edit away from this one
+-- one edit away from a known word, or that word in other letters, small or capital
+abbrev pub is_near : List ℕ → List ℕ → Bool
+is_near word known = is_one_edit word known || (str_eq_ignore_ascii_case word known && not (bytes_eq word known))
+
+-- the first of these words that is near this one
 unfoldable pub nearest : List ℕ → List (List ℕ) → List ℕ
 nearest word [] = []
-nearest word (entry ∷ others) = if is_one_edit word entry then entry else nearest word others
+nearest word (entry ∷ others) = if is_near word entry then entry else nearest word others
 
 abbrev pub near_word : List ℕ → List ℕ
 near_word known = indented (codes "did you mean `" ++ (known ++ codes "`?"))
@@ -63,23 +67,27 @@ near_hint word known = if nat_lt (length word) 2 then [] else near_words (neares
 abbrev pub blank_advice : List ℕ → List ℕ
 blank_advice line = if is_blank line then codes "blank lines may be in a protocol's text alone" else []
 
--- of a line that should have ended before these bytes
-abbrev pub end_advice : List ℕ → List ℕ
-end_advice [] = []
-end_advice (byte ∷ back) = if (byte == 32) && is_blank back then codes "no line ends with a space" else []
+-- of a space before which a line should have ended, or before which there is another one
+abbrev pub space_advice : List ℕ → List ℕ → List ℕ
+space_advice front back =
+    if not (starts_with nat_eq back (codes " ")) then []
+    else if is_blank back then codes "no line ends with a space"
+    else if ends_with nat_eq front (codes " ") then codes "here is a second space: one space parts two words"
+    else []
 
 abbrev pub first_word : List ℕ → List ℕ
 first_word line = take (word_len line) line
 
 -- of blanks and words
-unfoldable pub shape_hints : List ℕ → List ℕ → List ℕ
-shape_hints line back = hint (end_advice back) ++ (hint (blank_advice line) ++ near_hint (first_word line) (map (λ entry. entry.now) LINE_WORDS))
+unfoldable pub shape_hints : List ℕ → List ℕ → List ℕ → List ℕ
+shape_hints line front back =
+    hint (space_advice front back) ++ (hint (blank_advice line) ++ near_hint (first_word line) (map (λ entry. entry.now) LINE_WORDS))
 
--- of a line that has these bytes at the place of its fault
-abbrev pub line_hints : List ℕ → List ℕ → List ℕ
-line_hints line back =
+-- of a line that has these bytes before the place of its fault and these from there on
+abbrev pub line_hints : List ℕ → List ℕ → List ℕ → List ℕ
+line_hints line front back =
     hint (advice (map (λ entry. entry.now) AT_PLACE) back)
-    ++ (hint (advice (map (λ entry. entry.now) AT_START) line) ++ shape_hints line back)
+    ++ (hint (advice (map (λ entry. entry.now) AT_START) line) ++ shape_hints line front back)
 
 -- ---- protocols
 
@@ -107,9 +115,14 @@ abbrev pub word_hints_if : List ℕ → List ℕ
 word_hints_if [] = []
 word_hints_if (byte ∷ word) = word_hints (byte ∷ word)
 
--- of a protocol's text that has these bytes at the place of its fault
-abbrev pub token_hints : List ℕ → List ℕ
-token_hints back = hint (advice (map (λ entry. entry.now) AT_TOKEN) back)
+-- the first, unless it is empty
+abbrev pub or_else : List ℕ → List ℕ → List ℕ
+or_else [] other = other
+or_else (byte ∷ words) other = byte ∷ words
+
+-- of a protocol's text that has these bytes from one before the place of its fault on, and these from there on
+abbrev pub token_hints : List ℕ → List ℕ → List ℕ
+token_hints around back = hint (or_else (advice (map (λ entry. entry.now) AROUND_TOKEN) around) (advice (map (λ entry. entry.now) AT_TOKEN) back))
 
 -- of one that has a word there, if it has, which the language doesn't have
 abbrev pub unknown_hints : List ℕ → List ℕ

@@ -1,8 +1,8 @@
 -- What is said of a line that has not the form that it should have.
-use Rattle.std.specs.Prelude.{ℕ, ◌+◌, ◌==◌, ◌&&◌, ◌||◌, Bool, false, not, min, List, [], ◌∷◌, ◌++◌, length, take, drop, max, nat_le, nat_lt, Option, Some, None, codes, decimal, if◌then◌else◌}
-use Rattle.std.specs.List.{prefix_len}
+use Rattle.std.specs.Prelude.{ℕ, ◌+◌, ◌-◌, ◌==◌, ◌&&◌, ◌||◌, Bool, false, not, min, List, [], ◌∷◌, ◌++◌, length, take, drop, max, nat_eq, nat_le, nat_lt, Option, Some, None, codes, decimal, if◌then◌else◌}
+use Rattle.std.specs.List.{ends_with, prefix_len}
 use Rattle.fault_text.specs.Forms.{misfit_from, range_of}
-use Rattle.fault_text.specs.Hints.{line_hints}
+use Rattle.fault_text.specs.Hints.{first_word, is_near, line_hints}
 use Rattle.fault_text.specs.Lines.{indented_all, word_len}
 use Rattle.fault_text.specs.Places.{place_notes}
 
@@ -42,19 +42,34 @@ wanted (byte ∷ left) =
     else if byte == 32 then codes "a space"
     else range_words (range_of byte) (byte ∷ left)
 
--- the same, unless the form begins there with a word
+-- a name comes right before what is left of the form
+abbrev pub is_after_name : List ℕ → List ℕ → Bool
+is_after_name form left = ends_with nat_eq (take (length form - length left) form) (codes "N")
+
+abbrev pub name_if : List ℕ → List ℕ → List ℕ
+name_if form left = if is_after_name form left then codes " after a name of a to z, 0 to 9, _ and -" else []
+
+-- the same, unless the form begins there with a word; and what a name has that comes before it
 abbrev pub wanted_if : List ℕ → List ℕ → List ℕ
-wanted_if form left = if (length left == length form) && nat_lt 0 (literal_len left) then [] else codes ", here " ++ wanted left
+wanted_if form left = if (length left == length form) && nat_lt 0 (literal_len left) then [] else codes ", here " ++ (wanted left ++ name_if form left)
 
 abbrev pub expects : List ℕ → List ℕ → List ℕ
 expects form left = codes "expected `" ++ (shown_form form ++ (codes "`" ++ wanted_if form left))
 
 -- ---- the forms that a line may have
 
+-- a line that leaves the form at this place does so within its first word, which is not near the form's
+abbrev pub is_other_word : ℕ → List ℕ → List ℕ → Bool
+is_other_word at form line = nat_lt at (literal_len form) && not (is_near (first_word line) (take (literal_len form) form))
+
+-- where a line leaves a form, and what is left of the form there; one whose first word is another leaves it at once
+abbrev pub misfit : List ℕ → List ℕ → ℕ × List ℕ
+misfit form line = if is_other_word (misfit_from 0 form line).0 form line then (0, form) else misfit_from 0 form line
+
 -- the last of the places at which it leaves them
 unfoldable pub furthest : List ℕ → List (List ℕ) → ℕ
 furthest line [] = 0
-furthest line (form ∷ forms) = max (misfit_from 0 form line).0 (furthest line forms)
+furthest line (form ∷ forms) = max (misfit form line).0 (furthest line forms)
 
 abbrev pub fits : List ℕ → List ℕ → Bool
 fits line form = (length (misfit_from 0 form line).1 == 0) && ((misfit_from 0 form line).0 == length line)
@@ -74,15 +89,21 @@ place_in line forms = if fits_one line forms then value_place line else furthest
 
 -- what the form has at this place, if the line leaves it there
 abbrev pub expected_if : ℕ → List ℕ → List ℕ → List (List ℕ)
-expected_if at line form = if (misfit_from 0 form line).0 == at then expects form (misfit_from 0 form line).1 ∷ [] else []
+expected_if at line form = if (misfit form line).0 == at then expects form (misfit form line).1 ∷ [] else []
 
 unfoldable pub expected_notes : ℕ → List ℕ → List (List ℕ) → List (List ℕ)
 expected_notes at line [] = []
 expected_notes at line (form ∷ forms) = expected_if at line form ++ expected_notes at line forms
 
+-- what is expected at this place of the line, and what may help
+abbrev pub form_notes : ℕ → List ℕ → List (List ℕ) → List ℕ
+form_notes at line forms = indented_all (expected_notes at line forms) ++ line_hints line (take at line) (drop at line)
+
+-- the sentence about this place of the line, and these notes
+abbrev pub fault_at : ℕ → List ℕ → ℕ → List ℕ → List (List ℕ) → List ℕ
+fault_at number sentence at line forms = indented_all (place_notes number sentence (take at line) (drop at line)) ++ form_notes at line forms
+
 -- The sentence about a line that has one of these forms, or should, with its place: its first value if it has one, or else the first byte
 -- at which it leaves the one that it follows furthest; what is expected there; and what may help.
 unfoldable pub form_fault : ℕ → List ℕ → List ℕ → List (List ℕ) → List ℕ
-form_fault number sentence line forms =
-    indented_all (place_notes number sentence (take (place_in line forms) line) (drop (place_in line forms) line))
-    ++ (indented_all (expected_notes (place_in line forms) line forms) ++ line_hints line (drop (place_in line forms) line))
+form_fault number sentence line forms = fault_at number sentence (place_in line forms) line forms

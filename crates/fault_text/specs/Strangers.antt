@@ -2,7 +2,9 @@
 use Rattle.std.specs.Prelude.{ℕ, ◌+◌, ◌==◌, Bool, List, [], ◌∷◌, ◌++◌, length, min, nat_lt, codes, decimal, if◌then◌else◌}
 use Rattle.std.specs.List.{flat_map, list_any}
 use Rattle.std.specs.Str.{bytes_eq}
-use Rattle.fault_text.specs.Refusals.{most_explained, named_refusals}
+use Rattle.room_files.specs.Lines.{text_lines}
+use Rattle.fault_text.specs.Hints.{is_near, near_words}
+use Rattle.fault_text.specs.Refusals.{after_room, most_explained, named_refusals}
 use Rattle.fault_text.specs.declared.refusals.RefusedBlock.{RefusedBlock}
 
 -- the names that were met first, and how many more came with one of them
@@ -26,3 +28,18 @@ refused_strangers input refused names = flat_map (λ name. named_refusals input 
 
 abbrev pub more_note : List ℕ → MetNames → List ℕ
 more_note words strangers = if strangers.more == 0 then [] else codes "    and" ++ ((32 ∷ decimal strangers.more) ++ (words ++ codes "\n"))
+
+-- ---- what the blocks of an input say of such a name
+
+-- the name in the first of these lines `room NAME` that is near this one, or nothing
+unfoldable pub nearest_room : List ℕ → List (List ℕ) → List ℕ
+nearest_room name [] = []
+nearest_room name (line ∷ lines) = if is_near name (after_room line) then after_room line else nearest_room name lines
+
+-- which room may be meant by a name of two bytes at least
+abbrev pub near_room : List ℕ → List ℕ → List ℕ
+near_room input name = if nat_lt (length name) 2 then [] else near_words (nearest_room name (text_lines input))
+
+-- one of the lines is `room NAME` with this name
+unfoldable pub has_room_line : List ℕ → List ℕ → Bool
+has_room_line name input = list_any (λ line. bytes_eq (after_room line) name) (text_lines input)

@@ -1,19 +1,24 @@
 //! What the fault of a block is about.
-ghost use Rattle.std.specs.Prelude.{◌≡◌, ◌++◌, ◌+◌, ◌≤◌, OnOk, length, map};
+ghost use Rattle.std.specs.Prelude.{◌≡◌, ◌++◌, ◌+◌, ◌-◌, ◌≤◌, OnOk, drop, length, map, option_map, take};
+ghost use Rattle.std.specs.Str.{str_eq_ignore_ascii_case};
 ghost use Rattle.room_spec.specs.Blocks.{is_protocol};
-ghost use Rattle.fault_text.specs.Blocks.{block_fault, choices_if, first_form, forms_at, is_second, later_forms, later_line, line_ends, line_fault, line_of, other_kind, program_from, program_fault, program_of, program_place, token_fault_hints, widths_if};
-ghost use Rattle.fault_text.specs.Choices.{choices_note};
+ghost use Rattle.room_files.specs.Lines.{text_lines};
+ghost use Rattle.room_files.specs.declared.fault.BlockFault.TheVariants.{NameTaken};
+ghost use Rattle.fault_text.specs.Blocks.{block_fault, block_notes, choices_if, crash_note, end_note, end_notes, end_place, first_form, forms_at, head_fault, is_end_place, is_like_end, is_second, later_forms, later_line, line_ends, line_fault, line_of, other_kind, program_from, program_fault, program_of, program_place, token_fault_hints};
+ghost use Rattle.fault_text.specs.Choices.{choices_note, comparison_hint, last_rule_hint};
 ghost use Rattle.fault_text.specs.Lines.{indented};
 ghost use Rattle.fault_text.specs.Phrases.{form_fault};
 
-use crate::choices::write_choices;
-use crate::hints::{NO_BLOCK, write_advice, write_token_hints, write_unknown_hints};
+use crate::choices::{write_choices, write_comparison_hint, write_last_rule_hint};
+use crate::hints::{
+    NO_BLOCK, letters_of, write_advice, write_quoted, write_token_hints, write_unknown_hints,
+};
 use crate::lines::{line_at, split_text, write_indented};
-use crate::phrases::write_form_fault;
+use crate::phrases::{COMMANDS, fits_one, write_form_fault};
 use crate::places::{last_line, write_heading, write_place};
 use io_text::Text;
 use protocol_lang::ParseFault;
-use room_files::{BlockFault, split_line};
+use room_files::{BlockFault, next_line, split_line};
 use room_spec::SpecFault;
 use std::alloc::{AllocError, Global};
 
@@ -23,6 +28,16 @@ pub const HEAD_LINES: usize = 16;
 /// What takes how many bits of the step numbers.
 const WIDTHS: &[u8] =
     b"M simulators and n inputs take M * n * b bits: b is 1 for one round, 2 for 2 and 3, 3 for 4 to 7, and 4 from 8 on";
+
+/// What may be used before the first snapshot.
+const FIRST_WORDS: &[u8] =
+    b"before its first write a process has no snapshot: numbers, `input`, `id` and `n` can stand here";
+
+/// A line that is not quite `end`.
+const NOT_END: &[u8] = b"this line is not exactly `end`";
+
+/// A line that no block has.
+const END_MISSING: &[u8] = b"a line `end` is missing before this line";
 
 /// The forms of a block's lines after the sixth. In version 1, and after the seventh line, there is no task.
 const LATER_LINES: [&[u8]; 3] = [b"task agree K", b"crash J after V", b"protocol"];
@@ -39,22 +54,117 @@ pub fn write_block_fault(
 {
     match fault {
         SpecFault::BadProtocol(fault) => write_program_fault(alloc, output, first, text, fault),
-        _ => {
-            let line = line_of(fault);
-            write_line_fault(alloc, output, first, text, line, BlockFault::Spec(fault))?;
-            write_widths_if(output, fault)
-        }
+        _ => write_head_fault(alloc, output, first, text, fault),
     }
 }
 
-/// Writes how many bits step numbers take, if they take too many.
-fn write_widths_if(output: &mut Text, fault: SpecFault) -> Result<(), AllocError>
-    ensures { OnOk result (output.new ≡ output.old ++ widths_if fault) }
+/// Writes the same of a fault that is not one of the protocol's text.
+fn write_head_fault(
+    alloc: Global,
+    output: &mut Text,
+    first: u64,
+    text: &[u8],
+    fault: SpecFault,
+) -> Result<(), AllocError>
+    ensures { OnOk result (output.new ≡ output.old ++ head_fault first text.now fault) }
+{
+    let line = line_of(fault);
+    write_line_fault(alloc, output, first, text, line, BlockFault::Spec(fault))?;
+    write_block_notes(alloc, output, first, text, fault)
+}
+
+/// Writes what may help with a fault of a block besides what is said of its line: how many bits step numbers take, which simulators there
+/// are, or which line may be meant as the last.
+fn write_block_notes(
+    alloc: Global,
+    output: &mut Text,
+    first: u64,
+    text: &[u8],
+    fault: SpecFault,
+) -> Result<(), AllocError>
+    ensures { OnOk result (output.new ≡ output.old ++ block_notes first text.now fault) }
 {
     match fault {
         SpecFault::TooWide => write_indented(output, WIDTHS),
+        SpecFault::CrashLine(_) => write_crash_note(output, line_at(text, 4)),
+        SpecFault::Truncated => write_end_notes(alloc, output, first, text),
         _ => Ok(()),
     }
+}
+
+/// Writes which simulators a room has, by the line that says how many they are.
+fn write_crash_note(output: &mut Text, simulators: &[u8]) -> Result<(), AllocError>
+    ensures { OnOk result (output.new ≡ output.old ++ crash_note simulators.now) }
+{
+    let counted = b"`, which are counted from 0";
+    write_quoted(output, b"the room has `", simulators, counted)
+}
+
+/// Writes which line of a text may be meant as the last of the block with which it begins, or comes after it. The block has no line `end`.
+fn write_end_notes(
+    alloc: Global,
+    output: &mut Text,
+    first: u64,
+    text: &[u8],
+) -> Result<(), AllocError>
+    ensures { OnOk result (output.new ≡ output.old ++ end_notes first text.now) }
+{
+    let (line, later) = split_line(text);
+    if !fits_one(line, &[first_form(1)]) {
+        return Ok(());
+    }
+    match end_place(later_line(first, 1), later) {
+        Some((number, line)) => write_end_note(alloc, output, number, line),
+        None => Ok(()),
+    }
+}
+
+/// Writes that the line of this number may be meant as a block's last, or comes after it.
+fn write_end_note(
+    alloc: Global,
+    output: &mut Text,
+    number: u64,
+    line: &[u8],
+) -> Result<(), AllocError>
+    ensures { OnOk result (output.new ≡ output.old ++ end_note number line.now) }
+{
+    if is_like_end(line) {
+        write_place(alloc, output, number, NOT_END, &[], line)
+    } else {
+        write_place(alloc, output, number, END_MISSING, &[], line)
+    }
+}
+
+/// The first line that may be meant as a block's last, or that no block has, with its number. The text's first line has the number `first`.
+#[tactic(auto, unfolding(crate::specs::Blocks::end_place))]
+fn end_place(first: u64, text: &[u8]) -> Option<(u64, &[u8])>
+    ensures { option_map (λ place. (place.0, place.1.now)) result ≡ end_place first (text_lines text.now) }
+{
+    let mut rest = text;
+    let mut number = first;
+    while let Some((line, later)) = next_line(rest) {
+        if is_end_place(line) {
+            return Some((number, line));
+        }
+        rest = later;
+        number = later_line(number, 1);
+    }
+    None
+}
+
+/// Whether a line may be meant as a block's last, or is one of a script or a transcript that can't be in a block.
+fn is_end_place(line: &[u8]) -> bool
+    ensures { result ≡ is_end_place line.now }
+{
+    is_like_end(line) || line == b"events".as_slice() || fits_one(line, &COMMANDS)
+}
+
+/// Whether a line's first word is `end` in small or capital letters.
+fn is_like_end(line: &[u8]) -> bool
+    ensures { result ≡ is_like_end line.now }
+{
+    let (word, _) = split_text(line, letters_of(line));
+    word.eq_ignore_ascii_case(b"end")
 }
 
 /// The line of a block that has this fault, which is not one of its protocol's text.
@@ -73,6 +183,18 @@ fn line_of(fault: SpecFault) -> usize
         | SpecFault::Repeated(line)
         | SpecFault::TaskLine(line) => line,
     }
+}
+
+/// Writes that the name of a block, with which this text begins, is taken. The block's first line has this number.
+pub fn write_name_taken(
+    alloc: Global,
+    output: &mut Text,
+    first: u64,
+    text: &[u8],
+) -> Result<(), AllocError>
+    ensures { OnOk result (output.new ≡ output.old ++ line_fault first text.now 2 NameTaken) }
+{
+    write_line_fault(alloc, output, first, text, 2, BlockFault::NameTaken)
 }
 
 /// Writes the sentence of a fault about a line of a block, with which this text begins.
@@ -233,9 +355,10 @@ fn write_program_fault(
     };
     let (before, behind) = split_text(program, place);
     write_program_place(alloc, output, first, lines, words, before, behind)?;
+    let (_, around) = split_text(program, place.saturating_sub(1));
     let (back, _) = split_line(behind);
     write_choices_if(alloc, output, before, fault)?;
-    write_token_fault_hints(output, back, fault)
+    write_token_fault_hints(alloc, output, before, around, back, fault)
 }
 
 /// How many line ends a text has.
@@ -263,17 +386,30 @@ fn write_choices_if(
     }
 }
 
-/// Writes what may help with a protocol's text that has these bytes at the place of its fault.
+/// Writes what may help with a protocol's text that has these bytes before the place of its fault, these from one before it on, and these from
+/// there on.
 fn write_token_fault_hints(
+    alloc: Global,
     output: &mut Text,
+    before: &[u8],
+    around: &[u8],
     back: &[u8],
     fault: ParseFault,
 ) -> Result<(), AllocError>
-    ensures { OnOk result (output.new ≡ output.old ++ token_fault_hints back.now fault) }
+    ensures { OnOk result (output.new ≡ output.old ++ token_fault_hints before.now around.now back.now fault) }
 {
-    write_token_hints(output, back)?;
     match fault {
-        ParseFault::BadToken(_) => write_unknown_hints(output, back),
+        ParseFault::BadToken(_) => {
+            write_token_hints(output, around, back)?;
+            write_last_rule_hint(alloc, output, before)?;
+            write_unknown_hints(output, back)
+        }
+        ParseFault::Unexpected(_) => {
+            write_token_hints(output, around, back)?;
+            write_last_rule_hint(alloc, output, before)?;
+            write_comparison_hint(alloc, output, before)
+        }
+        ParseFault::ViewInFirst(_) => write_indented(output, FIRST_WORDS),
         _ => Ok(()),
     }
 }

@@ -2,8 +2,10 @@
 ghost use Rattle.std.specs.Prelude.{◌≡◌, ◌++◌, IfOk, OnOk, map};
 ghost use Rattle.std.specs.List.{flat_map};
 ghost use Rattle.protocol_lang.specs.FirstFaults.{place_of};
-ghost use Rattle.fault_text.specs.Choices.{can_stand, choice_if, choice_words, choices, choices_note, choices_words, is_fault_behind};
+ghost use Rattle.protocol_lang.specs.Reading.{reading};
+ghost use Rattle.fault_text.specs.Choices.{can_stand, choice_if, choice_words, choices, choices_note, choices_words, comparison_hint, is_fault_behind, is_whole, last_rule_hint};
 
+use crate::lines::write_indented;
 use io_text::Text;
 use protocol_lang::{ParseFault, parse_bytes};
 use std::alloc::{AllocError, Global};
@@ -14,6 +16,14 @@ const TOKENS: [&[u8]; 32] = [
     b"mine", b"count", b"min", b"max", b"cell", b"seen", b"equal", b"0", b"(", b")", b";", b"+",
     b"-", b"*", b"/", b"%", b"==", b"!=", b"<", b"<=", b">", b">=",
 ];
+
+/// What comes after a whole protocol.
+const LAST_RULE: &[u8] =
+    b"the rule `else` is the last: after its action comes the block's line `end`";
+
+/// What can be compared.
+const COMPARISON: &[u8] =
+    b"a condition compares two values: one of == != < <= > >= and a value are missing here";
 
 /// Writes which tokens can follow these bytes of a protocol's text.
 pub fn write_choices(alloc: Global, output: &mut Text, before: &[u8]) -> Result<(), AllocError>
@@ -109,5 +119,46 @@ fn is_fault_behind(place: usize, fault: ParseFault) -> bool
     match fault.place() {
         Some(at) => place < at,
         None => false,
+    }
+}
+
+/// Writes that only the end can follow these bytes of a protocol's text, if they are a whole protocol.
+pub(crate) fn write_last_rule_hint(
+    alloc: Global,
+    output: &mut Text,
+    before: &[u8],
+) -> Result<(), AllocError>
+    ensures { OnOk result (output.new ≡ output.old ++ last_rule_hint before.now) }
+{
+    if is_whole(alloc, before)? {
+        write_indented(output, LAST_RULE)
+    } else {
+        Ok(())
+    }
+}
+
+/// Whether a text is a whole protocol.
+fn is_whole(alloc: Global, text: &[u8]) -> Result<bool, AllocError>
+    ensures { IfOk result (λ whole. whole ≡ is_whole (reading text.now)) }
+{
+    match parse_bytes(alloc, text) {
+        Ok(_) => Ok(true),
+        Err(ParseFault::OutOfMemory) => Err(AllocError),
+        Err(_) => Ok(false),
+    }
+}
+
+/// Writes that a comparison is to follow these bytes of a protocol's text, if one of its signs can.
+pub(crate) fn write_comparison_hint(
+    alloc: Global,
+    output: &mut Text,
+    before: &[u8],
+) -> Result<(), AllocError>
+    ensures { OnOk result (output.new ≡ output.old ++ comparison_hint before.now) }
+{
+    if can_stand(alloc, before, b"==")? {
+        write_indented(output, COMPARISON)
+    } else {
+        Ok(())
     }
 }

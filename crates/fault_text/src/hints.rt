@@ -1,7 +1,7 @@
 //! What may help at a place of a line.
 ghost use Rattle.std.specs.Prelude.{◌≡◌, ◌++◌, ◌≤◌, OnOk, length, map, nat_eq};
-ghost use Rattle.std.specs.List.{prefix_len, starts_with};
-ghost use Rattle.fault_text.specs.Hints.{advice, blank_advice, differs_once, end_advice, first_word, hint, is_letter, is_one_edit, is_swapped, letters_of, line_hints, meaning, meaning_or_near, near_hint, near_to, near_word, near_words, nearest, no_word, shape_hints, token_hints, unknown_hints, word_hints};
+ghost use Rattle.std.specs.List.{ends_with, prefix_len, starts_with};
+ghost use Rattle.fault_text.specs.Hints.{advice, blank_advice, differs_once, first_word, hint, is_letter, is_near, is_one_edit, is_swapped, letters_of, line_hints, meaning, meaning_or_near, near_hint, near_to, near_word, near_words, nearest, no_word, shape_hints, space_advice, token_hints, unknown_hints, word_hints};
 ghost use Rattle.fault_text.specs.Lines.{indented};
 
 use crate::lines::{split_text, write_indented};
@@ -13,7 +13,7 @@ use std::alloc::AllocError;
 
 /// What may help with a line of a block, a script or a transcript, by the bytes at the place where it leaves its form: a line of
 /// bytes, and one of help.
-const AT_PLACE: [&[u8]; 7] = [
+const AT_PLACE: [&[u8]; 16] = [
     b"\r\nthe line ends with a carriage return, as on Windows: mend all lines by  tr -d '\\r' < FILE > NEW",
     b"\xef\xbb\xbf\nthe file begins with a byte-order mark: save it without one",
     b"\t\nhere is a tab: one space parts two words",
@@ -21,18 +21,29 @@ const AT_PLACE: [&[u8]; 7] = [
     b",\none space parts two values, with no comma",
     b"-\nno number has a sign",
     b"+\nno number has a sign",
+    b"[\nthere are no brackets: one space parts two values",
+    b"(\nthere are no parentheses: one space parts two values",
+    b":\nthere is no colon: one space parts two words",
+    b";\nthere is no semicolon: each command is a line of its own",
+    b" after \na script's `crash` is done at once; `crash I after K` is a line of a block",
+    b"\xff\xfe\nthe file is in UTF-16: save it in UTF-8",
+    b"\xfe\xff\nthe file is in UTF-16: save it in UTF-8",
+    b"\x7fELF\nthis is a program, and no text",
+    b"\0\nhere is a byte 0, which no text has; if the file is in UTF-16, save it in UTF-8",
 ];
 
 /// The same by the bytes with which the line begins.
 const AT_START: [&[u8]; 2] = [b"#\nthere are no comments", b"//\nthere are no comments"];
 
 /// Lines that are no block's, by the bytes with which they begin, and where they belong.
-pub(crate) const NO_BLOCK: [&[u8]; 5] = [
+pub(crate) const NO_BLOCK: [&[u8]; 7] = [
     b"open\nthis looks like a script, which `bgview trace` and `bgview draw` read",
     b"step \nthis looks like a script, which `bgview trace` and `bgview draw` read",
     b"settle \nthis looks like a script, which `bgview trace` and `bgview draw` read",
     b"events\nthis looks like a transcript, which `bgview why` reads",
     b"task \na task is the line after the turns, in a block that begins with `bgsim 2`",
+    b"{\nthis looks like JSON: a room is a block of lines, from `bgsim 1` to `end`",
+    b"<\nthis looks like HTML: a room is a block of lines, from `bgsim 1` to `end`",
 ];
 
 /// Lines that are no event lines.
@@ -43,30 +54,54 @@ pub const NO_EVENT: [&[u8]; 3] = [
 ];
 
 /// Lines that are no commands.
-pub const NO_COMMAND: [&[u8]; 1] = [
+pub const NO_COMMAND: [&[u8]; 5] = [
+    b"run \nthere is no `run`: `step NAME I C` lets a simulator take C steps, and `settle NAME` lets all go on to their ends",
+    b"restart \na simulator that has crashed does not start again",
+    b"start \na room is opened by a line `open` and its block",
+    b"end\na line `end` is the last of a block, which comes after a line `open`",
     b"bgsim \nin a script a line `open` comes before each block; `bgview sample` and `bgview outcomes` read blocks alone, `bgview why` blocks and events",
 ];
 
-/// What may help with a protocol's text, by the bytes at the place of its fault.
-const AT_TOKEN: [&[u8]; 9] = [
+/// What may help with a protocol's text, by the bytes from one byte before the place of its fault on.
+const AROUND_TOKEN: [&[u8]; 1] = [b"<>\n`!=` says that two values differ"];
+
+/// The same by the bytes at that place.
+const AT_TOKEN: [&[u8]; 24] = [
     b"\r\nthe line ends with a carriage return, as on Windows: mend all lines by  tr -d '\\r' < FILE > NEW",
     b"\t\nhere is a tab: spaces and line ends part tokens",
     b"#\nthere are no comments",
     b"//\nthere are no comments",
+    b"==\na comparison comes after `when` or `and`, has two sides, and has no parentheses around it",
+    b"=<\n`<=` says that a value is at most another",
+    b"=>\n`>=` says that a value is at least another",
     b"=\n`==` compares two values",
+    b"!=\na comparison comes after `when` or `and`, has two sides, and has no parentheses around it",
     b"!\n`!=` says that two values differ",
+    b"<\na comparison comes after `when` or `and`, has two sides, and has no parentheses around it",
+    b">\na comparison comes after `when` or `and`, has two sides, and has no parentheses around it",
     b"&\n`and` joins two comparisons",
     b"|\nthere is no `or`: write a rule for each case",
+    b"(\nof the words only `cell`, `seen` and `equal` take a value in parentheses",
+    b",\nthere is no comma: `cell`, `seen` and `equal` take one value in parentheses",
+    b"[\nthere are no brackets: `cell(K)` is the entry of process K",
+    b"{\nthere are no braces: a rule is `when COMPARISON ACTION;`, and the last is `else ACTION;`",
+    b"\"\nthere are no texts: each value is a number",
+    b"'\nthere are no texts: each value is a number",
+    b".\nno number has a fraction",
+    b":\nthere is no colon: an action comes after the comparisons, or after `else`",
+    b"-\nno number has a sign",
     b"\xef\xbb\xbf\nhere is a byte-order mark: save the file without one",
 ];
 
 /// Words of other languages, and what this one has for them.
-const OTHER_WORDS: [&[u8]; 5] = [
+const OTHER_WORDS: [&[u8]; 7] = [
     b"or\nthere is no `or`: write a rule for each case",
     b"if\nthere is no `if`: a rule is `when COMPARISON ACTION;`, and the last is `else ACTION;`",
     b"not\nthere is no `not`: `!=` says that two values differ",
     b"then\nthere is no `then`: the action comes after the comparisons",
     b"return\nthere is no `return`: `decide VALUE` ends a process",
+    b"end\n`end` is a line of its own, with no blank in it",
+    b"wait\nno process waits: `else write mine` writes its value once more, and the process looks again in the next round",
 ];
 
 /// The words with which lines begin.
@@ -94,34 +129,47 @@ const WORDS: [&[u8]; 17] = [
     b"mine", b"count", b"min", b"max", b"cell", b"seen", b"equal",
 ];
 
-/// Writes what may help with a line that has these bytes at the place of its fault.
+/// Writes what may help with a line that has these bytes before the place of its fault and these from there on.
 pub(crate) fn write_line_hints(
     output: &mut Text,
     line: &[u8],
+    front: &[u8],
     back: &[u8],
 ) -> Result<(), AllocError>
-    ensures { OnOk result (output.new ≡ output.old ++ line_hints line.now back.now) }
+    ensures { OnOk result (output.new ≡ output.old ++ line_hints line.now front.now back.now) }
 {
     write_hint(output, advice(&AT_PLACE, back))?;
     write_hint(output, advice(&AT_START, line))?;
-    write_shape_hints(output, line, back)
+    write_shape_hints(output, line, front, back)
 }
 
-/// Writes what may help with a blank line, with blanks at the end of a line, and with a word that is near another.
+/// Writes what may help with a blank line, with blanks that are too many, and with a word that is near another.
 #[tactic(auto, unfolding(crate::specs::Hints::shape_hints))]
-fn write_shape_hints(output: &mut Text, line: &[u8], back: &[u8]) -> Result<(), AllocError>
-    ensures { OnOk result (output.new ≡ output.old ++ shape_hints line.now back.now) }
+fn write_shape_hints(
+    output: &mut Text,
+    line: &[u8],
+    front: &[u8],
+    back: &[u8],
+) -> Result<(), AllocError>
+    ensures { OnOk result (output.new ≡ output.old ++ shape_hints line.now front.now back.now) }
 {
-    write_hint(output, end_advice(back))?;
+    write_hint(output, space_advice(front, back))?;
     write_hint(output, blank_advice(line))?;
     write_near_hint(output, first_word(line), &LINE_WORDS)
 }
 
-/// Writes what may help with a protocol's text that has these bytes at the place of its fault.
-pub(crate) fn write_token_hints(output: &mut Text, back: &[u8]) -> Result<(), AllocError>
-    ensures { OnOk result (output.new ≡ output.old ++ token_hints back.now) }
+/// Writes what may help with a protocol's text that has these bytes from one before the place of its fault on, and these from there on.
+pub(crate) fn write_token_hints(
+    output: &mut Text,
+    around: &[u8],
+    back: &[u8],
+) -> Result<(), AllocError>
+    ensures { OnOk result (output.new ≡ output.old ++ token_hints around.now back.now) }
 {
-    write_hint(output, advice(&AT_TOKEN, back))
+    match advice(&AROUND_TOKEN, around) {
+        [] => write_hint(output, advice(&AT_TOKEN, back)),
+        help => write_hint(output, help),
+    }
 }
 
 /// Writes what may help with a text that begins with a word, if it does, which the language doesn't have.
@@ -166,7 +214,7 @@ fn write_no_word(output: &mut Text, word: &[u8]) -> Result<(), AllocError>
 }
 
 /// Writes a line with a word between two texts.
-fn write_quoted(
+pub(crate) fn write_quoted(
     output: &mut Text,
     before: &[u8],
     word: &[u8],
@@ -229,14 +277,20 @@ pub fn write_advice(output: &mut Text, entries: &[&[u8]], text: &[u8]) -> Result
     write_hint(output, advice(entries, text))
 }
 
-/// What helps with a line that should have ended before these bytes, if they are blanks.
-fn end_advice(back: &[u8]) -> &'static [u8]
-    ensures { result.now ≡ end_advice back.now }
+/// What helps with a space before which a line should have ended, or before which there is another one.
+fn space_advice(front: &[u8], back: &[u8]) -> &'static [u8]
+    ensures { result.now ≡ space_advice front.now back.now }
 {
-    match back {
-        [b' ', others @ ..] if is_blank(others) => b"no line ends with a space",
-        _ => &[],
+    if !back.starts_with(b" ") {
+        return &[];
     }
+    if is_blank(back) {
+        return b"no line ends with a space";
+    }
+    if front.ends_with(b" ") {
+        return b"here is a second space: one space parts two words";
+    }
+    &[]
 }
 
 /// What helps with a blank line.
@@ -251,7 +305,7 @@ fn blank_advice(line: &[u8]) -> &'static [u8]
 }
 
 /// The bytes before a line's first space.
-fn first_word(line: &[u8]) -> &[u8]
+pub(crate) fn first_word(line: &[u8]) -> &[u8]
     ensures { result.now ≡ first_word line.now }
 {
     let (word, _) = split_text(line, word_len(line));
@@ -259,7 +313,7 @@ fn first_word(line: &[u8]) -> &[u8]
 }
 
 /// How many letters a text begins with.
-fn letters_of(text: &[u8]) -> usize
+pub(crate) fn letters_of(text: &[u8]) -> usize
     ensures { result ≡ letters_of text.now }
 {
     text.iter().take_while(|byte| is_letter(**byte)).count()
@@ -281,7 +335,7 @@ fn write_near_hint(output: &mut Text, word: &[u8], known: &[&[u8]]) -> Result<()
     write_near_words(output, nearest(word, known))
 }
 
-fn write_near_words(output: &mut Text, known: &[u8]) -> Result<(), AllocError>
+pub(crate) fn write_near_words(output: &mut Text, known: &[u8]) -> Result<(), AllocError>
     ensures { OnOk result (output.new ≡ output.old ++ near_words known.now) }
 {
     match known {
@@ -296,7 +350,7 @@ fn write_near_word(output: &mut Text, known: &[u8]) -> Result<(), AllocError>
     write_quoted(output, b"did you mean `", known, b"`?")
 }
 
-/// The first of these words that is one edit away from this one.
+/// The first of these words that is near this one.
 #[tactic(auto, unfolding(crate::specs::Hints::nearest))]
 fn nearest<'a>(word: &[u8], known: &'a [&'a [u8]]) -> &'a [u8]
     ensures { result.now ≡ nearest word.now (map (λ entry. entry.now) known.now) }
@@ -304,11 +358,18 @@ fn nearest<'a>(word: &[u8], known: &'a [&'a [u8]]) -> &'a [u8]
     let [entry, others @ ..] = known else {
         return &[];
     };
-    if is_one_edit(word, entry) {
+    if is_near(word, entry) {
         entry
     } else {
         nearest(word, others)
     }
+}
+
+/// Whether a word is one edit away from a known one, or is that word in other letters, small or capital.
+pub(crate) fn is_near(word: &[u8], known: &[u8]) -> bool
+    ensures { result ≡ is_near word.now known.now }
+{
+    is_one_edit(word, known) || (word.eq_ignore_ascii_case(known) && word != known)
 }
 
 /// Whether two words differ in one byte, or by one that is there or not, or by two that have changed places.

@@ -12,10 +12,12 @@ mod places;
 mod refusals;
 mod strangers;
 
-pub use blocks::{HEAD_LINES, later_line, program_of, write_block_fault, write_program_place};
+pub use blocks::{
+    HEAD_LINES, later_line, program_of, write_block_fault, write_name_taken, write_program_place,
+};
 pub use hints::{NO_COMMAND, NO_EVENT, write_advice};
 pub use lines::{line_at, write_indented};
-pub use phrases::{COMMANDS, EVENTS, write_form_fault};
+pub use phrases::{COMMANDS, EVENTS, fits_one, write_form_fault};
 pub use places::{write_heading, write_place};
 pub use refusals::{ENOUGH, MOST_EXPLAINED, Refusals, RefusedBlock};
-pub use strangers::Strangers;
+pub use strangers::{Strangers, has_room_line, write_near_room};

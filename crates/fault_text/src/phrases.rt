@@ -1,11 +1,13 @@
 //! What was expected at a place of a line.
-ghost use Rattle.std.specs.Prelude.{◌≡◌, ◌++◌, ◌≤◌, ◌<◌, ◌^◌, ℕ, OnOk, length, map, take, drop};
+ghost use Rattle.std.specs.Prelude.{◌≡◌, ◌++◌, ◌-◌, ◌≤◌, ◌<◌, ◌^◌, ℕ, OnOk, length, map, nat_eq, take, drop};
+ghost use Rattle.std.specs.List.{ends_with};
 ghost use Rattle.fault_text.specs.Lines.{indented, indented_all, word_len};
 ghost use Rattle.fault_text.specs.Forms.{misfit_from, range_of};
-ghost use Rattle.fault_text.specs.Phrases.{expected_if, expected_notes, expects, fits, fits_one, form_fault, furthest, is_literal, literal_len, place_in, range_words, shown_form, shown_letter, value_place, wanted, wanted_if};
+ghost use Rattle.fault_text.specs.Phrases.{expected_if, expected_notes, expects, fault_at, fits, fits_one, form_fault, form_notes, furthest, is_after_name, is_literal, is_other_word, literal_len, misfit, name_if, place_in, range_words, shown_form, shown_letter, value_place, wanted, wanted_if};
 
 use crate::forms::{find_misfit, range_of};
-use crate::hints::write_line_hints;
+use crate::hints::{first_word, is_near, write_line_hints};
+use crate::lines::split_text;
 use crate::places::write_place;
 use io_text::Text;
 use std::alloc::{AllocError, Global};
@@ -37,9 +39,38 @@ pub fn write_form_fault(
     ensures { OnOk result (output.new ≡ output.old ++ form_fault number sentence.now line.now (map (λ form. form.now) forms.now)) }
 {
     let at = place_in(line, forms);
-    write_place(alloc, output, number, sentence, &line[..at], &line[at..])?;
+    write_fault_at(alloc, output, number, sentence, at, line, forms)
+}
+
+/// Writes the same about this place of a line.
+fn write_fault_at(
+    alloc: Global,
+    output: &mut Text,
+    number: u64,
+    sentence: &[u8],
+    at: usize,
+    line: &[u8],
+    forms: &[&[u8]],
+) -> Result<(), AllocError>
+    ensures { OnOk result (output.new ≡ output.old ++ fault_at number sentence.now at line.now (map (λ form. form.now) forms.now)) }
+{
+    let (front, back) = split_text(line, at);
+    write_place(alloc, output, number, sentence, front, back)?;
+    write_form_notes(output, at, line, forms)
+}
+
+/// Writes what is expected at this place of a line that has one of these forms, or should, and what may help.
+fn write_form_notes(
+    output: &mut Text,
+    at: usize,
+    line: &[u8],
+    forms: &[&[u8]],
+) -> Result<(), AllocError>
+    ensures { OnOk result (output.new ≡ output.old ++ form_notes at line.now (map (λ form. form.now) forms.now)) }
+{
+    let (front, back) = split_text(line, at);
     write_expected_among(output, at, line, forms)?;
-    write_line_hints(output, line, &line[at..])
+    write_line_hints(output, line, front, back)
 }
 
 /// The place of a line that has one of these forms, or should: its first value if it has one, or else where it leaves the one that it
@@ -57,7 +88,7 @@ fn place_in(line: &[u8], forms: &[&[u8]]) -> usize
 
 /// Whether a line has one of these forms.
 #[tactic(auto, unfolding(crate::specs::Phrases::fits_one))]
-fn fits_one(line: &[u8], forms: &[&[u8]]) -> bool
+pub fn fits_one(line: &[u8], forms: &[&[u8]]) -> bool
     ensures { result ≡ fits_one line.now (map (λ form. form.now) forms.now) }
 {
     let [form, others @ ..] = forms else {
@@ -89,6 +120,28 @@ pub(crate) fn word_len(line: &[u8]) -> usize
     line.iter().take_while(|byte| **byte != b' ').count()
 }
 
+/// Where a line leaves a form, and what is left of the form there. A line whose first word is not the form's, nor near it, leaves it at once.
+fn misfit<'a>(form: &'a [u8], line: &[u8]) -> (usize, &'a [u8])
+    ensures at { result.0 ≡ (misfit form.now line.now).0 }
+    ensures left { result.1.now ≡ (misfit form.now line.now).1 }
+    ensures within { result.0 ≤ length line.now }
+{
+    let (at, left) = find_misfit(0, form, line);
+    if is_other_word(at, form, line) {
+        (0, form)
+    } else {
+        (at, left)
+    }
+}
+
+/// Whether a line that leaves a form at this place does so within its first word, which is not near the form's.
+fn is_other_word(at: usize, form: &[u8], line: &[u8]) -> bool
+    ensures { result ≡ is_other_word at form.now line.now }
+{
+    let len = literal_len(form);
+    at < len && !is_near(first_word(line), &form[..len])
+}
+
 /// The last of the places at which a line leaves these forms.
 #[tactic(auto, unfolding(crate::specs::Phrases::furthest))]
 fn furthest(line: &[u8], forms: &[&[u8]]) -> usize
@@ -98,7 +151,7 @@ fn furthest(line: &[u8], forms: &[&[u8]]) -> usize
     let [form, others @ ..] = forms else {
         return 0;
     };
-    let (at, _) = find_misfit(0, form, line);
+    let (at, _) = misfit(form, line);
     at.max(furthest(line, others))
 }
 
@@ -127,7 +180,7 @@ fn write_expected_if(
 ) -> Result<(), AllocError>
     ensures { OnOk result (output.new ≡ output.old ++ indented_all (expected_if at line.now form.now)) }
 {
-    let (place, left) = find_misfit(0, form, line);
+    let (place, left) = misfit(form, line);
     if place != at {
         return Ok(());
     }
@@ -153,7 +206,25 @@ fn write_wanted_if(output: &mut Text, form: &[u8], left: &[u8]) -> Result<(), Al
         return Ok(());
     }
     output.put(b", here ")?;
-    write_wanted(output, left)
+    write_wanted(output, left)?;
+    write_name_if(output, form, left)
+}
+
+/// Writes what a name has, if one comes right before what is left of a form.
+fn write_name_if(output: &mut Text, form: &[u8], left: &[u8]) -> Result<(), AllocError>
+    ensures { OnOk result (output.new ≡ output.old ++ name_if form.now left.now) }
+{
+    if is_after_name(form, left) {
+        output.put(b" after a name of a to z, 0 to 9, _ and -")
+    } else {
+        Ok(())
+    }
+}
+
+fn is_after_name(form: &[u8], left: &[u8]) -> bool
+    ensures { result ≡ is_after_name form.now left.now }
+{
+    form[..form.len().saturating_sub(left.len())].ends_with(b"N")
 }
 
 /// Writes a form as documents do.

@@ -2,7 +2,7 @@
 ghost use Rattle.std.specs.Prelude.{◌≡◌, ◌==◌, ◌∷◌, ◌++◌, [], OnOk, drop, length, take};
 ghost use Rattle.std.specs.List.{flat_map};
 ghost use Rattle.fault_text.specs.Lines.{behind_lines};
-ghost use Rattle.fault_text.specs.Refusals.{all_named, all_noted, all_said, enough_if, name_in, named_if, named_line, named_refusals, noted_refusal, noted_refusals, refusal_line, said_refusal, said_refusals, why_said};
+ghost use Rattle.fault_text.specs.Refusals.{after_room, all_named, all_noted, all_said, enough_if, name_in, named_if, named_line, named_refusals, noted_refusal, noted_refusals, refusal_line, said_refusal, said_refusals, why_said};
 
 use crate::blocks::{write_block_fault, write_line_fault};
 use crate::lines::{behind_lines, line_at, split_text};
@@ -156,7 +156,13 @@ fn write_named_line(output: &mut Text, name: &[u8], line: u64) -> Result<(), All
 fn name_in(text: &[u8]) -> &[u8]
     ensures { result.now ≡ name_in text.now }
 {
-    let line = line_at(text, 2);
+    after_room(line_at(text, 2))
+}
+
+/// What a line has after the word `room`, or nothing if that isn't its word.
+pub(crate) fn after_room(line: &[u8]) -> &[u8]
+    ensures { result.now ≡ after_room line.now }
+{
     if !line.starts_with(b"room ") {
         return &[];
     }

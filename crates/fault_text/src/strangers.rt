@@ -2,10 +2,14 @@
 ghost use Rattle.std.specs.Prelude.{◌≡◌, ◌∷◌, ◌++◌, [], IfOk, OnOk};
 ghost use Rattle.std.specs.List.{list_any};
 ghost use Rattle.std.specs.Str.{bytes_eq};
-ghost use Rattle.fault_text.specs.Strangers.{is_met, met, more_note, refused_strangers};
+ghost use Rattle.room_files.specs.Lines.{text_lines};
+ghost use Rattle.fault_text.specs.Refusals.{after_room};
+ghost use Rattle.fault_text.specs.Strangers.{has_room_line, is_met, met, more_note, near_room, nearest_room, refused_strangers};
 
-use crate::refusals::{MOST_EXPLAINED, Refusals};
+use crate::hints::{is_near, write_near_words};
+use crate::refusals::{MOST_EXPLAINED, Refusals, after_room};
 use io_text::Text;
+use room_files::next_line;
 use std::alloc::{AllocError, Global};
 use std::marker::Model;
 
@@ -103,4 +107,45 @@ fn write_refused_names(
         refused.write_named(output, input, name.as_bytes())?;
     }
     Ok(())
+}
+
+/// Writes which room may be meant by a name that no room has, if a block of the input has a name near it.
+pub fn write_near_room(output: &mut Text, input: &[u8], name: &[u8]) -> Result<(), AllocError>
+    ensures { OnOk result (output.new ≡ output.old ++ near_room input.now name.now) }
+{
+    if name.len() < 2 {
+        return Ok(());
+    }
+    write_near_words(output, nearest_room(name, input))
+}
+
+/// The name in the first line `room NAME` of a text that is near this one, or nothing.
+#[tactic(auto, unfolding(crate::specs::Strangers::nearest_room))]
+fn nearest_room<'a>(name: &[u8], text: &'a [u8]) -> &'a [u8]
+    ensures { result.now ≡ nearest_room name.now (text_lines text.now) }
+{
+    let mut rest = text;
+    while let Some((line, later)) = next_line(rest) {
+        let known = after_room(line);
+        if is_near(name, known) {
+            return known;
+        }
+        rest = later;
+    }
+    &[]
+}
+
+/// Whether a line of a text is `room NAME` with this name.
+#[tactic(auto, unfolding(crate::specs::Strangers::has_room_line))]
+pub fn has_room_line(name: &[u8], text: &[u8]) -> bool
+    ensures { result ≡ has_room_line name.now text.now }
+{
+    let mut rest = text;
+    while let Some((line, later)) = next_line(rest) {
+        if after_room(line) == name {
+            return true;
+        }
+        rest = later;
+    }
+    false
 }

@@ -1,6 +1,8 @@
 -- What is said of all faults of a transcript's event lines.
-use Rattle.std.specs.Prelude.{ℕ, Bool, List, [], ◌++◌, length, map, Result, Ok, Err, if◌then◌else◌}
+use Rattle.std.specs.Prelude.{ℕ, Bool, List, [], ◌∷◌, ◌++◌, codes, drop, length, map, Result, Ok, Err, if◌then◌else◌}
 use Rattle.room_spec.specs.Rooms.{RoomSpec}
+use Rattle.room_files.specs.Blocks.{block_extent}
+use Rattle.room_files.specs.Lines.{text_lines}
 use Rattle.room_spec.specs.Texts.{first_line, later_lines}
 use Rattle.transcript.specs.Faults.{sentence_of}
 use Rattle.transcript.specs.Lines.{line_in}
@@ -9,16 +11,17 @@ use Rattle.transcript.specs.declared.fault.LineFault.{LineFault}
 use Rattle.history_checker.specs.Verdicts.{has_room, no_room_sentence}
 use Rattle.fault_text.specs.Blocks.{later_line}
 use Rattle.fault_text.specs.Hints.{advice, hint}
-use Rattle.fault_text.specs.Lines.{indented_all}
-use Rattle.fault_text.specs.Phrases.{form_fault}
+use Rattle.fault_text.specs.Lines.{indented, indented_all}
+use Rattle.fault_text.specs.Phrases.{fits_one, form_fault}
 use Rattle.fault_text.specs.Places.{place_notes}
 use Rattle.fault_text.specs.Refusals.{named_refusals}
-use Rattle.fault_text.specs.Strangers.{MetNames, is_met, met, more_note}
+use Rattle.fault_text.specs.Strangers.{MetNames, is_met, met, more_note, near_room}
 use Rattle.fault_text.specs.declared.refusals.RefusedBlock.{RefusedBlock}
 use Rattle.fault_text.specs.declared.hints.TheConstants.{NO_EVENT}
 use Rattle.fault_text.specs.declared.phrases.TheConstants.{EVENTS}
+use Rattle.file_faults.specs.Scripts.{block_in_front}
 use Rattle.file_faults.specs.Walks.{Parts, said_from}
-use Rattle.file_faults.specs.declared.events.TheConstants.{MORE_LINES}
+use Rattle.file_faults.specs.declared.events.TheConstants.{BLOCK_LINES, BLOCKS_BEFORE, EVENTS_ALONE, MORE_LINES, REPORT_LINES}
 use Rattle.fault_text.specs.declared.refusals.TheConstants.{MOST_EXPLAINED}
 
 -- What a transcript has before its event lines: its rooms, and the blocks of it that are refused.
@@ -27,18 +30,30 @@ pub record OpenedParts : Type 0 where
   pub input : List ℕ
   pub refused : List RefusedBlock
 
--- no room has the name, which is said of the first line that has it, and that a block of this name is refused, if one is
+-- no room has the name, which is said of the first line that has it, with a name that is near it, and that a block of this name is refused,
+-- if one is
 abbrev pub stranger_said : OpenedParts → MetNames → ℕ → List ℕ → List ℕ → List ℕ
 stranger_said opened strangers number line name =
-    if is_met name strangers then [] else indented_all (place_notes number no_room_sentence [] line) ++ named_refusals opened.input name opened.refused
+    if is_met name strangers then [] else indented_all (place_notes number no_room_sentence [] line) ++ (near_room opened.input name ++ named_refusals opened.input name opened.refused)
 
 -- the line has the name of no room, unless a room has it
 abbrev pub no_room_said : OpenedParts → MetNames → ℕ → List ℕ → List ℕ → List ℕ
 no_room_said opened strangers number line name = if has_room name opened.rooms then [] else stranger_said opened strangers number line name
 
+-- the line has this fault, and its place is elsewhere
+abbrev pub misplaced_said : ℕ → List ℕ → LineFault → List ℕ → List ℕ
+misplaced_said number line fault elsewhere = indented_all (place_notes number (sentence_of fault) [] line) ++ indented elsewhere
+
+-- the line is no event line: it may be one of a block, or of a report, or else it should have one of the forms of event lines
+abbrev pub bad_line_said : ℕ → List ℕ → LineFault → List ℕ
+bad_line_said number line fault =
+    if fits_one line (map (λ form. form.now) BLOCK_LINES) then misplaced_said number line fault BLOCKS_BEFORE.now
+    else if fits_one line (map (λ form. form.now) REPORT_LINES) then misplaced_said number line fault EVENTS_ALONE.now
+    else form_fault number (sentence_of fault) line (map (λ form. form.now) EVENTS) ++ hint (advice (map (λ entry. entry.now) NO_EVENT) line)
+
 abbrev pub line_said : OpenedParts → MetNames → ℕ → List ℕ → Result (List ℕ × Event) LineFault → List ℕ
 line_said opened strangers number line (Ok read) = no_room_said opened strangers number line read.0
-line_said opened strangers number line (Err fault) = form_fault number (sentence_of fault) line (map (λ form. form.now) EVENTS) ++ hint (advice (map (λ entry. entry.now) NO_EVENT) line)
+line_said opened strangers number line (Err fault) = bad_line_said number line fault
 
 -- the first line of a text
 abbrev pub event_said : OpenedParts → MetNames → ℕ → List ℕ → List ℕ
@@ -55,12 +70,22 @@ met_if opened strangers (Err fault) = strangers
 abbrev pub strangers_after : OpenedParts → MetNames → List ℕ → MetNames
 strangers_after opened strangers text = met_if opened strangers (line_in (first_line text))
 
+-- a block among event lines is explained by its first line
+abbrev pub begins_late_block : List ℕ → Bool
+begins_late_block text = fits_one (first_line text) (codes "bgsim B" ∷ [])
+
+abbrev pub next_event : ℕ → List ℕ → ℕ
+next_event number text = if begins_late_block text then later_line number (length (text_lines (block_in_front text))) else later_line number 1
+
+abbrev pub events_behind : List ℕ → List ℕ
+events_behind text = if begins_late_block text then drop (block_extent (later_lines text)) (later_lines text) else later_lines text
+
 abbrev pub event_lines : OpenedParts → Parts MetNames
 event_lines opened = record {
   said = event_said opened;
   known = λ strangers number text. strangers_after opened strangers text;
-  next = λ number text. later_line number 1;
-  later = later_lines;
+  next = next_event;
+  later = events_behind;
   ends = more_note MORE_LINES.now;
 }
 

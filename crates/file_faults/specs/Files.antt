@@ -1,5 +1,5 @@
 -- What is said of all faults of a file of rooms, and of a transcript.
-use Rattle.std.specs.Prelude.{◌≡◌, ℕ, List, [], ◌++◌, Result, Ok, Err}
+use Rattle.std.specs.Prelude.{◌≡◌, ℕ, List, ◌++◌, Result, Ok, Err}
 use Rattle.std.specs.List.{flat_map}
 use Rattle.room_files.specs.Blocks.{Setup}
 use Rattle.room_files.specs.Faults.{FaultAt, text_sentence}

@@ -1,4 +1,5 @@
 pub mod Walks
+pub mod OpenRooms
 pub mod Scripts
 pub mod Events
 pub mod Files

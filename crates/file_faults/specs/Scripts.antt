@@ -1,63 +1,134 @@
 -- What is said of all faults of a script.
-use Rattle.std.specs.Prelude.{ℕ, ◌+◌, ◌==◌, ◌||◌, Bool, List, [], ◌++◌, length, take, map, Option, Some, None, Result, Ok, Err, nat_eq, codes, if◌then◌else◌}
+use Rattle.std.specs.Prelude.{ℕ, ◌+◌, ◌==◌, ◌||◌, Bool, List, [], ◌∷◌, ◌++◌, length, take, map, Option, Some, None, Result, Ok, Err, is_some, nat_eq, codes, decimal, if◌then◌else◌}
 use Rattle.std.specs.List.{list_any, starts_with}
 use Rattle.room_spec.specs.Blocks.{block_in}
+use Rattle.room_spec.specs.Rooms.{RoomSpec}
 use Rattle.room_spec.specs.Texts.{first_line, later_lines}
 use Rattle.room_spec.specs.declared.fault.SpecFault.{SpecFault}
 use Rattle.room_files.specs.Blocks.{block_extent, fault_text, refused_line}
 use Rattle.room_files.specs.Faults.{text_sentence}
 use Rattle.room_files.specs.Lines.{text_lines}
 use Rattle.room_files.specs.declared.fault.TextFault.TheVariants.{NoCommand}
+use Rattle.room_files.specs.declared.fault.BlockFault.TheVariants.{NameTaken}
+use Rattle.service_core.specs.Replies.{name_in, refusal_sentence}
 use Rattle.service_core.specs.declared.command.Command.{Command}
+use Rattle.service_core.specs.declared.reply.Refusal.{Refusal}
+use Rattle.service_core.specs.declared.reply.Refusal.TheVariants as refusals
 use Rattle.script_play.specs.Script.{block_behind, command_in, is_open, text_behind}
-use Rattle.fault_text.specs.Blocks.{block_fault, later_line}
+use Rattle.fault_text.specs.Blocks.{block_fault, later_line, line_fault}
 use Rattle.fault_text.specs.Hints.{advice, hint}
+use Rattle.fault_text.specs.Lines.{indented, indented_all}
 use Rattle.fault_text.specs.Phrases.{form_fault}
+use Rattle.fault_text.specs.Places.{place_notes}
+use Rattle.fault_text.specs.Strangers.{MetNames, has_room_line, is_met, met, more_note, near_room}
 use Rattle.fault_text.specs.declared.hints.TheConstants.{NO_COMMAND}
 use Rattle.fault_text.specs.declared.phrases.TheConstants.{COMMANDS}
-use Rattle.file_faults.specs.Walks.{Parts, alone, said_from}
+use Rattle.file_faults.specs.OpenRooms.{RoomsByName, refusal_of, rooms_after, rooms_begun, simulators_of}
+use Rattle.file_faults.specs.Walks.{Parts, said_from}
+use Rattle.file_faults.specs.declared.scripts.TheConstants.{COUNTED, MORE_COMMANDS, NOT_OPEN}
 use Rattle.fault_text.specs.declared.refusals.TheConstants.{MOST_EXPLAINED}
-
-abbrev pub fault_of : {A : Type 0} → Result A SpecFault → Option SpecFault
-fault_of (Ok value) = None
-fault_of (Err fault) = Some fault
 
 -- the line that says that a block is refused, for people, and what is said of its fault
 abbrev pub fault_said : ℕ → List ℕ → SpecFault → List ℕ
 fault_said number block fault = codes "    " ++ (refused_line number (fault_text fault) ++ block_fault number block fault)
 
-abbrev pub refusal_said : ℕ → List ℕ → Option SpecFault → List ℕ
-refusal_said number block None = []
-refusal_said number block (Some fault) = fault_said number block fault
+-- What is known of a script's rooms from its lines before: which are open, and the names of no open room that commands had.
+pub record KnownRooms : Type 0 where
+  pub rooms : RoomsByName
+  pub strangers : MetNames
 
--- the block's first fault, if it has one: the line that says that it is refused, and what is said of the fault
-abbrev pub block_said : ℕ → List ℕ → List ℕ
-block_said number block = refusal_said number block (fault_of (block_in block))
+-- ---- blocks
+
+-- a room of its name is open
+abbrev pub taken_said : RoomsByName → ℕ → List ℕ → RoomSpec → List ℕ
+taken_said rooms number block spec = if is_some (simulators_of spec.name rooms) then line_fault number block 2 NameTaken else []
+
+-- a block's first fault, or that a room of its name is open
+abbrev pub read_said : RoomsByName → ℕ → List ℕ → Result (RoomSpec × ℕ) SpecFault → List ℕ
+read_said rooms number block (Err fault) = fault_said number block fault
+read_said rooms number block (Ok read) = taken_said rooms number block read.0
+
+abbrev pub block_said : RoomsByName → ℕ → List ℕ → List ℕ
+block_said rooms number block = read_said rooms number block (block_in block)
+
+abbrev pub rooms_after_read : RoomsByName → Result (RoomSpec × ℕ) SpecFault → RoomsByName
+rooms_after_read rooms (Err fault) = rooms
+rooms_after_read rooms (Ok read) = rooms_begun rooms read.0
+
+-- ---- commands
 
 -- the line of this number, which is no command
 abbrev pub bad_command : ℕ → List ℕ → List ℕ
 bad_command number line = form_fault number (text_sentence NoCommand) line (map (λ form. form.now) COMMANDS) ++ hint (advice (map (λ entry. entry.now) NO_COMMAND) line)
 
-abbrev pub no_command : ℕ → List ℕ → Option Command → List ℕ
-no_command number line None = bad_command number line
-no_command number line (Some command) = []
+-- no room of this name is open: a block of the script has the name, or one has a name near it
+abbrev pub meant : List ℕ → List ℕ → List ℕ
+meant script name = if has_room_line name script then indented NOT_OPEN.now else near_room script name
 
--- the line of this number, unless it is a command
-abbrev pub command_said : ℕ → List ℕ → List ℕ
-command_said number line = no_command number line (command_in line)
+-- which is said of the first line that has the name
+abbrev pub absent_said : List ℕ → MetNames → ℕ → List ℕ → List ℕ → List ℕ
+absent_said script strangers number line name =
+    if is_met name strangers then [] else indented_all (place_notes number (refusal_sentence refusals.NoRoom) [] line) ++ meant script name
+
+abbrev pub count_note : ℕ → List ℕ
+count_note simulators = COUNTED.now ++ ((32 ∷ decimal simulators) ++ codes "\n")
+
+-- how many simulators the open room has, if there is one
+abbrev pub simulators_note : Option ℕ → List ℕ
+simulators_note None = []
+simulators_note (Some simulators) = count_note simulators
+
+-- why the line's command is refused
+abbrev pub refused_said : List ℕ → KnownRooms → ℕ → List ℕ → List ℕ → Option Refusal → List ℕ
+refused_said script known number line name None = []
+refused_said script known number line name (Some refusals.NoRoom) = absent_said script known.strangers number line name
+refused_said script known number line name (Some refusal) =
+    indented_all (place_notes number (refusal_sentence refusal) [] line) ++ simulators_note (simulators_of name known.rooms)
+
+-- the line of this number, unless it is a command that is done
+abbrev pub line_said : List ℕ → KnownRooms → ℕ → List ℕ → Option Command → List ℕ
+line_said script known number line None = bad_command number line
+line_said script known number line (Some command) = refused_said script known number line (name_in command) (refusal_of known.rooms command)
+
+abbrev pub met_if_absent : MetNames → List ℕ → Option Refusal → MetNames
+met_if_absent strangers name (Some refusals.NoRoom) = met name strangers
+met_if_absent strangers name refusal = strangers
+
+abbrev pub known_after_command : KnownRooms → Option Command → KnownRooms
+known_after_command known None = known
+known_after_command known (Some command) =
+    record { rooms = rooms_after known.rooms command; strangers = met_if_absent known.strangers (name_in command) (refusal_of known.rooms command) }
+
+-- ---- entries
 
 abbrev pub block_in_front : List ℕ → List ℕ
 block_in_front text = take (block_extent text) text
 
 -- the block after a line `open`, or another line
-abbrev pub entry_said : ℕ → List ℕ → List ℕ
-entry_said number text = if is_open (first_line text) then block_said (later_line number 1) (block_in_front (later_lines text)) else command_said number (first_line text)
+abbrev pub entry_said : List ℕ → KnownRooms → ℕ → List ℕ → List ℕ
+entry_said script known number text =
+    if is_open (first_line text) then block_said known.rooms (later_line number 1) (block_in_front (later_lines text))
+    else line_said script known number (first_line text) (command_in (first_line text))
+
+abbrev pub known_after : KnownRooms → List ℕ → KnownRooms
+known_after known text =
+    if is_open (first_line text) then record { rooms = rooms_after_read known.rooms (block_in (block_in_front (later_lines text))); strangers = known.strangers }
+    else known_after_command known (command_in (first_line text))
 
 abbrev pub next_number : ℕ → List ℕ → List ℕ → ℕ
 next_number number line later = later_line number (1 + length (text_lines (block_behind line later)))
 
-abbrev pub entries : Parts (Unit {0})
-entries = alone entry_said (λ number text. next_number number (first_line text) (later_lines text)) (λ text. text_behind (first_line text) (later_lines text))
+abbrev pub entries : List ℕ → Parts KnownRooms
+entries script = record {
+  said = entry_said script;
+  known = λ known number text. known_after known text;
+  next = λ number text. next_number number (first_line text) (later_lines text);
+  later = λ text. text_behind (first_line text) (later_lines text);
+  ends = λ known. more_note MORE_COMMANDS.now known.strangers;
+}
+
+abbrev pub none_known : KnownRooms
+none_known = record { rooms = []; strangers = record { names = []; more = 0 } }
 
 abbrev pub begins_with_block : List ℕ → Bool
 begins_with_block script = starts_with nat_eq script (codes "bgsim ")
@@ -71,4 +142,4 @@ abbrev pub explained_at_most : List ℕ → ℕ
 explained_at_most script = if begins_with_block script || ends_as_elsewhere script then 1 else MOST_EXPLAINED
 
 unfoldable pub script_faults : List ℕ → List ℕ
-script_faults script = said_from entries (length script) (explained_at_most script) tt 1 script
+script_faults script = said_from (entries script) (length script) (explained_at_most script) none_known 1 script

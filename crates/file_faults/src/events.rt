@@ -1,27 +1,74 @@
 //! All faults of a transcript's event lines.
-ghost use Rattle.std.specs.Prelude.{◌≡◌, ◌++◌, IfOk, OnOk};
+ghost use Rattle.std.specs.Prelude.{◌≡◌, ◌<◌, ◌++◌, IfOk, OnOk, length};
 ghost use Rattle.history_checker.specs.Verdicts.{has_room};
 ghost use Rattle.transcript.specs.Lines.{line_in};
 ghost use Rattle.fault_text.specs.Refusals.{named_refusals};
-ghost use Rattle.fault_text.specs.Strangers.{met};
-ghost use Rattle.file_faults.specs.Events.{event_faults, event_said, met_unless, no_room_said, stranger_said, strangers_after};
+ghost use Rattle.fault_text.specs.Strangers.{met, near_room};
+ghost use Rattle.file_faults.specs.Events.{bad_line_said, begins_late_block, event_faults, event_said, events_behind, met_unless, misplaced_said, next_event, no_room_said, stranger_said, strangers_after};
 ghost use Rattle.file_faults.specs.Walks.{left_after, said_if_left};
 
+use crate::scripts::{block_extent, block_in_front};
 use crate::walk::write_part;
 use fault_text::{
-    EVENTS, MOST_EXPLAINED, NO_EVENT, Refusals, Strangers, later_line, write_advice,
-    write_form_fault, write_place,
+    EVENTS, MOST_EXPLAINED, NO_EVENT, Refusals, Strangers, fits_one, later_line, write_advice,
+    write_form_fault, write_indented, write_near_room, write_place,
 };
 use history_checker::NoRoom;
 use io_text::Text;
-use room_files::{SpecList, split_line};
+use room_files::{SpecList, count_lines, split_line};
 use room_spec::Name;
 use std::alloc::{AllocError, Global};
 use std::marker::Model;
-use transcript::read_line;
+use transcript::{LineFault, read_line};
 
 /// What is said of lines that have a name of no room, after one that has the same name.
 const MORE_LINES: &[u8] = b" more lines have such a name";
+
+/// The first line of a block.
+const BLOCK_LINE: &[u8] = b"bgsim B";
+
+/// The forms of a block's lines, without those of its protocol's text.
+const BLOCK_LINES: [&[u8]; 10] = [
+    BLOCK_LINE,
+    b"room N",
+    b"inputs VW",
+    b"simulators M",
+    b"rounds S",
+    b"turns T",
+    b"task agree K",
+    b"crash J after V",
+    b"protocol",
+    b"end",
+];
+
+/// Where such lines belong.
+const BLOCKS_BEFORE: &[u8] = b"blocks come before the line `events`";
+
+/// The forms of a report's lines, without its event lines, and of other replies to a script.
+const REPORT_LINES: [&[u8]; 18] = [
+    b"N report",
+    b"N process P decided V",
+    b"N process P held J",
+    b"N process P spent",
+    b"N process P going",
+    b"N crashed",
+    b"N crashed JW",
+    b"N history V",
+    b"N end",
+    b"N opened",
+    b"N closed",
+    b"N settled",
+    b"N step I V stepped",
+    b"N step I V idle",
+    b"N step I V out of turns",
+    b"N step I V crashed",
+    b"N crash I crashed",
+    b"N crash I already",
+];
+
+/// What a transcript has in their place.
+const EVENTS_ALONE: &[u8] =
+    b"this is a reply to a script: a transcript has its event lines alone, as `bgview transcript` writes them";
 
 /// What a transcript has before its event lines: its rooms, and the blocks of it that are refused.
 #[derive(Drop)]
@@ -60,10 +107,12 @@ impl<'a> Opened<'a> {
         self.rooms.has(name)
     }
 
-    /// Writes for each refused block of a room of this name, of those that are explained, that it is refused.
-    fn write_refused(&self, output: &mut Text, name: &[u8]) -> Result<(), AllocError>
-        ensures { OnOk result (output.new ≡ output.old ++ named_refusals self.now.input name.now self.now.refused) }
+    /// Writes which room may be meant by a name that no room has, and for each refused block of a room of this name, of those that are
+    /// explained, that it is refused.
+    fn write_meant(&self, output: &mut Text, name: &[u8]) -> Result<(), AllocError>
+        ensures { OnOk result (output.new ≡ output.old ++ (near_room self.now.input name.now ++ named_refusals self.now.input name.now self.now.refused)) }
     {
+        write_near_room(output, self.input, name)?;
         self.refused.write_named(output, self.input, name)
     }
 }
@@ -88,8 +137,8 @@ pub(crate) fn write_event_faults(
             return Ok(());
         };
         left = fewer;
-        number = later_line(number, 1);
-        (_, rest) = split_line(rest);
+        number = next_event(number, rest);
+        rest = events_behind(rest);
     }
     strangers.write_more(output, MORE_LINES)
 }
@@ -127,11 +176,82 @@ fn write_event_said(
     let (line, _) = split_line(text);
     match read_line(line) {
         Ok((name, _)) => write_no_room(alloc, output, opened, strangers, number, line, &name),
-        Err(fault) => {
-            let words = fault.sentence().as_bytes();
-            write_form_fault(alloc, output, number, words, line, &EVENTS)?;
-            write_advice(output, &NO_EVENT, line)
-        }
+        Err(fault) => write_bad_line(alloc, output, number, line, fault),
+    }
+}
+
+/// Writes what is said of the line of this number, which is no event line.
+fn write_bad_line(
+    alloc: Global,
+    output: &mut Text,
+    number: u64,
+    line: &[u8],
+    fault: LineFault,
+) -> Result<(), AllocError>
+    ensures { OnOk result (output.new ≡ output.old ++ bad_line_said number line.now fault) }
+{
+    if fits_one(line, &BLOCK_LINES) {
+        return write_misplaced(alloc, output, number, line, fault, BLOCKS_BEFORE);
+    }
+    if fits_one(line, &REPORT_LINES) {
+        return write_misplaced(alloc, output, number, line, fault, EVENTS_ALONE);
+    }
+    let words = fault.sentence().as_bytes();
+    write_form_fault(alloc, output, number, words, line, &EVENTS)?;
+    write_advice(output, &NO_EVENT, line)
+}
+
+/// Writes the fault of a line that has its place elsewhere, and where.
+fn write_misplaced(
+    alloc: Global,
+    output: &mut Text,
+    number: u64,
+    line: &[u8],
+    fault: LineFault,
+    elsewhere: &[u8],
+) -> Result<(), AllocError>
+    ensures { OnOk result (output.new ≡ output.old ++ misplaced_said number line.now fault elsewhere.now) }
+{
+    write_place(
+        alloc,
+        output,
+        number,
+        fault.sentence().as_bytes(),
+        &[],
+        line,
+    )?;
+    write_indented(output, elsewhere)
+}
+
+/// Whether a block begins among event lines.
+fn begins_late_block(text: &[u8]) -> bool
+    ensures { result ≡ begins_late_block text.now }
+{
+    let (line, _) = split_line(text);
+    fits_one(line, &[BLOCK_LINE])
+}
+
+/// The number of the line after the event line, or the block, with which a text begins, whose first line has this number.
+fn next_event(number: u64, text: &[u8]) -> u64
+    ensures { result ≡ next_event number text.now }
+{
+    if begins_late_block(text) {
+        later_line(number, count_lines(block_in_front(text)))
+    } else {
+        later_line(number, 1)
+    }
+}
+
+/// What comes after the event line, or the block, with which a text begins.
+fn events_behind(text: &[u8]) -> &[u8]
+    ensures text { result.now ≡ events_behind text.now }
+    ensures shorter { 0 < length text.now → length result.now < length text.now }
+{
+    let (_, later) = split_line(text);
+    if begins_late_block(text) {
+        &later[block_extent(later)..]
+    } else {
+        later
     }
 }
 
@@ -173,5 +293,5 @@ fn write_stranger(
     }
     let words = NoRoom.sentence().as_bytes();
     write_place(alloc, output, number, words, &[], line)?;
-    opened.write_refused(output, name)
+    opened.write_meant(output, name)
 }

@@ -4,7 +4,9 @@
 mod events;
 mod files;
 mod kinds;
+pub mod laws;
 mod linting;
+mod rooms;
 mod scripts;
 mod walk;
 mod warnings;

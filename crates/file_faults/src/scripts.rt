@@ -1,24 +1,77 @@
 //! All faults of a script.
-ghost use Rattle.std.specs.Prelude.{◌≡◌, ◌++◌, ◌≤◌, IfOk, OnOk, is_some, length};
+ghost use Rattle.std.specs.Prelude.{◌≡◌, ◌++◌, ◌≤◌, IfOk, OnOk, length};
 ghost use Rattle.room_spec.specs.Blocks.{block_in};
 ghost use Rattle.room_files.specs.Blocks.{block_extent};
 ghost use Rattle.script_play.specs.Script.{command_in, is_open, text_behind};
-ghost use Rattle.file_faults.specs.Scripts.{bad_command, begins_with_block, block_in_front, block_said, command_said, ends_as_elsewhere, entry_said, explained_at_most, fault_of, fault_said, next_number, script_faults};
+ghost use Rattle.file_faults.specs.Scripts.{absent_said, bad_command, begins_with_block, block_in_front, block_said, count_note, ends_as_elsewhere, entry_said, explained_at_most, fault_said, known_after, known_after_command, line_said, meant, met_if_absent, next_number, none_known, refused_said, rooms_after_read, script_faults, simulators_note, taken_said};
+ghost use Rattle.file_faults.specs.OpenRooms.{rooms_begun, simulators_of};
+ghost use Rattle.fault_text.specs.Strangers.{met, more_note};
+ghost use Rattle.file_faults.specs.declared.scripts.TheConstants.{MORE_COMMANDS};
+ghost use Rattle.service_core.specs.declared.reply.Refusal.TheVariants.{NoRoom};
 ghost use Rattle.file_faults.specs.Walks.{left_after, said_if_left};
 
+use crate::rooms::OpenRooms;
 use crate::walk::write_part;
 use fault_text::{
-    COMMANDS, MOST_EXPLAINED, NO_COMMAND, later_line, write_advice, write_block_fault,
-    write_form_fault,
+    COMMANDS, MOST_EXPLAINED, NO_COMMAND, Strangers, has_room_line, later_line, write_advice,
+    write_block_fault, write_form_fault, write_indented, write_name_taken, write_near_room,
+    write_place,
 };
 use io_text::Text;
 use room_files::{TextFault, count_lines, read_room, split_line, write_refused};
-use room_spec::{SpecFault, block_len};
+use room_spec::{Name, Spec, SpecFault, block_len};
 use script_play::read_command;
+use service_core::Refusal;
 use std::alloc::{AllocError, Global};
+use std::marker::Model;
 
-/// What is said of all faults of a script: of its blocks, and of lines that are no commands. If it begins with a block, it is no script, and if
-/// its first line has a carriage return, no line is one of a script: then only the first fault is explained.
+/// What is said of further commands with a name of no open room.
+const MORE_COMMANDS: &[u8] = b" more commands have such a name";
+
+/// What is said of a name of no open room that a block of the script has.
+const NOT_OPEN: &[u8] =
+    b"a block of the script has this name, but its room is not open at this line";
+
+/// Comes before the number of a room's simulators.
+const COUNTED: &[u8] = b"    its simulators are counted from 0, and there are";
+
+/// What is known of a script's rooms from its lines before.
+#[derive(Drop)]
+struct Known {
+    rooms: OpenRooms,
+    /// The names of no open room that commands had.
+    strangers: Strangers,
+}
+
+impl Model for Known {
+    ghost use Rattle.file_faults.specs.Scripts.{KnownRooms};
+
+    ghost Value = { KnownRooms };
+
+    ghost view = { λ known. record { rooms = known.rooms; strangers = known.strangers } };
+}
+
+impl Known {
+    fn new(alloc: Global) -> Known
+        ensures { result ≡ none_known }
+    {
+        Known {
+            rooms: OpenRooms::new(alloc),
+            strangers: Strangers::new(alloc),
+        }
+    }
+
+    /// Writes how many commands had a name of no open room that an earlier one had, if some did.
+    fn write_end(&self, output: &mut Text) -> Result<(), AllocError>
+        ensures { OnOk result (output.new ≡ output.old ++ more_note MORE_COMMANDS.now self.now.strangers) }
+    {
+        self.strangers.write_more(output, MORE_COMMANDS)
+    }
+}
+
+/// What is said of all faults of a script: of its blocks, of lines that are no commands, and of commands to rooms or simulators that there are not.
+/// If it begins with a block, it is no script, and if its first line has a carriage return, no line is one of a script: then only the first
+/// fault is explained.
 #[tactic(auto, unfolding(crate::specs::Scripts::script_faults))]
 pub fn script_faults(alloc: Global, script: &[u8]) -> Result<Text, AllocError>
     ensures { IfOk result (λ text. text ≡ script_faults script.now) }
@@ -27,8 +80,10 @@ pub fn script_faults(alloc: Global, script: &[u8]) -> Result<Text, AllocError>
     let mut rest = script;
     let mut number = 1;
     let mut left = explained_at_most(script);
+    let mut known = Known::new(alloc);
     'walk: while !rest.is_empty() {
-        let Some(fewer) = write_entry(alloc, &mut output, left, number, rest)? else {
+        let Some(fewer) = write_entry(alloc, &mut output, left, &mut known, script, number, rest)?
+        else {
             return Ok(output);
         };
         left = fewer;
@@ -36,6 +91,7 @@ pub fn script_faults(alloc: Global, script: &[u8]) -> Result<Text, AllocError>
         number = next_number(number, line, later);
         rest = text_behind(line, later);
     }
+    known.write_end(&mut output)?;
     Ok(output)
 }
 
@@ -69,30 +125,43 @@ fn write_entry(
     alloc: Global,
     output: &mut Text,
     left: usize,
+    known: &mut Known,
+    script: &[u8],
     number: u64,
     text: &[u8],
 ) -> Result<Option<usize>, AllocError>
-    ensures left { IfOk result (λ fewer. fewer ≡ left_after left (entry_said number text.now)) }
-    ensures text { OnOk result (output.new ≡ output.old ++ said_if_left left (entry_said number text.now)) }
+    ensures left { IfOk result (λ fewer. fewer ≡ left_after left (entry_said script.now known.old number text.now)) }
+    ensures text { OnOk result (output.new ≡ output.old ++ said_if_left left (entry_said script.now known.old number text.now)) }
+    ensures known { OnOk result (known.new ≡ known_after known.old text.now) }
 {
     let mut said = Text::new(alloc);
-    write_entry_said(alloc, &mut said, number, text)?;
+    write_entry_said(alloc, &mut said, known, script, number, text)?;
     write_part(output, left, said.as_bytes())
 }
 
 fn write_entry_said(
     alloc: Global,
     output: &mut Text,
+    known: &mut Known,
+    script: &[u8],
     number: u64,
     text: &[u8],
 ) -> Result<(), AllocError>
-    ensures { OnOk result (output.new ≡ output.old ++ entry_said number text.now) }
+    ensures text { OnOk result (output.new ≡ output.old ++ entry_said script.now known.old number text.now) }
+    ensures known { OnOk result (known.new ≡ known_after known.old text.now) }
 {
     let (line, later) = split_line(text);
     if is_open(line) {
-        write_block_said(alloc, output, later_line(number, 1), block_in_front(later))
+        let block = block_in_front(later);
+        write_block_said(
+            alloc,
+            output,
+            &mut known.rooms,
+            later_line(number, 1),
+            block,
+        )
     } else {
-        write_command_said(alloc, output, number, line)
+        write_line_said(alloc, output, known, script, number, line)
     }
 }
 
@@ -100,15 +169,36 @@ fn write_entry_said(
 fn write_block_said(
     alloc: Global,
     output: &mut Text,
+    rooms: &mut OpenRooms,
     number: u64,
     block: &[u8],
 ) -> Result<(), AllocError>
-    ensures { OnOk result (output.new ≡ output.old ++ block_said number block.now) }
+    ensures text { OnOk result (output.new ≡ output.old ++ block_said rooms.old number block.now) }
+    ensures rooms { OnOk result (rooms.new ≡ rooms_after_read rooms.old (block_in block.now)) }
 {
-    let Some(fault) = fault_of(alloc, block)? else {
-        return Ok(());
-    };
-    write_refusal_said(alloc, output, number, block, fault)
+    match read_room(alloc, block)? {
+        Ok((spec, _)) => write_taken_said(alloc, output, rooms, number, block, &spec),
+        Err(fault) => write_refusal_said(alloc, output, number, block, fault),
+    }
+}
+
+/// Writes that the name of a valid block is taken, if it is.
+fn write_taken_said(
+    alloc: Global,
+    output: &mut Text,
+    rooms: &mut OpenRooms,
+    number: u64,
+    block: &[u8],
+    spec: &Spec,
+) -> Result<(), AllocError>
+    ensures text { OnOk result (output.new ≡ output.old ++ taken_said rooms.old number block.now spec.now) }
+    ensures rooms { OnOk result (rooms.new ≡ rooms_begun rooms.old spec.now) }
+{
+    if rooms.begin(spec)? {
+        write_name_taken(alloc, output, number, block)
+    } else {
+        Ok(())
+    }
 }
 
 /// Writes that a block with this first line is refused for this fault, and what is said of the fault.
@@ -126,29 +216,114 @@ fn write_refusal_said(
     write_block_fault(alloc, output, number, block, fault)
 }
 
-/// The first fault of a block, if it has one.
-fn fault_of(alloc: Global, block: &[u8]) -> Result<Option<SpecFault>, AllocError>
-    ensures { IfOk result (λ fault. fault ≡ fault_of (block_in block.now)) }
-{
-    match read_room(alloc, block)? {
-        Ok(_) => Ok(None),
-        Err(fault) => Ok(Some(fault)),
-    }
-}
-
-/// Writes what is said of the line of this number, unless it is a command.
-fn write_command_said(
+/// Writes what is said of the line of this number, unless it is a command that is done.
+fn write_line_said(
     alloc: Global,
     output: &mut Text,
+    known: &mut Known,
+    script: &[u8],
     number: u64,
     line: &[u8],
 ) -> Result<(), AllocError>
-    ensures { OnOk result (output.new ≡ output.old ++ command_said number line.now) }
+    ensures text { OnOk result (output.new ≡ output.old ++ line_said script.now known.old number line.now (command_in line.now)) }
+    ensures known { OnOk result (known.new ≡ known_after_command known.old (command_in line.now)) }
 {
-    if is_command(line) {
+    let Some(command) = read_command(line) else {
+        return write_bad_command(alloc, output, number, line);
+    };
+    let refusal = known.rooms.refusal_of(&command);
+    write_refused_said(
+        alloc,
+        output,
+        known,
+        script,
+        number,
+        line,
+        command.name(),
+        refusal,
+    )?;
+    known.rooms.note(&command)
+}
+
+/// Writes why the command of the line of this number, to the room of this name, is refused, if it is.
+fn write_refused_said(
+    alloc: Global,
+    output: &mut Text,
+    known: &mut Known,
+    script: &[u8],
+    number: u64,
+    line: &[u8],
+    name: &Name,
+    refusal: Option<Refusal>,
+) -> Result<(), AllocError>
+    ensures text { OnOk result (output.new ≡ output.old ++ refused_said script.now known.old number line.now name.now refusal) }
+    ensures rooms { OnOk result (known.new.rooms ≡ known.old.rooms) }
+    ensures strangers { OnOk result (known.new.strangers ≡ met_if_absent known.old.strangers name.now refusal) }
+{
+    match refusal {
+        None => Ok(()),
+        Some(Refusal::NoRoom) => {
+            let strangers = &mut known.strangers;
+            write_absent_said(alloc, output, strangers, script, number, line, name)
+        }
+        Some(refusal) => {
+            let words = refusal.sentence().as_bytes();
+            write_place(alloc, output, number, words, &[], line)?;
+            write_simulators_note(output, known.rooms.simulators_of(name))
+        }
+    }
+}
+
+/// Writes that no room of this name is open at the line of this number, unless an earlier line has the same name.
+fn write_absent_said(
+    alloc: Global,
+    output: &mut Text,
+    strangers: &mut Strangers,
+    script: &[u8],
+    number: u64,
+    line: &[u8],
+    name: &Name,
+) -> Result<(), AllocError>
+    ensures text { OnOk result (output.new ≡ output.old ++ absent_said script.now strangers.old number line.now name.now) }
+    ensures strangers { OnOk result (strangers.new ≡ met name.now strangers.old) }
+{
+    let bytes = name.as_str().as_bytes();
+    if strangers.meet(alloc, bytes)? {
         return Ok(());
     }
-    write_bad_command(alloc, output, number, line)
+    let words = Refusal::NoRoom.sentence().as_bytes();
+    write_place(alloc, output, number, words, &[], line)?;
+    write_meant(output, script, bytes)
+}
+
+/// Writes which room may be meant by a name of no open room.
+fn write_meant(output: &mut Text, script: &[u8], name: &[u8]) -> Result<(), AllocError>
+    ensures { OnOk result (output.new ≡ output.old ++ meant script.now name.now) }
+{
+    if has_room_line(name, script) {
+        write_indented(output, NOT_OPEN)
+    } else {
+        write_near_room(output, script, name)
+    }
+}
+
+/// Writes how many simulators a room has, if one is open.
+fn write_simulators_note(output: &mut Text, simulators: Option<u8>) -> Result<(), AllocError>
+    ensures { OnOk result (output.new ≡ output.old ++ simulators_note simulators) }
+{
+    match simulators {
+        None => Ok(()),
+        Some(count) => write_count_note(output, u64::from(count)),
+    }
+}
+
+/// Writes that a room has this many simulators.
+fn write_count_note(output: &mut Text, simulators: u64) -> Result<(), AllocError>
+    ensures { OnOk result (output.new ≡ output.old ++ count_note simulators) }
+{
+    output.put(COUNTED)?;
+    output.put_number(simulators)?;
+    output.put(b"\n")
 }
 
 /// Writes what is said of the line of this number, which is no command.
@@ -163,12 +338,6 @@ fn write_bad_command(
     let words = TextFault::NoCommand.sentence().as_bytes();
     write_form_fault(alloc, output, number, words, line, &COMMANDS)?;
     write_advice(output, &NO_COMMAND, line)
-}
-
-fn is_command(line: &[u8]) -> bool
-    ensures { result ≡ is_some (command_in line.now) }
-{
-    read_command(line).is_some()
 }
 
 /// Whether a block comes after a line.

@@ -1,22 +1,26 @@
 //! What is warned of in the rooms of a file.
 ghost use Rattle.std.specs.Prelude.{◌≡◌, ◌<◌, ◌++◌, IfOk, OnOk, length};
 ghost use Rattle.file_faults.specs.Walks.{left_after, said_if_left};
-ghost use Rattle.file_faults.specs.Warnings.{block_warnings, file_warnings, next_part, part_behind, part_warnings};
+ghost use Rattle.file_faults.specs.Warnings.{block_warnings, empty_warning, file_warnings, next_part, part_behind, part_warnings};
 
 use crate::scripts::{begins_with_block, block_extent, block_in_front};
 use crate::walk::write_part;
-use fault_text::{MOST_EXPLAINED, later_line};
+use fault_text::{MOST_EXPLAINED, later_line, write_indented};
 use io_text::Text;
 use room_files::{count_lines, read_room, split_line};
 use room_warnings::write_warnings;
 use std::alloc::{AllocError, Global};
 
-/// What is warned of in the valid blocks of a file, which may be rooms, a script or a transcript.
+/// What is warned of if a file has nothing in it.
+const EMPTY_FILE: &[u8] = b"warning: the file is empty";
+
+/// What is warned of in a file, which may be rooms, a script or a transcript: in its valid blocks, or that it is empty.
 #[tactic(auto, unfolding(crate::specs::Warnings::file_warnings))]
 pub fn warnings_of(alloc: Global, input: &[u8]) -> Result<Text, AllocError>
     ensures { IfOk result (λ text. text ≡ file_warnings input.now) }
 {
     let mut output = Text::new(alloc);
+    write_empty_warning(&mut output, input)?;
     let mut rest = input;
     let mut number = 1;
     let mut left = MOST_EXPLAINED;
@@ -29,6 +33,16 @@ pub fn warnings_of(alloc: Global, input: &[u8]) -> Result<Text, AllocError>
         rest = part_behind(rest);
     }
     Ok(output)
+}
+
+/// Writes that a file is empty, if it is.
+fn write_empty_warning(output: &mut Text, input: &[u8]) -> Result<(), AllocError>
+    ensures { OnOk result (output.new ≡ output.old ++ empty_warning input.now) }
+{
+    match input {
+        [] => write_indented(output, EMPTY_FILE),
+        _ => Ok(()),
+    }
 }
 
 /// Writes what is warned of in the block with which a text begins, if it does, whose first line has this number. Gives how many may still be

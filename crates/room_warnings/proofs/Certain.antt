@@ -1,9 +1,9 @@
 -- What is certain of protocols in every view.
-use Rattle.std.proofs.Common.{◌≡◌, ◌∙◌, ℕ, zero, suc, ◌≤◌, Bool, true, false, ◌&&◌, cond, eqb, leb, List, [], ◌∷◌, ◌++◌, length, Option, Some, None, refl, sym, ap, arith}
+use Rattle.std.proofs.Common.{◌≡◌, ℕ, zero, suc, ◌≤◌, Bool, true, false, ◌&&◌, cond, eqb, leb, List, [], ◌∷◌, ◌++◌, length, Option, Some, None, refl, ap, arith}
 use Rattle.std.specs.Prelude.{slice_index_or}
 use Rattle.std.specs.List.{find, list_all}
 use Rattle.std.proofs.lemmas.Bool.{eq-eqb, le-leb}
-use Rattle.protocol_lang.specs.Meaning.{Environment, action, action_by, action_in, action_of, applies, compared, entry, holds, one_if_there, value_of}
+use Rattle.protocol_lang.specs.Meaning.{Environment, action, action_by, action_in, applies, value_of}
 use Rattle.protocol_lang.specs.Trees.{ActionRuleOf, Calling, Expression, Number, RuleOf, Tree}
 use Rattle.protocol_lang.specs.declared.meaning.Action.TheVariants as actions
 use Rattle.protocol_lang.specs.declared.tree.Kind.{Kind}

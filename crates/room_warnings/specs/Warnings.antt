@@ -7,7 +7,13 @@ use Rattle.fault_text.specs.Places.{place_notes}
 use Rattle.room_warnings.specs.Calls.{calls_none}
 use Rattle.room_warnings.specs.Rules.{holds_always}
 use Rattle.room_warnings.specs.Words.{has_word}
-use Rattle.room_warnings.specs.declared.warnings.TheConstants.{ALWAYS, NO_DECISION, NO_PROCESS, TOO_FEW, TOO_FEW_UNDECIDED}
+use Rattle.room_warnings.specs.declared.warnings.TheConstants.{ALWAYS, NO_DECISION, NO_PROCESS, ONE_PROCESS, TOO_FEW, TOO_FEW_UNDECIDED}
+
+-- ---- inputs
+
+-- each value of the line `inputs` is the input of a process of its own, so one value says that there is one process
+abbrev pub inputs_warning : ℕ → List ℕ → RoomSpec → List ℕ
+inputs_warning first block spec = if processes spec == 1 then indented_all (place_notes (later_line first 2) ONE_PROCESS.now [] (line_at 3 block)) else []
 
 -- ---- turns
 
@@ -21,6 +27,12 @@ turns_sentence decides spec =
 
 abbrev pub turns_warning : ℕ → List ℕ → List ℕ → List ℕ
 turns_warning first block sentence = if length sentence == 0 then [] else indented_all (place_notes (later_line first 5) sentence [] (line_at 6 block))
+
+-- ---- numbers
+
+-- of a room whose protocol has `decide` or not
+unfoldable pub number_warnings : ℕ → List ℕ → Bool → RoomSpec → List ℕ
+number_warnings first block decides spec = inputs_warning first block spec ++ turns_warning first block (turns_sentence decides spec)
 
 -- ---- protocols
 
@@ -46,7 +58,7 @@ from_place n first lines program (byte ∷ rest) = at_place n first lines progra
 
 abbrev pub warnings_in : ℕ → List ℕ → RoomSpec → ℕ → List ℕ → List ℕ
 warnings_in first block spec lines program =
-    turns_warning first block (turns_sentence (has_word (codes "decide") program) spec)
+    number_warnings first block (has_word (codes "decide") program) spec
     ++ (decide_warning first lines (has_word (codes "decide") program) ++ from_place (processes spec) first lines program program)
 
 -- what is warned of in the room of this block, whose first line has this number

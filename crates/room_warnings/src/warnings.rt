@@ -3,7 +3,7 @@ ghost use Rattle.std.specs.Prelude.{◌≡◌, ◌-◌, ◌*◌, ◌≤◌, ◌+
 ghost use Rattle.fault_text.specs.Lines.{indented_all};
 ghost use Rattle.fault_text.specs.Places.{place_notes};
 ghost use Rattle.fault_text.specs.declared.blocks.TheConstants.{HEAD_LINES};
-ghost use Rattle.room_warnings.specs.Warnings.{at_place, decide_warning, from_place, place_sentence, room_warnings, sentence_if, turns_sentence, turns_warning};
+ghost use Rattle.room_warnings.specs.Warnings.{at_place, decide_warning, from_place, inputs_warning, number_warnings, place_sentence, room_warnings, sentence_if, turns_sentence, turns_warning};
 
 use crate::calls::calls_none;
 use crate::rules::holds_always;
@@ -21,6 +21,10 @@ const ALWAYS: &[u8] = b"warning: this rule always holds, so no rule after it is 
 
 /// At the line before a protocol's text.
 const NO_DECISION: &[u8] = b"warning: no process ever decides, since no rule has `decide`";
+
+/// At the line of the inputs.
+const ONE_PROCESS: &[u8] =
+    b"warning: the room has one process, since each value of `inputs` is the input of one";
 
 /// At the line of the turns.
 const TOO_FEW: &[u8] =
@@ -42,10 +46,43 @@ pub fn write_warnings(
 {
     let (lines, program) = program_of(block);
     let decides = has_word(b"decide", program);
-    let sentence = turns_sentence(decides, spec);
-    write_turns_warning(alloc, output, first, block, sentence)?;
+    write_number_warnings(alloc, output, first, block, decides, spec)?;
     write_decide_warning(alloc, output, first, lines, decides)?;
     write_from(alloc, output, spec.n(), first, lines, program, program)
+}
+
+/// Writes what may be warned of in the numbers of a room: of its inputs, and of its turns, if a rule of its protocol decides or not.
+#[tactic(auto, unfolding(crate::specs::Warnings::number_warnings))]
+fn write_number_warnings(
+    alloc: Global,
+    output: &mut Text,
+    first: u64,
+    block: &[u8],
+    decides: bool,
+    spec: &Spec,
+) -> Result<(), AllocError>
+    ensures { OnOk result (output.new ≡ output.old ++ number_warnings first block.now decides spec.now) }
+{
+    let sentence = turns_sentence(decides, spec);
+    write_inputs_warning(alloc, output, first, block, spec)?;
+    write_turns_warning(alloc, output, first, block, sentence)
+}
+
+/// Writes that a room has one process alone, if it has, about the line of its inputs.
+fn write_inputs_warning(
+    alloc: Global,
+    output: &mut Text,
+    first: u64,
+    block: &[u8],
+    spec: &Spec,
+) -> Result<(), AllocError>
+    ensures { OnOk result (output.new ≡ output.old ++ inputs_warning first block.now spec.now) }
+{
+    if spec.n() != 1 {
+        return Ok(());
+    }
+    let number = later_line(first, 2);
+    write_place(alloc, output, number, ONE_PROCESS, &[], line_at(block, 3))
 }
 
 /// What is wrong with a room's turns, or nothing: they are fewer than a simulator needs that brings all processes to their ends alone.

@@ -9,7 +9,7 @@ use Rattle.room_spec.specs.Rooms.{RoomSpec}
 use Rattle.room_files.specs.BlockLists.{IsBlockAt}
 use Rattle.view_outcomes.specs.declared.rooms.Search.{Search}
 use Rattle.view_outcomes.specs.declared.listing.AllOutcomes.{AllOutcomes}
-use Rattle.view_outcomes.specs.Listing.{AreAllListed, HasStates, IsTaskOfRuns}
+use Rattle.view_outcomes.specs.Listing.{AreAllListed, HasNodes, IsTaskOfRuns}
 use Rattle.view_outcomes.specs.Rooms.{AddsOutcomes, AreRoomAnswers, IsRoomAnswer, crashes_for}
 use Rattle.view_outcomes.specs.Texts.{found_text, head_line}
 
@@ -58,16 +58,16 @@ none_is (Some value) false is = refl
 
 -- what was written of a room that was searched to the end
 pub found_told : (search : Search) (spec : RoomSpec) (block name : List ℕ) (crashes : ℕ) (all : AllOutcomes) (well : Bool) (before head after : List ℕ) → block_in block ≡ Ok (spec, length block) → name ≡ spec.name → crashes ≡ crashes_for spec search.crashes
-    → AreAllListed spec crashes search.brief all.listed.items → HasStates spec search.states all.states → IsTaskOfRuns spec (option_map (λ events. events.items) all.breaking) → well ≡ is_none all.breaking
+    → AreAllListed spec crashes search.brief all.listed.items → HasNodes spec search.nodes all.nodes → IsTaskOfRuns spec (option_map (λ events. events.items) all.breaking) → well ≡ is_none all.breaking
     → head ≡ before ++ head_line name crashes → after ≡ head ++ found_text spec block all → (text : List ℕ) × IsRoomAnswer search spec well text × (after ≡ before ++ text)
-found_told search spec block name crashes all well before head after says named stopped outcomes states task well_is head_is after_is =
+found_told search spec block name crashes all well before head after says named stopped outcomes nodes task well_is head_is after_is =
     let rest = found_text spec block all in
     let first : head_line name crashes ≡ head_line spec.name (crashes_for spec search.crashes) = ap (λ (n : List ℕ). head_line n crashes) named ∙ ap (head_line spec.name) stopped in
     let answer : IsRoomAnswer search spec well (head_line spec.name (crashes_for spec search.crashes) ++ rest) = record {
       block = block;
       says = says;
       rest = rest;
-      rest_is = inl (record { all = all; outcomes = subst (λ (n : ℕ). AreAllListed spec n search.brief all.listed.items) stopped outcomes; states = states; task = task; well_is = well_is; text_is = refl });
+      rest_is = inl (record { all = all; outcomes = subst (λ (n : ℕ). AreAllListed spec n search.brief all.listed.items) stopped outcomes; nodes = nodes; task = task; well_is = well_is; text_is = refl });
       text_is = refl;
     } in (
       head_line spec.name (crashes_for spec search.crashes) ++ rest,

@@ -7,7 +7,7 @@ use Rattle.transcript.specs.Runs.{IsRun}
 use Rattle.transcript.specs.Tasks.{KeepsOwnTask}
 use Rattle.run_search.specs.declared.ended.Ended.{Ended}
 use Rattle.run_search.specs.Outcomes.{IsRunOutcome, IsShortest, outcome_of}
-use Rattle.run_search.specs.Reached.{AreAllReachable, State}
+use Rattle.run_search.specs.Nodes.{CoverAllReachable, Node}
 use Rattle.run_search.specs.Tasks.{IsBreakingRun, IsShortestBreaking}
 use Rattle.view_outcomes.specs.declared.listing.Listed.{Listed}
 
@@ -26,9 +26,9 @@ pub record AreAllListed (spec : RoomSpec) (crashes : ℕ) (brief : Bool) (all : 
   pub complete : (outcome : List Ended) → IsRunOutcome spec crashes outcome → Contains (listed_ends all) outcome
   pub distinct : (i j : ℕ) (outcome : List Ended) → slice_get (listed_ends all) i ≡ Some outcome → slice_get (listed_ends all) j ≡ Some outcome → i ≡ j
 
--- the runs of the room have this number of states, which is within the limit
-abbrev pub HasStates : RoomSpec → ℕ → ℕ → Type 0
-HasStates spec limit count = (states : List State) × AreAllReachable spec states × (length states ≡ count) × (count ≤ limit)
+-- this number of nodes, which is within the limit, stands for the states of all runs of the room
+abbrev pub HasNodes : RoomSpec → ℕ → ℕ → Type 0
+HasNodes spec limit count = (nodes : List Node) × CoverAllReachable spec nodes × (length nodes ≡ count) × (count ≤ limit)
 
 -- each run keeps the room's task, or these are the events of a shortest one that breaks it
 abbrev pub IsTaskOfRuns : RoomSpec → Option (List Event) → Type 0

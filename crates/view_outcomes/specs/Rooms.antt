@@ -3,29 +3,28 @@ use Rattle.std.specs.Prelude.{◌≡◌, ◌⊎◌, ℕ, ◌-◌, Bool, true, fa
 use Rattle.std.specs.List.{concat}
 use Rattle.room_spec.specs.Blocks.{block_in}
 use Rattle.room_spec.specs.Rooms.{RoomSpec, processes}
-use Rattle.run_search.specs.Reached.{HasMoreLocals, HasMoreStates}
 use Rattle.view_outcomes.specs.declared.listing.AllOutcomes.{AllOutcomes}
 use Rattle.view_outcomes.specs.declared.rooms.Search.{Search}
-use Rattle.view_outcomes.specs.Listing.{AreAllListed, HasStates, IsTaskOfRuns}
-use Rattle.view_outcomes.specs.Texts.{found_text, head_line, unfinished_line}
+use Rattle.view_outcomes.specs.Listing.{AreAllListed, HasNodes, IsTaskOfRuns}
+use Rattle.view_outcomes.specs.Texts.{advice, found_text, head_line, unfinished_line}
 
 -- all processes but one may stop, if the number is not said
 abbrev pub crashes_for : RoomSpec → Option ℕ → ℕ
 crashes_for spec None = processes spec - 1
 crashes_for spec (Some crashes) = crashes
 
--- The text shows all outcomes, and says how many states the runs have, and whether each keeps the room's task.
+-- The text shows all outcomes, and says how many nodes stand for the states of all runs, and whether each run keeps the room's task.
 pub record IsFoundText (search : Search) (spec : RoomSpec) (block : List ℕ) (well : Bool) (text : List ℕ) : Type 0 where
   pub all : AllOutcomes
   pub outcomes : AreAllListed spec (crashes_for spec search.crashes) search.brief all.listed.items
-  pub states : HasStates spec search.states all.states
+  pub nodes : HasNodes spec search.nodes all.nodes
   pub task : IsTaskOfRuns spec (option_map (λ events. events.items) all.breaking)
   pub well_is : well ≡ is_none all.breaking
   pub text_is : text ≡ found_text spec block all
 
--- The text says that the runs have more states than the limit, or the processes more local states than a search distinguishes, as they have.
-pub record IsUnfinishedText (search : Search) (spec : RoomSpec) (well : Bool) (text : List ℕ) : Type 0 where
-  pub more : (HasMoreStates spec search.states × (text ≡ unfinished_line search.states (codes " states: not searched to the end\n"))) ⊎ (HasMoreLocals spec × (text ≡ unfinished_line 65536 (codes " local states: not searched to the end\n")))
+-- the text says that the search was given up at its limit
+pub record IsUnfinishedText (search : Search) (well : Bool) (text : List ℕ) : Type 0 where
+  pub text_is : text ≡ unfinished_line search.nodes advice
   pub well_is : well ≡ false
 
 -- what is written of a room, with a block that says the room
@@ -33,7 +32,7 @@ pub record IsRoomAnswer (search : Search) (spec : RoomSpec) (well : Bool) (text 
   pub block : List ℕ
   pub says : block_in block ≡ Ok (spec, length block)
   pub rest : List ℕ
-  pub rest_is : IsFoundText search spec block well rest ⊎ IsUnfinishedText search spec well rest
+  pub rest_is : IsFoundText search spec block well rest ⊎ IsUnfinishedText search well rest
   pub text_is : text ≡ head_line spec.name (crashes_for spec search.crashes) ++ rest
 
 -- a text for each room, in order; all is well if it is for each

@@ -83,15 +83,20 @@ task_text name block (Some most) (Some events) = breaking_text name block events
 abbrev pub head_line : List ℕ → ℕ → List ℕ
 head_line name crashes = (name ++ codes " outcomes crashes") ++ ((32 ∷ decimal crashes) ++ codes "\n")
 
-abbrev pub complete_line : ℕ → List ℕ
-complete_line states = codes "these are all outcomes:" ++ ((32 ∷ decimal states) ++ codes " states searched\n")
+-- how many outcomes there are, and how many nodes stand for the states of all runs
+abbrev pub complete_line : AllOutcomes → List ℕ
+complete_line all = (codes "these are all outcomes:" ++ ((32 ∷ decimal (length all.listed.items)) ++ codes " of them,")) ++ ((32 ∷ decimal all.nodes) ++ codes " nodes searched\n")
 
+-- what may help is said after the limit
 abbrev pub unfinished_line : ℕ → List ℕ → List ℕ
-unfinished_line limit things = codes "more than" ++ ((32 ∷ decimal limit) ++ things)
+unfinished_line limit advice = codes "more than" ++ ((32 ∷ decimal limit) ++ advice)
+
+abbrev pub advice : List ℕ
+advice = codes " nodes: not searched to the end; try a greater --nodes, fewer rounds, or sample\n"
 
 abbrev pub found_text : RoomSpec → List ℕ → AllOutcomes → List ℕ
 found_text spec block all =
     outcomes_text spec.name block all.listed.items
     ++ (most_line spec.name all.listed.items
     ++ ((spent_lines spec.name (processes spec) all.listed.items ++ none_spent_if spec.name all.listed.items)
-    ++ (task_text spec.name block spec.task (option_map (λ events. events.items) all.breaking) ++ complete_line all.states)))
+    ++ (task_text spec.name block spec.task (option_map (λ events. events.items) all.breaking) ++ complete_line all)))

@@ -10,7 +10,7 @@ use run_search::Progress;
 use std::alloc::{AllocError, Global};
 
 /// Searches each room of a file, and writes the lines of the refused blocks and then all outcomes of each room. All is well if no block
-/// was refused, each room was searched to the end, and each run of each keeps its room's task. Reports how many states of a room have been
+/// was refused, each room was searched to the end, and each run of each keeps its room's task. Reports how many nodes of a room have been
 /// searched.
 ///
 /// # Errors

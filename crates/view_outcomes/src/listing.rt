@@ -1,9 +1,7 @@
 //! All outcomes of a room, each with a shortest run that has it.
-ghost use Rattle.std.specs.Prelude.{◌≡◌, ◌<◌, ℕ, IfOk, IsErrOf, Some, length, option_map, slice_get};
+ghost use Rattle.std.specs.Prelude.{◌≡◌, ◌<◌, ℕ, IfOk, Some, length, option_map, slice_get};
 ghost use Rattle.run_search.specs.Outcomes.{IsFoundFor, outcomes_in};
-ghost use Rattle.run_search.specs.Reached.{HasMoreLocals, HasMoreStates};
-ghost use Rattle.run_search.specs.declared.fault.SearchFault.TheVariants as SearchFault;
-ghost use Rattle.view_outcomes.specs.Listing.{AreAllListed, HasRun, HasStates, IsTaskOfRuns, listed_ends};
+ghost use Rattle.view_outcomes.specs.Listing.{AreAllListed, HasRun, HasNodes, IsTaskOfRuns, listed_ends};
 ghost use Rattle.view_outcomes.specs.declared.listing.Listed.{Listed as ListedValue};
 
 use room_spec::Spec;
@@ -23,10 +21,10 @@ pub struct Listed {
 /// What a search of all runs of a room found.
 #[derive(Drop)]
 pub struct AllOutcomes {
-    /// All outcomes, in the order in which a breadth-first search finds them.
+    /// All outcomes, in the order in which the search finds them.
     pub listed: Vec<Listed>,
-    /// How many states the runs have.
-    pub states: usize,
+    /// How many nodes stand for the states of all runs.
+    pub nodes: usize,
     /// The events of a shortest run that breaks the room's task, if one does.
     pub breaking: Option<Vec<Event>>,
 }
@@ -36,8 +34,7 @@ pub struct AllOutcomes {
 ///
 /// # Errors
 ///
-/// `TooManyStates` if the runs have more than `limit` states; `TooManyLocalStates` if the processes have more than 65536 local states;
-/// `OutOfMemory` if an allocation fails.
+/// `TooManyNodes` after more than `limit` nodes; `OutOfMemory` if an allocation fails.
 pub fn find_all<P: Progress>(
     alloc: Global,
     spec: &Spec,
@@ -47,17 +44,15 @@ pub fn find_all<P: Progress>(
     progress: &mut P,
 ) -> Result<AllOutcomes, SearchFault>
     ensures outcomes { IfOk result (λ all. AreAllListed spec.now crashes brief all.listed.items) }
-    ensures states { IfOk result (λ all. HasStates spec.now limit all.states) }
+    ensures nodes { IfOk result (λ all. HasNodes spec.now limit all.nodes) }
     ensures task { IfOk result (λ all. IsTaskOfRuns spec.now (option_map (λ events. events.items) all.breaking)) }
-    ensures too_many { IsErrOf result SearchFault.TooManyStates → HasMoreStates spec.now limit }
-    ensures too_many_locals { IsErrOf result SearchFault.TooManyLocalStates → HasMoreLocals spec.now }
 {
     let found = search(alloc, spec, crashes, limit, progress)?;
     let listed = list_all(alloc, spec, &found, brief)?;
     let breaking = found.breaking_run(alloc, spec)?;
     Ok(AllOutcomes {
         listed,
-        states: found.states(),
+        nodes: found.nodes(),
         breaking,
     })
 }

@@ -13,21 +13,18 @@ use room_spec::Spec;
 use run_search::{Progress, SearchFault};
 use std::alloc::{AllocError, Global};
 
-/// How many local states a search distinguishes.
-const MAX_LOCAL_STATES: u32 = 65536;
-
 /// How the outcomes of rooms are searched and written.
 #[derive(Clone, Copy)]
 pub struct Search {
     /// At most this number of processes stop; if it is not said, all but one.
     pub crashes: Option<u32>,
-    /// How many states of a room are searched at most.
-    pub states: u32,
+    /// How many nodes of a room are searched at most.
+    pub nodes: u32,
     /// Whether transcripts are left out.
     pub brief: bool,
 }
 
-/// Writes all outcomes of each room, or that its runs have too many states. Gives whether all rooms were searched to the end, and each
+/// Writes all outcomes of each room, or that it has too many nodes. Gives whether all rooms were searched to the end, and each
 /// run of each keeps its room's task.
 pub fn write_rooms<P: Progress>(
     alloc: Global,
@@ -77,19 +74,15 @@ fn answer<P: Progress>(
 {
     let crashes = crashes_for(spec, search.crashes);
     write_head(output, spec.name().as_str().as_bytes(), crashes)?;
-    match find_all(alloc, spec, crashes, search.states, search.brief, progress) {
+    match find_all(alloc, spec, crashes, search.nodes, search.brief, progress) {
         Ok(all) => {
             write_found(output, spec, block, &all)?;
             Ok(all.breaking.is_none())
         }
-        Err(SearchFault::TooManyStates) => {
-            let things = b" states: not searched to the end\n";
-            write_unfinished(output, search.states, things)?;
-            Ok(false)
-        }
-        Err(SearchFault::TooManyLocalStates) => {
-            let things = b" local states: not searched to the end\n";
-            write_unfinished(output, MAX_LOCAL_STATES, things)?;
+        Err(SearchFault::TooManyNodes) => {
+            let advice =
+                b" nodes: not searched to the end; try a greater --nodes, fewer rounds, or sample\n";
+            write_unfinished(output, search.nodes, advice)?;
             Ok(false)
         }
         Err(SearchFault::OutOfMemory) => Err(AllocError),

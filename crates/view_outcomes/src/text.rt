@@ -22,13 +22,13 @@ pub fn write_head(output: &mut Text, name: &[u8], crashes: usize) -> Result<(), 
     output.put(b"\n")
 }
 
-/// Writes the line of a room that has more than this number of some things, too many for the search.
-pub fn write_unfinished(output: &mut Text, limit: u32, things: &[u8]) -> Result<(), AllocError>
-    ensures { OnOk result (output.new ≡ output.old ++ unfinished_line limit things.now) }
+/// Writes the line of a room that has more nodes than this number, and what may help.
+pub fn write_unfinished(output: &mut Text, limit: u32, advice: &[u8]) -> Result<(), AllocError>
+    ensures { OnOk result (output.new ≡ output.old ++ unfinished_line limit advice.now) }
 {
     output.put(b"more than")?;
     output.put_number(u64::from(limit))?;
-    output.put(things)
+    output.put(advice)
 }
 
 /// Writes all outcomes of the room that this block says, those with most decided values first, each with its transcript, if there is one;
@@ -47,7 +47,7 @@ pub fn write_found(
     write_most(output, name, listed)?;
     write_spent(output, name, spec.n(), listed)?;
     write_task(output, name, block, spec.task(), &all.breaking)?;
-    write_complete(output, all.states)
+    write_complete(output, all)
 }
 
 /// Writes the outcomes, those with most decided values first.
@@ -284,11 +284,19 @@ fn write_transcript_after(
     write_transcript(output, name, block, events)
 }
 
-/// Writes the last line of a complete search.
-fn write_complete(output: &mut Text, states: usize) -> Result<(), AllocError>
-    ensures { OnOk result (output.new ≡ output.old ++ complete_line states) }
+/// Writes the last line of a complete search: how many outcomes there are, and how many nodes stand for the states of all runs.
+fn write_complete(output: &mut Text, all: &AllOutcomes) -> Result<(), AllocError>
+    ensures { OnOk result (output.new ≡ output.old ++ complete_line all.now) }
+{
+    write_outcome_count(output, all.listed.len())?;
+    output.put_number(all.nodes as u64)?;
+    output.put(b" nodes searched\n")
+}
+
+fn write_outcome_count(output: &mut Text, outcomes: usize) -> Result<(), AllocError>
+    ensures { OnOk result (output.new ≡ output.old ++ (codes "these are all outcomes:" ++ ((32 ∷ decimal outcomes) ++ codes " of them,"))) }
 {
     output.put(b"these are all outcomes:")?;
-    output.put_number(states as u64)?;
-    output.put(b" states searched\n")
+    output.put_number(outcomes as u64)?;
+    output.put(b" of them,")
 }

@@ -1,5 +1,3 @@
-use Rattle.std.proofs.Common.{◌∙◌, ◌++◌, ℕ, ap, decimal}
-use Rattle.room_files.specs.Blocks.{refused_line}
 use Rattle.fault_text.proofs.Passing.{taken_line}
 use Rattle.fault_text.proofs.refusals.write_refusal_line.Goals as goal
 

@@ -8,9 +8,9 @@ walk-preserved c =
     let inv = c.walk.invariant in
     let rest = c.walk.rest.now in
     let some = some_left c.is_empty.result rest c.is_empty.ensures c.walk-test.true in
-    walk_step (event_lines c.args.opened.now) inv.0 c.walk.left c.walk.number c.later_line-number.result c.walk.strangers c.write_event.new.strangers rest c.split_line.result.1.now c.walk.output
+    walk_step (event_lines c.args.opened.now) inv.0 c.walk.left c.walk.number c.next_event-number.result c.walk.strangers c.write_event.new.strangers rest c.events_behind-rest.result.now c.walk.output
     (c.args.output.now ++ event_faults c.args.opened.now c.args.first c.args.transcript.now) c.write_event.new.output c.in-Some.fewer
-    inv.1 some (c.split_line.ensures.shorter some) c.later_line-number.ensures c.split_line.ensures.later c.in_ok-fewer.ensures.strangers
+    inv.1 some (c.events_behind-rest.ensures.shorter some) c.next_event-number.ensures c.events_behind-rest.ensures.text c.in_ok-fewer.ensures.strangers
     inv.2 (sym c.in-Some.is ∙ c.in_ok-fewer.ensures.left) c.in_ok-fewer.ensures.text
 
 pub returns-in_default : goal.returns-in_default

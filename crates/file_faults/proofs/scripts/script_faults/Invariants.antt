@@ -5,7 +5,7 @@ use Rattle.file_faults.proofs.scripts.script_faults.Given as goal
 
 -- what is said so far, and what is said of the rest
 abbrev pub invariant-walk : goal.invariant-walk
-invariant-walk l = (most : ℕ) × (length l.rest ≤ most) × (l.output ++ said_from entries most l.left tt l.number l.rest ≡ script_faults l.script)
+invariant-walk l = (most : ℕ) × (length l.rest ≤ most) × (l.output ++ said_from (entries l.script) most l.left l.known l.number l.rest ≡ script_faults l.script)
 
 abbrev pub decreases-walk : goal.decreases-walk
 decreases-walk l = length l.rest

@@ -6,4 +6,4 @@ pub returns-in_ok-write_found-in-Ok : goal.returns-in_ok-write_found-in-Ok
 returns-in_ok-write_found-in-Ok g c =
     let named : c.as_bytes.result.now ≡ c.args.spec.now.name = search rules in
     found_told c.args.search.now c.args.spec.now c.args.block.now c.as_bytes.result.now c.crashes_for-crashes.result c.in-Ok.all c.is_none.result c.args.output.now c.write_head.new.output c.write_found.new.output
-    c.requires named c.crashes_for-crashes.ensures c.in-Ok.ensures.outcomes c.in-Ok.ensures.states c.in-Ok.ensures.task (none_is c.in-Ok.all.breaking c.is_none.result c.is_none.ensures) c.in_ok-write_head.ensures c.in_ok-write_found-in-Ok.ensures
+    c.requires named c.crashes_for-crashes.ensures c.in-Ok.ensures.outcomes c.in-Ok.ensures.nodes c.in-Ok.ensures.task (none_is c.in-Ok.all.breaking c.is_none.result c.is_none.ensures) c.in_ok-write_head.ensures c.in_ok-write_found-in-Ok.ensures

@@ -1,0 +1,44 @@
+-- What the program says on standard error at its end.
+use Rattle.std.specs.Prelude.{ℕ, List, [], ◌++◌, Option, Some, None, Result, Ok, Err, codes}
+use Rattle.program_io.specs.Errors.{Errors, IsSaid, fault_line, place_words}
+use Rattle.io_text.specs.declared.fault.DeviceFault.TheVariants.{Read, Write, TooLong, Memory}
+use Rattle.room_files.specs.Faults.{text_code}
+use Rattle.room_files.specs.declared.outcome.Outcome.{Outcome}
+use Rattle.room_files.specs.declared.outcome.Outcome.TheVariants.{AllWell, SomeRefused}
+use Rattle.view_grade.specs.Grades.{fault_text}
+use Rattle.bgview_command_line.specs.declared.words.Mode.{Mode}
+use Rattle.bgview_command_line.specs.declared.words.Mode.TheVariants.{Draw, Transcript}
+use Rattle.bgview.specs.Unread.{unread_note}
+use Rattle.bgview.specs.declared.ended.Ended.{Ended}
+use Rattle.bgview.specs.declared.fault.ViewFault.{ViewFault}
+use Rattle.bgview.specs.declared.fault.ViewFault.TheVariants.{BadGoal, BadInput, Device, Incomplete}
+use Rattle.bgview.specs.declared.unread.Unread.{Unread}
+
+abbrev pub fault_words : ViewFault → List ℕ
+fault_words (Device Read) = codes "read failed"
+fault_words (Device Write) = codes "write failed"
+fault_words (Device TooLong) = codes "input too long"
+fault_words (Device Memory) = codes "out of memory"
+fault_words Incomplete = codes "out of memory"
+fault_words (BadInput line fault) = place_words line (text_code fault)
+fault_words (BadGoal fault) = fault_text fault
+
+-- the file that was not read, and why
+abbrev pub unread_text : Option Unread → List ℕ
+unread_text None = []
+unread_text (Some file) = unread_note file.path.now file.kind
+
+-- after a script of which a command was refused, if the mode shows no replies and nothing else is noted
+abbrev pub refused_note : Mode → Outcome → List ℕ → List ℕ
+refused_note Draw SomeRefused [] = codes "    a command was refused: `bgview trace` shows which, and why\n"
+refused_note Transcript SomeRefused [] = codes "    a command was refused: `bgview trace` shows which, and why\n"
+refused_note _ _ _ = []
+
+abbrev pub IsEndOf : Mode → Result Outcome ViewFault → Option Unread → List ℕ → Errors → Type 0
+IsEndOf mode (Ok outcome) unread notes errors = IsSaid errors (notes ++ refused_note mode outcome notes)
+IsEndOf mode (Err fault) unread notes errors = IsSaid errors (fault_line (codes "bgview: ") (fault_words fault) ++ (notes ++ unread_text unread))
+
+-- What is said at the end: the fault, if one ended the answer, then the notes on the inputs, then which file was not read, or that a command
+-- was refused.
+abbrev pub IsEndSaid : Mode → Ended → List ℕ → Errors → Type 0
+IsEndSaid mode ended notes errors = IsEndOf mode ended.result ended.unread notes errors

@@ -1,0 +1,110 @@
+-- What a call answers, and what it says of its answer.
+use Rattle.std.specs.Prelude.{◌≡◌, ⊤, ℕ, ◌<◌, ◌≤◌, ◌==◌, if◌then◌else◌, List, [], ◌∷◌, ◌++◌, length, take, drop, Option, Some, None, Result, Ok, Err, IsOk, decimal}
+use Rattle.std.specs.List.{flat_map}
+use Rattle.std.specs.declared.alloc.AllocError.{AllocError}
+use Rattle.fault_words.specs.Faults.{fault_line, faults_outcome}
+use Rattle.io_text.specs.Reading.{most_bytes}
+use Rattle.room_files.specs.Faults.{text_code}
+use Rattle.room_files.specs.declared.outcome.Outcome.{Outcome}
+use Rattle.room_files.specs.declared.outcome.Outcome.TheVariants.{AllWell, SomeRefused}
+use Rattle.room_files.specs.declared.fault.InputFault.{InputFault}
+use Rattle.room_files.specs.declared.fault.InputFault.TheVariants.{BadInput, Memory}
+use Rattle.script_play.specs.declared.replies.PlayText.{PlayText}
+use Rattle.script_play.specs.Script.{script_says}
+use Rattle.view_grade.specs.Goals.{goal_in}
+use Rattle.view_grade.specs.Grades.{IsGraded}
+use Rattle.view_grade.specs.declared.goal.Claim.{Claim}
+use Rattle.view_grade.specs.declared.goal.GoalFault.{GoalFault}
+use Rattle.view_grade.specs.declared.goal.GoalFault.TheVariants.{NoClaim, NoJoint}
+use Rattle.bgview_exports.specs.declared.given.NoAnswer.{NoAnswer}
+use Rattle.bgview_exports.specs.declared.given.NoAnswer.TheVariants.{TooLong, Fault, BadGoal}
+use Rattle.bgview_exports.specs.declared.given.CallResult.{CallResult}
+
+-- ---- the answer
+
+-- The answer to an input that is shown so, or why there is none: the input is too long, or it has a fault, or an allocation failed.
+abbrev pub IsAnswerTo : List ℕ → (Result Outcome AllocError → List ℕ → Type 0) → (InputFault → Type 0) → Result PlayText NoAnswer → Type 0
+IsAnswerTo input shown IsFault (Ok text) = (length input ≤ most_bytes) × shown text.ending text.output
+IsAnswerTo input shown IsFault (Err (Fault fault)) = (length input ≤ most_bytes) × IsFault fault
+IsAnswerTo input shown IsFault (Err TooLong) = most_bytes < length input
+IsAnswerTo input shown IsFault (Err (BadGoal fault)) = ⊥
+
+-- it is there whole, so no allocation failed
+abbrev pub IsComplete : (Outcome → List ℕ → Type 0) → Result Outcome AllocError → List ℕ → Type 0
+IsComplete shown (Ok outcome) output = shown outcome output
+IsComplete shown (Err failed) output = ⊥
+
+abbrev pub IsOutOfMemory : InputFault → Type 0
+IsOutOfMemory fault = fault ≡ Memory
+
+-- a goal that is not valid hides the script's fault
+abbrev pub IsGradeFault : List ℕ → List ℕ → InputFault → Type 0
+IsGradeFault script goal (BadInput line fault) = IsOk (goal_in goal) × (script_says script ≡ Err (line, fault))
+IsGradeFault script goal Memory = ⊤
+
+-- The grade of a script by the goal that a text says; or why there is none, which may also be that it says none.
+abbrev pub IsGradeOf : List ℕ → List ℕ → Option ℕ → Result PlayText NoAnswer → Type 0
+IsGradeOf script goal most (Ok text) = (length script ≤ most_bytes) × (claims : List Claim) × (goal_in goal ≡ Ok claims) × IsGraded claims most script text.ending text.output
+IsGradeOf script goal most (Err (Fault fault)) = (length script ≤ most_bytes) × IsGradeFault script goal fault
+IsGradeOf script goal most (Err TooLong) = most_bytes < length script
+IsGradeOf script goal most (Err (BadGoal fault)) = (length script ≤ most_bytes) × (goal_in goal ≡ Err fault)
+
+-- the line of the fault of this number
+abbrev pub IsFaultSaid : ℕ → Outcome → List ℕ → Type 0
+IsFaultSaid number outcome output = (output ≡ flat_map fault_line (decimal number ∷ [])) × (outcome ≡ faults_outcome (decimal number ∷ []))
+
+-- a number that may be left out, as C says it: the largest one says that it is
+abbrev pub number_unless_largest : ℕ → Option ℕ
+number_unless_largest number = if number == 4294967295 then None else Some number
+
+-- ---- what is said of it
+
+abbrev pub ending_status : Result Outcome AllocError → ℕ
+ending_status (Ok AllWell) = 0
+ending_status (Ok SomeRefused) = 1
+ending_status (Err failed) = 4
+
+abbrev pub status_of : Result PlayText NoAnswer → ℕ
+status_of (Ok text) = ending_status text.ending
+status_of (Err (Fault (BadInput line fault))) = 2
+status_of (Err (Fault Memory)) = 3
+status_of (Err TooLong) = 5
+status_of (Err (BadGoal fault)) = 6
+
+-- the number of the input's fault, or 0
+abbrev pub fault_of : Result PlayText NoAnswer → ℕ
+fault_of (Ok text) = 0
+fault_of (Err (Fault (BadInput line fault))) = text_code fault
+fault_of (Err (Fault Memory)) = 0
+fault_of (Err TooLong) = 0
+fault_of (Err (BadGoal fault)) = 0
+
+abbrev pub claim_of : GoalFault → ℕ
+claim_of (NoClaim number) = number
+claim_of (NoJoint number) = number
+
+-- the number of the line that has it, or of the goal's claim, or 0
+abbrev pub line_of : Result PlayText NoAnswer → ℕ
+line_of (Ok text) = 0
+line_of (Err (Fault (BadInput line fault))) = line
+line_of (Err (Fault Memory)) = 0
+line_of (Err TooLong) = 0
+line_of (Err (BadGoal fault)) = claim_of fault
+
+-- if there is no answer there is no text
+abbrev pub text_of : Result PlayText NoAnswer → List ℕ
+text_of (Ok text) = text.output
+text_of (Err none) = []
+
+abbrev pub result_of : Result PlayText NoAnswer → CallResult
+result_of answer = record { status = status_of answer; fault = fault_of answer; line = line_of answer; length = length (text_of answer) }
+
+-- ---- what the caller gets
+
+-- as much of a text as fits, and after it what was there before
+abbrev pub written_over : List ℕ → List ℕ → List ℕ
+written_over before text = take (length before) text ++ drop (length text) before
+
+-- There is such an answer. The caller's bytes begin with it, as far as it fits, and the result is that of this very answer.
+abbrev pub IsGiven : (Result PlayText NoAnswer → Type 0) → List ℕ → List ℕ → CallResult → Type 0
+IsGiven IsAnswer before after result = (answer : Result PlayText NoAnswer) × IsAnswer answer × (after ≡ written_over before (text_of answer)) × (result ≡ result_of answer)

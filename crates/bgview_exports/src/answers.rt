@@ -1,0 +1,160 @@
+//! What each mode answers to inputs of any length.
+ghost use Rattle.std.specs.Prelude.{◌≡◌, ◌<◌, ◌≤◌, ◌∷◌, [], Ok, IfErr, IsOk, OnOk, length};
+ghost use Rattle.io_text.specs.Reading.{most_bytes};
+ghost use Rattle.file_faults.specs.Lint.{IsLintFor};
+ghost use Rattle.file_verdicts.specs.Check.{IsOutputFor};
+ghost use Rattle.room_files.specs.Blocks.{IsFaultOr};
+ghost use Rattle.room_files.specs.Inputs.{MayLackMemory, input_says};
+ghost use Rattle.script_play.specs.Play.{IsPlayFor};
+ghost use Rattle.script_play.specs.Script.{script_says};
+ghost use Rattle.view_draw.specs.Drawn.{IsDrawn};
+ghost use Rattle.view_outcomes.specs.Blocks.{IsOutcomesFor};
+ghost use Rattle.view_page.specs.Pages.{IsFaultOf, IsPageFor, fault_among};
+ghost use Rattle.view_trace.specs.Trace.{IsTraceIn};
+ghost use Rattle.view_transcript.specs.Transcripts.{IsTranscribed};
+ghost use Rattle.view_why.specs.Why.{IsExplanationIn};
+ghost use Rattle.bgview_exports.specs.Calls.{IsAnswerTo, IsComplete, IsFaultSaid, IsGradeOf, IsOutOfMemory};
+ghost use Rattle.bgview_exports.specs.declared.given.NoAnswer.TheVariants.{TooLong};
+
+use crate::given::NoAnswer;
+use fault_words::say_faults;
+use file_faults::lint;
+use file_verdicts::judge;
+use io_text::MAX_INPUT;
+use itoa::Buffer;
+use room_files::Answer;
+use run_picture::Style;
+use run_search::Silent;
+use script_play::{PlayText, play};
+use std::alloc::Global;
+use view_draw::draw;
+use view_grade::{grade, read_goal};
+use view_outcomes::{Search, search_blocks};
+use view_page::page;
+use view_trace::{trace, trace_json};
+use view_transcript::transcribe;
+use view_why::{explain, explain_json};
+
+/// Whether an input has at most 16777216 bytes, or that it is too long.
+fn fits(input: &[u8]) -> Result<(), NoAnswer>
+    ensures ok { OnOk result (length input.now ≤ most_bytes) }
+    ensures err { IfErr result (λ fault. (fault ≡ TooLong) × (most_bytes < length input.now)) }
+{
+    if input.len() > MAX_INPUT {
+        return Err(NoAnswer::TooLong);
+    }
+    Ok(())
+}
+
+/// An answer for which no allocation failed.
+fn complete(answer: Answer) -> PlayText
+    ensures output { result.output ≡ answer.output }
+    ensures ending { result.ending ≡ Ok answer.outcome }
+{
+    PlayText {
+        output: answer.output,
+        ending: Ok(answer.outcome),
+    }
+}
+
+/// Plays a script.
+pub fn played(alloc: Global, script: &[u8]) -> Result<PlayText, NoAnswer>
+    ensures { IsAnswerTo script.now (IsPlayFor script.now) (IsFaultOr (IsOk (script_says script.now)) (script_says script.now)) result }
+{
+    fits(script)?;
+    Ok(play(alloc, script)?)
+}
+
+/// Judges a transcript.
+pub fn checked(alloc: Global, input: &[u8]) -> Result<PlayText, NoAnswer>
+    ensures { IsAnswerTo input.now (IsComplete (IsOutputFor input.now)) (IsFaultOr (MayLackMemory input.now) (input_says input.now)) result }
+{
+    fits(input)?;
+    Ok(complete(judge(alloc, input)?))
+}
+
+/// Plays a script, and says what each atomic step did, as text or as JSON.
+pub fn traced(alloc: Global, script: &[u8], json: bool) -> Result<PlayText, NoAnswer>
+    ensures { IsAnswerTo script.now (IsTraceIn json script.now) (IsFaultOr (IsOk (script_says script.now)) (script_says script.now)) result }
+{
+    fits(script)?;
+    if json {
+        return Ok(trace_json(alloc, script)?);
+    }
+    Ok(trace(alloc, script)?)
+}
+
+/// Judges a transcript, and says why a room's events are no run, as text or as JSON.
+pub fn explained(alloc: Global, input: &[u8], json: bool) -> Result<PlayText, NoAnswer>
+    ensures { IsAnswerTo input.now (IsComplete (IsExplanationIn json input.now)) (IsFaultOr (MayLackMemory input.now) (input_says input.now)) result }
+{
+    fits(input)?;
+    if json {
+        return Ok(complete(explain_json(alloc, input)?));
+    }
+    Ok(complete(explain(alloc, input)?))
+}
+
+/// Explains all faults of a file.
+pub fn linted(alloc: Global, file: &[u8]) -> Result<PlayText, NoAnswer>
+    ensures { IsAnswerTo file.now (IsComplete (IsLintFor file.now)) IsOutOfMemory result }
+{
+    fits(file)?;
+    Ok(complete(lint(alloc, file)?))
+}
+
+/// Searches all runs of each room of a file.
+pub fn searched(alloc: Global, rooms: &[u8], search: &Search) -> Result<PlayText, NoAnswer>
+    ensures { IsAnswerTo rooms.now (IsComplete (IsOutcomesFor search.now rooms.now)) IsOutOfMemory result }
+{
+    fits(rooms)?;
+    Ok(complete(search_blocks(alloc, rooms, search, &mut Silent)?))
+}
+
+/// Draws a script.
+pub fn drawn(alloc: Global, script: &[u8], style: Style) -> Result<PlayText, NoAnswer>
+    ensures { IsAnswerTo script.now (IsDrawn style script.now) (IsFaultOr (IsOk (script_says script.now)) (script_says script.now)) result }
+{
+    fits(script)?;
+    Ok(draw(alloc, style, script)?)
+}
+
+/// Writes a script's rooms as a transcript.
+pub fn transcribed(alloc: Global, script: &[u8]) -> Result<PlayText, NoAnswer>
+    ensures { IsAnswerTo script.now (IsTranscribed script.now) (IsFaultOr (IsOk (script_says script.now)) (script_says script.now)) result }
+{
+    fits(script)?;
+    Ok(transcribe(alloc, script)?)
+}
+
+/// Makes a page of a file.
+pub fn paged(alloc: Global, file: &[u8]) -> Result<PlayText, NoAnswer>
+    ensures { IsAnswerTo file.now (IsPageFor (file.now ∷ [])) (IsFaultOf (fault_among (file.now ∷ []))) result }
+{
+    fits(file)?;
+    Ok(page(alloc, file)?)
+}
+
+/// Grades a script by the goal that a text says, with at most this number of commands `step` and `crash` if there is one.
+pub fn graded(
+    alloc: Global,
+    script: &[u8],
+    goal: &[u8],
+    most: Option<u32>,
+) -> Result<PlayText, NoAnswer>
+    ensures { IsGradeOf script.now goal.now most result }
+{
+    fits(script)?;
+    match read_goal(alloc, goal)? {
+        Ok(goal) => Ok(grade(alloc, &goal, most, script)?),
+        Err(fault) => Err(NoAnswer::BadGoal(fault)),
+    }
+}
+
+/// Says in words what the number of a fault means.
+pub fn said(alloc: Global, number: u32) -> Result<PlayText, NoAnswer>
+    ensures { IsAnswerTo [] (IsComplete (IsFaultSaid number)) IsOutOfMemory result }
+{
+    let mut buffer = Buffer::new();
+    Ok(complete(say_faults(alloc, &[buffer.format(number)])?))
+}

@@ -1,0 +1,204 @@
+//! What `bgsim` and `bgview` answer, for programs in C and in languages that call C. Each call takes an input and a buffer. It writes as much of the
+//! answer as fits, and says how the answer ended and how long it is; if the buffer is too small a caller calls again. Nothing is kept between calls, so
+//! they may be made on any number of threads. `include/bgview.h` says what a caller owes.
+#![tactic(auto)]
+
+ghost use Rattle.std.specs.Prelude.{◌≡◌, ◌∷◌, [], IsOk};
+ghost use Rattle.file_faults.specs.Lint.{IsLintFor};
+ghost use Rattle.file_verdicts.specs.Check.{IsOutputFor};
+ghost use Rattle.room_files.specs.Blocks.{IsFaultOr};
+ghost use Rattle.room_files.specs.Inputs.{MayLackMemory, input_says};
+ghost use Rattle.script_play.specs.Play.{IsPlayFor};
+ghost use Rattle.script_play.specs.Script.{script_says};
+ghost use Rattle.view_draw.specs.Drawn.{IsDrawn};
+ghost use Rattle.view_outcomes.specs.Blocks.{IsOutcomesFor};
+ghost use Rattle.view_page.specs.Pages.{IsFaultOf, IsPageFor, fault_among};
+ghost use Rattle.view_trace.specs.Trace.{IsTraceIn};
+ghost use Rattle.view_transcript.specs.Transcripts.{IsTranscribed};
+ghost use Rattle.view_why.specs.Why.{IsExplanationIn};
+ghost use Rattle.bgview_exports.specs.Calls.{IsAnswerTo, IsComplete, IsFaultSaid, IsGiven, IsGradeOf, IsOutOfMemory, number_unless_largest};
+
+mod answers;
+mod given;
+
+use answers::{
+    checked, drawn, explained, graded, linted, paged, played, said, searched, traced, transcribed,
+};
+use given::give;
+pub use given::{CallResult, NoAnswer};
+use run_picture::Style;
+use std::alloc::Global;
+use view_outcomes::Search;
+
+/// Judges a transcript, as `bgsim check`.
+#[unsafe(no_mangle)]
+pub extern "C" fn bgview_check(
+    alloc: Global,
+    transcript: &[u8],
+    output: &mut [u8],
+    ended: &mut CallResult,
+)
+    ensures { IsGiven (IsAnswerTo transcript.now (IsComplete (IsOutputFor transcript.now)) (IsFaultOr (MayLackMemory transcript.now) (input_says transcript.now)))
+        output.old output.new ended.new }
+{
+    *ended = give(&checked(alloc, transcript), output);
+}
+
+/// Plays a script, as `bgsim play`.
+#[unsafe(no_mangle)]
+pub extern "C" fn bgview_play(
+    alloc: Global,
+    script: &[u8],
+    output: &mut [u8],
+    ended: &mut CallResult,
+)
+    ensures { IsGiven (IsAnswerTo script.now (IsPlayFor script.now) (IsFaultOr (IsOk (script_says script.now)) (script_says script.now)))
+        output.old output.new ended.new }
+{
+    *ended = give(&played(alloc, script), output);
+}
+
+/// Says what each atomic step of a script did, as `bgview trace`.
+#[unsafe(no_mangle)]
+pub extern "C" fn bgview_trace(
+    alloc: Global,
+    script: &[u8],
+    json: bool,
+    output: &mut [u8],
+    ended: &mut CallResult,
+)
+    ensures { IsGiven (IsAnswerTo script.now (IsTraceIn json script.now) (IsFaultOr (IsOk (script_says script.now)) (script_says script.now)))
+        output.old output.new ended.new }
+{
+    *ended = give(&traced(alloc, script, json), output);
+}
+
+/// Judges a transcript, and says why a room's events are no run, as `bgview why`.
+#[unsafe(no_mangle)]
+pub extern "C" fn bgview_why(
+    alloc: Global,
+    transcript: &[u8],
+    json: bool,
+    output: &mut [u8],
+    ended: &mut CallResult,
+)
+    ensures { IsGiven (IsAnswerTo transcript.now (IsComplete (IsExplanationIn json transcript.now)) (IsFaultOr (MayLackMemory transcript.now) (input_says transcript.now)))
+        output.old output.new ended.new }
+{
+    *ended = give(&explained(alloc, transcript, json), output);
+}
+
+/// Explains all faults of a file of rooms, a script or a transcript, as `bgview lint`.
+#[unsafe(no_mangle)]
+pub extern "C" fn bgview_lint(alloc: Global, file: &[u8], output: &mut [u8], ended: &mut CallResult)
+    ensures { IsGiven (IsAnswerTo file.now (IsComplete (IsLintFor file.now)) IsOutOfMemory) output.old output.new ended.new }
+{
+    *ended = give(&linted(alloc, file), output);
+}
+
+/// Searches all runs of each room of a file, as `bgview outcomes`. At most `crashes` processes stop, or all but one if it is 4294967295; at most `nodes` nodes of
+/// a room are searched; `brief` leaves out the transcripts.
+#[unsafe(no_mangle)]
+pub extern "C" fn bgview_outcomes(
+    alloc: Global,
+    rooms: &[u8],
+    crashes: u32,
+    nodes: u32,
+    brief: bool,
+    output: &mut [u8],
+    ended: &mut CallResult,
+)
+    ensures { IsGiven (IsAnswerTo rooms.now
+        (IsComplete (IsOutcomesFor (record { crashes = number_unless_largest crashes; nodes = nodes; brief = brief }) rooms.now)) IsOutOfMemory)
+        output.old output.new ended.new }
+{
+    let search = Search {
+        crashes: number_unless_largest(crashes),
+        nodes,
+        brief,
+    };
+    *ended = give(&searched(alloc, rooms, &search), output);
+}
+
+/// Draws a script as SVG, as `bgview draw`. At 100 `percent` a picture is 1264 pixels wide, unless events or inputs are long; `by_turns` draws a box for each
+/// stretch of a turn.
+#[unsafe(no_mangle)]
+pub extern "C" fn bgview_draw(
+    alloc: Global,
+    script: &[u8],
+    percent: u32,
+    by_turns: bool,
+    output: &mut [u8],
+    ended: &mut CallResult,
+)
+    ensures { IsGiven (IsAnswerTo script.now (IsDrawn (record { percent = percent; by_turns = by_turns }) script.now) (IsFaultOr (IsOk (script_says script.now)) (script_says script.now)))
+        output.old output.new ended.new }
+{
+    let style = Style { percent, by_turns };
+    *ended = give(&drawn(alloc, script, style), output);
+}
+
+/// Writes a script's rooms as a transcript, as `bgview transcript`.
+#[unsafe(no_mangle)]
+pub extern "C" fn bgview_transcript(
+    alloc: Global,
+    script: &[u8],
+    output: &mut [u8],
+    ended: &mut CallResult,
+)
+    ensures { IsGiven (IsAnswerTo script.now (IsTranscribed script.now) (IsFaultOr (IsOk (script_says script.now)) (script_says script.now)))
+        output.old output.new ended.new }
+{
+    *ended = give(&transcribed(alloc, script), output);
+}
+
+/// Makes a page that steps through a script or a transcript in a browser, as `bgview page` of one file.
+#[unsafe(no_mangle)]
+pub extern "C" fn bgview_page(alloc: Global, file: &[u8], output: &mut [u8], ended: &mut CallResult)
+    ensures { IsGiven (IsAnswerTo file.now (IsPageFor (file.now ∷ [])) (IsFaultOf (fault_among (file.now ∷ [])))) output.old output.new ended.new }
+{
+    *ended = give(&paged(alloc, file), output);
+}
+
+/// Says whether the last report of a script satisfies a goal, as `bgview grade`. The script may have at most `most` commands `step` and `crash`, or any number of
+/// them if it is 4294967295.
+#[unsafe(no_mangle)]
+pub extern "C" fn bgview_grade(
+    alloc: Global,
+    script: &[u8],
+    goal: &[u8],
+    most: u32,
+    output: &mut [u8],
+    ended: &mut CallResult,
+)
+    ensures { IsGiven (IsGradeOf script.now goal.now (number_unless_largest most)) output.old output.new ended.new }
+{
+    *ended = give(
+        &graded(alloc, script, goal, number_unless_largest(most)),
+        output,
+    );
+}
+
+/// Says in words what the number of a fault means, as `bgview fault`.
+#[unsafe(no_mangle)]
+pub extern "C" fn bgview_fault(
+    alloc: Global,
+    number: u32,
+    output: &mut [u8],
+    ended: &mut CallResult,
+)
+    ensures { IsGiven (IsAnswerTo [] (IsComplete (IsFaultSaid number)) IsOutOfMemory) output.old output.new ended.new }
+{
+    *ended = give(&said(alloc, number), output);
+}
+
+/// A number that may be left out: the largest one says that it is.
+fn number_unless_largest(number: u32) -> Option<u32>
+    ensures { result ≡ number_unless_largest number }
+{
+    if number == u32::MAX {
+        None
+    } else {
+        Some(number)
+    }
+}

@@ -1,0 +1,14 @@
+use Rattle.std.proofs.Common.{◌≡◌, ◌<◌, ◌≤◌, ◌-◌, ◌⊎◌, ℕ, Some}
+use Rattle.std.specs.Prelude.{slice_get}
+use Rattle.run_search.specs.Nodes.{AreGathered, HasEdges, IsBelowLater, Node}
+use Rattle.run_search.proofs.explored.explore.Given as goal
+
+abbrev pub invariant-loop-cursor : goal.invariant-loop-cursor
+invariant-loop-cursor g l = record {
+  gathered : AreGathered l.spec l.explored.nodes.items;
+  edges : (i : ℕ) (node : Node) → i < l.cursor → slice_get l.explored.nodes.items i ≡ Some node → HasEdges l.spec l.explored.nodes.items node ⊎ IsBelowLater l.explored.nodes.items i node;
+  within : l.cursor ≤ l.limit;
+}
+
+abbrev pub decreases-loop-cursor : goal.decreases-loop-cursor
+decreases-loop-cursor g l = l.limit - l.cursor

@@ -1,0 +1,11 @@
+use Rattle.std.proofs.Common.{get_or, sym, ◌∙◌, arith, below_more}
+use Rattle.run_search.specs.States.{blank}
+use Rattle.run_search.proofs.Closing.{at_place}
+use Rattle.run_search.proofs.Same.{found_there}
+use Rattle.run_search.proofs.node.is_within.Goals as goal
+
+pub loop-local-preserved : goal.loop-local-preserved
+loop-local-preserved c = below_more _ _ c.loop-local.invariant (found_there c.args.all.now (get_or c.args.some.now c.loop-local.local-index blank) (sym c.contains.ensures.value ∙ c.if-not-contains.false))
+
+pub returns : goal.returns
+returns c = λ yes local there. at_place c.args.some.now c.args.all.now local (λ k below. c.loop-local.invariant k (omega (arith, below, c.loop-local-test.false))) there

@@ -1,0 +1,177 @@
+//! The nodes of all runs.
+ghost use Rattle.std.specs.Prelude.{◌≡◌, ◌<◌, ◌≤◌, ◌⊎◌, ◌∷◌, ◌++◌, [], ℕ, true, Some, IfOk, OnOk, length, slice_get};
+ghost use Rattle.room_spec.specs.Rooms.{processes};
+ghost use Rattle.run_search.specs.Nodes.{AreGathered, CoverAllReachable, HasEdge, HasEdges, HasEdgesBelow, IsBelow, IsBelowLater, Node as NodeValue, NodesGrow, set_of};
+ghost use Rattle.run_search.specs.declared.local_state.LocalState.{LocalState as LocalValue};
+
+use crate::fault::SearchFault;
+use crate::node::{Node, copied};
+use crate::progress::Progress;
+use indexmap::IndexMap;
+use protocol_lang::View;
+use room_spec::Spec;
+use std::alloc::{AllocError, Global};
+
+/// Nodes, each with the write by which it was reached first, and the indices of those with the same row.
+#[derive(Drop)]
+pub struct Explored {
+    pub nodes: Vec<Node>,
+    by_row: IndexMap<View, Vec<usize>>,
+}
+
+/// Finds nodes that cover the states of all runs of a room and no others, breadth first. A node that has no more than another is left out, with all
+/// that comes after it. Reports how many nodes it has searched.
+///
+/// # Errors
+///
+/// `TooManyNodes` after more than `limit` nodes; `OutOfMemory` if an allocation fails.
+pub fn explore<P: Progress>(
+    alloc: Global,
+    spec: &Spec,
+    limit: u32,
+    progress: &mut P,
+) -> Result<Explored, SearchFault>
+    ensures gathered { IfOk result (λ explored. AreGathered spec.now explored.nodes.items) }
+    ensures covers { IfOk result (λ explored. CoverAllReachable spec.now explored.nodes.items) }
+    ensures within { IfOk result (λ explored. length explored.nodes.items ≤ limit) }
+{
+    let mut explored = open(alloc, spec)?;
+    let mut cursor = 0;
+    while (cursor as usize) < explored.nodes.len() {
+        if explored.nodes.len() > limit as usize {
+            return Err(SearchFault::TooManyNodes);
+        }
+        explored.visit(alloc, spec, cursor)?;
+        cursor += 1;
+        progress.reached(u64::from(cursor));
+    }
+    Ok(explored)
+}
+
+/// The node of the state before the first event, alone.
+fn open(alloc: Global, spec: &Spec) -> Result<Explored, AllocError>
+    ensures { IfOk result (λ explored. AreGathered spec.now explored.nodes.items) }
+{
+    let first = Node::first(alloc, spec)?;
+    let nodes = Vec::new(alloc);
+    let by_row = IndexMap::new(alloc);
+    let mut explored = Explored { nodes, by_row };
+    explored.add(alloc, first)?;
+    Ok(explored)
+}
+
+impl Explored {
+    /// Adds the nodes that the node of this index leads to, unless a later one has all that it has.
+    fn visit(&mut self, alloc: Global, spec: &Spec, cursor: u32) -> Result<(), AllocError>
+        requires gathered { AreGathered spec.now self.old.nodes.items }
+        requires there { cursor < length self.old.nodes.items }
+        ensures gathered { OnOk result (AreGathered spec.now self.new.nodes.items) }
+        ensures grown { OnOk result (NodesGrow self.old.nodes.items self.new.nodes.items) }
+        ensures edges { OnOk result ((node : NodeValue) → slice_get self.old.nodes.items cursor ≡ Some node →
+            HasEdges spec.now self.new.nodes.items node ⊎ IsBelowLater self.new.nodes.items cursor node) }
+    {
+        if self.has_above(&self.nodes[cursor as usize], cursor as usize + 1) {
+            return Ok(());
+        }
+        for p in 0..spec.n() {
+            self.follow_process(alloc, spec, cursor, p)?;
+        }
+        Ok(())
+    }
+
+    /// Adds the nodes that process `p` leads to from the node of this index.
+    fn follow_process(
+        &mut self,
+        alloc: Global,
+        spec: &Spec,
+        cursor: u32,
+        p: usize,
+    ) -> Result<(), AllocError>
+        requires gathered { AreGathered spec.now self.old.nodes.items }
+        requires process { p < processes spec.now }
+        requires there { cursor < length self.old.nodes.items }
+        ensures gathered { OnOk result (AreGathered spec.now self.new.nodes.items) }
+        ensures grown { OnOk result (NodesGrow self.old.nodes.items self.new.nodes.items) }
+        ensures edges { OnOk result ((node : NodeValue) → slice_get self.old.nodes.items cursor ≡ Some node →
+            HasEdgesBelow spec.now self.new.nodes.items node p (length (set_of node p))) }
+    {
+        let count = self.nodes[cursor as usize].count(p);
+        for index in 0..count {
+            self.follow(alloc, spec, cursor, p, index)?;
+        }
+        Ok(())
+    }
+
+    /// Adds the node that the local state of this index of process `p` leads to from the node `cursor` by a write that changes memory, if it
+    /// does and no other node has all of it.
+    fn follow(
+        &mut self,
+        alloc: Global,
+        spec: &Spec,
+        cursor: u32,
+        p: usize,
+        index: usize,
+    ) -> Result<(), AllocError>
+        requires gathered { AreGathered spec.now self.old.nodes.items }
+        requires process { p < processes spec.now }
+        requires there { (node : NodeValue) × (slice_get self.old.nodes.items cursor ≡ Some node) × (index < length (set_of node p)) }
+        ensures gathered { OnOk result (AreGathered spec.now self.new.nodes.items) }
+        ensures grown { OnOk result (NodesGrow self.old.nodes.items self.new.nodes.items) }
+        ensures edge { OnOk result ((node : NodeValue) (local : LocalValue) →
+            slice_get self.old.nodes.items cursor ≡ Some node → slice_get (set_of node p) index ≡ Some local →
+            HasEdge spec.now self.new.nodes.items node p local) }
+    {
+        let Some(to) = self.nodes[cursor as usize].edge(alloc, spec, cursor, p, index)? else {
+            return Ok(());
+        };
+        if !self.has_above(&to, 0) {
+            self.add(alloc, to)?;
+        }
+        Ok(())
+    }
+
+    /// Whether one of the nodes from this index on has all that this one has.
+    fn has_above(&self, node: &Node, from: usize) -> bool
+        ensures { result ≡ true → (later : ℕ) × (above : NodeValue) × (from ≤ later) × (slice_get self.now.nodes.items later ≡ Some above) × IsBelow node.now above }
+    {
+        let Some(indices) = self.by_row.get(node.row()) else {
+            return false;
+        };
+        for index in indices.as_slice() {
+            if self.is_above(node, from, *index) {
+                return true;
+            }
+        }
+        false
+    }
+
+    /// Whether the node of this index is among those, and has all that this one has.
+    fn is_above(&self, node: &Node, from: usize, index: usize) -> bool
+        ensures { result ≡ true → (above : NodeValue) × (from ≤ index) × (slice_get self.now.nodes.items index ≡ Some above) × IsBelow node.now above }
+    {
+        if index < from {
+            return false;
+        }
+        match self.nodes.get(index) {
+            None => false,
+            Some(above) => node.is_below(above),
+        }
+    }
+
+    /// Adds a node.
+    fn add(&mut self, alloc: Global, node: Node) -> Result<(), AllocError>
+        ensures { OnOk result (self.new.nodes.items ≡ self.old.nodes.items ++ node ∷ []) }
+    {
+        let index = self.nodes.len();
+        match self.by_row.get_mut(node.row()) {
+            None => {
+                let mut indices = Vec::new(alloc);
+                indices.push(index)?;
+                self.by_row.insert(copied(node.row()), indices)?;
+            }
+            Some(indices) => indices.push(index)?,
+        }
+        self.nodes.push(node)?;
+        Ok(())
+    }
+}

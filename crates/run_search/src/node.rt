@@ -1,0 +1,362 @@
+//! Nodes: for each process a set of local states that it may be in while memory stays as it is.
+ghost use Rattle.std.specs.Prelude.{◌≡◌, ◌<◌, ◌⊎◌, ◌∷◌, ℕ, [], true, IfOk, MatchBool, MatchOption, OnOk, Some, length, slice_get, slice_set};
+ghost use Rattle.std.specs.List.{Contains};
+ghost use Rattle.room_spec.specs.Rooms.{processes};
+ghost use Rattle.run_search.specs.Nodes.{AreIn, AreWithinRounds, Covers, GoesAlone, IsAdded, IsBelow, IsComeTo, IsFirst, IsGrown, IsLocalBefore, IsNext, IsNodeAfter, IsSetClosed, IsStateBefore, IsWhole, IsWithinRounds, LeadsTo, MovesAlone, Node as NodeValue, set_of};
+ghost use Rattle.run_search.specs.declared.local_state.LocalState.{LocalState as LocalValue};
+
+use crate::local_state::{LocalState, Origin, State};
+use crate::step::{moved, opening, row_of};
+use protocol_lang::View;
+use room_spec::Spec;
+use std::alloc::{AllocError, Global};
+use std::marker::Model;
+
+/// Local states of one process, each once.
+pub type LocalSet = Vec<LocalState>;
+
+/// States of runs with the same memory: each process is in one of its local states, whatever the others do.
+#[derive(Drop)]
+pub struct Node {
+    /// The last write of each process.
+    row: View,
+    /// The local states of each process.
+    sets: Vec<LocalSet>,
+    origin: Origin,
+}
+
+impl Model for Node {
+    ghost use Rattle.std.specs.Prelude.{map};
+    ghost use Rattle.run_search.specs.Nodes.{Node as NodeValue};
+
+    ghost Value = { NodeValue };
+
+    ghost view = { λ node. record { row = node.row.items; sets = map (λ set. set.items) node.sets.items; origin = node.origin } };
+}
+
+impl Node {
+    /// The node of the state before the first event.
+    ///
+    /// # Errors
+    ///
+    /// An allocation that fails.
+    pub fn first(alloc: Global, spec: &Spec) -> Result<Node, AllocError>
+        ensures { IfOk result (λ node. IsFirst spec.now node) }
+    {
+        let state = opening(spec);
+        let row = row_of(&state);
+        let mut sets = Vec::new(alloc);
+        for p in 0..spec.n() {
+            let set = close(alloc, &[state.as_slice()[p]], &row, spec, p)?;
+            sets.push(set)?;
+        }
+        let origin = Origin {
+            from: 0,
+            process: 0,
+            local: LocalState::default(),
+        };
+        Ok(Node { row, sets, origin })
+    }
+
+    /// The last write of each process.
+    pub fn row(&self) -> &View
+        ensures { result.now.items ≡ self.now.row }
+    {
+        &self.row
+    }
+
+    /// The write by which the node was reached first.
+    pub fn origin(&self) -> Origin
+        ensures { result ≡ self.now.origin }
+    {
+        self.origin
+    }
+
+    /// The local states of process `p`.
+    pub fn set(&self, p: usize) -> &[LocalState]
+        requires { p < length self.now.sets }
+        ensures { result.now ≡ set_of self.now p }
+    {
+        self.sets[p].as_slice()
+    }
+
+    /// How many local states process `p` has.
+    pub fn count(&self, p: usize) -> usize
+        requires { p < length self.now.sets }
+        ensures { result ≡ length (set_of self.now p) }
+    {
+        self.sets[p].len()
+    }
+
+    /// The node that process `p` leads to by a write, after which it is in this local state.
+    ///
+    /// # Errors
+    ///
+    /// An allocation that fails.
+    fn after(
+        &self,
+        alloc: Global,
+        spec: &Spec,
+        p: usize,
+        new: LocalState,
+        origin: Origin,
+    ) -> Result<Node, AllocError>
+        requires whole { IsWhole spec.now self.now }
+        requires process { p < processes spec.now }
+        requires rounds { IsWithinRounds spec.now new }
+        ensures next { IfOk result (IsNext spec.now self.now p new) }
+        ensures origin { IfOk result (λ node. node.origin ≡ origin) }
+    {
+        let row = row_with(&self.row, p, new.last);
+        let mut sets = Vec::new(alloc);
+        for q in 0..spec.n() {
+            let set = self.set_after(alloc, &row, spec, p, new, q)?;
+            sets.push(set)?;
+        }
+        Ok(Node { row, sets, origin })
+    }
+
+    /// The node that the local state of this index of process `p` leads to by a write that changes memory, if it does. `from` is this node's index.
+    ///
+    /// # Errors
+    ///
+    /// An allocation that fails.
+    pub fn edge(
+        &self,
+        alloc: Global,
+        spec: &Spec,
+        from: u32,
+        p: usize,
+        index: usize,
+    ) -> Result<Option<Node>, AllocError>
+        requires whole { IsWhole spec.now self.now }
+        requires process { p < processes spec.now }
+        requires there { index < length (set_of self.now p) }
+        ensures { IfOk result (λ to. (local : LocalValue) → slice_get (set_of self.now p) index ≡ Some local → LeadsTo spec.now from self.now p local to) }
+    {
+        let local = self.set(p)[index];
+        let Some(new) = moved(&local, &self.row, spec, p) else {
+            return Ok(None);
+        };
+        if new.last == local.last {
+            return Ok(None);
+        }
+        let _n = spec.n(); // for the proof: it is at most 16
+        let origin = Origin {
+            from,
+            process: p as u8,
+            local,
+        };
+        let to = self.after(alloc, spec, p, new, origin)?;
+        Ok(Some(to))
+    }
+
+    /// Whether another node has all that this one has.
+    pub fn is_below(&self, above: &Node) -> bool
+        ensures { result ≡ true → IsBelow self.now above.now }
+    {
+        if self.row.as_slice() != above.row.as_slice() || self.sets.len() != above.sets.len() {
+            return false;
+        }
+        for p in 0..self.sets.len() {
+            if !is_within(self.set(p), above.set(p)) {
+                return false;
+            }
+        }
+        true
+    }
+
+    /// The local states of process `q` in that node, whose row this is.
+    fn set_after(
+        &self,
+        alloc: Global,
+        row: &View,
+        spec: &Spec,
+        p: usize,
+        new: LocalState,
+        q: usize,
+    ) -> Result<LocalSet, AllocError>
+        requires whole { IsWhole spec.now self.now }
+        requires process { q < processes spec.now }
+        requires rounds { IsWithinRounds spec.now new }
+        ensures own { IfOk result (λ set. q ≡ p → IsGrown spec.now row.now.items q (new ∷ []) set.items) }
+        ensures other { IfOk result (λ set. (q ≡ p → ⊥) → IsGrown spec.now row.now.items q (set_of self.now q) set.items) }
+    {
+        if q == p {
+            close(alloc, &[new], row, spec, q)
+        } else {
+            close(alloc, self.set(q), row, spec, q)
+        }
+    }
+
+    /// A state from which the write of another node's origin, and then steps that leave the last writes as they are, lead to this state of that node.
+    pub fn before(&self, spec: &Spec, node: &Node, state: &State) -> State
+        requires whole { IsWhole spec.now self.now }
+        requires after { IsNodeAfter spec.now self.now node.now.origin.process node.now.origin.local node.now }
+        requires covers { Covers spec.now node.now state.now.items }
+        ensures { IsStateBefore spec.now self.now node.now (processes spec.now) state.now.items result.items }
+    {
+        let mut old = State::new();
+        for q in 0..spec.n() {
+            old.push(self.local_before(spec, node, q, state.as_slice()[q]));
+        }
+        old
+    }
+
+    /// The local state of process `q` in that state, if it is in this one then.
+    fn local_before(&self, spec: &Spec, node: &Node, q: usize, to: LocalState) -> LocalState
+        requires whole { IsWhole spec.now self.now }
+        requires process { q < processes spec.now }
+        requires after { IsNodeAfter spec.now self.now node.now.origin.process node.now.origin.local node.now }
+        requires there { Contains (set_of node.now q) to }
+        ensures { IsLocalBefore spec.now self.now node.now q to result }
+    {
+        let origin = node.origin();
+        if q == usize::from(origin.process) {
+            origin.local
+        } else {
+            come_from(self.set(q), node.row(), spec, q, to)
+        }
+    }
+}
+
+/// The row after process `p` has written.
+fn row_with(row: &View, p: usize, last: Option<u32>) -> View
+    requires { p < length row.now.items }
+    ensures { result.items ≡ slice_set row.now.items p last }
+{
+    let mut new = copied(row);
+    new.as_mut_slice()[p] = last;
+    new
+}
+
+/// The same row once more.
+pub fn copied(row: &View) -> View
+    ensures { result.items ≡ row.now.items }
+{
+    let mut new = View::new();
+    for value in row.as_slice() {
+        new.push(*value);
+    }
+    new
+}
+
+/// The local state of process `p` after its next step, if that leaves the last writes as they are.
+fn moved_alone(local: &LocalState, row: &View, spec: &Spec, p: usize) -> Option<LocalState>
+    requires process { p < processes spec.now }
+    requires rounds { IsWithinRounds spec.now local.now }
+    ensures { MatchOption result ((other : LocalValue) → MovesAlone spec.now row.now.items p local.now other → ⊥) (λ new. MovesAlone spec.now row.now.items p local.now new) }
+{
+    let new = moved(local, row, spec, p)?;
+    if new.last == local.last {
+        Some(new)
+    } else {
+        None
+    }
+}
+
+/// Adds a local state to a set, unless it is there.
+fn put(set: &mut LocalSet, local: LocalState) -> Result<(), AllocError>
+    ensures there { OnOk result (Contains set.new.items local) }
+    ensures added { OnOk result (IsAdded set.old.items local set.new.items) }
+{
+    if !set.as_slice().contains(&local) {
+        set.push(local)?;
+    }
+    Ok(())
+}
+
+/// Adds a local state of process `p` to a set, and all that follow from it by steps that leave the last writes as they are.
+///
+/// # Errors
+///
+/// An allocation that fails.
+fn go_on(
+    set: &mut LocalSet,
+    local: LocalState,
+    row: &View,
+    spec: &Spec,
+    p: usize,
+) -> Result<(), AllocError>
+    requires process { p < processes spec.now }
+    requires rounds { IsWithinRounds spec.now local }
+    ensures there { OnOk result (Contains set.new.items local) }
+    ensures kept { OnOk result (AreIn set.old.items set.new.items) }
+    ensures come { OnOk result ((to : LocalValue) → Contains set.new.items to → Contains set.old.items to ⊎ ((steps : ℕ) × GoesAlone spec.now row.now.items p steps local to)) }
+    ensures closed { OnOk result (IsSetClosed spec.now row.now.items p set.old.items → IsSetClosed spec.now row.now.items p set.new.items) }
+{
+    let mut now = local;
+    put(set, now)?;
+    while let Some(new) = moved_alone(&now, row, spec, p) {
+        put(set, new)?;
+        now = new;
+    }
+    Ok(())
+}
+
+/// Some local states of process `p`, and all that follow from them by steps that leave the last writes as they are.
+///
+/// # Errors
+///
+/// An allocation that fails.
+fn close(
+    alloc: Global,
+    old: &[LocalState],
+    row: &View,
+    spec: &Spec,
+    p: usize,
+) -> Result<LocalSet, AllocError>
+    requires process { p < processes spec.now }
+    requires rounds { AreWithinRounds spec.now old.now }
+    ensures { IfOk result (λ set. IsGrown spec.now row.now.items p old.now set.items) }
+{
+    let mut set = Vec::new(alloc);
+    for local in old {
+        go_on(&mut set, *local, row, spec, p)?;
+    }
+    Ok(set)
+}
+
+/// Whether each of some local states is among others.
+fn is_within(some: &[LocalState], all: &[LocalState]) -> bool
+    ensures { result ≡ true → AreIn some.now all.now }
+{
+    for local in some {
+        if !all.contains(local) {
+            return false;
+        }
+    }
+    true
+}
+
+/// One of these local states from which steps of process `p` that leave the last writes as they are lead to another.
+fn come_from(set: &[LocalState], row: &View, spec: &Spec, p: usize, to: LocalState) -> LocalState
+    requires process { p < processes spec.now }
+    requires rounds { AreWithinRounds spec.now set.now }
+    requires come { IsComeTo spec.now row.now.items p set.now to }
+    ensures there { Contains set.now result }
+    ensures come { (steps : ℕ) × GoesAlone spec.now row.now.items p steps result to }
+{
+    for local in set {
+        if comes_to(*local, row, spec, p, to) {
+            return *local;
+        }
+    }
+    unreachable!() // steps lead to it from one of them
+}
+
+/// Whether steps of process `p` that leave the last writes as they are lead from one local state to another.
+fn comes_to(from: LocalState, row: &View, spec: &Spec, p: usize, to: LocalState) -> bool
+    requires process { p < processes spec.now }
+    requires rounds { IsWithinRounds spec.now from }
+    ensures { MatchBool result ((steps : ℕ) × GoesAlone spec.now row.now.items p steps from to) ((steps : ℕ) → GoesAlone spec.now row.now.items p steps from to → ⊥) }
+{
+    let mut now = from;
+    while now != to {
+        let Some(new) = moved_alone(&now, row, spec, p) else {
+            return false;
+        };
+        now = new;
+    }
+    true
+}

@@ -1,0 +1,86 @@
+/* What bgsim and bgview answer, as calls of C: docs/LIBRARY.md has examples, and says what is proved of these calls.
+ *
+ * Each call takes an input, and a buffer `output` of `size` bytes. It writes as much of the answer as fits, and sets `*result`: how the answer ended,
+ * and how many bytes the whole of it has. If that is more than `size`, call again with a larger buffer. An answer has no 0 byte at its end. Nothing
+ * is kept between calls, there is nothing to free, and no call starts a thread, reads or writes a file, or prints.
+ *
+ * What a caller owes, since no call can check it:
+ *   - Each pointer is valid for the number of bytes after it, and is not null, even if that number is 0. `result` points to one struct.
+ *   - The buffer and the struct overlap neither an input nor each other. While a call runs, nothing else writes to an input, or uses the buffer or the struct.
+ *   - A `bool` is true or false.
+ *   - No call is made from a signal handler, or after fork() in the child of a process with threads.
+ *   - `malloc`, `realloc` and `free` are those of one allocator, which aligns blocks to 16 bytes.
+ * So calls may run on any number of threads at the same time, each with a buffer and a struct of its own. */
+#ifndef BGVIEW_H
+#define BGVIEW_H
+
+#include <stdbool.h>
+#include <stddef.h>
+#include <stdint.h>
+
+#ifdef __cplusplus
+extern "C" {
+#endif
+
+/* How a call ended. With the first two and BGVIEW_INCOMPLETE there is an answer; else its length is 0. */
+enum bgview_status {
+    BGVIEW_OK = 0,         /* all is well */
+    BGVIEW_REFUSED = 1,    /* something was refused, broken, not reached (grade), or not searched to the end (outcomes) */
+    BGVIEW_BAD_INPUT = 2,  /* a line of the input is malformed: `line` and `fault` say which, and why */
+    BGVIEW_NO_MEMORY = 3,  /* an allocation failed */
+    BGVIEW_INCOMPLETE = 4, /* an allocation failed for a command of a script; the answer says for which, and has the rest */
+    BGVIEW_TOO_LONG = 5,   /* the input has more than BGVIEW_MAX_INPUT bytes */
+    BGVIEW_BAD_GOAL = 6    /* the goal is not valid (grade); `line` is the number of the claim at which it stops being one */
+};
+
+struct bgview_result {
+    uint32_t status; /* an enum bgview_status */
+    uint32_t fault;  /* the number of the input's fault, which bgview_fault puts into words; or 0 */
+    uint64_t line;   /* the line that has the fault, or the goal's claim, counted from 1; or 0 */
+    uint64_t length; /* how many bytes the whole answer has */
+};
+
+#define BGVIEW_MAX_INPUT 16777216
+#define BGVIEW_ALL_BUT_ONE UINT32_MAX /* for `crashes`: all processes but one may stop */
+#define BGVIEW_NO_LIMIT UINT32_MAX    /* for `most`: any number of commands */
+
+/* bgsim check: whether the events of each room of a transcript are a run of its protocol. */
+void bgview_check(const uint8_t *transcript, size_t length, uint8_t *output, size_t size, struct bgview_result *result);
+
+/* bgview why: the same, and why not. With `json` an object of JSON a line. */
+void bgview_why(const uint8_t *transcript, size_t length, bool json, uint8_t *output, size_t size, struct bgview_result *result);
+
+/* bgsim play: the replies to a script. */
+void bgview_play(const uint8_t *script, size_t length, uint8_t *output, size_t size, struct bgview_result *result);
+
+/* bgview trace: the replies to a script, and what each atomic step did. With `json` an object of JSON a line. */
+void bgview_trace(const uint8_t *script, size_t length, bool json, uint8_t *output, size_t size, struct bgview_result *result);
+
+/* bgview draw: a script as a picture, an SVG file. At 100 `percent` it is 1264 pixels wide, unless events or inputs are long; bgview takes
+   10 to 1000. With `by_turns` a box is a stretch of a turn. */
+void bgview_draw(const uint8_t *script, size_t length, uint32_t percent, bool by_turns, uint8_t *output, size_t size, struct bgview_result *result);
+
+/* bgview transcript: a script's rooms as a transcript, with the events in the order in which they took effect. */
+void bgview_transcript(const uint8_t *script, size_t length, uint8_t *output, size_t size, struct bgview_result *result);
+
+/* bgview grade: whether the last report of a script satisfies a goal, with at most `most` commands `step` and `crash`. */
+void bgview_grade(const uint8_t *script, size_t length, const uint8_t *goal, size_t goal_length, uint32_t most, uint8_t *output, size_t size, struct bgview_result *result);
+
+/* bgview page: a page, an HTML file, that steps through a script or a transcript in a browser. */
+void bgview_page(const uint8_t *file, size_t length, uint8_t *output, size_t size, struct bgview_result *result);
+
+/* bgview outcomes: all outcomes of the protocol of each room, if at most `crashes` processes stop, by a search of at most `nodes` nodes of a room; bgview takes
+   1000000 unless it is told otherwise. `brief` leaves out the transcripts. */
+void bgview_outcomes(const uint8_t *rooms, size_t length, uint32_t crashes, uint32_t nodes, bool brief, uint8_t *output, size_t size, struct bgview_result *result);
+
+/* bgview lint: all faults of a file of rooms, a script or a transcript, with the line, the place in it, and hints. */
+void bgview_lint(const uint8_t *file, size_t length, uint8_t *output, size_t size, struct bgview_result *result);
+
+/* bgview fault: what the number of a fault means, in a line. */
+void bgview_fault(uint32_t number, uint8_t *output, size_t size, struct bgview_result *result);
+
+#ifdef __cplusplus
+}
+#endif
+
+#endif

@@ -1,0 +1,18 @@
+"""The answers of bgsim and bgview, by their proved library: docs/LIBRARY.md of the repository has examples, and says what is proved.
+
+    >>> import bgview
+    >>> print(bgview.trace(open("script.txt").read()))
+    >>> room = bgview.Room(open("room.txt").read())
+    >>> room.step(0, 5).crash(0).turn(1)
+    >>> room.report().processes
+
+A text of an input is `str` or `bytes`. Each function may be called by any number of threads at the same time."""
+
+from .answers import Answer, Objects, Page, Picture, check, draw, fault, grade, lint, outcomes, page, play, trace, trace_json, transcript, why, why_json
+from .errors import BgviewError, GoalError, InputError, OutOfMemory, Refused, TooLong
+from .room import Report, Room
+
+__all__ = [
+    "Answer", "BgviewError", "GoalError", "InputError", "Objects", "OutOfMemory", "Page", "Picture", "Refused", "Report", "Room", "TooLong",
+    "check", "draw", "fault", "grade", "lint", "outcomes", "page", "play", "trace", "trace_json", "transcript", "why", "why_json",
+]

@@ -1,0 +1,144 @@
+"""What the modes of bgsim and bgview answer: a function for each."""
+
+from __future__ import annotations
+
+import json
+import re
+from typing import Any, Dict, List, Optional, Tuple
+
+from . import _library
+from ._library import LARGEST, Text, bytes_of, flag, number, sentence, slice_of
+from .errors import InputError
+
+Json = Dict[str, Any]
+"""An object of JSON. docs/VIEW.md lists the members of each."""
+
+
+class Answer(str):
+    """What a program writes to standard output."""
+
+    well: bool
+    """Whether all is well: the program's exit status is 0, and not 1."""
+
+    def __new__(cls, text: str, well: bool) -> "Answer":
+        answer = super().__new__(cls, text)
+        answer.well = well
+        return answer
+
+
+class Picture(Answer):
+    """A picture, as an SVG file. A notebook shows it."""
+
+    def _repr_svg_(self) -> str:
+        return str(self)
+
+
+class Page(Answer):
+    """A page for a browser, as an HTML file."""
+
+    def save(self, path: str) -> None:
+        """Writes it to a file."""
+        with open(path, "wb") as file:
+            file.write(bytes_of(self))
+
+
+class Objects(List[Json]):
+    """An answer as JSON: the object of each line."""
+
+    well: bool
+    """Whether all is well: the program's exit status is 0, and not 1."""
+
+    def __init__(self, text: str, well: bool) -> None:
+        super().__init__(json.loads(line) for line in text.splitlines())
+        self.well = well
+
+
+def place_in(explanation: str, line: int, text: Text) -> Optional[int]:
+    """At which byte of a line, counted from 1, `lint` shows its fault, if it shows the line as it is."""
+    lines = bytes_of(text).split(b"\n")
+    shown = re.search(rf"^    line {line}: .*\n    (.*)\n    ( *)\^$", explanation, re.M)
+    is_whole = shown and line <= len(lines) and bytes_of(shown[1]) == lines[line - 1]
+    return len(bytes_of(shown[1][: len(shown[2])])) + 1 if shown and is_whole else None
+
+
+def _explained(fault: InputError, text: Text) -> InputError:
+    """The same fault, with what `lint` says of the input."""
+    explanation = lint(text)
+    if explanation.well:
+        return fault
+    return InputError(fault.line, fault.fault, fault.sentence, place_in(explanation, fault.line, text), str(explanation))
+
+
+def _answer(name: str, text: Text, *more: Any) -> Tuple[str, bool]:
+    try:
+        return _library.call(name, *slice_of(text), *more)
+    except InputError as fault:
+        raise _explained(fault, text) from None
+
+
+def check(transcript: Text) -> Answer:
+    """The verdict on each room of a transcript: whether its events are a run of its protocol. As `bgsim check`."""
+    return Answer(*_answer("check", transcript))
+
+
+def play(script: Text) -> Answer:
+    """The replies to the commands of a script. As `bgsim play`."""
+    return Answer(*_answer("play", script))
+
+
+def why(transcript: Text) -> Answer:
+    """The verdicts of `check`, and under each that breaks a run the line and the reason. As `bgview why`."""
+    return Answer(*_answer("why", transcript, flag(False)))
+
+
+def why_json(transcript: Text) -> Objects:
+    """The same: an object for each room. As `bgview why --json`."""
+    return Objects(*_answer("why", transcript, flag(True)))
+
+
+def trace(script: Text) -> Answer:
+    """The replies to a script, and under each the atomic steps that its command took. As `bgview trace`."""
+    return Answer(*_answer("trace", script, flag(False)))
+
+
+def trace_json(script: Text) -> Objects:
+    """The same: an object for each reply and for each step. As `bgview trace --json`."""
+    return Objects(*_answer("trace", script, flag(True)))
+
+
+def draw(script: Text, percent: int = 100, by_turns: bool = False) -> Picture:
+    """A picture of a script. `percent` is 10 to 1000; with `by_turns` a box is a stretch of a turn. As `bgview draw`."""
+    return Picture(*_answer("draw", script, number("percent", percent, 1000, 10), flag(by_turns)))
+
+
+def transcript(script: Text) -> Answer:
+    """A script's rooms as a transcript, with the events in the order in which they took effect. As `bgview transcript`."""
+    return Answer(*_answer("transcript", script))
+
+
+def page(file: Text) -> Page:
+    """A page that steps through a script or a transcript in a browser. As `bgview page`."""
+    return Page(*_answer("page", file))
+
+
+def outcomes(rooms: Text, crashes: Optional[int] = None, nodes: int = 1000000, brief: bool = False) -> Answer:
+    """All outcomes of the protocol of each room, if at most `crashes` processes stop (without a number all but one). A room is searched up to
+    `nodes` nodes; if one has more, the answer says so, and not all is well. `brief` leaves out the transcripts. As `bgview outcomes`."""
+    most = number("crashes", LARGEST if crashes is None else crashes, LARGEST if crashes is None else 16)
+    return Answer(*_answer("outcomes", rooms, most, number("nodes", nodes, 100000000, 1), flag(brief)))
+
+
+def lint(file: Text) -> Answer:
+    """All faults of a file of rooms, a script or a transcript, explained. As `bgview lint`."""
+    return Answer(*_library.call("lint", *slice_of(file)))
+
+
+def grade(script: Text, goal: Text, commands: Optional[int] = None) -> Answer:
+    """Whether the last report of a script satisfies a goal, claim by claim, with at most this number of commands `step` and `crash`. As `bgview grade`."""
+    most = number("commands", LARGEST if commands is None else commands, LARGEST if commands is None else 1000000)
+    return Answer(*_answer("grade", script, *slice_of(goal), most))
+
+
+def fault(code: int) -> str:
+    """What the number of a fault means. As `bgview fault`, without the number before it."""
+    return sentence(code)
