@@ -70,7 +70,7 @@ void bgview_grade(const uint8_t *script, size_t length, const uint8_t *goal, siz
 void bgview_page(const uint8_t *file, size_t length, uint8_t *output, size_t size, struct bgview_result *result);
 
 /* bgview outcomes: all outcomes of the protocol of each room, if at most `crashes` processes stop, by a search of at most `nodes` nodes of a room; bgview takes
-   1000000 unless it is told otherwise. `brief` leaves out the transcripts. */
+   1000000 if no number is given. `brief` leaves out the transcripts. */
 void bgview_outcomes(const uint8_t *rooms, size_t length, uint32_t crashes, uint32_t nodes, bool brief, uint8_t *output, size_t size, struct bgview_result *result);
 
 /* bgview lint: all faults of a file of rooms, a script or a transcript, with the line, the place in it, and hints. */
