@@ -5,12 +5,13 @@
  * is kept between calls, there is nothing to free, and no call starts a thread, reads or writes a file, or prints.
  *
  * What a caller owes, since no call can check it:
- *   - Each pointer is valid for the number of bytes after it, and is not null, even if that number is 0. `result` points to one struct.
- *   - The buffer and the struct overlap neither an input nor each other. While a call runs, nothing else writes to an input, or uses the buffer or the struct.
+ *   - Each pointer is valid for the number of bytes after it, and is not null, even if that number is 0. `result` and `plan` point to one struct each.
+ *   - The buffer and the result overlap neither an input nor each other; a plan is an input. While a call runs, nothing else writes to an input, or uses the buffer or
+ *     the result.
  *   - A `bool` is true or false.
  *   - No call is made from a signal handler, or after fork() in the child of a process with threads.
  *   - `malloc`, `realloc` and `free` are those of one allocator, which aligns blocks to 16 bytes.
- * So calls may run on any number of threads at the same time, each with a buffer and a struct of its own. */
+ * So calls may run on any number of threads at the same time, each with a buffer and a result of its own. */
 #ifndef BGVIEW_H
 #define BGVIEW_H
 
@@ -28,7 +29,8 @@ enum bgview_status {
     BGVIEW_REFUSED = 1,    /* something was refused, broken, not reached (grade), or not searched to the end (outcomes) */
     BGVIEW_BAD_INPUT = 2,  /* a line of the input is malformed: `line` and `fault` say which, and why */
     BGVIEW_NO_MEMORY = 3,  /* an allocation failed */
-    BGVIEW_INCOMPLETE = 4, /* an allocation failed for a command of a script; the answer says for which, and has the rest */
+    BGVIEW_INCOMPLETE = 4, /* an allocation failed for a command of a script, and the answer says for which and has the rest; or for a room that was
+                              sampled, and the answer has the sample so far */
     BGVIEW_TOO_LONG = 5,   /* the input has more than BGVIEW_MAX_INPUT bytes */
     BGVIEW_BAD_GOAL = 6    /* the goal is not valid (grade); `line` is the number of the claim at which it stops being one */
 };
@@ -42,7 +44,20 @@ struct bgview_result {
 
 #define BGVIEW_MAX_INPUT 16777216
 #define BGVIEW_ALL_BUT_ONE UINT32_MAX /* for `crashes`: all processes but one may stop */
-#define BGVIEW_NO_LIMIT UINT32_MAX    /* for `most`: any number of commands */
+#define BGVIEW_NO_LIMIT UINT32_MAX    /* for `most` and `top`: any number of commands, and all outcomes */
+#define BGVIEW_EACH UINT32_MAX        /* for `outcome`: not one outcome, but all */
+
+/* How rooms are sampled. bgview takes 1000 schedules, 1 crash and the seed 1 if no number is given. */
+struct bgview_plan {
+    uint32_t schedules; /* by how many schedules each room is run; bgview takes 1 to 1000000 */
+    uint32_t crashes;   /* in each of them at most this many simulators crash */
+    uint32_t seed;      /* what the schedules are drawn from: the same seed gives the same ones */
+    uint32_t top;       /* how many outcomes of a room are shown at most, or BGVIEW_NO_LIMIT */
+    uint32_t outcome;   /* the outcome of which nothing but the script is written, by its number from 1; or BGVIEW_EACH */
+    bool group;         /* whether outcomes that differ only in which simulators hold processes are one */
+    bool brief;         /* whether scripts are left out */
+    bool json;          /* whether an object of JSON a line is written */
+};
 
 /* bgsim check: whether the events of each room of a transcript are a run of its protocol. */
 void bgview_check(const uint8_t *transcript, size_t length, uint8_t *output, size_t size, struct bgview_result *result);
@@ -72,6 +87,9 @@ void bgview_page(const uint8_t *file, size_t length, uint8_t *output, size_t siz
 /* bgview outcomes: all outcomes of the protocol of each room, if at most `crashes` processes stop, by a search of at most `nodes` nodes of a room; bgview takes
    1000000 if no number is given. `brief` leaves out the transcripts. */
 void bgview_outcomes(const uint8_t *rooms, size_t length, uint32_t crashes, uint32_t nodes, bool brief, uint8_t *output, size_t size, struct bgview_result *result);
+
+/* bgview sample: the outcomes of each room by random schedules, and how often each came. All schedules run on the caller's thread. */
+void bgview_sample(const uint8_t *rooms, size_t length, const struct bgview_plan *plan, uint8_t *output, size_t size, struct bgview_result *result);
 
 /* bgview lint: all faults of a file of rooms, a script or a transcript, with the line, the place in it, and hints. */
 void bgview_lint(const uint8_t *file, size_t length, uint8_t *output, size_t size, struct bgview_result *result);

@@ -9,8 +9,18 @@ const OPTIONS = {
   outcomes: [['crashes', LARGEST], ['nodes', 1000000], ['brief', false]],
   grade: [['commands', LARGEST]],
 };
+const PLAN = [['schedules', 1000], ['crashes', 1], ['seed', 1], ['top', LARGEST], ['outcome', LARGEST]]; // the numbers of a struct bgview_plan,
+const PLAN_FLAGS = ['group', 'brief', 'json']; // and after them these
 const RESULT = 24; // the bytes of a struct bgview_result
 const NO_MEMORY = 3;
+
+// The bytes of a struct bgview_plan.
+function planOf(given) {
+  const plan = new DataView(new ArrayBuffer(4 * PLAN.length + 4));
+  PLAN.forEach(([name, value], index) => plan.setUint32(4 * index, given[name] ?? value, true));
+  PLAN_FLAGS.forEach((name, index) => plan.setUint8(4 * PLAN.length + index, Number(given[name] ?? false)));
+  return new Uint8Array(plan.buffer);
+}
 
 // `most` is how many bytes of memory a call may take, and `size` how large the first buffer for an answer is.
 export async function load(bytes, { most = 1024 * 1048576, size: usual = 1048576 } = {}) {
@@ -21,24 +31,26 @@ export async function load(bytes, { most = 1024 * 1048576, size: usual = 1048576
   const decoder = new TextDecoder();
   const take = size => Number(exports.heap_take(BigInt(size)));
 
-  // One call, with a buffer of this size.
+  // One call, with a buffer of this size. Each of `more` is a number, or the bytes of a struct.
   function attempt(name, inputs, more, size) {
     exports.heap_reset(BigInt(most));
-    const places = [...inputs.map(input => take(input.length || 1)), take(size), take(RESULT)];
+    const read = [...inputs, ...more.filter(one => one instanceof Uint8Array)];
+    const places = [...read.map(bytes => take(bytes.length || 1)), take(size), take(RESULT)];
     if (places.includes(0)) return { status: NO_MEMORY, fault: 0, line: 0, length: 0, text: '' };
-    const [to, result] = places.slice(inputs.length);
-    inputs.forEach((input, index) => new Uint8Array(exports.memory.buffer).set(input, places[index]));
+    const [to, result] = places.slice(read.length);
+    read.forEach((bytes, index) => new Uint8Array(exports.memory.buffer).set(bytes, places[index]));
     const slices = inputs.flatMap((input, index) => [places[index], BigInt(input.length)]);
+    const others = more.map(one => (one instanceof Uint8Array ? places[read.indexOf(one)] : one));
     try {
-      exports[`bgview_${name}`](...slices, ...more, to, BigInt(size), result);
+      exports[`bgview_${name}`](...slices, ...others, to, BigInt(size), result);
     } catch (error) {
       exports = start(); // the stack has overflowed, so nothing of this instance is used again
       throw error;
     }
-    const read = new DataView(exports.memory.buffer, result, RESULT);
-    const length = Number(read.getBigUint64(16, true));
+    const ended = new DataView(exports.memory.buffer, result, RESULT);
+    const length = Number(ended.getBigUint64(16, true));
     const text = length > size ? null : decoder.decode(new Uint8Array(exports.memory.buffer, to, length)); // the buffer is the module's own memory
-    return { status: read.getUint32(0, true), fault: read.getUint32(4, true), line: Number(read.getBigUint64(8, true)), length, text };
+    return { status: ended.getUint32(0, true), fault: ended.getUint32(4, true), line: Number(ended.getBigUint64(8, true)), length, text };
   }
 
   function call(name, inputs, more) {
@@ -47,7 +59,11 @@ export async function load(bytes, { most = 1024 * 1048576, size: usual = 1048576
     return answer.text === null ? attempt(name, encoded, more, answer.length) : answer;
   }
 
-  const view = { memory: () => exports.memory.buffer.byteLength, fault: number => call('fault', [], [number]) };
+  const view = {
+    memory: () => exports.memory.buffer.byteLength,
+    fault: number => call('fault', [], [number]),
+    sample: (input, given = {}) => call('sample', [input], [planOf(given)]),
+  };
   for (const [name, options] of Object.entries(OPTIONS)) {
     view[name] = (input, given = {}) => {
       const more = options.map(([option, value]) => Number(given[option] ?? value));

@@ -10,6 +10,9 @@ const MODES = [
   ['draw', 'bgview draw', {}], ['draw', 'bgview draw --turns --scale 50', { percent: 50, byTurns: true }], ['page', 'bgview page', {}],
   ['outcomes', 'bgview outcomes --nodes 20000', { nodes: 20000 }],
   ['outcomes', 'bgview outcomes --nodes 20000 --brief --crashes 0', { nodes: 20000, brief: true, crashes: 0 }],
+  ['sample', 'bgview sample --schedules 20', { schedules: 20 }],
+  ['sample', 'bgview sample --schedules 20 --crashes 2 --seed 5 --group --brief --top 2', { schedules: 20, crashes: 2, seed: 5, group: true, brief: true, top: 2 }],
+  ['sample', 'bgview sample --schedules 20 --json --outcome 2', { schedules: 20, json: true, outcome: 2 }],
   ['grade', 'bgview grade --commands 2 --goal spent', { commands: 2, goal: 'spent' }],
   ['grade', 'bgview grade --goal spent_0', { goal: 'spent 0' }],
 ];

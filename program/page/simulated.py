@@ -221,10 +221,30 @@ def compare_simulated(room, panels, columns):
     for count, (panel, now) in enumerate(zip(panels, all_now)):
         where = f"{room['name']}, step {count}"
         holds(f"{where}: the sentence", panel["sentence"], room["sentences"][count])
+        if count:
+            compare_obstacle(where, room["moments"][count - 1], now)
         compare_words(where, panel, now)
         compare_agreements(where, panel, now)
         compare_processes(where, room, panel, now, count)
         compare_lanes(where, room, panel, now, all_now[-1], count, columns)
+
+
+def compare_obstacle(where, moment, now):
+    """What the trace says after a quiet turn keeps the agreement from being read, against the levels and choices of its steps so far."""
+    said = [note for note in moment["notes"] if note.startswith(("open:", "chosen:", "blocked"))]
+    if not any(note.startswith("quiet") for note in moment["notes"]):
+        holds(f"{where}: what is said of an agreement", said, [])
+        return
+    key = (moment["p"], moment["r"])
+    inside = sorted(i for i, level in now["levels"][key].items() if level == 1)
+    crashed = [i for i in inside if i in now["crashed"]]
+    chosen = now["chosen"].get(key)
+    choice = "" if chosen is None else f"chosen: simulator {chosen}'s; "
+    if crashed:
+        why = f"blocked for ever by simulator {crashed[0]}"
+    else:
+        why = f"open: simulator {inside[0]} is inside" if chosen is None else f"not readable while simulator {inside[0]} is inside"
+    holds(f"{where}: what is said of the agreement {key}", said, [choice + why])
 
 
 def compare_words(where, panel, now):
@@ -300,6 +320,8 @@ def compare_lanes(where, room, panel, now, final, count, columns):
     squares = [(letter(moment), place(at) + 1, TOP + moment["i"] * LANE, at >= count) for at, moment in enumerate(moments) if first <= at < last and not moment["crash"]]
     boxes = panel["drawn"]["boxes"]
     holds(f"{where}: the squares", sorted((box["text"], box["x"], box["y"], box["pale"]) for box in boxes if box["y"] < top), sorted(squares))
+    begins = [(at, moment) for at, moment in enumerate(moments) if first <= at < last and not moment["crash"] and (at == first or moments[at - 1]["turn"] != moment["turn"])]
+    holds(f"{where}: the names of turns", sorted(panel["drawn"]["turns"]), sorted([f"p{moment['p']} r{moment['r']}", place(at) + 2, TOP + moment["i"] * LANE + 36] for at, moment in begins))
     known = set(now["events"])
     holds(f"{where}: the events in the lanes", sorted((box["text"], box["y"], box["pale"], *box["from"]) for box in boxes if box["y"] >= top),
         sorted((text, top + p * EVENTS, (at, p, text) not in known, place(at) + SQUARE / 2, TOP + moments[at]["i"] * LANE + 24) for at, p, text in final["events"] if first <= at < last))

@@ -22,6 +22,7 @@
     boxes: [...svg.querySelectorAll('g')].map(boxOf),
     hatched: [...svg.querySelectorAll('rect[fill="url(#hatch)"]')].map(rect => ['x', 'y', 'width'].map(name => number(rect, name))),
     crosses: [...svg.querySelectorAll('text')].filter(text => text.textContent === '\u2715').map(text => [number(text, 'x'), number(text, 'y')]),
+    turns: [...svg.querySelectorAll('text[font-size="11"]')].map(text => [text.textContent, number(text, 'x'), number(text, 'y')]),
     now: Number([...svg.querySelectorAll('path')].pop().getAttribute('d').split(' ')[1]),
   });
   const panelShown = panel => ({
@@ -74,7 +75,7 @@
     });
     open(0, 0);
     Object.assign(keys, { right: press('ArrowRight'), left: press('ArrowLeft'), turn: press('ArrowRight', true), end: press('End'), turnBack: press('ArrowLeft', true), home: press('Home'), difference: press('d') });
-    keys.buttons = ['first', 'turn-back', 'back', 'on', 'turn-on', 'last', 'difference'].map(id => after(1, () => at(id).onclick()));
+    keys.buttons = ['first', 'turn-back', 'back', 'on', 'turn-on', 'last', 'difference'].map(id => after(id === 'back' ? 3 : 1, () => at(id).onclick()));
     keys.slid = after(0, () => {
       at('slider').value = 1;
       at('slider').oninput({ target: at('slider') });
@@ -90,6 +91,6 @@
   }
   const seen = document.createElement('pre');
   seen.id = 'seen';
-  seen.textContent = JSON.stringify({ opened, names: runs.map(run => run.rooms.map(room => room.name)), refused: at('refused').hidden ? '' : at('refused').textContent, steps, differences, keys, width: document.documentElement.scrollWidth });
+  seen.textContent = JSON.stringify({ opened, names: runs.map(run => run.rooms.map(room => room.name)), tabs: !at('rooms').hidden, refused: at('refused').hidden ? '' : at('refused').textContent, steps, differences, keys, width: document.documentElement.scrollWidth });
   document.body.append(seen);
 }

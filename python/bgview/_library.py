@@ -35,6 +35,12 @@ class _Result(ctypes.Structure):
     _fields_ = [("status", ctypes.c_uint32), ("fault", ctypes.c_uint32), ("line", ctypes.c_uint64), ("length", ctypes.c_uint64)]
 
 
+class Plan(ctypes.Structure):
+    """`struct bgview_plan` of include/bgview.h."""
+
+    _fields_ = [(name, ctypes.c_uint32) for name in ("schedules", "crashes", "seed", "top", "outcome")] + [(name, ctypes.c_bool) for name in ("group", "brief", "json")]
+
+
 def bytes_of(text: Text) -> bytes:
     """Bytes as they are, and a text as UTF-8."""
     return text.encode(errors="surrogateescape") if isinstance(text, str) else bytes(text)

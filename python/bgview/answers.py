@@ -2,12 +2,13 @@
 
 from __future__ import annotations
 
+import ctypes
 import json
 import re
 from typing import Any, Dict, List, Optional, Tuple
 
 from . import _library
-from ._library import LARGEST, Text, bytes_of, flag, number, sentence, slice_of
+from ._library import LARGEST, Plan, Text, bytes_of, flag, number, sentence, slice_of
 from .errors import InputError
 
 Json = Dict[str, Any]
@@ -28,6 +29,9 @@ class Answer(str):
 
 class Picture(Answer):
     """A picture, as an SVG file. A notebook shows it."""
+
+    def __repr__(self) -> str:
+        return f"<picture of {len(bytes_of(self))} bytes>"
 
     def _repr_svg_(self) -> str:
         return str(self)
@@ -74,6 +78,11 @@ def _answer(name: str, text: Text, *more: Any) -> Tuple[str, bool]:
         return _library.call(name, *slice_of(text), *more)
     except InputError as fault:
         raise _explained(fault, text) from None
+
+
+def _unless_none(name: str, value: Optional[int], most: int, least: int = 0) -> Any:
+    """A number as a call takes it that may be left out."""
+    return number(name, LARGEST) if value is None else number(name, value, most, least)
 
 
 def check(transcript: Text) -> Answer:
@@ -124,8 +133,29 @@ def page(file: Text) -> Page:
 def outcomes(rooms: Text, crashes: Optional[int] = None, nodes: int = 1000000, brief: bool = False) -> Answer:
     """All outcomes of the protocol of each room, if at most `crashes` processes stop (without a number all but one). A room is searched up to
     `nodes` nodes; if one has more, the answer says so, and not all is well. `brief` leaves out the transcripts. As `bgview outcomes`."""
-    most = number("crashes", LARGEST if crashes is None else crashes, LARGEST if crashes is None else 16)
-    return Answer(*_answer("outcomes", rooms, most, number("nodes", nodes, 100000000, 1), flag(brief)))
+    return Answer(*_answer("outcomes", rooms, _unless_none("crashes", crashes, 16), number("nodes", nodes, 100000000, 1), flag(brief)))
+
+
+def _plan(json: bool, schedules: int, crashes: int, seed: int, group: bool, brief: bool, top: Optional[int], outcome: Optional[int]) -> Any:
+    """How rooms are sampled, as a call takes it."""
+    numbers = number("schedules", schedules, 1000000, 1), number("crashes", crashes, 8), number("seed", seed)
+    return ctypes.byref(Plan(*numbers, _unless_none("top", top, 1000000, 1), _unless_none("outcome", outcome, 1000000, 1), group, brief, json))
+
+
+def sample(
+    rooms: Text, schedules: int = 1000, crashes: int = 1, seed: int = 1, group: bool = False, brief: bool = False, top: Optional[int] = None, outcome: Optional[int] = None
+) -> Answer:
+    """The outcomes of each room by this number of random schedules, and how often each came. In a schedule at most `crashes` simulators crash; the same `seed` gives
+    the same schedules. `group` counts outcomes as one that differ only in which simulators hold processes; `brief` leaves out the scripts that lead to the outcomes;
+    `top` shows only this number of them, the most frequent; `outcome` gives nothing but the script of the outcome of this number. As `bgview sample`, on one thread."""
+    return Answer(*_answer("sample", rooms, _plan(False, schedules, crashes, seed, group, brief, top, outcome)))
+
+
+def sample_json(
+    rooms: Text, schedules: int = 1000, crashes: int = 1, seed: int = 1, group: bool = False, brief: bool = False, top: Optional[int] = None, outcome: Optional[int] = None
+) -> Objects:
+    """The same: for each room an object for each outcome, and then one for the room. As `bgview sample --json`."""
+    return Objects(*_answer("sample", rooms, _plan(True, schedules, crashes, seed, group, brief, top, outcome)))
 
 
 def lint(file: Text) -> Answer:
@@ -135,8 +165,7 @@ def lint(file: Text) -> Answer:
 
 def grade(script: Text, goal: Text, commands: Optional[int] = None) -> Answer:
     """Whether the last report of a script satisfies a goal, claim by claim, with at most this number of commands `step` and `crash`. As `bgview grade`."""
-    most = number("commands", LARGEST if commands is None else commands, LARGEST if commands is None else 1000000)
-    return Answer(*_answer("grade", script, *slice_of(goal), most))
+    return Answer(*_answer("grade", script, *slice_of(goal), _unless_none("commands", commands, 1000000)))
 
 
 def fault(code: int) -> str:

@@ -17,6 +17,7 @@ use bgview_command_line::Mode;
 use file_faults::{lint, room_faults, script_faults, transcript_faults, warnings_of};
 use io_text::{DeviceFault, Text};
 use room_files::{Answer, InputFault};
+use room_sample::Threaded;
 use run_search::Progress;
 use script_play::PlayText;
 use std::alloc::Global;
@@ -65,7 +66,7 @@ pub fn show<H: Threads + Sync, P: Progress>(
         Mode::Grade => grade_or_note(alloc, &request.grading, input, notes),
         Mode::Sample => {
             *notes = room_faults(alloc, input)?;
-            Ok(sample_blocks(rt, alloc, input, &request.plan, progress)?)
+            Ok(sample_blocks(&Threaded::new(rt), alloc, input, &request.plan, progress)?)
         }
         Mode::Outcomes => {
             *notes = room_faults(alloc, input)?;

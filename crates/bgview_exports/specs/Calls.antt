@@ -9,6 +9,7 @@ use Rattle.room_files.specs.declared.outcome.Outcome.{Outcome}
 use Rattle.room_files.specs.declared.outcome.Outcome.TheVariants.{AllWell, SomeRefused}
 use Rattle.room_files.specs.declared.fault.InputFault.{InputFault}
 use Rattle.room_files.specs.declared.fault.InputFault.TheVariants.{BadInput, Memory}
+use Rattle.room_sample.specs.declared.sampling.Plan.{Plan}
 use Rattle.script_play.specs.declared.replies.PlayText.{PlayText}
 use Rattle.script_play.specs.Script.{script_says}
 use Rattle.view_grade.specs.Goals.{goal_in}
@@ -16,6 +17,7 @@ use Rattle.view_grade.specs.Grades.{IsGraded}
 use Rattle.view_grade.specs.declared.goal.Claim.{Claim}
 use Rattle.view_grade.specs.declared.goal.GoalFault.{GoalFault}
 use Rattle.view_grade.specs.declared.goal.GoalFault.TheVariants.{NoClaim, NoJoint}
+use Rattle.bgview_exports.specs.declared.asked.SamplePlan.{SamplePlan}
 use Rattle.bgview_exports.specs.declared.given.NoAnswer.{NoAnswer}
 use Rattle.bgview_exports.specs.declared.given.NoAnswer.TheVariants.{TooLong, Fault, BadGoal}
 use Rattle.bgview_exports.specs.declared.given.CallResult.{CallResult}
@@ -56,6 +58,20 @@ IsFaultSaid number outcome output = (output ≡ flat_map fault_line (decimal num
 -- a number that may be left out, as C says it: the largest one says that it is
 abbrev pub number_unless_largest : ℕ → Option ℕ
 number_unless_largest number = if number == 4294967295 then None else Some number
+
+-- how rooms are sampled, as C says it, by one worker
+abbrev pub plan_of : SamplePlan → Plan
+plan_of plan = record {
+  schedules = plan.schedules;
+  crashes = plan.crashes;
+  seed = plan.seed;
+  workers = 1;
+  group = plan.group;
+  brief = plan.brief;
+  top = number_unless_largest plan.top;
+  json = plan.json;
+  outcome = number_unless_largest plan.outcome;
+}
 
 -- ---- what is said of it
 

@@ -10,6 +10,7 @@ ghost use Rattle.script_play.specs.Script.{script_says};
 ghost use Rattle.view_draw.specs.Drawn.{IsDrawn};
 ghost use Rattle.view_outcomes.specs.Blocks.{IsOutcomesFor};
 ghost use Rattle.view_page.specs.Pages.{IsFaultOf, IsPageFor, fault_among};
+ghost use Rattle.view_sample.specs.Sample.{IsSampleFor};
 ghost use Rattle.view_trace.specs.Trace.{IsTraceIn};
 ghost use Rattle.view_transcript.specs.Transcripts.{IsTranscribed};
 ghost use Rattle.view_why.specs.Why.{IsExplanationIn};
@@ -23,6 +24,7 @@ use file_verdicts::judge;
 use io_text::MAX_INPUT;
 use itoa::Buffer;
 use room_files::Answer;
+use room_sample::{OneWorker, Plan};
 use run_picture::Style;
 use run_search::Silent;
 use script_play::{PlayText, play};
@@ -31,6 +33,7 @@ use view_draw::draw;
 use view_grade::{grade, read_goal};
 use view_outcomes::{Search, search_blocks};
 use view_page::page;
+use view_sample::sample_blocks;
 use view_trace::{trace, trace_json};
 use view_transcript::transcribe;
 use view_why::{explain, explain_json};
@@ -109,6 +112,14 @@ pub fn searched(alloc: Global, rooms: &[u8], search: &Search) -> Result<PlayText
 {
     fits(rooms)?;
     Ok(complete(search_blocks(alloc, rooms, search, &mut Silent)?))
+}
+
+/// Runs each room of a file by random schedules, on this thread, and counts the outcomes.
+pub fn sampled(alloc: Global, rooms: &[u8], plan: &Plan) -> Result<PlayText, NoAnswer>
+    ensures { IsAnswerTo rooms.now (IsSampleFor plan.now rooms.now) IsOutOfMemory result }
+{
+    fits(rooms)?;
+    Ok(sample_blocks(&OneWorker, alloc, rooms, plan, &mut Silent)?)
 }
 
 /// Draws a script.

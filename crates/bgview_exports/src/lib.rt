@@ -13,17 +13,22 @@ ghost use Rattle.script_play.specs.Script.{script_says};
 ghost use Rattle.view_draw.specs.Drawn.{IsDrawn};
 ghost use Rattle.view_outcomes.specs.Blocks.{IsOutcomesFor};
 ghost use Rattle.view_page.specs.Pages.{IsFaultOf, IsPageFor, fault_among};
+ghost use Rattle.view_sample.specs.Sample.{IsSampleFor};
 ghost use Rattle.view_trace.specs.Trace.{IsTraceIn};
 ghost use Rattle.view_transcript.specs.Transcripts.{IsTranscribed};
 ghost use Rattle.view_why.specs.Why.{IsExplanationIn};
-ghost use Rattle.bgview_exports.specs.Calls.{IsAnswerTo, IsComplete, IsFaultSaid, IsGiven, IsGradeOf, IsOutOfMemory, number_unless_largest};
+ghost use Rattle.bgview_exports.specs.Calls.{IsAnswerTo, IsComplete, IsFaultSaid, IsGiven, IsGradeOf, IsOutOfMemory, number_unless_largest, plan_of};
 
 mod answers;
+mod asked;
 mod given;
 
 use answers::{
-    checked, drawn, explained, graded, linted, paged, played, said, searched, traced, transcribed,
+    checked, drawn, explained, graded, linted, paged, played, said, sampled, searched, traced,
+    transcribed,
 };
+pub use asked::SamplePlan;
+use asked::{number_unless_largest, plan_of};
 use given::give;
 pub use given::{CallResult, NoAnswer};
 use run_picture::Style;
@@ -120,6 +125,20 @@ pub extern "C" fn bgview_outcomes(
     *ended = give(&searched(alloc, rooms, &search), output);
 }
 
+/// Runs each room of a file by random schedules on this thread, and counts the outcomes, as `bgview sample`.
+#[unsafe(no_mangle)]
+pub extern "C" fn bgview_sample(
+    alloc: Global,
+    rooms: &[u8],
+    plan: &SamplePlan,
+    output: &mut [u8],
+    ended: &mut CallResult,
+)
+    ensures { IsGiven (IsAnswerTo rooms.now (IsSampleFor (plan_of plan.now) rooms.now) IsOutOfMemory) output.old output.new ended.new }
+{
+    *ended = give(&sampled(alloc, rooms, &plan_of(plan)), output);
+}
+
 /// Draws a script as SVG, as `bgview draw`. At 100 `percent` a picture is 1264 pixels wide, unless events or inputs are long; `by_turns` draws a box for each
 /// stretch of a turn.
 #[unsafe(no_mangle)]
@@ -190,15 +209,4 @@ pub extern "C" fn bgview_fault(
     ensures { IsGiven (IsAnswerTo [] (IsComplete (IsFaultSaid number)) IsOutOfMemory) output.old output.new ended.new }
 {
     *ended = give(&said(alloc, number), output);
-}
-
-/// A number that may be left out: the largest one says that it is.
-fn number_unless_largest(number: u32) -> Option<u32>
-    ensures { result ≡ number_unless_largest number }
-{
-    if number == u32::MAX {
-        None
-    } else {
-        Some(number)
-    }
 }

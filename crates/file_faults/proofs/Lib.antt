@@ -1,2 +1,5 @@
 mod Refusing
 mod Walking
+mod LintedRooms
+mod LintedScripts
+mod LintedEvents

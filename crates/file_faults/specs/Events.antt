@@ -1,5 +1,6 @@
 -- What is said of all faults of a transcript's event lines.
-use Rattle.std.specs.Prelude.{ℕ, Bool, List, [], ◌∷◌, ◌++◌, codes, drop, length, map, Result, Ok, Err, if◌then◌else◌}
+use Rattle.std.specs.Prelude.{ℕ, Bool, List, [], ◌∷◌, ◌++◌, codes, drop, length, map, Result, Ok, Err, ◌&&◌, if◌then◌else◌}
+use Rattle.std.specs.Result.{is_err}
 use Rattle.room_spec.specs.Rooms.{RoomSpec}
 use Rattle.room_files.specs.Blocks.{block_extent}
 use Rattle.room_files.specs.Lines.{text_lines}
@@ -70,9 +71,9 @@ met_if opened strangers (Err fault) = strangers
 abbrev pub strangers_after : OpenedParts → MetNames → List ℕ → MetNames
 strangers_after opened strangers text = met_if opened strangers (line_in (first_line text))
 
--- a block among event lines is explained by its first line
+-- a block among event lines is explained by its first line, which is no event line
 abbrev pub begins_late_block : List ℕ → Bool
-begins_late_block text = fits_one (first_line text) (codes "bgsim B" ∷ [])
+begins_late_block text = fits_one (first_line text) (codes "bgsim B" ∷ []) && is_err (line_in (first_line text))
 
 abbrev pub next_event : ℕ → List ℕ → ℕ
 next_event number text = if begins_late_block text then later_line number (length (text_lines (block_in_front text))) else later_line number 1

@@ -1,6 +1,7 @@
 -- What is said of all faults of a file of rooms, and of a transcript.
-use Rattle.std.specs.Prelude.{◌≡◌, ℕ, List, ◌++◌, Result, Ok, Err}
+use Rattle.std.specs.Prelude.{◌≡◌, ℕ, List, [], ◌++◌, Result, Ok, Err}
 use Rattle.std.specs.List.{flat_map}
+use Rattle.history_checker.specs.Verdicts.{FedEvent}
 use Rattle.room_files.specs.Blocks.{Setup}
 use Rattle.room_files.specs.Faults.{FaultAt, text_sentence}
 use Rattle.room_files.specs.Inputs.{all_blocks, blocks_in}
@@ -31,3 +32,8 @@ AreFaultsAfter input (Err fault) said = (refused : List ℕ) × AreRoomFaults in
 
 unfoldable pub AreTranscriptFaults : List ℕ → List ℕ → Type 0
 AreTranscriptFaults input said = AreFaultsAfter input (blocks_in input) said
+
+-- a transcript can be read, and none of its blocks is refused
+abbrev pub IsWhole : Result (Setup × List FedEvent) FaultAt → Type 0
+IsWhole (Ok read) = read.0.refused ≡ []
+IsWhole (Err fault) = ⊥

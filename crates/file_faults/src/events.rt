@@ -228,7 +228,7 @@ fn begins_late_block(text: &[u8]) -> bool
     ensures { result ≡ begins_late_block text.now }
 {
     let (line, _) = split_line(text);
-    fits_one(line, &[BLOCK_LINE])
+    fits_one(line, &[BLOCK_LINE]) && read_line(line).is_err()
 }
 
 /// The number of the line after the event line, or the block, with which a text begins, whose first line has this number.

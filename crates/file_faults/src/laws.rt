@@ -1,11 +1,17 @@
-//! That a script's lines show which commands a service refuses. Each law is what its function ensures.
-ghost use Rattle.std.specs.Prelude.{◌≡◌, List, ℕ, Option, false, is_some, option_map};
+//! What the faults of a file say of the modes that read such files. Each law is what its function ensures.
+ghost use Rattle.std.specs.Prelude.{◌≡◌, ◌↔◌, List, [], ℕ, Option, Ok, IsOk, false, is_some, option_map};
 ghost use Rattle.std.specs.Str.{bytes_eq};
 ghost use Rattle.room_spec.specs.Rooms.{RoomSpec};
-ghost use Rattle.script_play.specs.Play.{OpensNone, refusal_in};
+ghost use Rattle.room_files.specs.Inputs.{all_blocks, input_says};
+ghost use Rattle.room_files.specs.declared.outcome.Outcome.{Outcome as Ending};
+ghost use Rattle.room_files.specs.declared.outcome.Outcome.TheVariants.{AllWell};
+ghost use Rattle.script_play.specs.Play.{IsPlayFor, OpensNone, refusal_in};
+ghost use Rattle.script_play.specs.Script.{script_says};
 ghost use Rattle.service_core.specs.Replies.{OpenRoom, name_in, reply_to, room_after};
 ghost use Rattle.service_core.specs.declared.command.Command.{Command};
 ghost use Rattle.service_core.specs.declared.command.Command.TheVariants.{Begin};
+ghost use Rattle.file_faults.specs.Files.{AreRoomFaults, AreTranscriptFaults, IsWhole};
+ghost use Rattle.file_faults.specs.Scripts.{script_faults};
 ghost use Rattle.file_faults.specs.OpenRooms.{RoomsByName, refusal_of, rooms_after, rooms_begun, simulators_in, simulators_of};
 
 /// If the rooms that are known from a script's lines are those of a service, a command of a line is refused exactly if the service refuses it, for the
@@ -27,4 +33,22 @@ pub fn taken_names_are_found()
         simulators_of spec.name rooms ≡ simulators_in room → simulators_of spec.name (rooms_begun rooms spec) ≡ simulators_in (room_after room (Begin spec)) }
     ensures others { (rooms : RoomsByName) (spec : RoomSpec) (name : List ℕ) → bytes_eq name spec.name ≡ false →
         simulators_of name (rooms_begun rooms spec) ≡ simulators_of name rooms }
+{}
+
+/// Nothing is said of a script exactly if, whenever it is played with the memory that it needs, all is well: each of its lines is a command or belongs to
+/// a block, no block is refused, and no command.
+pub fn scripts_without_faults()
+    ensures played { (script output : List ℕ) (outcome : Ending) → IsPlayFor script (Ok outcome) output → (outcome ≡ AllWell) ↔ (script_faults script ≡ []) }
+    ensures read { (script : List ℕ) → script_faults script ≡ [] → IsOk (script_says script) }
+{}
+
+/// Nothing is said of a file of rooms exactly if none of its blocks is refused.
+pub fn rooms_without_faults()
+    ensures { (input said : List ℕ) → AreRoomFaults input said → (said ≡ []) ↔ ((all_blocks input).refused ≡ []) }
+{}
+
+/// Nothing is said of a transcript exactly if `bgsim check` can read it and refuses none of its blocks: it has a line `events`, and each line after that is an
+/// event of one of its rooms.
+pub fn transcripts_without_faults()
+    ensures { (input said : List ℕ) → AreTranscriptFaults input said → (said ≡ []) ↔ IsWhole (input_says input) }
 {}

@@ -17,3 +17,4 @@ pub use examples::{Example, PartialExamples, example_of, examples_of};
 pub use sampling::{PartialSample, Plan, sample};
 pub use stretch::Stretch;
 pub use tally::{Outcome, States, Tally};
+pub use workers::{OneWorker, Threaded, Workers};

@@ -3,20 +3,10 @@ ghost use Rattle.std.specs.Prelude.{◌≡◌, ◌<◌, ◌≤◌, IfOk, OnErr, 
 ghost use Rattle.room_sample.specs.Samples.{AreAmongAll, IsSampleOf};
 
 use crate::tally::Tally;
-use crate::workers::count_by_workers;
+use crate::workers::Workers;
 use room_spec::Spec;
 use run_search::Progress;
 use std::alloc::{AllocError, Global};
-use std::thread::Threads;
-
-/// How many schedules are run and counted before it is said how many were.
-const A_ROUND: u32 = 1000;
-
-/// How many schedules each of several threads runs and counts in a round; threads are started anew for each round.
-const A_SHARE: u32 = 4000;
-
-/// The most threads at the same time.
-const MOST_WORKERS: u32 = 16;
 
 /// How many bytes are kept for the end of memory at least.
 const LEAST_KEPT: usize = 4 << 20;
@@ -33,8 +23,8 @@ pub struct Plan {
     pub crashes: u32,
     /// What the schedules are drawn from: the same seed gives the same ones.
     pub seed: u32,
-    /// How many threads run schedules at the same time, 1 to 16. A smaller number counts as 1, and a larger one as 16. The outcomes are the same
-    /// by any number.
+    /// How many threads run schedules at the same time if several may, 1 to 16. A smaller number counts as 1, and a larger one as 16. The outcomes
+    /// are the same by any number.
     pub workers: u32,
     /// Whether outcomes that differ only in which simulators hold processes are one.
     pub group: bool,
@@ -64,13 +54,14 @@ pub struct PartialSample {
 /// If an allocation fails, the sample is that of the schedules that were counted before. A block of memory that was kept meanwhile is
 /// then free, so that this sample can be written.
 #[tactic(auto, using(crate::proofs::OneMore::no_sample))]
-pub fn sample<R: Threads + Sync, P: Progress>(
-    rt: &R,
+pub fn sample<W: Workers, P: Progress>(
+    workers: &W,
     alloc: Global,
     spec: &Spec,
     plan: &Plan,
     progress: &mut P,
 ) -> PartialSample
+    requires { W.may_count }
     ensures sample { IsSampleOf spec.now plan.now result.schedules result.outcomes }
     ensures few { result.schedules ≤ plan.now.schedules }
     ensures whole { OnOk result.ending (result.schedules ≡ plan.now.schedules) }
@@ -82,7 +73,15 @@ pub fn sample<R: Threads + Sync, P: Progress>(
     let mut schedules = 0;
     while schedules < plan.schedules {
         progress.reached(u64::from(schedules));
-        match count_round(rt, alloc, spec, plan, &mut kept, &mut outcomes, schedules) {
+        match count_round(
+            workers,
+            alloc,
+            spec,
+            plan,
+            &mut kept,
+            &mut outcomes,
+            schedules,
+        ) {
             Ok(counted) => schedules = counted,
             Err(refused) => {
                 return PartialSample {
@@ -103,8 +102,8 @@ pub fn sample<R: Threads + Sync, P: Progress>(
 /// Runs the room by the schedules of one round more, after this many, and counts their outcomes. Gives how many schedules are counted then.
 /// An `Err` leaves the outcomes as they were.
 #[tactic(auto, using(crate::proofs::Parts::part_more))]
-fn count_round<R: Threads + Sync>(
-    rt: &R,
+fn count_round<W: Workers>(
+    workers: &W,
     alloc: Global,
     spec: &Spec,
     plan: &Plan,
@@ -112,6 +111,7 @@ fn count_round<R: Threads + Sync>(
     outcomes: &mut Tally,
     done: u32,
 ) -> Result<u32, AllocError>
+    requires may { W.may_count }
     requires before { IsSampleOf spec.now plan.now done outcomes.old }
     requires left { done < plan.now.schedules }
     ensures sample { IfOk result (λ counted. IsSampleOf spec.now plan.now counted outcomes.new) }
@@ -120,9 +120,8 @@ fn count_round<R: Threads + Sync>(
     ensures err { OnErr result (outcomes.new ≡ outcomes.old) }
 {
     keep_memory(kept, outcomes.len())?;
-    let workers = plan.workers.clamp(1, MOST_WORKERS);
-    let count = (plan.schedules - done).min(round_of(workers));
-    let later = count_by_workers(rt, alloc, spec, plan, done, count, workers)?;
+    let count = (plan.schedules - done).min(workers.round(plan));
+    let later = workers.count(alloc, spec, plan, done, count)?;
     outcomes.add_all(later)?;
     Ok(done + count)
 }
@@ -130,15 +129,4 @@ fn count_round<R: Threads + Sync>(
 /// Makes the block of memory that is kept large enough for this many outcomes.
 fn keep_memory(kept: &mut Vec<u8>, outcomes: usize) -> Result<(), AllocError> {
     kept.reserve_exact(outcomes.saturating_mul(KEPT_EACH).max(LEAST_KEPT))
-}
-
-/// How many schedules this many threads run before it is said how many were.
-fn round_of(workers: u32) -> u32
-    ensures { 1 ≤ result }
-{
-    if workers <= 1 {
-        A_ROUND
-    } else {
-        A_SHARE.saturating_mul(workers)
-    }
 }

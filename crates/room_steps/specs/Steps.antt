@@ -56,7 +56,8 @@ pub record IsNextStep (room : RoomState) (i : ℕ) (step : AtomicStep) : Type 0 
   pub place : IsPlaceAt (sizes_in room.spec) step.place (index_of_move step.operation)
   pub word : step.word ≡ slice_index room.words (index_of_move step.operation)
 
--- And what it left: where the step ended its turn, what is left to do for the process.
+-- And what it left: what the word is in the room after it; and where the step ended its turn, what is left to do for the process.
 pub record IsStepOf (room : RoomState) (i : ℕ) (step : AtomicStep) : Type 0 where
   pub next : IsNextStep room i step
+  pub after : step.after ≡ slice_index (room_after_step room i).words (index_of_move step.operation)
   pub ended : step.end ≡ end_in (mind_in (room_after_step room i) i) step.process

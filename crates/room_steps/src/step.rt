@@ -1,14 +1,16 @@
 //! One atomic step, seen.
-ghost use Rattle.std.specs.Prelude.{◌≡◌, ◌≢◌, ◌<◌, ◌^◌, None, MatchOption, IfSome};
+ghost use Rattle.std.specs.Prelude.{◌≡◌, ◌≢◌, ◌<◌, ◌^◌, None, MatchOption, IfSome, slice_index};
+ghost use Rattle.room_spec.specs.Sizes.{sizes_in};
 ghost use Rattle.simulator.specs.Moves.{IsOperation};
 ghost use Rattle.simulator.specs.Ranges.{IsMind};
+ghost use Rattle.view_table.specs.Places.{IsPlace, index_of};
 ghost use Rattle.room_core.specs.Calls.{room_after_step, step_reply};
 ghost use Rattle.room_core.specs.declared.reply.StepReply.TheVariants.{Stepped};
 ghost use Rattle.room_steps.specs.Steps.{IsNextStep, IsStepOf, end_in, index_of_move, mind_in, turn_number};
 
 use room_core::{RoomCore, StepReply};
 use simulator::{Goal, Line, Mind, Move};
-use view_table::{Place, place_at};
+use view_table::{Place, index, place_at};
 
 /// An atomic step of one simulator, and what there was to see before and after it.
 #[derive(Clone, Copy)]
@@ -29,12 +31,15 @@ pub struct AtomicStep {
     pub place: Place,
     /// What the word was before: the answer of a load.
     pub word: u64,
+    /// What the word is after it.
+    pub after: u64,
     /// If the step ended the turn, what is left to do for the process.
     pub end: Option<Goal>,
 }
 
 /// Lets simulator `i` of a room take one atomic step, if it has one to take, as [`RoomCore::step`] does. Gives the
 /// answer, and the step that it took, if it took one.
+#[tactic(auto, using(crate::proofs::Words::place_after))]
 pub fn take_step(room: &mut RoomCore, i: usize) -> (StepReply, Option<AtomicStep>)
     ensures reply { result.0 ≡ step_reply room.old i }
     ensures room { room.new ≡ room_after_step room.old i }
@@ -49,7 +54,8 @@ pub fn take_step(room: &mut RoomCore, i: usize) -> (StepReply, Option<AtomicStep
         unreachable!() // it had a step to take
     };
     let end = end_of(room.mind(i), step.process);
-    (reply, Some(AtomicStep { end, ..step }))
+    let after = word_at(room, step.place);
+    (reply, Some(AtomicStep { after, end, ..step }))
 }
 
 /// The step that a simulator takes if it takes one. `None` if it has none to take.
@@ -74,8 +80,17 @@ fn next_step(room: &RoomCore, i: usize) -> Option<AtomicStep>
         operation,
         place: place_at(&room.spec().shape(), index),
         word: room.word(index),
+        after: 0,
         end: None,
     })
+}
+
+/// What the word at a place of the room is.
+fn word_at(room: &RoomCore, place: Place) -> u64
+    requires { IsPlace (sizes_in room.now.spec) place }
+    ensures { result ≡ slice_index room.now.words (index_of (sizes_in room.now.spec) place) }
+{
+    room.word(index(&room.spec().shape(), place))
 }
 
 /// What a simulator of the room has in mind.

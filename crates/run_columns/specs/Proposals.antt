@@ -1,11 +1,11 @@
 -- What simulators propose in an agreement, and which proposal is chosen.
-use Rattle.std.specs.Prelude.{ℕ, ◌+◌, ◌==◌, nat_le, nat_lt, ◌&&◌, Bool, true, false, List, length, min, Option, Some, None, fold, replicate, slice_set, if◌then◌else◌}
+use Rattle.std.specs.Prelude.{ℕ, ◌+◌, ◌==◌, nat_le, nat_lt, ◌&&◌, Bool, true, false, List, length, min, Option, Some, None, fold, position, replicate, slice_set, take, not, ◌||◌, if◌then◌else◌}
 use Rattle.std.specs.List.{filter, list_any}
 use Rattle.room_spec.specs.declared.spec.TheConstants.{MAX_MEMORY_WORDS}
 use Rattle.transcript.specs.declared.event.Event.{Event}
 use Rattle.transcript.specs.declared.event.Event.TheVariants.{Write, Snap, Decide}
 use Rattle.run_columns.specs.declared.mark.Deed.{Deed}
-use Rattle.run_columns.specs.declared.mark.Deed.TheVariants.{Propose, Withdraw}
+use Rattle.run_columns.specs.declared.mark.Deed.TheVariants.{Look, Propose, Stand, Withdraw}
 use Rattle.run_columns.specs.declared.mark.Mark.{Mark}
 use Rattle.run_columns.specs.declared.mark.Mark.TheVariants.{Step, Crash}
 use Rattle.run_columns.specs.declared.mark.Step.{Step as StepMark}
@@ -13,7 +13,8 @@ use Rattle.run_columns.specs.declared.proposals.Agreement.{Agreement}
 use Rattle.run_columns.specs.declared.proposals.Fate.{Fate}
 use Rattle.run_columns.specs.declared.proposals.Fate.TheVariants.{Open, Chosen, Dropped}
 use Rattle.run_columns.specs.declared.sought.Sought.{Sought}
-use Rattle.run_columns.specs.Effects.{chosen}
+use Rattle.run_columns.specs.Columns.{simulator_of}
+use Rattle.run_columns.specs.Effects.{by_any, chosen}
 use Rattle.run_columns.specs.Sought.{is_sought, is_sought_step}
 
 -- the steps by which a simulator does this in an agreement
@@ -88,3 +89,27 @@ is_still_open Dropped = false
 -- whether a simulator has a proposal in an agreement that may still be chosen
 abbrev pub is_open : Agreement → ℕ → List Mark → List Event → Bool
 is_open agreement simulator marks events = has_done agreement Propose simulator marks && is_still_open (fate_of agreement simulator marks events)
+
+-- ---- when the choice is made
+
+-- what happened up to this place, or all
+abbrev pub up_to : Option ℕ → List Mark → List Mark
+up_to None marks = marks
+up_to (Some place) marks = take place marks
+
+-- what happened before a simulator left the agreement with its proposal kept
+abbrev pub before_one_stands : Agreement → List Mark → List Mark
+before_one_stands agreement marks = up_to (position (is_sought (by_any Stand agreement.process agreement.round)) marks) marks
+
+abbrev pub has_left : Agreement → ℕ → List Mark → Bool
+has_left agreement simulator marks = has_done agreement Stand simulator marks || has_done agreement Withdraw simulator marks
+
+-- by this a simulator looked into the agreement, and it hasn't left
+abbrev pub has_looked_only : Agreement → List Mark → Mark → Bool
+has_looked_only agreement marks mark = is_sought (by_any Look agreement.process agreement.round) mark && not (has_left agreement (simulator_of mark) marks)
+
+-- The proposal that is chosen for good, if one is: a simulator has left the agreement with its proposal kept, and each that looked before that, and so
+-- may keep its own, has left. A simulator that looks later sees that a proposal was kept, and withdraws.
+abbrev pub choice_of : Agreement → List Mark → Option ℕ
+choice_of agreement marks =
+    if list_any (has_looked_only agreement marks) (before_one_stands agreement marks) then None else chosen agreement.process agreement.round marks

@@ -66,7 +66,7 @@ fn event_step(
     }
 }
 
-fn by_any(deed: Deed, process: u8, round: u8) -> Sought
+pub(crate) fn by_any(deed: Deed, process: u8, round: u8) -> Sought
     ensures { result ≡ by_any deed process round }
 {
     Sought {

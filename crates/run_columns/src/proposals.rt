@@ -1,8 +1,10 @@
 //! What simulators propose in an agreement, and which proposal is chosen.
-ghost use Rattle.std.specs.Prelude.{◌≡◌, ◌<◌, IfSome, length};
-ghost use Rattle.run_columns.specs.Proposals.{by_one, fate_of, has_done, is_open, is_resolved, is_snapshot_of, is_still_open, is_that, next_agreement, proposal, snapshots_of, stored_in, word_number, word_stored, words_of};
+ghost use Rattle.std.specs.Prelude.{◌≡◌, ◌<◌, IfSome, length, position};
+ghost use Rattle.std.specs.List.{list_any};
+ghost use Rattle.run_columns.specs.Sought.{is_sought};
+ghost use Rattle.run_columns.specs.Proposals.{before_one_stands, by_one, choice_of, fate_of, has_left, has_looked_only, has_done, is_open, is_resolved, is_snapshot_of, is_still_open, is_that, next_agreement, proposal, snapshots_of, stored_in, word_number, word_stored, words_of};
 
-use crate::effects::chosen;
+use crate::effects::{by_any, chosen};
 use crate::mark::{Deed, Mark, Step};
 use crate::sought::Sought;
 use room_spec::MAX_MEMORY_WORDS;
@@ -104,6 +106,51 @@ impl Agreement {
         self.has_done(Deed::Propose, simulator, marks)
             && self.fate(simulator, marks, events).is_still_open()
     }
+
+    /// The simulator whose proposal is chosen for good, if one is: it can't be read while another simulator is inside.
+    pub fn choice(self, marks: &[Mark]) -> Option<u8>
+        ensures { result ≡ choice_of self marks.now }
+    {
+        if self.is_one_undecided(marks, self.before_one_stands(marks)) {
+            return None;
+        }
+        chosen(self.process, self.round, marks)
+    }
+
+    /// Whether by one of the earlier marks a simulator looked into the agreement that hasn't left it.
+    fn is_one_undecided(self, marks: &[Mark], earlier: &[Mark]) -> bool
+        ensures { result ≡ list_any (has_looked_only self marks.now) earlier.now }
+    {
+        earlier
+            .iter()
+            .any(|mark| self.has_looked_only(marks, *mark))
+    }
+
+    /// What happened before a simulator left the agreement with its proposal kept.
+    fn before_one_stands(self, marks: &[Mark]) -> &[Mark]
+        ensures { result.now ≡ before_one_stands self marks.now }
+    {
+        let kept = by_any(Deed::Stand, self.process, self.round);
+        match first_at(kept, marks) {
+            None => marks,
+            Some(place) => &marks[..place],
+        }
+    }
+
+    /// Whether by this mark a simulator looked into the agreement that hasn't left it.
+    fn has_looked_only(self, marks: &[Mark], mark: Mark) -> bool
+        ensures { result ≡ has_looked_only self marks.now mark }
+    {
+        by_any(Deed::Look, self.process, self.round).is_at(mark)
+            && !self.has_left(mark.simulator(), marks)
+    }
+
+    fn has_left(self, simulator: u8, marks: &[Mark]) -> bool
+        ensures { result ≡ has_left self simulator marks.now }
+    {
+        self.has_done(Deed::Stand, simulator, marks)
+            || self.has_done(Deed::Withdraw, simulator, marks)
+    }
 }
 
 impl Fate {
@@ -139,6 +186,14 @@ impl Step {
         }
         Some((at, self.stored))
     }
+}
+
+/// The place of the first step that does what is asked for.
+fn first_at(sought: Sought, marks: &[Mark]) -> Option<usize>
+    ensures place { result ≡ position (is_sought sought) marks.now }
+    ensures within { IfSome result (λ place. place < length marks.now) }
+{
+    marks.iter().position(|mark| sought.is_at(*mark))
 }
 
 /// The number of a word, and what a step stores in it that does what is asked for.

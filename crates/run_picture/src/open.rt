@@ -1,12 +1,12 @@
 //! The proposals that may still be chosen, in the lane of the process whose snapshot they are.
 ghost use Rattle.std.specs.Prelude.{◌≡◌, ◌++◌, IfOk, OnOk};
 ghost use Rattle.simulator_lanes.specs.Panels.{events_in};
-ghost use Rattle.run_picture.specs.Opens.{open_label, open_proposals, open_shapes, open_words, proposal_if, shapes_of};
+ghost use Rattle.run_picture.specs.Opens.{choice_words, chosen_words, open_label, open_proposals, open_shapes, open_words, owner_words, proposal_if, shapes_of};
 
 use io_text::Text;
 use picture_shapes::{Colour, Frame, Point, Sheet, write_decimal};
 use run_columns::Agreement;
-use simulator_lanes::{LEFT, Panel, SMALL, clipped, counts_of, write_proposer};
+use simulator_lanes::{LEFT, Panel, SMALL, clipped, counts_of, write_proposer, write_simulator};
 use std::alloc::{AllocError, Global};
 
 /// Writes which proposals may still be chosen for the next snapshot of a process, if some may.
@@ -19,22 +19,24 @@ pub(crate) fn add_open(
     ensures { OnOk result (sheet.new ≡ sheet.old ++ open_shapes y panel.now process) }
 {
     let agreement = Agreement::next(process, panel.events());
+    let choice = agreement.choice(panel.marks());
     let proposals = open_proposals(sheet.alloc(), panel, agreement)?;
-    add_open_words(sheet, y, agreement, proposals.as_bytes())
+    add_open_words(sheet, y, agreement, choice, proposals.as_bytes())
 }
 
 fn add_open_words(
     sheet: &mut Sheet,
     y: u64,
     agreement: Agreement,
+    choice: Option<u8>,
     proposals: &[u8],
 ) -> Result<(), AllocError>
-    ensures { OnOk result (sheet.new ≡ sheet.old ++ shapes_of y agreement proposals.now) }
+    ensures { OnOk result (sheet.new ≡ sheet.old ++ shapes_of y agreement choice proposals.now) }
 {
     if proposals.is_empty() {
         return Ok(());
     }
-    let words = open_words(sheet.alloc(), agreement, proposals)?;
+    let words = open_words(sheet.alloc(), agreement, choice, proposals)?;
     add_open_label(sheet, y, words.as_bytes())
 }
 
@@ -50,15 +52,47 @@ fn add_open_label(sheet: &mut Sheet, y: u64, words: &[u8]) -> Result<(), AllocEr
 }
 
 #[tactic(auto, unfolding(crate::specs::Opens::open_words))]
-fn open_words(alloc: Global, agreement: Agreement, proposals: &[u8]) -> Result<Text, AllocError>
-    ensures { IfOk result (λ words. words ≡ open_words agreement proposals.now) }
+fn open_words(
+    alloc: Global,
+    agreement: Agreement,
+    choice: Option<u8>,
+    proposals: &[u8],
+) -> Result<Text, AllocError>
+    ensures { IfOk result (λ words. words ≡ open_words agreement choice proposals.now) }
 {
     let mut words = Text::new(alloc);
     words.put(b"round ")?;
     write_decimal(&mut words, u64::from(agreement.round))?;
     words.put(b" is not resolved")?;
+    write_choice(&mut words, choice)?;
     words.put(proposals)?;
     Ok(words)
+}
+
+/// Writes whose proposal is chosen for good, if one is.
+fn write_choice(output: &mut Text, choice: Option<u8>) -> Result<(), AllocError>
+    ensures { OnOk result (output.new ≡ output.old ++ choice_words choice) }
+{
+    match choice {
+        None => Ok(()),
+        Some(simulator) => write_chosen(output, simulator),
+    }
+}
+
+#[tactic(auto, unfolding(crate::specs::Opens::chosen_words))]
+fn write_chosen(output: &mut Text, simulator: u8) -> Result<(), AllocError>
+    ensures { OnOk result (output.new ≡ output.old ++ chosen_words simulator) }
+{
+    output.put(b"; chosen: ")?;
+    write_owner(output, simulator)
+}
+
+#[tactic(auto, unfolding(crate::specs::Opens::owner_words))]
+fn write_owner(output: &mut Text, simulator: u8) -> Result<(), AllocError>
+    ensures { OnOk result (output.new ≡ output.old ++ owner_words simulator) }
+{
+    write_simulator(output, simulator)?;
+    output.put(b"'s, not readable")
 }
 
 #[tactic(auto, unfolding(crate::specs::Opens::open_proposals))]

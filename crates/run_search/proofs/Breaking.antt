@@ -1,8 +1,10 @@
 -- Runs that break a task, with the fewest events.
-use Rattle.std.proofs.Common.{◌≡◌, ℕ, ◌+◌, ◌<◌, ◌≤◌, List, length, Option, Some, None, refl, sym, ap, ◌∙◌, subst, arith, inl, inr}
+use Rattle.std.proofs.Common.{◌≡◌, ℕ, ◌+◌, ◌<◌, ◌≤◌, List, length, get_or, take, Option, Some, None, refl, sym, ap, ◌∙◌, subst, arith, inl, inr}
 use Rattle.std.specs.Prelude.{slice_get}
 use Rattle.std.specs.List.{Contains}
 use Rattle.std.proofs.lemmas.Bool.{cases_eq}
+use Rattle.std.proofs.lemmas.List.{take_all, take_more}
+use Rattle.std.proofs.lemmas.List.Sums.{sum_by_push}
 use Rattle.std.proofs.lemmas.Option.{get_or_from_slice_get, none-some, same_Some, slice_get-get_or, slice_get_within}
 use Rattle.room_spec.specs.Rooms.{RoomSpec, processes}
 use Rattle.transcript.specs.declared.event.Event.{Event}
@@ -12,9 +14,9 @@ use Rattle.run_search.specs.declared.local_state.LocalState.{LocalState}
 use Rattle.run_search.specs.declared.pick.Question.TheVariants.{Task}
 use Rattle.run_search.specs.declared.task.Breaking.{Breaking}
 use Rattle.run_search.specs.Breaking.{IsLeastBreaking, IsLeastBreakingIn, IsLeastPick}
-use Rattle.run_search.specs.Nodes.{CoverAllReachable, Covers, IsRunTo, Node}
+use Rattle.run_search.specs.Nodes.{CoverAllReachable, Covers, IsRunTo, Node, set_of}
 use Rattle.run_search.specs.Picks.{ArePicks, Breaks}
-use Rattle.run_search.specs.States.{State, events_in, state_of}
+use Rattle.run_search.specs.States.{State, blank, events_in, events_of, state_of}
 use Rattle.run_search.specs.Tasks.{AreFewInputs, IsShortestBreaking, decided_values}
 use Rattle.run_search.proofs.Answering.{same_breaks, same_keeps}
 use Rattle.run_search.proofs.Counting.{counted}
@@ -180,6 +182,39 @@ before_here spec most nodes index node first state here before found fewer = rec
     | inr apart ↦ before.least breaking is i one other (omega (arith, below, apart)) one_is covers breaks
   ];
 }
+
+-- no state in this node has fewer events than the one before
+pub kept_here : (spec : RoomSpec) (most : ℕ) (nodes : List Node) (index : ℕ) (node : Node) (first : Breaking) → slice_get nodes index ≡ Some node → IsLeastBreaking spec most nodes index (Some first)
+    → ((state : List LocalState) → Covers spec node state → events_in first.state.items ≤ events_in state) → IsLeastBreaking spec most nodes (index + 1) (Some first)
+kept_here spec most nodes index node first here before fewer = record {
+  none = λ is. absurd (none-some first (sym is));
+  some = before.some;
+  least = λ breaking is i one other below one_is covers breaks. elim (cases_eq i index) [
+    | inl same ↦
+        let less = fewer other (subst (λ (n : Node). Covers spec n other) (same_node nodes i index one node same one_is here) covers) in
+        let equal = ap (λ (b : Breaking). events_in b.state.items) (same_Some first breaking is) in
+        omega (arith, less, equal)
+    | inr apart ↦ before.least breaking is i one other (omega (arith, below, apart)) one_is covers breaks
+  ];
+}
+
+-- the fewest events of the first processes, and of one more
+pub fewest_more : (node : Node) (p sum fewest : ℕ) → ((state : List LocalState) → p ≤ length state → ((q : ℕ) → q < p → Contains (set_of node q) (get_or state q blank)) → sum ≤ events_in (take p state))
+    → ((local : LocalState) → Contains (set_of node p) local → fewest ≤ events_of local)
+    → (state : List LocalState) → p + 1 ≤ length state → ((q : ℕ) → q < p + 1 → Contains (set_of node q) (get_or state q blank)) → sum + fewest ≤ events_in (take (p + 1) state)
+fewest_more node p sum fewest before last state long each =
+    let less = before state (omega (arith, long)) (λ q below. each q (omega (arith, below))) in
+    let one = last (get_or state p blank) (each p (omega arith)) in
+    let more : events_in (take (p + 1) state) ≡ events_in (take p state) + events_of (get_or state p blank) =
+    ap events_in (take_more state p blank (omega (arith, long))) ∙ sum_by_push events_of (take p state) (get_or state p blank) in
+    omega (arith, less, one, more)
+
+pub fewest_all : (spec : RoomSpec) (node : Node) (p sum : ℕ) → processes spec ≤ p → p ≤ processes spec → ((state : List LocalState) → p ≤ length state → ((q : ℕ) → q < p → Contains (set_of node q) (get_or state q blank)) → sum ≤ events_in (take p state))
+    → (state : List LocalState) → Covers spec node state → sum ≤ events_in state
+fewest_all spec node p sum past inside few state covers =
+    let less = few state (omega (arith, inside, covers.width)) (λ q below. covers.each q (omega (arith, below, inside))) in
+    let all = ap events_in (take_all p state (omega (arith, past, covers.width))) in
+    omega (arith, less, all)
 
 -- that in this node has fewer events than the one before
 pub fewer_here : (spec : RoomSpec) (most : ℕ) (nodes : List Node) (index : ℕ) (node : Node) (first : Breaking) (state : State) → slice_get nodes index ≡ Some node → IsLeastBreaking spec most nodes index (Some first) → IsLeastBreakingIn spec most node (Some state)

@@ -10,7 +10,7 @@ use Rattle.room_spec.specs.Rooms.{RoomSpec, processes}
 use Rattle.transcript.proofs.CallerLemmas.{slice_get-append, slice_get-push}
 use Rattle.run_search.specs.declared.local_state.LocalState.{LocalState}
 use Rattle.run_search.specs.declared.local_state.Origin.{Origin}
-use Rattle.run_search.specs.Nodes.{AreComplete, AreGathered, AreWithinRounds, Changes, CoverAllReachable, Covers, GoesAlone, HasEdge, HasEdges, HasEdgesBelow, HasParent, IsBehind, IsBelow, IsBelowLater, IsBelowOneWithEdges, IsFirst, IsFirstNode, IsGrown, IsNext, IsNodeAfter, IsSetClosed, IsWhole, IsWithinRounds, LeadsTo, Node, NodesGrow, set_of}
+use Rattle.run_search.specs.Nodes.{AreComplete, AreGathered, AreWithinRounds, Changes, CoverAllReachable, Covers, GoesAlone, HasEdge, HasEdges, HasEdgesBelow, HasParent, IsBehind, IsBelow, IsBelowLater, IsBelowOneWithEdges, IsEdge, IsFirst, IsFirstNode, IsGrown, IsNext, IsNodeAfter, IsSetClosed, IsWhole, IsWithinRounds, LeadsTo, Node, NodesGrow, set_of}
 use Rattle.run_search.specs.States.{blank, local_of, state_of}
 use Rattle.run_search.specs.Steps.{moved_by}
 use Rattle.run_search.proofs.Closing.{first_within, moved_within, read_there, single_within}
@@ -58,6 +58,7 @@ first_whole spec node first = record {
   width = first.width;
   closed = λ p within. (first.sets p within).closed;
   rounds = λ p within. grown_within spec node.row p (local_of spec [] p ∷ []) (set_of node p) (first.sets p within) (single_within spec (local_of spec [] p) (first_within spec p));
+  some = λ p within. (local_of spec [] p, (first.sets p within).kept (local_of spec [] p) (itself (local_of spec [] p)));
 }
 
 -- ---- the next node
@@ -93,6 +94,10 @@ next_whole spec node to p local next whole within there changes is = record {
   rounds = λ q below. elim (cases_eq q p) [
     | inl same ↦ subst (λ (r : ℕ). AreWithinRounds spec (set_of to r)) (sym same) (grown_within spec to.row p (next ∷ []) (set_of to p) is.own (single_within spec next (moved_within spec node.row p local next (whole.rounds p within local there) changes.moves)))
     | inr other ↦ grown_within spec to.row q (set_of node q) (set_of to q) (is.others q below other) (whole.rounds q below)
+  ];
+  some = λ q below. elim (cases_eq q p) [
+    | inl same ↦ subst (λ (r : ℕ). (one : LocalState) × Contains (set_of to r) one) (sym same) (next, is.own.kept next (itself next))
+    | inr other ↦ let before = whole.some q below in (before.0, (is.others q below other).kept before.0 before.1)
   ];
 }
 
@@ -135,7 +140,7 @@ gathered_more spec nodes j p node to local next gathered is within there changes
         each = λ i one positive one_is. elim (cases_lt i (length nodes)) [
           | inl below ↦
               let before = gathered.sound.each i one positive (sym (slice_get-append nodes (to ∷ []) i below) ∙ one_is) in
-              record { before = before.before; earlier = before.earlier; there = slice_get-append nodes (to ∷ []) one.origin.from (slice_get_within nodes one.origin.from before.before before.there) ∙ before.there; after = before.after }
+              record { before = before.before; earlier = before.earlier; there = slice_get-append nodes (to ∷ []) one.origin.from (slice_get_within nodes one.origin.from before.before before.there) ∙ before.there; after = before.after; edge = before.edge }
           | inr past ↦
               let at = last i one past one_is in
               subst (HasParent spec (nodes ++ to ∷ []) i) at.1
@@ -144,6 +149,7 @@ gathered_more spec nodes j p node to local next gathered is within there changes
                 earlier = let from = ap (λ (o : Origin). o.from) origin in omega (arith, some, at.0, from);
                 there = ap (λ (o : Origin). slice_get (nodes ++ to ∷ []) o.from) origin ∙ slice_get-append nodes (to ∷ []) j some ∙ is;
                 after = subst (λ (o : Origin). IsNodeAfter spec node o.process o.local to) (sym origin) (next_after spec node to p local next within there changes leads);
+                edge = subst (λ (o : Origin). IsEdge spec node o.process o.local to) (sym origin) (record { next = next; changes = changes; leads = leads });
               })
         ];
       };

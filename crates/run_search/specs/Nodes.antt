@@ -153,12 +153,32 @@ pub record IsNodeAfter (spec : RoomSpec) (before : Node) (process : ℕ) (local 
   pub others : (q : ℕ) (to : LocalState) → q < processes spec → (q ≡ process → ⊥) → Contains (set_of node q) to
       → IsComeTo spec node.row q (set_of before q) to
 
+-- the node of the first state
+pub record IsFirst (spec : RoomSpec) (node : Node) : Type 0 where
+  pub width : length node.sets ≡ processes spec
+  pub row : node.row ≡ lasts (state_of spec [])
+  pub sets : (p : ℕ) → p < processes spec → IsGrown spec node.row p (local_of spec [] p ∷ []) (set_of node p)
+
+-- the node that process p leads to by a write after which it is in this local state
+pub record IsNext (spec : RoomSpec) (before : Node) (p : ℕ) (next : LocalState) (node : Node) : Type 0 where
+  pub width : length node.sets ≡ processes spec
+  pub row : node.row ≡ slice_set before.row p next.last
+  pub own : IsGrown spec node.row p (next ∷ []) (set_of node p)
+  pub others : (q : ℕ) → q < processes spec → (q ≡ p → ⊥) → IsGrown spec node.row q (set_of before q) (set_of node q)
+
+-- the node to which a write of process p leads that changes memory, from this local state
+pub record IsEdge (spec : RoomSpec) (before : Node) (p : ℕ) (local : LocalState) (node : Node) : Type 0 where
+  pub next : LocalState
+  pub changes : Changes spec before.row p local next
+  pub leads : IsNext spec before p next node
+
 -- the node comes after an earlier one
 pub record HasParent (spec : RoomSpec) (nodes : List Node) (index : ℕ) (node : Node) : Type 0 where
   pub before : Node
   pub earlier : node.origin.from < index
   pub there : slice_get nodes node.origin.from ≡ Some before
   pub after : IsNodeAfter spec before node.origin.process node.origin.local node
+  pub edge : IsEdge spec before node.origin.process node.origin.local node
 
 -- each node but the first comes after an earlier one
 pub record AreSound (spec : RoomSpec) (nodes : List Node) : Type 0 where
@@ -179,19 +199,7 @@ pub record IsWhole (spec : RoomSpec) (node : Node) : Type 0 where
   pub width : length node.sets ≡ processes spec
   pub closed : IsClosed spec node
   pub rounds : (p : ℕ) → p < processes spec → AreWithinRounds spec (set_of node p)
-
--- the node of the first state
-pub record IsFirst (spec : RoomSpec) (node : Node) : Type 0 where
-  pub width : length node.sets ≡ processes spec
-  pub row : node.row ≡ lasts (state_of spec [])
-  pub sets : (p : ℕ) → p < processes spec → IsGrown spec node.row p (local_of spec [] p ∷ []) (set_of node p)
-
--- the node that process p leads to by a write after which it is in this local state
-pub record IsNext (spec : RoomSpec) (before : Node) (p : ℕ) (next : LocalState) (node : Node) : Type 0 where
-  pub width : length node.sets ≡ processes spec
-  pub row : node.row ≡ slice_set before.row p next.last
-  pub own : IsGrown spec node.row p (next ∷ []) (set_of node p)
-  pub others : (q : ℕ) → q < processes spec → (q ≡ p → ⊥) → IsGrown spec node.row q (set_of before q) (set_of node q)
+  pub some : (p : ℕ) → p < processes spec → (local : LocalState) × Contains (set_of node p) local
 
 -- the nodes that a search has so far
 pub record AreGathered (spec : RoomSpec) (nodes : List Node) : Type 0 where

@@ -1,6 +1,9 @@
 //! The nodes of all runs.
-ghost use Rattle.std.specs.Prelude.{◌≡◌, ◌<◌, ◌≤◌, ◌⊎◌, ◌∷◌, ◌++◌, [], ℕ, true, Some, IfOk, OnOk, length, slice_get};
+ghost use Rattle.std.specs.Prelude.{◌≡◌, ◌<◌, ◌≤◌, ◌⊎◌, ◌∷◌, ◌++◌, [], ℕ, List, Option, true, false, Some, IfErr, IfOk, OnOk, length, slice_get};
+ghost use Rattle.std.specs.List.{Contains};
 ghost use Rattle.room_spec.specs.Rooms.{processes};
+ghost use Rattle.run_search.specs.Limits.{AreListed, AreTooMany, IsListed, IsNotBelow, IsSearched};
+ghost use Rattle.run_search.specs.declared.fault.SearchFault.TheVariants.{TooManyNodes};
 ghost use Rattle.run_search.specs.Nodes.{AreGathered, CoverAllReachable, HasEdge, HasEdges, HasEdgesBelow, IsBelow, IsBelowLater, Node as NodeValue, NodesGrow, set_of};
 ghost use Rattle.run_search.specs.declared.local_state.LocalState.{LocalState as LocalValue};
 
@@ -24,7 +27,7 @@ pub struct Explored {
 ///
 /// # Errors
 ///
-/// `TooManyNodes` after more than `limit` nodes; `OutOfMemory` if an allocation fails.
+/// `TooManyNodes` if there are more than `limit` nodes; `OutOfMemory` if an allocation fails.
 pub fn explore<P: Progress>(
     alloc: Global,
     spec: &Spec,
@@ -34,6 +37,7 @@ pub fn explore<P: Progress>(
     ensures gathered { IfOk result (λ explored. AreGathered spec.now explored.nodes.items) }
     ensures covers { IfOk result (λ explored. CoverAllReachable spec.now explored.nodes.items) }
     ensures within { IfOk result (λ explored. length explored.nodes.items ≤ limit) }
+    ensures beyond { IfErr result (λ fault. fault ≡ TooManyNodes → AreTooMany spec.now limit) }
 {
     let mut explored = open(alloc, spec)?;
     let mut cursor = 0;
@@ -50,7 +54,7 @@ pub fn explore<P: Progress>(
 
 /// The node of the state before the first event, alone.
 fn open(alloc: Global, spec: &Spec) -> Result<Explored, AllocError>
-    ensures { IfOk result (λ explored. AreGathered spec.now explored.nodes.items) }
+    ensures { IfOk result (IsSearched spec.now) }
 {
     let first = Node::first(alloc, spec)?;
     let nodes = Vec::new(alloc);
@@ -63,9 +67,9 @@ fn open(alloc: Global, spec: &Spec) -> Result<Explored, AllocError>
 impl Explored {
     /// Adds the nodes that the node of this index leads to, unless a later one has all that it has.
     fn visit(&mut self, alloc: Global, spec: &Spec, cursor: u32) -> Result<(), AllocError>
-        requires gathered { AreGathered spec.now self.old.nodes.items }
+        requires searched { IsSearched spec.now self.old }
         requires there { cursor < length self.old.nodes.items }
-        ensures gathered { OnOk result (AreGathered spec.now self.new.nodes.items) }
+        ensures searched { OnOk result (IsSearched spec.now self.new) }
         ensures grown { OnOk result (NodesGrow self.old.nodes.items self.new.nodes.items) }
         ensures edges { OnOk result ((node : NodeValue) → slice_get self.old.nodes.items cursor ≡ Some node →
             HasEdges spec.now self.new.nodes.items node ⊎ IsBelowLater self.new.nodes.items cursor node) }
@@ -87,10 +91,10 @@ impl Explored {
         cursor: u32,
         p: usize,
     ) -> Result<(), AllocError>
-        requires gathered { AreGathered spec.now self.old.nodes.items }
+        requires searched { IsSearched spec.now self.old }
         requires process { p < processes spec.now }
         requires there { cursor < length self.old.nodes.items }
-        ensures gathered { OnOk result (AreGathered spec.now self.new.nodes.items) }
+        ensures searched { OnOk result (IsSearched spec.now self.new) }
         ensures grown { OnOk result (NodesGrow self.old.nodes.items self.new.nodes.items) }
         ensures edges { OnOk result ((node : NodeValue) → slice_get self.old.nodes.items cursor ≡ Some node →
             HasEdgesBelow spec.now self.new.nodes.items node p (length (set_of node p))) }
@@ -112,10 +116,10 @@ impl Explored {
         p: usize,
         index: usize,
     ) -> Result<(), AllocError>
-        requires gathered { AreGathered spec.now self.old.nodes.items }
+        requires searched { IsSearched spec.now self.old }
         requires process { p < processes spec.now }
         requires there { (node : NodeValue) × (slice_get self.old.nodes.items cursor ≡ Some node) × (index < length (set_of node p)) }
-        ensures gathered { OnOk result (AreGathered spec.now self.new.nodes.items) }
+        ensures searched { OnOk result (IsSearched spec.now self.new) }
         ensures grown { OnOk result (NodesGrow self.old.nodes.items self.new.nodes.items) }
         ensures edge { OnOk result ((node : NodeValue) (local : LocalValue) →
             slice_get self.old.nodes.items cursor ≡ Some node → slice_get (set_of node p) index ≡ Some local →
@@ -132,7 +136,9 @@ impl Explored {
 
     /// Whether one of the nodes from this index on has all that this one has.
     fn has_above(&self, node: &Node, from: usize) -> bool
-        ensures { result ≡ true → (later : ℕ) × (above : NodeValue) × (from ≤ later) × (slice_get self.now.nodes.items later ≡ Some above) × IsBelow node.now above }
+        requires { AreListed self.now.by_row.entries self.now.nodes.items }
+        ensures above { result ≡ true → (later : ℕ) × (above : NodeValue) × (from ≤ later) × (slice_get self.now.nodes.items later ≡ Some above) × IsBelow node.now above }
+        ensures none { result ≡ false → (later : ℕ) (other : NodeValue) → from ≤ later → slice_get self.now.nodes.items later ≡ Some other → IsNotBelow node.now other }
     {
         let Some(indices) = self.by_row.get(node.row()) else {
             return false;
@@ -147,7 +153,8 @@ impl Explored {
 
     /// Whether the node of this index is among those, and has all that this one has.
     fn is_above(&self, node: &Node, from: usize, index: usize) -> bool
-        ensures { result ≡ true → (above : NodeValue) × (from ≤ index) × (slice_get self.now.nodes.items index ≡ Some above) × IsBelow node.now above }
+        ensures above { result ≡ true → (above : NodeValue) × (from ≤ index) × (slice_get self.now.nodes.items index ≡ Some above) × IsBelow node.now above }
+        ensures none { result ≡ false → (other : NodeValue) → from ≤ index → slice_get self.now.nodes.items index ≡ Some other → IsNotBelow node.now other }
     {
         if index < from {
             return false;
@@ -160,18 +167,34 @@ impl Explored {
 
     /// Adds a node.
     fn add(&mut self, alloc: Global, node: Node) -> Result<(), AllocError>
-        ensures { OnOk result (self.new.nodes.items ≡ self.old.nodes.items ++ node ∷ []) }
+        ensures nodes { OnOk result (self.new.nodes.items ≡ self.old.nodes.items ++ node ∷ []) }
+        ensures listed { OnOk result (AreListed self.old.by_row.entries self.old.nodes.items → AreListed self.new.by_row.entries self.new.nodes.items) }
     {
-        let index = self.nodes.len();
-        match self.by_row.get_mut(node.row()) {
-            None => {
-                let mut indices = Vec::new(alloc);
-                indices.push(index)?;
-                self.by_row.insert(copied(node.row()), indices)?;
-            }
-            Some(indices) => indices.push(index)?,
-        }
+        list(alloc, &mut self.by_row, node.row(), self.nodes.len())?;
         self.nodes.push(node)?;
         Ok(())
     }
+}
+
+/// Lists an index under a row.
+fn list(
+    alloc: Global,
+    rows: &mut IndexMap<View, Vec<usize>>,
+    row: &View,
+    index: usize,
+) -> Result<(), AllocError>
+    ensures there { OnOk result (IsListed rows.new.entries row.now.items index) }
+    ensures kept { OnOk result ((other : List (Option ℕ)) (i : ℕ) → IsListed rows.old.entries other i → IsListed rows.new.entries other i) }
+{
+    let Some(place) = rows.get_index_of(row) else {
+        let mut indices = Vec::new(alloc);
+        indices.push(index)?;
+        rows.insert(copied(row), indices)?;
+        return Ok(());
+    };
+    let Some(indices) = rows.get_index_mut(place) else {
+        unreachable!() // the place was found just now
+    };
+    indices.push(index)?;
+    Ok(())
 }

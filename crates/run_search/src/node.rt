@@ -1,5 +1,6 @@
 //! Nodes: for each process a set of local states that it may be in while memory stays as it is.
-ghost use Rattle.std.specs.Prelude.{◌≡◌, ◌<◌, ◌⊎◌, ◌∷◌, ℕ, [], true, IfOk, MatchBool, MatchOption, OnOk, Some, length, slice_get, slice_set};
+ghost use Rattle.run_search.specs.Limits.{IsNotBelow};
+ghost use Rattle.std.specs.Prelude.{◌≡◌, ◌<◌, ◌⊎◌, ◌∷◌, ℕ, [], true, false, IfOk, MatchBool, MatchOption, OnOk, Some, length, slice_get, slice_set};
 ghost use Rattle.std.specs.List.{Contains};
 ghost use Rattle.room_spec.specs.Rooms.{processes};
 ghost use Rattle.run_search.specs.Nodes.{AreIn, AreWithinRounds, Covers, GoesAlone, IsAdded, IsBelow, IsComeTo, IsFirst, IsGrown, IsLocalBefore, IsNext, IsNodeAfter, IsSetClosed, IsStateBefore, IsWhole, IsWithinRounds, LeadsTo, MovesAlone, Node as NodeValue, set_of};
@@ -153,9 +154,13 @@ impl Node {
 
     /// Whether another node has all that this one has.
     pub fn is_below(&self, above: &Node) -> bool
-        ensures { result ≡ true → IsBelow self.now above.now }
+        ensures below { result ≡ true → IsBelow self.now above.now }
+        ensures other { result ≡ false → IsNotBelow self.now above.now }
     {
-        if self.row.as_slice() != above.row.as_slice() || self.sets.len() != above.sets.len() {
+        if self.row.as_slice() != above.row.as_slice() {
+            return false;
+        }
+        if self.sets.len() != above.sets.len() {
             return false;
         }
         for p in 0..self.sets.len() {
@@ -235,9 +240,9 @@ pub fn copied(row: &View) -> View
     ensures { result.items ≡ row.now.items }
 {
     let mut new = View::new();
-    for value in row.as_slice() {
-        new.push(*value);
-    }
+    let Ok(()) = new.try_extend_from_slice(row.as_slice()) else {
+        unreachable!() // both have the same capacity
+    };
     new
 }
 
@@ -319,7 +324,7 @@ fn close(
 
 /// Whether each of some local states is among others.
 fn is_within(some: &[LocalState], all: &[LocalState]) -> bool
-    ensures { result ≡ true → AreIn some.now all.now }
+    ensures { MatchBool result (AreIn some.now all.now) ((local : LocalValue) × Contains some.now local × (Contains all.now local → ⊥)) }
 {
     for local in some {
         if !all.contains(local) {

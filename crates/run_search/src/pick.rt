@@ -178,9 +178,9 @@ pub fn copied(state: &State) -> State
     ensures { result.items ≡ state.now.items }
 {
     let mut copy = State::new();
-    for local in state.as_slice() {
-        copy.push(*local);
-    }
+    let Ok(()) = copy.try_extend_from_slice(state.as_slice()) else {
+        unreachable!() // both have the same capacity
+    };
     copy
 }
 

@@ -57,7 +57,7 @@ function readStep(line, before) {
   const [, , turn, simulator, number, process, round, operation, sight = ''] = found;
   const of = turn ? { name: turn, simulator: +simulator, turn: +number, process: +process, round: +round }
     : { name: before.name, simulator: before.simulator, turn: before.turn, process: before.process, round: before.round };
-  return { ...of, operation, sight, letter: letterOf(operation, sight), word: Number((/, word (\d+)/.exec(operation) || [0, 0])[1]), here: '', ending: '' };
+  return { ...of, operation, sight, letter: letterOf(operation, sight), word: Number((/, word (\d+)/.exec(operation) || [0, 0])[1]), here: '', ending: '', obstacle: '' };
 }
 
 // The notes under a reply become moments of the room: steps, with what takes effect and how the turn ends.
@@ -69,6 +69,7 @@ function addSteps(room, notes) {
     if (step) moments.push(step);
     else if (/^ +here/.test(line) && last) last.here = line.trim();
     else if (/^ +(useful|quiet)/.test(line) && last) last.ending = line.trim();
+    else if (/^ +(open|chosen|blocked)/.test(line) && last) last.obstacle = line.trim();
   }
 }
 
@@ -89,7 +90,7 @@ function readScript(script, trace) {
     } else if (open.has(name)) {
       const room = open.get(name);
       addSteps(room, reply.notes);
-      if (word === 'crash' && answer === 'crashed') room.moments.push({ crash: true, simulator: Number(number), letter: 'x', here: '', ending: '' });
+      if (word === 'crash' && answer === 'crashed') room.moments.push({ crash: true, simulator: Number(number), letter: 'x', here: '', ending: '', obstacle: '' });
       if (word === 'report') room.report = reply.report;
       if (word === 'closed') open.delete(name);
     }

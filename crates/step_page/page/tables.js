@@ -79,7 +79,7 @@ const SIMULATION = {
     const moment = room.moments[count - 1];
     if (!moment) return 'Nobody has taken a step.';
     if (moment.crash) return `<b>simulator ${moment.simulator}</b> crashes`;
-    const more = [moment.here, moment.ending].filter(Boolean).map(text => `<small>${escaped(text)}</small>`).join('');
+    const more = [moment.here, moment.ending, moment.obstacle].filter(Boolean).map(text => `<small>${escaped(text)}</small>`).join('');
     return `<b>${escaped(moment.name)}</b>: ${escaped(moment.operation)} \u2192 <b>${escaped(moment.sight)}</b>${more}`;
   },
   lanes: drawLanes,

@@ -154,7 +154,7 @@ function readStep(line, before) {
   const [, , turn, simulator, number, process, round, operation, sight = ''] = found;
   const of = turn ? { name: turn, simulator: +simulator, turn: +number, process: +process, round: +round }
     : { name: before.name, simulator: before.simulator, turn: before.turn, process: before.process, round: before.round };
-  return { ...of, operation, sight, letter: letterOf(operation, sight), word: Number((/, word (\d+)/.exec(operation) || [0, 0])[1]), here: '', ending: '' };
+  return { ...of, operation, sight, letter: letterOf(operation, sight), word: Number((/, word (\d+)/.exec(operation) || [0, 0])[1]), here: '', ending: '', obstacle: '' };
 }
 
 // The notes under a reply become moments of the room: steps, with what takes effect and how the turn ends.
@@ -166,6 +166,7 @@ function addSteps(room, notes) {
     if (step) moments.push(step);
     else if (/^ +here/.test(line) && last) last.here = line.trim();
     else if (/^ +(useful|quiet)/.test(line) && last) last.ending = line.trim();
+    else if (/^ +(open|chosen|blocked)/.test(line) && last) last.obstacle = line.trim();
   }
 }
 
@@ -186,7 +187,7 @@ function readScript(script, trace) {
     } else if (open.has(name)) {
       const room = open.get(name);
       addSteps(room, reply.notes);
-      if (word === 'crash' && answer === 'crashed') room.moments.push({ crash: true, simulator: Number(number), letter: 'x', here: '', ending: '' });
+      if (word === 'crash' && answer === 'crashed') room.moments.push({ crash: true, simulator: Number(number), letter: 'x', here: '', ending: '', obstacle: '' });
       if (word === 'report') room.report = reply.report;
       if (word === 'closed') open.delete(name);
     }
@@ -473,7 +474,7 @@ const SIMULATION = {
     const moment = room.moments[count - 1];
     if (!moment) return 'Nobody has taken a step.';
     if (moment.crash) return `<b>simulator ${moment.simulator}</b> crashes`;
-    const more = [moment.here, moment.ending].filter(Boolean).map(text => `<small>${escaped(text)}</small>`).join('');
+    const more = [moment.here, moment.ending, moment.obstacle].filter(Boolean).map(text => `<small>${escaped(text)}</small>`).join('');
     return `<b>${escaped(moment.name)}</b>: ${escaped(moment.operation)} \u2192 <b>${escaped(moment.sight)}</b>${more}`;
   },
   lanes: drawLanes,

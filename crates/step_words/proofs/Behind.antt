@@ -4,7 +4,7 @@ use Rattle.std.specs.List.{concat, range_with_len}
 use Rattle.std.proofs.lemmas.List.{append-nil, append_assoc}
 use Rattle.std.proofs.lemmas.List.Folds.{concat-append}
 use Rattle.std.proofs.lemmas.List.FromFn.{map-range_with_len_more}
-use Rattle.std.proofs.lemmas.List.{length-append}
+use Rattle.std.proofs.lemmas.List.{length-append, map-append}
 use Rattle.std.specs.Prelude.{Result, Ok, Err, OnOk}
 use Rattle.step_words.specs.Pieces.{padded}
 
@@ -25,6 +25,12 @@ pad_behind (Err fault) start middle whole text width is last = tt
 texts_more : (text : ℕ → List ℕ) (i : ℕ) → concat (map text (range_with_len 0 (i + 1))) ≡ concat (map text (range_with_len 0 i)) ++ text i
 texts_more text i =
     ap concat (map-range_with_len_more text 0 i i (omega arith)) ∙ concat-append (map text (range_with_len 0 i)) (text i ∷ []) ∙ ap (λ t. concat (map text (range_with_len 0 i)) ++ t) (append-nil (text i))
+
+-- one value more after those of the first numbers
+pub one_value_more : {A B : Type 0} (view : A → B) (of : ℕ → B) (values : List A) (value : A) (i : ℕ) → map view values ≡ map of (range_with_len 0 i) → view value ≡ of i
+    → map view (values ++ value ∷ []) ≡ map of (range_with_len 0 (i + 1))
+one_value_more view of values value i so_far more =
+    map-append view values (value ∷ []) ∙ ap (λ all. all ++ view value ∷ []) so_far ∙ ap (λ one. map of (range_with_len 0 i) ++ one ∷ []) more ∙ sym (map-range_with_len_more of 0 i i (omega arith))
 
 -- one text more behind those of the first numbers
 pub one_text_more : (text : ℕ → List ℕ) (start before after : List ℕ) (i : ℕ) → before ≡ start ++ concat (map text (range_with_len 0 i)) → after ≡ before ++ text i

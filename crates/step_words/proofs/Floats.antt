@@ -1,18 +1,26 @@
 -- No number in the JSON of a step has a fraction.
-use Rattle.std.proofs.Common.{◌≡◌, false, ◌||◌, ℕ, Option, Some, None, refl}
+use Rattle.std.proofs.Common.{◌≡◌, Bool, true, false, cond, ◌||◌, ℕ, ◌-◌, ◌==◌, List, Option, Some, None, refl}
+use Rattle.std.specs.List.{range_with_len}
 use Rattle.std.specs.Prelude.{drop}
+use Rattle.serde_json.specs.Data.{null}
 use Rattle.serde_json.specs.Written.{has_float}
-use Rattle.json_lines.specs.Values.{text_data}
-use Rattle.json_lines.proofs.CallerLemmas.{both, text_is}
-use Rattle.room_spec.specs.Rooms.{RoomSpec}
+use Rattle.json_lines.specs.Values.{number_data, text_data}
+use Rattle.json_lines.proofs.CallerLemmas.{both, items_are, numbers_are, text_is}
+use Rattle.level_cells.specs.Fields.{levels_of}
+use Rattle.room_spec.specs.Rooms.{RoomSpec, processes}
+use Rattle.view_table.specs.declared.place.Place.{Place}
+use Rattle.view_table.specs.declared.place.Place.TheVariants.{Memory, Levels, View, Value, Out}
 use Rattle.simulator.specs.declared.goal.Goal.{Goal}
 use Rattle.simulator.specs.declared.goal.Goal.TheVariants.{Write, Ask, Done, Spent}
 use Rattle.room_steps.specs.declared.step.AtomicStep.{AtomicStep}
 use Rattle.ws_history.specs.declared.effects.Effect.{Effect}
 use Rattle.ws_history.specs.declared.effects.Effect.TheVariants.{Write as WriteEffect, Snapshot, Decision}
-use Rattle.step_words.specs.Json.{effect_data, end_data, shows_data, step_data}
+use Rattle.ws_history.specs.declared.unreadable.Unreadable.{Unreadable}
+use Rattle.step_words.specs.Data.{own_step_data, own_steps_data, access_data, place_data, steps_data, word_data}
+use Rattle.step_words.specs.Json.{effect_data, end_data, quiet_data, shows_data, simulator_data, step_data, unresolved_data}
+use Rattle.step_words.specs.declared.step.Consequence.{Consequence}
 use Rattle.step_words.specs.Names.{operation_text}
-use Rattle.step_words.specs.Sights.{sight_text}
+use Rattle.step_words.specs.Sights.{memory_with, sight_text}
 
 effect_is : (effect : Option Effect) → has_float (effect_data effect) ≡ false
 effect_is None = refl
@@ -20,17 +28,67 @@ effect_is (Some (WriteEffect process value)) = refl
 effect_is (Some (Snapshot process)) = refl
 effect_is (Some (Decision process value)) = refl
 
-end_is : (end : Option Goal) → has_float (end_data end) ≡ false
-end_is None = refl
-end_is (Some (Write round value)) = refl
-end_is (Some (Ask round)) = refl
-end_is (Some Done) = refl
-end_is (Some Spent) = refl
+simulator_is : (simulator : Option ℕ) → has_float (simulator_data simulator) ≡ false
+simulator_is None = refl
+simulator_is (Some simulator) = refl
 
-pub step_is : (spec : RoomSpec) (n : ℕ) (step : AtomicStep) (effect : Option Effect) → has_float (step_data spec n step effect) ≡ false
-step_is spec n step effect =
+unresolved_is : (round : ℕ) (blocker chosen inside : Option ℕ) → has_float (unresolved_data round blocker chosen inside) ≡ false
+unresolved_is round blocker chosen inside =
+    let one = has_float (simulator_data chosen) in
+    let other = has_float (simulator_data inside) in
+    both (has_float (simulator_data blocker)) (one || (other || false)) (simulator_is blocker) (both one (other || false) (simulator_is chosen) (both other false (simulator_is inside) refl))
+
+quiet_is : (round : ℕ) (unreadable : Option Unreadable) → has_float (quiet_data round unreadable) ≡ false
+quiet_is round None = unresolved_is round None None None
+quiet_is round (Some agreement) = unresolved_is round agreement.blocker agreement.chosen (Some agreement.inside)
+
+end_is : (end : Option Goal) (unreadable : Option Unreadable) → has_float (end_data end unreadable) ≡ false
+end_is None unreadable = refl
+end_is (Some (Write round value)) unreadable = refl
+end_is (Some (Ask round)) unreadable = quiet_is round unreadable
+end_is (Some Done) unreadable = refl
+end_is (Some Spent) unreadable = refl
+
+place_is : (place : Place) → has_float (place_data place) ≡ false
+place_is (Memory word) = refl
+place_is (Levels process round) = refl
+place_is (View simulator process round word) = refl
+place_is (Value simulator process round) = refl
+place_is (Out simulator process) = refl
+
+own_steps_are : (spec : RoomSpec) (words : List ℕ) (simulator : ℕ) → has_float (own_steps_data spec words simulator) ≡ false
+own_steps_are spec words simulator = items_are (own_step_data spec words simulator) (λ (process : ℕ). refl) (range_with_len 0 (processes spec))
+
+steps_are : (spec : RoomSpec) (at word : ℕ) → has_float (steps_data spec at word) ≡ false
+steps_are spec at word = items_are (own_steps_data spec (memory_with at word)) (own_steps_are spec (memory_with at word)) (range_with_len 0 spec.simulators)
+
+decision_by : (none : Bool) (word : ℕ) → has_float (cond none null (number_data (word - 1))) ≡ false
+decision_by true word = refl
+decision_by false word = refl
+
+word_is : (place : Place) (spec : RoomSpec) (word : ℕ) → has_float (word_data place spec word) ≡ false
+word_is (Memory at) spec word = steps_are spec at word
+word_is (Levels process round) spec word = numbers_are (levels_of word spec.simulators)
+word_is (View simulator process round at) spec word = steps_are spec at word
+word_is (Value simulator process round) spec word = refl
+word_is (Out simulator process) spec word = decision_by (word == 0) word
+
+access_is : (spec : RoomSpec) (step : AtomicStep) → has_float (access_data spec step) ≡ false
+unfolding access_data
+access_is spec step =
+    let before = has_float (word_data step.place spec step.word) in
+    let place = has_float (place_data step.place) in
+    both (has_float (word_data step.place spec step.after)) (before || (place || false)) (word_is step.place spec step.after)
+    (both before (place || false) (word_is step.place spec step.word) (both place false (place_is step.place) refl))
+
+pub step_is : (spec : RoomSpec) (n : ℕ) (step : AtomicStep) (consequence : Consequence) → has_float (step_data spec n step consequence) ≡ false
+step_is spec n step consequence =
     let shows = has_float (shows_data spec step) in
     let operation = has_float (text_data (operation_text spec step)) in
-    let last = both shows false (text_is (drop 1 (sight_text spec step))) refl in
-    both (has_float (effect_data effect)) (has_float (end_data step.end) || (operation || (shows || false))) (effect_is effect)
-    (both (has_float (end_data step.end)) (operation || (shows || false)) (end_is step.end) (both operation (shows || false) (text_is (operation_text spec step)) last))
+    let end = has_float (end_data step.end consequence.unreadable) in
+    let what = has_float (effect_data consequence.effect) in
+    let from_shows = both shows false (text_is (drop 1 (sight_text spec step))) refl in
+    let from_operation = both operation (shows || false) (text_is (operation_text spec step)) from_shows in
+    let from_end = both end (operation || (shows || false)) (end_is step.end consequence.unreadable) from_operation in
+    let from_effect = both what (end || (operation || (shows || false))) (effect_is consequence.effect) from_end in
+    both (has_float (access_data spec step)) (what || (end || (operation || (shows || false)))) (access_is spec step) from_effect

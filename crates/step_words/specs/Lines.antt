@@ -8,6 +8,8 @@ use Rattle.simulator.specs.declared.goal.Goal.TheVariants.{Write, Ask, Done, Spe
 use Rattle.room_steps.specs.declared.step.AtomicStep.{AtomicStep}
 use Rattle.ws_history.specs.declared.effects.Effect.{Effect}
 use Rattle.ws_history.specs.declared.effects.Effect.TheVariants.{Write as WriteEffect, Snapshot, Decision}
+use Rattle.ws_history.specs.declared.unreadable.Unreadable.{Unreadable}
+use Rattle.step_words.specs.declared.step.Consequence.{Consequence}
 use Rattle.step_words.specs.Pieces.{behind, between, padded}
 use Rattle.step_words.specs.Names.{operation_text}
 use Rattle.step_words.specs.Sights.{sight_text}
@@ -59,13 +61,31 @@ abbrev pub effect_line : Option Effect → List ℕ
 effect_line None = []
 effect_line (Some effect) = codes "         " ++ (effect_text effect ++ codes "\n")
 
--- The step's number, its turn where that begins, its operation, and what there is to see; what takes effect; and the end of the turn.
-abbrev pub step_lines : RoomSpec → ℕ → AtomicStep → Bool → Option Effect → List ℕ
-step_lines spec number step same_turn effect =
+-- whose proposal is chosen for good, if one is
+abbrev pub choice_text : Option ℕ → List ℕ
+choice_text None = []
+choice_text (Some simulator) = between (codes "chosen: simulator") simulator (codes "'s; ")
+
+-- why it can't be read: a simulator is inside (in the unsafe section), and has crashed there or not
+abbrev pub obstacle_text : Option ℕ → Option ℕ → ℕ → List ℕ
+obstacle_text chosen (Some blocker) inside = behind (codes "blocked for ever by simulator") blocker
+obstacle_text None None inside = between (codes "open: simulator") inside (codes " is inside")
+obstacle_text (Some simulator) None inside = between (codes "not readable while simulator") inside (codes " is inside")
+
+-- a line for an agreement that no simulator can read
+abbrev pub unreadable_line : Option Unreadable → List ℕ
+unreadable_line None = []
+unreadable_line (Some agreement) =
+    codes "         " ++ (choice_text agreement.chosen ++ (obstacle_text agreement.chosen agreement.blocker agreement.inside ++ codes "\n"))
+
+-- The step's number, its turn where that begins, its operation, and what there is to see; what takes effect; the end of the turn; and, if that
+-- was quiet, why the agreement can't be read.
+abbrev pub step_lines : RoomSpec → ℕ → AtomicStep → Bool → Consequence → List ℕ
+step_lines spec number step same_turn consequence =
     codes "    "
     ++ (padded number_width (decimal number)
     ++ (padded turn_width (turn_text step same_turn)
-    ++ (padded operation_width (operation_text spec step) ++ (sight_text spec step ++ (codes "\n" ++ (effect_line effect ++ end_text step.process step.end))))))
+    ++ (padded operation_width (operation_text spec step) ++ (sight_text spec step ++ (codes "\n" ++ (effect_line consequence.effect ++ (end_text step.process step.end ++ unreadable_line consequence.unreadable)))))))
 
 -- its numbers are those of the room
 pub record IsStepIn (spec : RoomSpec) (step : AtomicStep) : Type 0 where

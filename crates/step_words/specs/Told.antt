@@ -2,14 +2,20 @@
 use Rattle.std.specs.Prelude.{◌≡◌, ℕ, suc, Bool, true, false, List, [], ◌∷◌, ◌++◌, Option, Some, None, ◌==◌, ◌&&◌}
 use Rattle.json_lines.specs.Lines.{json_line}
 use Rattle.room_spec.specs.Rooms.{RoomSpec}
-use Rattle.room_core.specs.Calls.{RoomState, configuration_of}
+use Rattle.room_core.specs.Calls.{RoomState, configuration_of, room_after_step}
+use Rattle.room_core.specs.Fields.{Fields}
+use Rattle.room_core.specs.Reading.{AreFieldsOf}
 use Rattle.room_core.specs.Rooms.{IsOneInterleaving, ScheduleEvent, crashes, steps}
+use Rattle.simulator.specs.declared.goal.Goal.{Goal}
+use Rattle.simulator.specs.declared.goal.Goal.TheVariants.{Write, Ask, Done, Spent}
 use Rattle.room_steps.specs.Steps.{IsStepOf}
 use Rattle.room_steps.specs.declared.step.AtomicStep.{AtomicStep}
 use Rattle.ws_history.specs.Effects.{IsEffectOf}
-use Rattle.ws_history.specs.declared.effects.Effect.{Effect}
+use Rattle.ws_history.specs.Unreadable.{unreadable_of}
+use Rattle.ws_history.specs.declared.unreadable.Unreadable.{Unreadable}
 use Rattle.step_words.specs.Json.{step_data}
 use Rattle.step_words.specs.Lines.{step_lines}
+use Rattle.step_words.specs.declared.step.Consequence.{Consequence}
 
 -- Whether steps are written as JSON, the lines so far, and whose turn the last step was, by its number. lacks: an allocation failed, and nothing
 -- more is written.
@@ -28,15 +34,15 @@ is_turn None simulator turn = false
 is_turn (Some (of, number)) simulator turn = (of == simulator) && (number == turn)
 
 -- the step of a number, as text or as JSON
-abbrev pub step_text : Bool → RoomSpec → ℕ → AtomicStep → Bool → Option Effect → List ℕ
-step_text false spec number step same_turn effect = step_lines spec number step same_turn effect
-step_text true spec number step same_turn effect = json_line (step_data spec number step effect)
+abbrev pub step_text : Bool → RoomSpec → ℕ → AtomicStep → Bool → Consequence → List ℕ
+step_text false spec number step same_turn consequence = step_lines spec number step same_turn consequence
+step_text true spec number step same_turn consequence = json_line (step_data spec number step consequence)
 
 -- one step more
-abbrev pub with_step : Telling → RoomSpec → ℕ → AtomicStep → Option Effect → Telling
-with_step telling spec number step effect = record {
+abbrev pub with_step : Telling → RoomSpec → ℕ → AtomicStep → Consequence → Telling
+with_step telling spec number step consequence = record {
   json = telling.json;
-  lines = telling.lines ++ step_text telling.json spec number step (is_turn telling.last step.simulator step.turn) effect;
+  lines = telling.lines ++ step_text telling.json spec number step (is_turn telling.last step.simulator step.turn) consequence;
   last = Some (step.simulator, step.turn);
   lacks = telling.lacks;
 }
@@ -47,14 +53,25 @@ steps_in [] = 0
 steps_in (steps i ∷ schedule) = suc (steps_in schedule)
 steps_in (crashes i ∷ schedule) = steps_in schedule
 
--- A step that simulator i took in a room was described, with what takes effect at it, unless an allocation failed by then.
+-- what keeps the agreement that a turn asked about from being read, if the turn ended quiet
+abbrev pub asked_of : RoomSpec → Fields → ℕ → Option Goal → Option Unreadable
+asked_of spec fields process None = None
+asked_of spec fields process (Some (Ask round)) = unreadable_of spec fields process round
+asked_of spec fields process (Some (Write round value)) = None
+asked_of spec fields process (Some Done) = None
+asked_of spec fields process (Some Spent) = None
+
+-- A step that simulator i took in a room was described, with what takes effect at it and, if its turn ended quiet, why the agreement can't be
+-- read, unless an allocation failed by then.
 pub record IsTold (old : Telling) (room : RoomState) (i : ℕ) (new : Telling) : Type 0 where
   pub step : AtomicStep
   pub is : IsStepOf room i step
-  pub effect : Option Effect
+  pub consequence : Consequence
   -- whatever interleaving leads to the room
-  pub is_effect : (one : IsOneInterleaving (configuration_of room)) → IsEffectOf room.spec one.schedule i effect
+  pub effect : (one : IsOneInterleaving (configuration_of room)) → IsEffectOf room.spec one.schedule i consequence.effect
+  -- whatever fields the room has after the step
+  pub unreadable : (fields : Fields) → AreFieldsOf (room_after_step room i) fields → consequence.unreadable ≡ asked_of room.spec fields step.process step.end
   pub number : ℕ
   -- one more than there are steps in it
   pub numbered : (one : IsOneInterleaving (configuration_of room)) → number ≡ suc (steps_in one.schedule)
-  pub told : new.lacks ≡ false → new ≡ with_step old room.spec number step effect
+  pub told : new.lacks ≡ false → new ≡ with_step old room.spec number step consequence

@@ -3,12 +3,14 @@ ghost use Rattle.std.specs.Prelude.{◌≡◌, ◌++◌, IfOk, OnOk, drop};
 ghost use Rattle.serde_json.specs.View.{view};
 ghost use Rattle.json_lines.specs.Lines.{json_line};
 ghost use Rattle.json_lines.specs.Values.{text_data};
-ghost use Rattle.step_words.specs.Json.{effect_data, end_data, shows_data, step_data};
+ghost use Rattle.step_words.specs.Json.{effect_data, end_data, quiet_data, shows_data, simulator_data, step_data, unresolved_data};
 ghost use Rattle.step_words.specs.Lines.{IsStepIn};
 ghost use Rattle.step_words.specs.Names.{operation_text};
 
+use crate::data::access_value;
 use crate::operation::write_operation;
 use crate::sight::write_sight;
+use crate::step::Consequence;
 use io_text::Text;
 use json_lines::{text_value, write_line};
 use room_spec::Spec;
@@ -16,7 +18,7 @@ use room_steps::AtomicStep;
 use serde_json::{Value, json};
 use simulator::Goal;
 use std::alloc::{AllocError, Global};
-use ws_history::Effect;
+use ws_history::{Effect, Unreadable};
 
 /// Writes the step of this number as an object, on a line of its own.
 pub(crate) fn write_step_object(
@@ -25,12 +27,12 @@ pub(crate) fn write_step_object(
     spec: &Spec,
     number: u64,
     step: &AtomicStep,
-    effect: Option<Effect>,
+    consequence: Consequence,
 ) -> Result<(), AllocError>
     requires { IsStepIn spec.now step.now }
-    ensures { OnOk result (output.new ≡ output.old ++ json_line (step_data spec.now number step.now effect)) }
+    ensures { OnOk result (output.new ≡ output.old ++ json_line (step_data spec.now number step.now consequence)) }
 {
-    let value = step_value(alloc, spec, number, step, effect)?;
+    let value = step_value(alloc, spec, number, step, consequence)?;
     write_line(alloc, output, &value)
 }
 
@@ -39,19 +41,21 @@ fn step_value(
     spec: &Spec,
     number: u64,
     step: &AtomicStep,
-    effect: Option<Effect>,
+    consequence: Consequence,
 ) -> Result<Value, AllocError>
     requires { IsStepIn spec.now step.now }
-    ensures { IfOk result (λ value. view value ≡ step_data spec.now number step.now effect) }
+    ensures { IfOk result (λ value. view value ≡ step_data spec.now number step.now consequence) }
 {
-    let effect = effect_value(alloc, effect)?;
-    let end = end_value(alloc, step.end)?;
+    let access = access_value(alloc, spec, step)?;
+    let effect = effect_value(alloc, consequence.effect)?;
+    let end = end_value(alloc, step.end, consequence.unreadable)?;
     let operation = operation_value(alloc, spec, step)?;
     let shows = shows_value(alloc, spec, step)?;
     let room = spec.name().as_str();
     let (simulator, process) = (step.simulator, step.process);
     let (turn, round) = (step.turn, step.round);
     json!(in alloc; {
+        "access": access,
         "effect": effect,
         "end": end,
         "operation": operation,
@@ -83,20 +87,75 @@ fn effect_value(alloc: Global, effect: Option<Effect>) -> Result<Value, AllocErr
     }
 }
 
-/// How the turn ended, if it has ended.
-fn end_value(alloc: Global, end: Option<Goal>) -> Result<Value, AllocError>
-    ensures { IfOk result (λ value. view value ≡ end_data end) }
+/// How the turn ended, if it has ended; after a quiet one, what keeps the agreement from being read.
+fn end_value(
+    alloc: Global,
+    end: Option<Goal>,
+    unreadable: Option<Unreadable>,
+) -> Result<Value, AllocError>
+    ensures { IfOk result (λ value. view value ≡ end_data end unreadable) }
 {
     match end {
         None => Ok(Value::Null),
         Some(Goal::Write { value, .. }) => {
             json!(in alloc; {"state": "writes", "turn": "useful", "value": value})
         }
-        Some(Goal::Ask { round }) => {
-            json!(in alloc; {"round": round, "state": "unresolved", "turn": "quiet"})
-        }
+        Some(Goal::Ask { round }) => quiet_value(alloc, round, unreadable),
         Some(Goal::Done) => json!(in alloc; {"state": "decided", "turn": "useful"}),
         Some(Goal::Spent) => json!(in alloc; {"state": "spent", "turn": "useful"}),
+    }
+}
+
+/// The agreement of this round, which wasn't resolved.
+fn quiet_value(
+    alloc: Global,
+    round: u8,
+    unreadable: Option<Unreadable>,
+) -> Result<Value, AllocError>
+    ensures { IfOk result (λ value. view value ≡ quiet_data round unreadable) }
+{
+    match unreadable {
+        None => unresolved_value(alloc, round, None, None, None),
+        Some(agreement) => {
+            let Unreadable {
+                inside,
+                chosen,
+                blocker,
+            } = agreement;
+            unresolved_value(alloc, round, blocker, chosen, Some(inside))
+        }
+    }
+}
+
+fn unresolved_value(
+    alloc: Global,
+    round: u8,
+    blocker: Option<usize>,
+    chosen: Option<usize>,
+    inside: Option<usize>,
+) -> Result<Value, AllocError>
+    ensures { IfOk result (λ value. view value ≡ unresolved_data round blocker chosen inside) }
+{
+    let blocker = simulator_value(alloc, blocker)?;
+    let chosen = simulator_value(alloc, chosen)?;
+    let inside = simulator_value(alloc, inside)?;
+    json!(in alloc; {
+        "blocked_by": blocker,
+        "chosen": chosen,
+        "inside": inside,
+        "round": round,
+        "state": "unresolved",
+        "turn": "quiet"
+    })
+}
+
+/// A simulator's number, if there is one.
+fn simulator_value(alloc: Global, simulator: Option<usize>) -> Result<Value, AllocError>
+    ensures { IfOk result (λ value. view value ≡ simulator_data simulator) }
+{
+    match simulator {
+        None => Ok(Value::Null),
+        Some(simulator) => json!(in alloc; simulator),
     }
 }
 

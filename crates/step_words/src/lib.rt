@@ -1,6 +1,7 @@
 //! Single atomic steps of a room in words: a line for each, for people, or an object of JSON.
 #![tactic(auto)]
 
+mod data;
 mod json;
 mod number;
 mod operation;
@@ -10,5 +11,5 @@ mod step;
 mod texts;
 
 pub use sight::write_counts;
-pub use step::write_step;
+pub use step::{Consequence, write_step};
 pub use texts::StepTexts;

@@ -179,7 +179,7 @@ fn write_chosen(output: &mut Text, chosen: Option<usize>) -> Result<(), AllocErr
 }
 
 /// The memory words of a room, of which this one alone is known.
-fn memory_with(at: usize, word: u64) -> [u64; MAX_MEMORY_WORDS]
+pub(crate) fn memory_with(at: usize, word: u64) -> [u64; MAX_MEMORY_WORDS]
     requires { at < MAX_MEMORY_WORDS }
     ensures value { result ≡ memory_with at word }
     ensures count { length result ≡ MAX_MEMORY_WORDS }

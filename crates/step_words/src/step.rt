@@ -1,6 +1,6 @@
 //! The lines of an atomic step.
 ghost use Rattle.std.specs.Prelude.{◌≡◌, ◌++◌, OnOk, codes, decimal};
-ghost use Rattle.step_words.specs.Lines.{IsStepIn, effect_line, effect_text, end_text, here_text, number_width, operation_width, outcome_text, step_lines, turn_name, turn_text, turn_width};
+ghost use Rattle.step_words.specs.Lines.{IsStepIn, choice_text, effect_line, effect_text, end_text, here_text, number_width, obstacle_text, operation_width, outcome_text, step_lines, turn_name, turn_text, turn_width, unreadable_line};
 ghost use Rattle.step_words.specs.Names.{operation_text};
 ghost use Rattle.step_words.specs.Pieces.{behind, between, padded};
 
@@ -12,7 +12,16 @@ use room_spec::Spec;
 use room_steps::AtomicStep;
 use simulator::Goal;
 use std::alloc::AllocError;
-use ws_history::Effect;
+use ws_history::{Effect, Unreadable};
+
+/// What there is to say of a step besides what its own word shows.
+#[derive(Clone, Copy)]
+pub struct Consequence {
+    /// What takes effect at the step, if something does.
+    pub effect: Option<Effect>,
+    /// What keeps the agreement from being read that the step's turn asked about, if the step ended it quiet.
+    pub unreadable: Option<Unreadable>,
+}
 
 /// The width of the column with the number of a step.
 const NUMBER_WIDTH: usize = 5;
@@ -25,7 +34,8 @@ const OPERATION_WIDTH: usize = 36;
 
 /// Writes the line of an atomic step of a room, after four spaces: its number, which the caller counts; its turn, if this
 /// is the first step of the turn that is described (`same_turn` is false); its operation; and what its word shows. A second line says
-/// what takes effect at the step, if something does, and if the step ends its turn, a last one says how the turn ended.
+/// what takes effect at the step, if something does; if the step ends its turn, the next one says how the turn ended, and after a quiet turn a last one
+/// says why the agreement can't be read.
 ///
 /// # Errors
 ///
@@ -36,10 +46,10 @@ pub fn write_step(
     number: u64,
     step: &AtomicStep,
     same_turn: bool,
-    effect: Option<Effect>,
+    consequence: Consequence,
 ) -> Result<(), AllocError>
     requires { IsStepIn spec.now step.now }
-    ensures { OnOk result (output.new ≡ output.old ++ step_lines spec.now number step.now same_turn effect) }
+    ensures { OnOk result (output.new ≡ output.old ++ step_lines spec.now number step.now same_turn consequence) }
 {
     output.put(b"    ")?;
     write_step_number(output, number)?;
@@ -47,19 +57,21 @@ pub fn write_step(
     write_padded_operation(output, spec, step)?;
     write_sight(output, spec, step)?;
     output.put(b"\n")?;
-    write_notes(output, step, effect)
+    write_notes(output, step, consequence)
 }
 
-/// Writes what takes effect at the step, if something does, and how the turn ended, if it has ended.
+/// Writes what takes effect at the step, if something does, how the turn ended, if it has ended, and why an agreement can't be read.
 fn write_notes(
     output: &mut Text,
     step: &AtomicStep,
-    effect: Option<Effect>,
+    consequence: Consequence,
 ) -> Result<(), AllocError>
-    ensures { OnOk result (output.new ≡ output.old ++ (effect_line effect ++ end_text step.now.process step.now.end)) }
+    ensures { OnOk result (output.new ≡ output.old ++
+        (effect_line consequence.effect ++ (end_text step.now.process step.now.end ++ unreadable_line consequence.unreadable))) }
 {
-    write_effect(output, effect)?;
-    write_end(output, step.process, step.end)
+    write_effect(output, consequence.effect)?;
+    write_end(output, step.process, step.end)?;
+    write_unreadable(output, consequence.unreadable)
 }
 
 /// Writes what takes effect at the step, if something does.
@@ -177,4 +189,48 @@ fn write_unresolved(output: &mut Text, process: u64, round: u8) -> Result<(), Al
 {
     write_number(output, b"quiet: the agreement of process", process)?;
     write_between(output, b", round", u64::from(round), b" is not resolved")
+}
+
+/// Writes of an agreement that no simulator can read whose proposal it has chosen, and which simulator is inside.
+fn write_unreadable(output: &mut Text, unreadable: Option<Unreadable>) -> Result<(), AllocError>
+    ensures { OnOk result (output.new ≡ output.old ++ unreadable_line unreadable) }
+{
+    let Some(agreement) = unreadable else {
+        return Ok(());
+    };
+    output.put(b"         ")?;
+    write_choice(output, agreement.chosen)?;
+    write_obstacle(output, agreement)?;
+    output.put(b"\n")
+}
+
+/// Writes whose proposal is chosen for good, if one is.
+fn write_choice(output: &mut Text, chosen: Option<usize>) -> Result<(), AllocError>
+    ensures { OnOk result (output.new ≡ output.old ++ choice_text chosen) }
+{
+    match chosen {
+        None => Ok(()),
+        Some(simulator) => {
+            write_between(output, b"chosen: simulator", simulator as u64, b"'s; ")
+        }
+    }
+}
+
+/// Writes who is inside an agreement, or blocks it for ever.
+fn write_obstacle(output: &mut Text, agreement: Unreadable) -> Result<(), AllocError>
+    ensures { OnOk result (output.new ≡ output.old ++ obstacle_text agreement.chosen agreement.blocker agreement.inside) }
+{
+    if let Some(blocker) = agreement.blocker {
+        return write_number(output, b"blocked for ever by simulator", blocker as u64);
+    }
+    let inside = agreement.inside as u64;
+    match agreement.chosen {
+        None => write_between(output, b"open: simulator", inside, b" is inside"),
+        Some(_) => write_between(
+            output,
+            b"not readable while simulator",
+            inside,
+            b" is inside",
+        ),
+    }
 }

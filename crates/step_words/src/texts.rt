@@ -1,18 +1,21 @@
 //! An observer that writes what is to be seen.
 ghost use Rattle.std.specs.Prelude.{◌≡◌, ◌≢◌, false, true, IfOk, IfErr, OnOk, if◌then◌else◌, Ok, Err, alloc_error};
 ghost use Rattle.step_words.specs.Lines.{IsStepIn};
-ghost use Rattle.step_words.specs.Told.{is_turn, nothing_told, with_step};
+ghost use Rattle.room_core.specs.Fields.{Fields};
+ghost use Rattle.room_core.specs.Reading.{AreFieldsOf};
+ghost use Rattle.step_words.specs.Told.{asked_of, is_turn, nothing_told, with_step};
 
 use crate::json::write_step_object;
 use crate::number::next_number;
-use crate::step::write_step;
+use crate::step::{Consequence, write_step};
 use io_text::Text;
 use room_core::{Observer, RoomCore, StepReply};
 use room_spec::Spec;
 use room_steps::{AtomicStep, take_step};
+use simulator::Goal;
 use std::alloc::{AllocError, Global};
 use std::marker::Model;
-use ws_history::{Effect, StepStart};
+use ws_history::{StepStart, Unreadable, unreadable_agreement};
 
 /// An observer of the steps of a room, which writes the lines of each, or an object of JSON on a line, with what takes effect at it. Steps are
 /// numbered from 1 over the whole life of the room. After an allocation that fails it writes no more, and the room goes on.
@@ -64,11 +67,11 @@ impl StepTexts {
         Ok(self.lines)
     }
 
-    fn note(&mut self, spec: &Spec, number: u64, step: &AtomicStep, effect: Option<Effect>)
+    fn note(&mut self, spec: &Spec, number: u64, step: &AtomicStep, consequence: Consequence)
         requires { IsStepIn spec.now step.now }
-        ensures { self.new.lacks ≡ false → self.new ≡ with_step self.old spec.now number step.now effect }
+        ensures { self.new.lacks ≡ false → self.new ≡ with_step self.old spec.now number step.now consequence }
     {
-        if !self.lacks && self.write(spec, number, step, effect).is_err() {
+        if !self.lacks && self.write(spec, number, step, consequence).is_err() {
             self.lacks = true;
         }
     }
@@ -79,16 +82,16 @@ impl StepTexts {
         spec: &Spec,
         number: u64,
         step: &AtomicStep,
-        effect: Option<Effect>,
+        consequence: Consequence,
     ) -> Result<(), AllocError>
         requires { IsStepIn spec.now step.now }
-        ensures { OnOk result (self.new ≡ with_step self.old spec.now number step.now effect) }
+        ensures { OnOk result (self.new ≡ with_step self.old spec.now number step.now consequence) }
     {
         if self.json {
-            write_step_object(self.alloc, &mut self.lines, spec, number, step, effect)?;
+            write_step_object(self.alloc, &mut self.lines, spec, number, step, consequence)?;
         } else {
             let same_turn = self.is_turn(step.simulator, step.turn);
-            write_step(&mut self.lines, spec, number, step, same_turn, effect)?;
+            write_step(&mut self.lines, spec, number, step, same_turn, consequence)?;
         }
         self.last = Some((step.simulator, step.turn));
         Ok(())
@@ -116,9 +119,22 @@ impl Observer for StepTexts {
         let start = StepStart::of(room, i);
         let (reply, taken) = take_step(room, i);
         if let Some(step) = taken {
-            let effect = start.effect(room, i);
-            self.note(room.spec(), number, &step, effect);
+            let consequence = Consequence {
+                effect: start.effect(room, i),
+                unreadable: asked_of(room, &step),
+            };
+            self.note(room.spec(), number, &step, consequence);
         }
         reply
+    }
+}
+
+/// What keeps the agreement from being read that the turn of the step that led to this room asked about, if the step ended it quiet.
+fn asked_of(room: &RoomCore, step: &AtomicStep) -> Option<Unreadable>
+    ensures { (fields : Fields) → AreFieldsOf room.now fields → result ≡ asked_of room.now.spec fields step.now.process step.now.end }
+{
+    match step.end {
+        Some(Goal::Ask { round }) => unreadable_agreement(room, step.process, usize::from(round)),
+        Some(Goal::Write { .. } | Goal::Done | Goal::Spent) | None => None,
     }
 }

@@ -3,6 +3,7 @@ use Rattle.std.specs.Prelude.{◌≡◌, ◌⊎◌, ℕ, ◌-◌, Bool, true, fa
 use Rattle.std.specs.List.{concat}
 use Rattle.room_spec.specs.Blocks.{block_in}
 use Rattle.room_spec.specs.Rooms.{RoomSpec, processes}
+use Rattle.run_search.specs.Limits.{AreTooMany}
 use Rattle.view_outcomes.specs.declared.listing.AllOutcomes.{AllOutcomes}
 use Rattle.view_outcomes.specs.declared.rooms.Search.{Search}
 use Rattle.view_outcomes.specs.Listing.{AreAllListed, HasNodes, IsTaskOfRuns}
@@ -22,8 +23,9 @@ pub record IsFoundText (search : Search) (spec : RoomSpec) (block : List ℕ) (w
   pub well_is : well ≡ is_none all.breaking
   pub text_is : text ≡ found_text spec block all
 
--- the text says that the search was given up at its limit
-pub record IsUnfinishedText (search : Search) (well : Bool) (text : List ℕ) : Type 0 where
+-- the text says that there are more nodes than the limit, and so it is
+pub record IsUnfinishedText (search : Search) (spec : RoomSpec) (well : Bool) (text : List ℕ) : Type 0 where
+  pub many : AreTooMany spec search.nodes
   pub text_is : text ≡ unfinished_line search.nodes advice
   pub well_is : well ≡ false
 
@@ -32,7 +34,7 @@ pub record IsRoomAnswer (search : Search) (spec : RoomSpec) (well : Bool) (text 
   pub block : List ℕ
   pub says : block_in block ≡ Ok (spec, length block)
   pub rest : List ℕ
-  pub rest_is : IsFoundText search spec block well rest ⊎ IsUnfinishedText search well rest
+  pub rest_is : IsFoundText search spec block well rest ⊎ IsUnfinishedText search spec well rest
   pub text_is : text ≡ head_line spec.name (crashes_for spec search.crashes) ++ rest
 
 -- a text for each room, in order; all is well if it is for each

@@ -1,6 +1,8 @@
 //! All outcomes of a room, each with a shortest run that has it.
-ghost use Rattle.std.specs.Prelude.{◌≡◌, ◌<◌, ℕ, IfOk, Some, length, option_map, slice_get};
+ghost use Rattle.std.specs.Prelude.{◌≡◌, ◌<◌, ℕ, IfErr, IfOk, Some, length, option_map, slice_get};
+ghost use Rattle.run_search.specs.Limits.{AreTooMany};
 ghost use Rattle.run_search.specs.Outcomes.{IsFoundFor, outcomes_in};
+ghost use Rattle.run_search.specs.declared.fault.SearchFault.TheVariants.{TooManyNodes};
 ghost use Rattle.view_outcomes.specs.Listing.{AreAllListed, HasRun, HasNodes, IsTaskOfRuns, listed_ends};
 ghost use Rattle.view_outcomes.specs.declared.listing.Listed.{Listed as ListedValue};
 
@@ -34,7 +36,7 @@ pub struct AllOutcomes {
 ///
 /// # Errors
 ///
-/// `TooManyNodes` after more than `limit` nodes; `OutOfMemory` if an allocation fails.
+/// `TooManyNodes` if there are more than `limit` nodes; `OutOfMemory` if an allocation fails.
 pub fn find_all<P: Progress>(
     alloc: Global,
     spec: &Spec,
@@ -46,6 +48,7 @@ pub fn find_all<P: Progress>(
     ensures outcomes { IfOk result (λ all. AreAllListed spec.now crashes brief all.listed.items) }
     ensures nodes { IfOk result (λ all. HasNodes spec.now limit all.nodes) }
     ensures task { IfOk result (λ all. IsTaskOfRuns spec.now (option_map (λ events. events.items) all.breaking)) }
+    ensures beyond { IfErr result (λ fault. fault ≡ TooManyNodes → AreTooMany spec.now limit) }
 {
     let found = search(alloc, spec, crashes, limit, progress)?;
     let listed = list_all(alloc, spec, &found, brief)?;

@@ -17,12 +17,11 @@ use crate::text::{shown_count, write_alone, write_sample};
 use io_text::Text;
 use room_files::{BlockList, read_room};
 use room_sample::{
-    Example, PartialExamples, PartialSample, Plan, Tally, example_of, examples_of, sample,
+    Example, PartialExamples, PartialSample, Plan, Tally, Workers, example_of, examples_of, sample,
 };
 use room_spec::Spec;
 use run_search::Progress;
 use std::alloc::{AllocError, Global};
-use std::thread::Threads;
 
 /// How many times more a room is run at most to make its scripts short than to sample it.
 const MORE_TRIES: u32 = 2000;
@@ -33,20 +32,21 @@ const MORE_TRIES: u32 = 2000;
 /// # Errors
 ///
 /// If an allocation fails. The samples of the rooms before are written then, and what there is memory for of the next one.
-pub(crate) fn write_samples<R: Threads + Sync, P: Progress>(
-    rt: &R,
+pub(crate) fn write_samples<W: Workers, P: Progress>(
+    workers: &W,
     alloc: Global,
     rooms: &BlockList,
     plan: &Plan,
     output: &mut Text,
     progress: &mut P,
 ) -> Result<bool, AllocError>
+    requires { W.may_count }
     ensures samples { IfOk result (λ well. AddsSamples plan.now rooms.now.rooms well output.old output.new) }
     ensures cut { OnErr result (AddsFirst plan.now rooms.now.rooms output.old output.new) }
 {
     let mut well = true;
     for index in 0..rooms.len() {
-        let held = write_room(rt, alloc, rooms.block(index), plan, output, progress)?;
+        let held = write_room(workers, alloc, rooms.block(index), plan, output, progress)?;
         well &= held;
     }
     Ok(well)
@@ -78,15 +78,16 @@ fn tries_for(plan: &Plan) -> u32 {
 /// # Errors
 ///
 /// If an allocation fails. What there is memory for is written: the sample of the schedules that were counted by then.
-fn write_room<R: Threads + Sync, P: Progress>(
-    rt: &R,
+fn write_room<W: Workers, P: Progress>(
+    workers: &W,
     alloc: Global,
     block: &[u8],
     plan: &Plan,
     output: &mut Text,
     progress: &mut P,
 ) -> Result<bool, AllocError>
-    requires { (spec : RoomSpec) × (block_in block.now ≡ Ok (spec, length block.now)) }
+    requires may { W.may_count }
+    requires block { (spec : RoomSpec) × (block_in block.now ≡ Ok (spec, length block.now)) }
     ensures whole { IfOk result (λ well. (spec : RoomSpec) → block_in block.now ≡ Ok (spec, length block.now) →
         (text : List ℕ) × IsSampleText plan.now spec well text × (output.new ≡ output.old ++ text)) }
     ensures cut { OnErr result ((spec : RoomSpec) → block_in block.now ≡ Ok (spec, length block.now) → AddsCut plan.now spec output.old output.new) }
@@ -99,7 +100,7 @@ fn write_room<R: Threads + Sync, P: Progress>(
         outcomes,
         schedules,
         ending,
-    } = sample(rt, alloc, &spec, plan, progress);
+    } = sample(workers, alloc, &spec, plan, progress);
     if schedules == 0 {
         ending?;
     }

@@ -7,11 +7,10 @@ ghost use Rattle.view_sample.specs.Sample.{IsSampleFor, head_of, is_for_people, 
 use crate::rooms::write_samples;
 use io_text::Text;
 use room_files::{BlockList, Outcome, Setup, outcome_if, read_all_blocks};
-use room_sample::Plan;
+use room_sample::{Plan, Workers};
 use run_search::Progress;
 use script_play::PlayText;
 use std::alloc::{AllocError, Global};
-use std::thread::Threads;
 
 const LAST: &[u8] =
     b"\nthis is a sample of simulations: other outcomes may come, and with fewer simulators than processes a protocol has runs to which no schedule leads\n";
@@ -23,21 +22,22 @@ const LAST: &[u8] =
 /// # Errors
 ///
 /// An allocation that failed for anything else.
-pub fn sample_blocks<R: Threads + Sync, P: Progress>(
-    rt: &R,
+pub fn sample_blocks<W: Workers, P: Progress>(
+    workers: &W,
     alloc: Global,
     input: &[u8],
     plan: &Plan,
     progress: &mut P,
 ) -> Result<PlayText, AllocError>
-    requires { length input.now ≤ most_bytes }
+    requires may { W.may_count }
+    requires fits { length input.now ≤ most_bytes }
     ensures { IfOk result (λ told. IsSampleFor plan.now input.now told.ending told.output) }
 {
     let no_blocks = Setup::new(BlockList::new(alloc), Text::new(alloc));
     let Setup { rooms, refused, .. } = read_all_blocks(alloc, no_blocks, input)?;
     let is_accepted = refused.is_empty();
     let mut output = head_of(alloc, plan, refused);
-    let samples = write_samples(rt, alloc, &rooms, plan, &mut output, progress);
+    let samples = write_samples(workers, alloc, &rooms, plan, &mut output, progress);
     write_last(&mut output, plan)?;
     let ending = ending_of(is_accepted, samples);
     Ok(PlayText { output, ending })

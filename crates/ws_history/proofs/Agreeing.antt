@@ -48,7 +48,7 @@ module _ (spec : RoomSpec) (F G : Fields) (some : 0 < spec.simulators) (agree : 
   pub same_out : (j : ℕ) → j < processes spec → has_out spec F j ≡ has_out spec G j
   same_out j below = ap (λ (l : List ℕ). list_any is_out l) (same_outs j below)
 
-  same_levels : (j k : ℕ) → j < processes spec → 1 ≤ k → k ≤ spec.rounds → levels_at spec F j k ≡ levels_at spec G j k
+  pub same_levels : (j k : ℕ) → j < processes spec → 1 ≤ k → k ≤ spec.rounds → levels_at spec F j k ≡ levels_at spec G j k
   same_levels j k below first last = map_same _ _ 0 spec.simulators (λ i low high. agree.level i j k (omega arith) below (first, last))
 
   pub same_clean : (j k : ℕ) → j < processes spec → 1 ≤ k → k ≤ spec.rounds → is_clean spec F j k ≡ is_clean spec G j k

@@ -1,22 +1,21 @@
 -- The history of a room begins, process by process, the history of all its agreements that are fixed.
-use Rattle.std.proofs.Common.{◌≡◌, ◌≢◌, cond, ℕ, zero, suc, ◌+◌, ◌-◌, ◌<◌, ◌≤◌, Bool, true, eqb, List, [], ◌∷◌, ◌++◌, map, Contains, Option, refl, sym, ap, ap₂, ◌∙◌, subst, arith, inl, inr, append-nil, append_assoc}
+use Rattle.std.proofs.Common.{◌≡◌, ◌≢◌, cond, ℕ, zero, suc, ◌+◌, ◌<◌, ◌≤◌, Bool, true, eqb, List, [], ◌∷◌, ◌++◌, map, Contains, Option, refl, sym, ap, ap₂, ◌∙◌, subst, arith, inl, inr}
 use Rattle.std.proofs.lemmas.Bool.{and_from, cases_eq, eq-eqb, eqb-true, cases_Bool, or_right}
 use Rattle.room_spec.specs.Rooms.{RoomSpec, processes}
 use Rattle.transcript.specs.declared.event.Event.{Event}
-use Rattle.transcript.specs.declared.event.Event.TheVariants.{Write, Snap, Decide}
+use Rattle.transcript.specs.declared.event.Event.TheVariants.{Write, Snap}
 use Rattle.room_core.specs.Fields.{Fields}
 use Rattle.room_core.specs.Agreements.{HasAgreed, decided_in, greatest_step, is_fixed, is_passed, outs_at, row_at}
 use Rattle.room_core.specs.Points.{Point, Writes, Snaps, Decides}
 use Rattle.room_core.proofs.CallerLemmas.{test_of}
 use Rattle.ws_history.specs.Histories.{Snapshot, Source, IsSource, decided, history_from, shown_row}
-use Rattle.ws_history.specs.Orders.{all_passed, IsPassed}
-use Rattle.ws_history.specs.Passed.{IsOfPassed}
+use Rattle.ws_history.specs.Orders.{all_passed}
 use Rattle.ws_history.specs.Sources.{decision_after, fixed_source_of, source_of, history_of}
 use Rattle.ws_history.specs.Linearizations.{LackAtMostASnapshot, event_of, events_before, events_of}
 use Rattle.ws_history.proofs.Order.{last_is, last_round, round_least, round_most, round_there, snapshot_at}
 use Rattle.ws_history.proofs.Sorting.{from_order, to_order, from_passed, to_passed}
 use Rattle.ws_history.proofs.PassedSources.{is_source}
-use Rattle.ws_history.proofs.OwnEvents.{decision_behind, history_told, open_of, rounds_of, told, told_last, told_same, told_snap}
+use Rattle.ws_history.proofs.OwnEvents.{decision_behind, history_told, open_of, rounds_of, told, told_snap}
 use Rattle.ws_history.proofs.SourceIs.{found_in, gone_beyond, is_of_fixed, is_of_passed, one_of}
 use Rattle.ws_history.proofs.Deciders.{out_found}
 

@@ -1,5 +1,5 @@
 -- As a room goes on, what each process does in its linearization begins what it does later.
-use Rattle.std.proofs.Common.{◌≡◌, ◌≢◌, ℕ, zero, suc, ◌+◌, ◌-◌, ◌<◌, ◌≤◌, Bool, true, false, cond, eqb, List, [], ◌∷◌, ◌++◌, length, map, get_or, Option, Some, None, refl, sym, ap, ap₂, ◌∙◌, subst, arith, inl, inr, append-nil, append_assoc}
+use Rattle.std.proofs.Common.{◌≡◌, ℕ, zero, suc, ◌+◌, ◌-◌, ◌<◌, ◌≤◌, Bool, true, cond, eqb, List, [], ◌∷◌, ◌++◌, length, map, get_or, Option, Some, None, refl, sym, ap, ◌∙◌, subst, arith, inl, inr, append-nil, append_assoc}
 use Rattle.std.specs.List.{range_with_len}
 use Rattle.std.proofs.lemmas.Bool.{cases_eq, cases_lt, cases_Bool, eq-eqb, eqb-true}
 use Rattle.protocol_lang.specs.declared.meaning.Action.{Action}
@@ -8,7 +8,7 @@ use Rattle.room_spec.specs.Rooms.{RoomSpec, IsWithinLimits, processes}
 use Rattle.sim_memory.specs.Steps.{row_of}
 use Rattle.sim_memory.proofs.CallerLemmas.{row_length}
 use Rattle.transcript.specs.declared.event.Event.{Event}
-use Rattle.transcript.specs.declared.event.Event.TheVariants.{Write, Snap, Decide}
+use Rattle.transcript.specs.declared.event.Event.TheVariants.{Write, Snap}
 use Rattle.room_core.specs.Calls.{RoomState}
 use Rattle.room_core.specs.Fields.{Fields, StepMap}
 use Rattle.room_core.specs.Reading.{AreFieldsOf}
@@ -16,7 +16,7 @@ use Rattle.room_core.specs.Rooms.{ScheduleEvent}
 use Rattle.room_core.specs.Agreements.{HasAgreed, asks, decided_in, greatest_step, is_fixed, row_at, view_at, written}
 use Rattle.room_core.proofs.CallerLemmas.{GoesOn, fixed_of, goes_on, rooms_agree}
 use Rattle.ws_history.specs.Histories.{Source, decided, history_from, shown, shown_row}
-use Rattle.ws_history.specs.Sources.{decision_after, fixed_source_of, source_of}
+use Rattle.ws_history.specs.Sources.{fixed_source_of, source_of}
 use Rattle.ws_history.specs.Linearizations.{Begins, events_of, linearized}
 use Rattle.ws_history.proofs.FixedHistories.{fixed_is, lasts, round_fixed, round_there_if, rounds_in, rounds_least, rounds_most}
 use Rattle.ws_history.proofs.Linearized.{linearized_fixed}

@@ -41,3 +41,4 @@ mod Settled
 mod Certified
 mod Spending
 mod TrueReports
+mod Unreadables

@@ -15,6 +15,7 @@ use Rattle.ws_history.specs.Histories.{Snapshot}
 use Rattle.ws_history.specs.Orders.{all_passed}
 use Rattle.ws_history.specs.Readings.{read_of}
 use Rattle.ws_history.specs.Sources.{history_of, source_of}
+use Rattle.ws_history.specs.Unreadable.{unreadable_of}
 use Rattle.ws_history.proofs.Agreeing.{same_passed, same_row}
 use Rattle.ws_history.proofs.PassedSources.{apart}
 use Rattle.ws_history.proofs.Ranges.{row_low}
@@ -22,6 +23,7 @@ use Rattle.ws_history.specs.Reports.{crashed_in, states_of}
 use Rattle.ws_history.proofs.SameHistories.{same_all_passed, same_history}
 use Rattle.ws_history.proofs.Sorting.{AreApart, from_passed}
 use Rattle.ws_history.proofs.SourceIs.{is_of_passed}
+use Rattle.ws_history.proofs.Unreadables.{same_unreadable}
 use Rattle.ws_history.proofs.SameReports.{same_crashed, same_states}
 
 smaller : (x most : ℕ) → x ≤ most → min x most ≡ x
@@ -83,3 +85,8 @@ module _ (room : RoomState) where
       let some = limits.shape.m_range.0 in
       let rounds = limits.shape.rounds_range.0 in
       same_crashed room.spec (read_of room) fields (omega arith) rounds (read_agrees fields limits are) low_rows
+
+  pub unreadable_in : (fields : Fields) → IsWithinLimits room.spec → AreFieldsOf room fields → (j k : ℕ) → unreadable_of room.spec (read_of room) j k ≡ unreadable_of room.spec fields j k
+  unreadable_in fields limits are j k =
+      let some = limits.shape.m_range.0 in
+      same_unreadable room.spec (read_of room) fields (omega arith) (read_agrees fields limits are) j k

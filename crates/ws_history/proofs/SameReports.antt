@@ -12,7 +12,7 @@ use Rattle.ws_history.specs.Reports.{crashed_in, held_by, is_inside, is_spent, i
 use Rattle.ws_history.proofs.Agreeing.{same_asks, same_clean, same_decided}
 use Rattle.ws_history.proofs.Walking.{map_same}
 
-find_same : (p q : ℕ → Bool) (a n : ℕ) → ((i : ℕ) → a ≤ i → i < a + n → p i ≡ q i) → find p (range_with_len a n) ≡ find q (range_with_len a n)
+pub find_same : (p q : ℕ → Bool) (a n : ℕ) → ((i : ℕ) → a ≤ i → i < a + n → p i ≡ q i) → find p (range_with_len a n) ≡ find q (range_with_len a n)
 find_same p q a zero same = refl
 find_same p q a (suc n) same =
     ap (λ (b : Bool). cond b (Some a) (find p (range_with_len (a + 1) n))) (same a (omega arith) (omega arith))

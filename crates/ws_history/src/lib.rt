@@ -13,6 +13,7 @@ mod reading;
 mod reports;
 mod snapshots;
 mod states;
+mod unreadable;
 
 pub use effects::{Effect, StepStart};
 pub use event_sink::EventSink;
@@ -21,3 +22,4 @@ pub use linearization::linearize;
 pub use points::Points;
 pub use reports::{process_states, report, report_to};
 pub use states::{History, ProcessState, Report, Standing};
+pub use unreadable::{Unreadable, unreadable_agreement};

@@ -12,7 +12,10 @@ static void call_each(size_t length, struct bgview_result *result) {
     bgview_transcript(input, length, output, sizeof output, result);
     bgview_page(input, length, output, sizeof output, result);
     bgview_grade(input, length, (const uint8_t *)"spent 0", 7, 3, output, sizeof output, result);
+    struct bgview_plan plan = {.schedules = 20, .crashes = 1, .seed = 1, .top = BGVIEW_NO_LIMIT, .outcome = BGVIEW_EACH};
     for (int option = 0; option < 2; option++) {
+        plan.json = option;
+        bgview_sample(input, length, &plan, output, sizeof output, result);
         bgview_trace(input, length, option, output, sizeof output, result);
         bgview_why(input, length, option, output, sizeof output, result);
         bgview_draw(input, length, 100, option, output, sizeof output, result);

@@ -1,11 +1,12 @@
 use Rattle.std.proofs.Common.{◌≡◌, ◌<◌, ◌≤◌, ◌-◌, ◌⊎◌, ℕ, Some}
 use Rattle.std.specs.Prelude.{slice_get}
-use Rattle.run_search.specs.Nodes.{AreGathered, HasEdges, IsBelowLater, Node}
+use Rattle.run_search.specs.Limits.{IsSearched}
+use Rattle.run_search.specs.Nodes.{HasEdges, IsBelowLater, Node}
 use Rattle.run_search.proofs.explored.explore.Given as goal
 
 abbrev pub invariant-loop-cursor : goal.invariant-loop-cursor
 invariant-loop-cursor g l = record {
-  gathered : AreGathered l.spec l.explored.nodes.items;
+  searched : IsSearched l.spec l.explored;
   edges : (i : ℕ) (node : Node) → i < l.cursor → slice_get l.explored.nodes.items i ≡ Some node → HasEdges l.spec l.explored.nodes.items node ⊎ IsBelowLater l.explored.nodes.items i node;
   within : l.cursor ≤ l.limit;
 }

@@ -1,4 +1,4 @@
-use Rattle.std.proofs.Common.{◌≡◌, ◌∙◌, ℕ, suc, ap, subst, arith}
+use Rattle.std.proofs.Common.{arith}
 use Rattle.room_core.specs.Calls.{configuration_of}
 use Rattle.step_words.proofs.Numbers.{steps_counted}
 use Rattle.step_words.proofs.number.next_number.Goals as goal

@@ -1,4 +1,4 @@
-use Rattle.std.proofs.Common.{◌∙◌, ℕ, List, map, ap, sym, subst}
+use Rattle.std.proofs.Common.{ℕ, List, map, sym, subst}
 use Rattle.transcript.specs.declared.event.Event.{Event}
 use Rattle.transcript.specs.Runs.{IsRun}
 use Rattle.ws_history.specs.Linearizations.{AreEventsAtSteps, LackAtMostASnapshot, events_of}

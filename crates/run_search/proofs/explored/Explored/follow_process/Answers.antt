@@ -8,7 +8,7 @@ use Rattle.run_search.proofs.explored.Explored.follow_process.Goals as goal
 pub count-count-requires : goal.count-count-requires
 count-count-requires c =
     let there : slice_get c.args.self.now.nodes.items c.args.cursor ≡ Some c.index.result.now = slice_get-get_or c.args.self.now.nodes.items c.args.cursor c.index.result.now c.requires.there ∙ ap Some (sym c.index.ensures) in
-    omega (arith, (c.requires.gathered.whole c.args.cursor c.index.result.now there).width, c.requires.process)
+    omega (arith, (c.requires.searched.gathered.whole c.args.cursor c.index.result.now there).width, c.requires.process)
 
 pub follow-requires-clause-there : goal.follow-requires-clause-there
 follow-requires-clause-there c =
@@ -17,7 +17,7 @@ follow-requires-clause-there c =
 
 pub loop-index-preserved : goal.loop-index-preserved
 loop-index-preserved c = record {
-  gathered = c.in_ok-follow.ensures.gathered;
+  searched = c.in_ok-follow.ensures.searched;
   grown = nodes_on c.args.self.now.nodes.items c.loop-index.self.nodes.items c.follow.new.self.nodes.items c.loop-index.invariant.grown c.in_ok-follow.ensures.grown;
   edges = λ node is.
       edges_below_more c.args.spec.now c.loop-index.self.nodes.items c.follow.new.self.nodes.items node c.args.p c.loop-index.index c.in_ok-follow.ensures.grown (c.loop-index.invariant.edges node is)

@@ -8,7 +8,7 @@ use Rattle.run_search.proofs.explored.Explored.visit.Goals as goal
 
 pub returns-then-has_above-clause-edges : goal.returns-then-has_above-clause-edges
 returns-then-has_above-clause-edges c = λ node is.
-    let later = c.if-has_above.ensures refl in
+    let later = c.if-has_above.ensures.above refl in
     inr (later.0, later.1, let past = later.2 in omega (arith, past), later.3, subst (λ (n : Node). IsBelow n later.1) (c.index.ensures ∙ get_or_from_slice_get c.args.self.now.nodes.items c.args.cursor node c.index.result.now is) later.4)
 
 pub loop-p-preserved : goal.loop-p-preserved
@@ -17,7 +17,7 @@ loop-p-preserved c =
     let old = c.loop-p.self.nodes.items in
     let new = c.follow_process.new.self.nodes.items in
     record {
-      gathered = c.in_ok-follow_process.ensures.gathered;
+      searched = c.in_ok-follow_process.ensures.searched;
       grown = nodes_on first old new c.loop-p.invariant.grown c.in_ok-follow_process.ensures.grown;
       edges = λ node q local is below there. elim (cases_eq q c.loop-p.p) [
         | inl same ↦

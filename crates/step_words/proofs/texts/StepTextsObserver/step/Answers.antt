@@ -1,11 +1,12 @@
-use Rattle.std.proofs.Common.{◌≡◌, ◌≢◌, Option, false, subst}
+use Rattle.std.proofs.Common.{◌≡◌, ◌≢◌, ◌∙◌, Option, false, subst, sym}
 use Rattle.std.specs.Prelude.{MatchOption}
 use Rattle.room_spec.specs.Rooms.{RoomSpec, IsWithinLimits}
-use Rattle.room_core.specs.Calls.{step_reply}
+use Rattle.room_core.specs.Calls.{RoomState, step_reply}
+use Rattle.room_core.specs.Reading.{AreFieldsOf}
 use Rattle.room_core.specs.declared.reply.StepReply.TheVariants.{Stepped}
 use Rattle.room_steps.specs.Steps.{IsStepOf}
 use Rattle.room_steps.specs.declared.step.AtomicStep.{AtomicStep}
-use Rattle.step_words.specs.Told.{with_step}
+use Rattle.step_words.specs.Told.{asked_of, with_step}
 use Rattle.step_words.proofs.Within.{told_within}
 use Rattle.step_words.proofs.texts.StepTextsObserver.step.Goals as goal
 
@@ -25,9 +26,12 @@ returns-in-Some-clause-seen c = λ stepped.
     record {
       step = c.in-Some.step;
       is = was.1;
-      effect = c.effect-effect.result;
-      is_effect = λ one. c.effect-effect.ensures room one c.of-start.ensures was.0 c.take_step-reply.ensures.room;
+      consequence = record { effect = c.effect.result; unreadable = c.asked_of.result };
+      effect = λ one. c.effect.ensures room one c.of-start.ensures was.0 c.take_step-reply.ensures.room;
+      unreadable = λ fields are.
+          subst (λ (spec : RoomSpec). c.asked_of.result ≡ asked_of spec fields c.in-Some.step.process c.in-Some.step.end) (sym c.spec-in-Some.ensures.value ∙ same)
+          (c.asked_of.ensures fields (subst (λ (after : RoomState). AreFieldsOf after fields) (sym c.take_step-reply.ensures.room) are));
       number = c.next_number-number.result;
       numbered = c.next_number-number.ensures;
-      told = subst (λ (spec : RoomSpec). c.note.new.self.lacks ≡ false → c.note.new.self ≡ with_step c.args.self.now spec c.next_number-number.result c.in-Some.step c.effect-effect.result) same c.note.ensures;
+      told = subst (λ (spec : RoomSpec). c.note.new.self.lacks ≡ false → c.note.new.self ≡ with_step c.args.self.now spec c.next_number-number.result c.in-Some.step (record { effect = c.effect.result; unreadable = c.asked_of.result })) same c.note.ensures;
     }

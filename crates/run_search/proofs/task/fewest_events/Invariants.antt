@@ -1,0 +1,12 @@
+use Rattle.std.proofs.Common.{◌<◌, ◌≤◌, ◌*◌, ℕ, List, get_or, length, take}
+use Rattle.std.specs.List.{Contains}
+use Rattle.run_search.specs.declared.local_state.LocalState.{LocalState}
+use Rattle.run_search.specs.Nodes.{set_of}
+use Rattle.run_search.specs.States.{blank, events_in}
+use Rattle.run_search.proofs.task.fewest_events.Given as goal
+
+abbrev pub invariant-loop-p : goal.invariant-loop-p
+invariant-loop-p l = record {
+  fewest : (state : List LocalState) → l.p ≤ length state → ((q : ℕ) → q < l.p → Contains (set_of l.node q) (get_or state q blank)) → l.sum ≤ events_in (take l.p state);
+  few : l.sum ≤ 512 * l.p;
+}

@@ -1,0 +1,61 @@
+-- What is so when a search reaches its limit.
+use Rattle.std.specs.Prelude.{◌≡◌, ◌⊎◌, ℕ, ◌<◌, List, length, Option, Some, eqb, slice_get}
+use Rattle.std.specs.List.{Contains}
+use Rattle.std.specs.Cmp.Lexicographic.{pointwise}
+use Rattle.std.specs.Global.{Vec}
+use Rattle.std.specs.Map.{lookup}
+use Rattle.std.specs.Option.{option_eq}
+use Rattle.arrayvec.specs.ArrayVec.{ArrayVec}
+use Rattle.room_spec.specs.Rooms.{RoomSpec}
+use Rattle.run_search.specs.declared.explored.Explored.{Explored}
+use Rattle.run_search.specs.declared.local_state.LocalState.{LocalState}
+use Rattle.run_search.specs.Nodes.{AreGathered, Covers, Node, set_of}
+use Rattle.run_search.specs.Steps.{IsReachable}
+
+-- the node covers a state that the other does not
+abbrev pub CoversMore : RoomSpec → Node → Node → Type 0
+CoversMore spec node other = (state : List LocalState) × Covers spec node state × (Covers spec other state → ⊥)
+
+-- each node covers a state that no one earlier node does
+abbrev pub AreApart : RoomSpec → List Node → Type 0
+AreApart spec nodes = (i j : ℕ) (earlier later : Node) → i < j → slice_get nodes i ≡ Some earlier → slice_get nodes j ≡ Some later → CoversMore spec later earlier
+
+-- There are more than `limit` nodes: that of the state before the first event, and others, to each of which a write leads from an earlier one. Each
+-- state that they cover is one of a run, and of two of them the later one covers a state that the other does not.
+pub record AreTooMany (spec : RoomSpec) (limit : ℕ) : Type 0 where
+  pub nodes : List Node
+  pub many : limit < length nodes
+  pub gathered : AreGathered spec nodes
+  pub reachable : (node : Node) (state : List LocalState) → Contains nodes node → Covers spec node state → IsReachable spec state
+  pub apart : AreApart spec nodes
+
+-- ---- how nodes are found by their rows
+
+-- indices of nodes by their row
+abbrev pub Rows : Type 0
+Rows = List (ArrayVec (Option ℕ) × Vec ℕ)
+
+abbrev pub indices_at : Rows → List (Option ℕ) → Option (Vec ℕ)
+indices_at rows row = lookup (λ key. pointwise (option_eq eqb) row key.items) rows
+
+-- the index is among those of the row
+pub record IsListed (rows : Rows) (row : List (Option ℕ)) (index : ℕ) : Type 0 where
+  pub indices : Vec ℕ
+  pub there : indices_at rows row ≡ Some indices
+  pub among : Contains indices.items index
+
+-- so is that of each node
+abbrev pub AreListed : Rows → List Node → Type 0
+AreListed rows nodes = (i : ℕ) (node : Node) → slice_get nodes i ≡ Some node → IsListed rows node.row i
+
+-- the nodes have another row, or sets for another number of processes, or one has a local state that the other has not
+abbrev pub IsNotBelow : Node → Node → Type 0
+IsNotBelow node above =
+    (above.row ≡ node.row → ⊥)
+    ⊎ ((length node.sets ≡ length above.sets → ⊥) ⊎ ((p : ℕ) × (local : LocalState) × (p < length node.sets) × Contains (set_of node p) local × (Contains (set_of above p) local → ⊥)))
+
+-- what a search has so far
+pub record IsSearched (spec : RoomSpec) (explored : Explored) : Type 0 where
+  pub gathered : AreGathered spec explored.nodes.items
+  pub listed : AreListed explored.by_row.entries explored.nodes.items
+  pub apart : AreApart spec explored.nodes.items

@@ -1,0 +1,80 @@
+-- An atomic step as data: the line of its turn, its place, and what the simulation reads in the word there.
+use Rattle.std.specs.Prelude.{ℕ, ◌-◌, ◌==◌, List, map, codes, if◌then◌else◌}
+use Rattle.std.specs.List.{range_with_len}
+use Rattle.serde_json.specs.Data.{Data, array, member, no_members, null, number, object, string, unsigned}
+use Rattle.serde_json.specs.View.{items_of}
+use Rattle.json_lines.specs.Values.{number_data, numbers_data}
+use Rattle.room_steps.specs.declared.step.AtomicStep.{AtomicStep}
+use Rattle.room_spec.specs.Rooms.{RoomSpec, processes}
+use Rattle.room_spec.specs.Sizes.{sizes_in}
+use Rattle.level_cells.specs.Fields.{levels_of}
+use Rattle.sim_memory.specs.Steps.{step_in}
+use Rattle.view_table.specs.declared.place.Place.{Place}
+use Rattle.view_table.specs.declared.place.Place.TheVariants.{Memory, Levels, View, Value, Out}
+use Rattle.simulator.specs.declared.line.Line.{Line}
+use Rattle.simulator.specs.declared.line.Line.TheVariants as lines
+use Rattle.simulator.specs.declared.operation.Move.{Move}
+use Rattle.simulator.specs.declared.operation.Move.TheVariants.{Load}
+use Rattle.step_words.specs.Sights.{memory_with}
+
+-- ---- the line
+
+-- a turn's first step asks if it loads, and stores a write if it doesn't
+abbrev pub first_word : Move → List ℕ
+first_word (Load index) = codes "ask"
+first_word operation = codes "write"
+
+abbrev pub line_word : Line → Move → List ℕ
+line_word lines.Rest operation = first_word operation
+line_word lines.Raise operation = codes "raise"
+line_word lines.Snap operation = codes "snap"
+line_word lines.Show operation = codes "show"
+line_word lines.Enter operation = codes "enter"
+line_word lines.Look operation = codes "look"
+line_word (lines.Leave saw_two) operation = codes "leave"
+line_word lines.Ask operation = codes "ask"
+line_word (lines.GetView chosen) operation = codes "view"
+line_word lines.Values operation = codes "values"
+line_word (lines.Out decision) operation = codes "out"
+
+-- ---- the place
+
+abbrev pub place_data : Place → Data
+place_data (Memory word) = object (member (codes "kind") (string (codes "steps")) (member (codes "word") (number_data word) no_members))
+place_data (Levels process round) = object (member (codes "kind") (string (codes "levels")) (member (codes "process") (number_data process) (member (codes "round") (number_data round) no_members)))
+place_data (View simulator process round word) =
+    object (member (codes "kind") (string (codes "view")) (member (codes "process") (number_data process) (member (codes "round") (number_data round)
+    (member (codes "simulator") (number_data simulator) (member (codes "word") (number_data word) no_members)))))
+place_data (Value simulator process round) =
+    object (member (codes "kind") (string (codes "value")) (member (codes "process") (number_data process) (member (codes "round") (number_data round) (member (codes "simulator") (number_data simulator) no_members))))
+place_data (Out simulator process) = object (member (codes "kind") (string (codes "out")) (member (codes "process") (number_data process) (member (codes "simulator") (number_data simulator) no_members)))
+
+-- ---- the word
+
+-- the step number that these memory words have of a simulator for a process
+abbrev pub own_step_data : RoomSpec → List ℕ → ℕ → ℕ → Data
+own_step_data spec words simulator process = number_data (step_in (sizes_in spec) words simulator process)
+
+abbrev pub own_steps_data : RoomSpec → List ℕ → ℕ → Data
+own_steps_data spec words simulator = array (items_of (map (own_step_data spec words simulator) (range_with_len 0 (processes spec))))
+
+-- the step numbers of each simulator in one memory word, with 0 for those that another word has
+abbrev pub steps_data : RoomSpec → ℕ → ℕ → Data
+steps_data spec at word = array (items_of (map (own_steps_data spec (memory_with at word)) (range_with_len 0 spec.simulators)))
+
+-- a decision is stored with 1 added
+abbrev pub decision_data : ℕ → Data
+decision_data word = if word == 0 then null else number_data (word - 1)
+
+-- what the simulation reads in the word at a place: step numbers, levels, a value or a decision
+abbrev pub word_data : Place → RoomSpec → ℕ → Data
+word_data (Memory at) spec word = steps_data spec at word
+word_data (Levels process round) spec word = numbers_data (levels_of word spec.simulators)
+word_data (View simulator process round at) spec word = steps_data spec at word
+word_data (Value simulator process round) spec word = number_data word
+word_data (Out simulator process) spec word = decision_data word
+
+-- what a step does: the line of its turn, the place of its word, and what the simulation reads there before and after the step
+unfoldable pub access_data : RoomSpec → AtomicStep → Data
+access_data spec step =
+    object (member (codes "after") (word_data step.place spec step.after) (member (codes "before") (word_data step.place spec step.word) (member (codes "line") (string (line_word step.line step.operation)) (member (codes "place") (place_data step.place) no_members))))
