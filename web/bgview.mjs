@@ -1,5 +1,5 @@
 // What bgsim and bgview answer, by the WebAssembly module of their library. `const view = await load(bytes)` has a function for each call of
-// include/bgview.h: `view.trace('open\n..', { json: true })` gives { status, fault, line, length, text }. The module asks its host for nothing.
+// include/bgview.h: `view.trace('open\n..', { json: true })` gives { status, fault, line, length, bytes, text }. The module asks its host for nothing.
 
 const LARGEST = 0xffffffff;
 const OPTIONS = {
@@ -36,7 +36,7 @@ export async function load(bytes, { most = 1024 * 1048576, size: usual = 1048576
     exports.heap_reset(BigInt(most));
     const read = [...inputs, ...more.filter(one => one instanceof Uint8Array)];
     const places = [...read.map(bytes => take(bytes.length || 1)), take(size), take(RESULT)];
-    if (places.includes(0)) return { status: NO_MEMORY, fault: 0, line: 0, length: 0, text: '' };
+    if (places.includes(0)) return { status: NO_MEMORY, fault: 0, line: 0, length: 0, bytes: new Uint8Array(), text: '' };
     const [to, result] = places.slice(read.length);
     read.forEach((bytes, index) => new Uint8Array(exports.memory.buffer).set(bytes, places[index]));
     const slices = inputs.flatMap((input, index) => [places[index], BigInt(input.length)]);
@@ -49,8 +49,9 @@ export async function load(bytes, { most = 1024 * 1048576, size: usual = 1048576
     }
     const ended = new DataView(exports.memory.buffer, result, RESULT);
     const length = Number(ended.getBigUint64(16, true));
-    const text = length > size ? null : decoder.decode(new Uint8Array(exports.memory.buffer, to, length)); // the buffer is the module's own memory
-    return { status: ended.getUint32(0, true), fault: ended.getUint32(4, true), line: Number(ended.getBigUint64(8, true)), length, text };
+    const bytes = length > size ? null : new Uint8Array(exports.memory.buffer, to, length).slice(); // a copy: the next call takes this memory
+    const text = bytes && decoder.decode(bytes);
+    return { status: ended.getUint32(0, true), fault: ended.getUint32(4, true), line: Number(ended.getBigUint64(8, true)), length, bytes, text };
   }
 
   function call(name, inputs, more) {

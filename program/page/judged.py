@@ -81,6 +81,8 @@ def compare_judged(room, panels, columns):
         holds(f"{where}: the sentence", panel["sentence"], room["sentences"][number] + ended)
         holds(f"{where}: the processes", panel["tables"], [next_events(room, number)])
         compare_boxes(where, room, panel["drawn"], number)
+        if panel["hidden"]:
+            holds(f"{where}: the boxes without the future", panel["hidden"]["boxes"], [box for box in panel["drawn"]["boxes"] if not box["pale"]])
 
 
 def compare_boxes(where, room, drawn, count):

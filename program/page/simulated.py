@@ -8,7 +8,7 @@ from differing import Differs, answered, holds
 TURN = re.compile(r"simulator (\d+), turn (\d+), process (\d+), round (\d+)")
 # A step's line: its number, its turn if that begins there, what was done, and what came of it.
 COLUMNS = re.compile(r"^ {4}(\d+) +(?:(simulator \d+, turn \d+, process \d+, round \d+) +)?(.*?\)|load the step numbers(?:, word \d+)?)(, word \d+)? +(.*)$")
-SQUARE, LANE, EVENTS, LEFT, TOP = 27, 42, 28, 104, 16
+SQUARE, LANE, EVENTS, LEFT, TOP = 27, 42, 26, 104, 16
 CROSS = "\u2715"
 UNREPORTED = " (not in a report)"
 
@@ -52,7 +52,7 @@ def rooms_of_script(script, trace):
     for (entry, block), reply in zip(entries_of(script), replies_of(trace)):
         words = reply["line"].split(" ")
         if words[1] == "opened":
-            opened[words[0]] = {"name": words[0], "block": block, "commands": [], "moments": [], "report": [], "compare": compare_simulated}
+            opened[words[0]] = {"name": words[0], "block": block, "commands": [], "moments": [], "said": [], "compare": compare_simulated}
             rooms.append(opened[words[0]])
         elif " refused " not in reply["line"] and words[0] in opened:
             play_command(opened[words[0]], entry, words, reply)
@@ -69,7 +69,7 @@ def play_command(room, entry, words, reply):
         read_note(room["moments"], line)
     if words[1] == "crash" and words[3] == "crashed":
         room["moments"].append({"crash": True, "i": int(words[2]), "turn": None, "notes": [], "operation": "", "sight": ""})
-    room["report"] = reply["report"] or room["report"]
+    room["said"] += [(len(room["moments"]), line) for line in reply["report"]]
     room["commands"].append((entry.split(" "), len(room["moments"]) - before))
 
 
@@ -128,16 +128,18 @@ def note_events(room, folder):
     total = len(room["moments"])
     script = folder / "prefixes.txt"
     script.write_text("\n".join(line for count in range(total + 1) for line in prefix_of(room, count, f"m{count}")) + "\n")
-    taken, reported = {}, {}
+    taken, reported, states = {}, {}, {}
     for reply in replies_of(answered(["trace"], script).stdout):
         name, *words = reply["line"].split(" ")
         taken[name] = taken.get(name, 0) + sum(bool(COLUMNS.match(note)) for note in reply["notes"]) + (words[0] == "crash" and words[2] == "crashed")
         if words == ["report"]:
             reported[name] = events_in(line for line in reply["report"] if re.match(r"\S+ \d+ (write|snap|decide) ", line)).get(name, [])
+            states[name] = [line.split(" ", 3)[3] for line in reply["report"] if " process " in line]
     transcript = answered(["transcript"], script).stdout.split("\n")
     took = events_in(line for line in transcript[transcript.index("events") + 1:] if line)
     names = [f"m{count}" for count in range(total + 1)]
     room["events"] = [(took.get(name, []), reported[name]) if taken[name] == count else None for count, name in enumerate(names)]
+    room["states"] = [states[name] if taken[name] == count else None for count, name in enumerate(names)]
     if None in room["events"] and not any(words[0] == "settle" for words, _ in room["commands"]):
         raise Differs(f"{room['name']}: the script up to step {room['events'].index(None)} takes other steps")
 
@@ -226,7 +228,10 @@ def compare_simulated(room, panels, columns):
         compare_words(where, panel, now)
         compare_agreements(where, panel, now)
         compare_processes(where, room, panel, now, count)
-        compare_lanes(where, room, panel, now, all_now[-1], count, columns)
+        compare_hints(where, panel, now)
+        compare_lanes(where, room, panel, panel["drawn"], now, all_now[-1], count, columns)
+        if panel["hidden"]:
+            compare_lanes(f"{where} without the future", {**room, "moments": room["moments"][:count]}, panel, panel["hidden"], now, now, count, columns, len(room["moments"]))
 
 
 def compare_obstacle(where, moment, now):
@@ -287,12 +292,32 @@ def compare_agreements(where, panel, now):
             holds(f"{where}: whether simulator {i} has lost in agreement {key}", "lost" in marks, bool(proposal) and chosen is not None and chosen != i)
 
 
-def state_of(room, now, process, is_end):
-    told = re.search(rf" process {process} (.*)", "\n".join(room["report"])) if is_end else None
-    if told:
-        return told[1]
+def has_stopped(room, i, count):
+    """Whether a simulator has crashed or ended its last turn."""
+    last = next(line for line in room["block"] if line.startswith("turns ")).split(" ")[1]
+    own = [moment for moment in room["moments"][:count] if moment["i"] == i]
+    return any(moment["crash"] or (f" turn {last}," in moment["turn"] and any(re.match("useful|quiet", note) for note in moment["notes"])) for moment in own)
+
+
+def is_said_spent(room, process, count):
+    """Whether a report of the script or the end of a turn has said by now that the process is out of rounds."""
+    notes = [note for moment in room["moments"][:count] for note in moment["notes"]]
+    return f"useful: process {process} is spent" in notes or any(at <= count and line.endswith(f" process {process} spent") for at, line in room["said"] if at > 0)
+
+
+def state_of(room, now, process, count):
+    """The state by the report of the script up to this moment, with all simulators that hold the process; a process is out of rounds once that was said."""
     held = sorted(i for (q, _), of in now["levels"].items() if q == process for i, level in of.items() if level == 1 and i in now["crashed"])
-    return f"decided {now['decided'][process]}" if process in now["decided"] else f"held by simulator {held[0]}" if held else ""
+    state = room["states"][count][process] if room["states"][count] else f"decided {now['decided'][process]}" if process in now["decided"] else f"held {held[0]}" if held else "going"
+    if state == "spent" and not is_said_spent(room, process, count):
+        state = f"held {held[0]}" if held else "going"
+    if state.startswith("held "):
+        holds("the simulator of a report that holds a process", state, f"held {min(held)}")
+        return f"held by {named(held)}"
+    simulators = int(next(line for line in room["block"] if line.startswith("simulators ")).split(" ")[1])
+    if state == "going":
+        return "no simulator left" if all(has_stopped(room, i, count) for i in range(simulators)) else "may still go on"
+    return state
 
 
 def compare_processes(where, room, panel, now, count):
@@ -308,30 +333,61 @@ def compare_processes(where, room, panel, now, count):
             raise Differs(f"{where}: process {p} has {own} in the transcript and {known} in the report")
         shown = "; ".join(known + [text + UNREPORTED for text in own[len(known):]])
         holds(f"{where}: the events of process {p}", row[1] if reported is not None else row[1].replace(UNREPORTED, ""), shown)
-        holds(f"{where}: the state of process {p}", row[2], state_of(room, now, p, count == len(room["moments"])))
+        holds(f"{where}: the state of process {p}", row[2], state_of(room, now, p, count))
 
 
-def compare_lanes(where, room, panel, now, final, count, columns):
+def compare_hints(where, panel, now):
+    """The hints that have numbers in them: of step numbers, values and agreements."""
+    numbers, agreements, values, _ = panel["hints"]
+    for i, row in enumerate(numbers):
+        for p, hint in enumerate(row[1:]):
+            count = now["counted"].get((i, p), 0)
+            holds(f"{where}: a hint of step numbers", hint, f"step({i},{p}): simulator {i} has counted {count} write{'' if count == 1 else 's'} of process {p}")
+    for p, row in enumerate(values):
+        for r, hint in enumerate(row[1:], 1):
+            holds(f"{where}: a hint of values", hint, f"process {p} writes {now['values'][p, r]} in round {r}" if (p, r) in now["values"] else f"process {p} has not written in round {r}")
+    for cells, hints in zip(panel["tables"][1], agreements):
+        key = tuple(map(int, re.match(r"p(\d+) r(\d+)", cells[0]).groups()))
+        for i, hint in enumerate(hints[1:-1]):
+            holds(f"{where}: the hint of simulator {i} in agreement {key}", hint, hint_of(now, i, key))
+
+
+def hint_of(now, i, key):
+    proposal, chosen = now["proposals"].get((i, *key)), now["chosen"].get(key)
+    level = ("outside", "in the unsafe section", "its proposal counts")[now["levels"].get(key, {}).get(i, 0)]
+    begin = f"simulator {i} in agreement ({key[0]},{key[1]}): level {now['levels'].get(key, {}).get(i, 0)}: {level}; "
+    if proposal is None:
+        return begin + f"simulator {i} proposes nothing yet"
+    seen = [("no write" if entry == "." else "1 write" if entry == "1" else f"{entry} writes") + f" of process {p}" for p, entry in enumerate(proposal)]
+    row = seen[0] if len(seen) == 1 else ", ".join(seen[:-1]) + " and " + seen[-1]
+    return begin + f"it proposes a snapshot with {row}" + ("" if chosen is None else "; it is chosen" if chosen == i else "; another one is chosen")
+
+
+def compare_lanes(where, room, panel, drawn, now, final, count, columns, total=None):
+    """The lanes, by the moments that are drawn at all; the total says to where the run goes on."""
     moments, simulators = room["moments"], len(panel["tables"][0])
-    first = max(0, min(count - -(-columns // 2), len(moments) - columns))
+    first = max(0, min(count - -(-columns // 2), (len(moments) if total is None else total) - columns))
     last = min(first + columns, len(moments))
     place = lambda at: LEFT + (at - first) * SQUARE
     top = TOP + simulators * LANE + 6
     squares = [(letter(moment), place(at) + 1, TOP + moment["i"] * LANE, at >= count) for at, moment in enumerate(moments) if first <= at < last and not moment["crash"]]
-    boxes = panel["drawn"]["boxes"]
+    boxes = drawn["boxes"]
     holds(f"{where}: the squares", sorted((box["text"], box["x"], box["y"], box["pale"]) for box in boxes if box["y"] < top), sorted(squares))
     begins = [(at, moment) for at, moment in enumerate(moments) if first <= at < last and not moment["crash"] and (at == first or moments[at - 1]["turn"] != moment["turn"])]
-    holds(f"{where}: the names of turns", sorted(panel["drawn"]["turns"]), sorted([f"p{moment['p']} r{moment['r']}", place(at) + 2, TOP + moment["i"] * LANE + 36] for at, moment in begins))
+    holds(f"{where}: the names of turns", sorted(drawn["turns"]), sorted([f"p{moment['p']} r{moment['r']}", place(at) + 2, TOP + moment["i"] * LANE + 37] for at, moment in begins))
     known = set(now["events"])
     holds(f"{where}: the events in the lanes", sorted((box["text"], box["y"], box["pale"], *box["from"]) for box in boxes if box["y"] >= top),
         sorted((text, top + p * EVENTS, (at, p, text) not in known, place(at) + SQUARE / 2, TOP + moments[at]["i"] * LANE + 24) for at, p, text in final["events"] if first <= at < last))
     marked = [(p, row[1].split("; ")[-1].removesuffix(UNREPORTED)) for p, row in enumerate(panel["tables"][3]) if row[1].endswith(UNREPORTED)]
     holds(f"{where}: the events with a dashed border", sorted(((box["y"] - top) // EVENTS, box["text"]) for box in boxes if box["y"] >= top and box["dashed"]),
         sorted((p, text) for at, p, text in now["events"] if (p, text) in marked and at == max(a for a, q, other in now["events"] if (q, other) == (p, text)) and first <= at < last))
-    holds(f"{where}: the crosses", sorted(panel["drawn"]["crosses"]), sorted([place(at) + SQUARE / 2, TOP + moment["i"] * LANE + 19] for at, moment in enumerate(moments) if moment["crash"] and first <= at < last))
+    holds(f"{where}: the crosses", sorted(drawn["crosses"]), sorted([place(at) + SQUARE / 2, TOP + moment["i"] * LANE + 19] for at, moment in enumerate(moments) if moment["crash"] and first <= at < last))
     parts = [(i, max(begin, first), min(end, last)) for i, begin, end in inside_parts(moments)]
-    holds(f"{where}: the hatching", sorted(panel["drawn"]["hatched"]), sorted([place(begin), TOP + i * LANE - 4, (end - begin) * SQUARE] for i, begin, end in parts if begin < end))
-    holds(f"{where}: the current moment", panel["drawn"]["now"], place(count))
+    crashed = lambda i: " " + CROSS if i in now["crashed"] else ""
+    holds(f"{where}: the names of simulators", drawn["names"], [f"simulator {i}{crashed(i)}" for i in range(simulators)])
+    holds(f"{where}: whether the line of the moment crosses an event", drawn["isCrossed"], False)
+    holds(f"{where}: the hatching", sorted(drawn["hatched"]), sorted([place(begin), TOP + i * LANE - 4, (end - begin) * SQUARE] for i, begin, end in parts if begin < end))
+    holds(f"{where}: the current moment", drawn["now"], place(count))
 
 
 def inside_parts(moments):

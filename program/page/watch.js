@@ -2,6 +2,7 @@
 {
   const cells = table => [...table.querySelectorAll('tr')].slice(1).map(row => [...row.children].map(cell => cell.textContent));
   const number = (element, name) => Number(element.getAttribute(name));
+  const hints = table => [...table.querySelectorAll('tr')].slice(1).map(row => [...row.children].map(cell => cell.title));
   const classesOf = cell => [...cell.classList, ...[...cell.querySelectorAll('.lost')].map(() => 'lost')].join(' ');
   const classes = table => [...table.querySelectorAll('tr')].slice(1).map(row => [...row.children].map(classesOf));
   // A box with its text and its place, how it is drawn, and from where the dotted line to it begins.
@@ -22,17 +23,28 @@
     boxes: [...svg.querySelectorAll('g')].map(boxOf),
     hatched: [...svg.querySelectorAll('rect[fill="url(#hatch)"]')].map(rect => ['x', 'y', 'width'].map(name => number(rect, name))),
     crosses: [...svg.querySelectorAll('text')].filter(text => text.textContent === '\u2715').map(text => [number(text, 'x'), number(text, 'y')]),
-    turns: [...svg.querySelectorAll('text[font-size="11"]')].map(text => [text.textContent, number(text, 'x'), number(text, 'y')]),
-    now: Number([...svg.querySelectorAll('path')].pop().getAttribute('d').split(' ')[1]),
+    turns: [...svg.querySelectorAll('.turn')].map(text => [text.textContent, number(text, 'x'), number(text, 'y')]),
+    names: [...svg.querySelectorAll('.name')].map(text => text.textContent),
+    now: Number(svg.querySelector('.now-line').getAttribute('d').split(' ')[1]),
+    isCrossed: [...svg.querySelectorAll('g')].some(group => svg.querySelector('.now-line').compareDocumentPosition(group) === Node.DOCUMENT_POSITION_PRECEDING && group.querySelector('path')),
   });
   const panelShown = panel => ({
     head: ['h1', '.about', '.protocol'].map(name => panel.querySelector(name).textContent),
     sentence: [...panel.querySelector('.sentence').childNodes].map(node => node.textContent).join('|'),
     tables: [...panel.querySelectorAll('.tables table')].map(cells),
     classes: [...panel.querySelectorAll('.tables table')].map(classes),
+    hints: [...panel.querySelectorAll('.tables table')].map(hints),
     drawn: drawn(panel.querySelector('.lanes svg')),
   });
-  const shown = () => ({ at: [current, count], position: at('position').textContent, slider: Number(at('slider').value), panels: [...at('runs').children].map(panelShown) });
+  // The lanes without what is still to come, at each third step.
+  const withoutFuture = () => {
+    if (count % 3 !== 0) return null;
+    press('h');
+    const lanes = [...document.querySelectorAll('.lanes svg')].map(drawn);
+    press('h');
+    return lanes;
+  };
+  const shown = () => ({ at: [current, count], position: at('position').textContent, slider: Number(at('slider').value), panels: [...at('runs').children].map(panelShown), hidden: withoutFuture() });
   const press = (key, shiftKey = false) => {
     document.body.dispatchEvent(new KeyboardEvent('keydown', { key, shiftKey, bubbles: true, cancelable: true }));
     return count;
@@ -85,12 +97,17 @@
       fromAddress();
       return [current, count];
     });
+    location.hash = '#0,1,hidden';
+    fromAddress();
+    keys.hidden = [count, isFutureShown, at('future').textContent, location.hash];
+    at('future').onclick();
+    keys.shown = [count, isFutureShown, at('future').textContent, location.hash];
     open(0, 0);
     keys.played = played();
     open(0, 0);
   }
   const seen = document.createElement('pre');
   seen.id = 'seen';
-  seen.textContent = JSON.stringify({ opened, names: runs.map(run => run.rooms.map(room => room.name)), tabs: !at('rooms').hidden, refused: at('refused').hidden ? '' : at('refused').textContent, steps, differences, keys, width: document.documentElement.scrollWidth });
+  seen.textContent = JSON.stringify({ opened, names: runs.map(run => run.rooms.map(room => room.name)), tabs: !at('rooms').hidden, nothing: roomCount() === 0 ? at('runs').textContent : '', refused: at('refused').hidden ? '' : at('refused').textContent, steps, differences, keys, width: document.documentElement.scrollWidth });
   document.body.append(seen);
 }

@@ -1,5 +1,5 @@
 -- What is said of an input's faults on standard error.
-use Rattle.std.specs.Prelude.{◌≡◌, ⊤, ℕ, Bool, true, false, List, Result, Ok, Err}
+use Rattle.std.specs.Prelude.{◌≡◌, ⊤, ℕ, Bool, true, false, List, [], ◌∷◌, Result, Ok, Err}
 use Rattle.io_text.specs.declared.fault.DeviceFault.TheVariants.{Read, Write, TooLong, Memory}
 use Rattle.file_faults.specs.Files.{AreRoomFaults, AreTranscriptFaults}
 use Rattle.file_faults.specs.Scripts.{script_faults}
@@ -48,9 +48,14 @@ AreRoomNotes input result notes = AreSaid (AreRoomFaults input) result notes
 abbrev pub AreWarnings : {A : Type 0} → List ℕ → Result A ViewFault → List ℕ → Type 0
 AreWarnings input result notes = AreSaid (λ (said : List ℕ). said ≡ file_warnings input) result notes
 
--- what is said of all faults of a file, by what it is
+-- what is said of a file of which a page is made: all its faults, by what it is; or that it is empty, as one is that the shell has emptied for
+-- the page
+abbrev pub AreSaidOfFile : List ℕ → List ℕ → Type 0
+AreSaidOfFile [] said = said ≡ file_warnings []
+AreSaidOfFile (byte ∷ bytes) said = AreFileFaults (kind_of (byte ∷ bytes)) (byte ∷ bytes) said
+
 abbrev pub AreFileNotes : {A : Type 0} → List ℕ → Result A ViewFault → List ℕ → Type 0
-AreFileNotes file result notes = AreSaid (AreFileFaults (kind_of file) file) result notes
+AreFileNotes file result notes = AreSaid (AreSaidOfFile file) result notes
 
 -- of all faults of two files, in order, each after the name of its file
 abbrev pub AreBothNotes : {A : Type 0} → NamedFile → NamedFile → Result A ViewFault → List ℕ → Type 0

@@ -25,6 +25,7 @@ pub record IsSearchAmong (found : Option (List ℕ × List Row)) (search : Searc
   pub crashes : IsNumberIfAny (value_among (codes "crashes") found) search.crashes
   pub nodes : IsNumber (value_among (codes "nodes") found) 1000000 search.nodes
   pub brief : search.brief ≡ is_given (value_among (codes "brief") found)
+  pub task : search.task ≡ is_given (value_among (codes "task") found)
 
 -- what the values of `grade` say that a script is graded by
 pub record IsGradingAmong (found : Option (List ℕ × List Row)) (grading : Grading) : Type 0 where

@@ -88,5 +88,6 @@ fn search_in(matches: &ArgMatches<'_>) -> Search
         crashes: number_if_any(matches, "crashes"),
         nodes: number_among(matches, "nodes", 1000000),
         brief: is_given(matches, "brief"),
+        task: is_given(matches, "task"),
     }
 }

@@ -9,7 +9,7 @@ ghost use Rattle.view_page.specs.Pages.{fault_in};
 ghost use Rattle.view_trace.specs.Trace.{IsTraceIn};
 ghost use Rattle.view_why.specs.Why.{IsExplanationIn};
 ghost use Rattle.bgview.specs.Answers.{Ends, EndsRequest, IsGradeFor, IsShown, IsWhole, goal_fault_in, goal_text};
-ghost use Rattle.bgview.specs.Notes.{AreGoalNotes, AreGradeNotes, AreNotes, AreNotesIn, AreWhyNotes};
+ghost use Rattle.bgview.specs.Notes.{AreGoalNotes, AreGradeNotes, AreNotes, AreNotesIn, AreSaidOfFile, AreWhyNotes};
 
 use crate::fault::ViewFault;
 use crate::request::{Grading, Request};
@@ -20,7 +20,7 @@ use room_files::{Answer, InputFault};
 use room_sample::Threaded;
 use run_search::Progress;
 use script_play::PlayText;
-use std::alloc::Global;
+use std::alloc::{AllocError, Global};
 use std::thread::Threads;
 use view_draw::draw;
 use view_grade::{Goal, goal_forms, grade, read_goal};
@@ -56,7 +56,7 @@ pub fn show<H: Threads + Sync, P: Progress>(
             Ok(draw(alloc, request.style, input)?)
         }
         Mode::Page => {
-            *notes = faults_of(alloc, input)?;
+            *notes = said_of_file(alloc, input)?;
             Ok(page(alloc, input)?)
         }
         Mode::Transcript => {
@@ -87,6 +87,17 @@ fn whole(answer: Answer) -> PlayText
     PlayText {
         output: answer.output,
         ending: Ok(answer.outcome),
+    }
+}
+
+/// What is said of a file of which a page is made: its faults, or that it is empty.
+fn said_of_file(alloc: Global, file: &[u8]) -> Result<Text, AllocError>
+    requires { length file.now ≤ most_bytes }
+    ensures { IfOk result (AreSaidOfFile file.now) }
+{
+    match file {
+        [] => warnings_of(alloc, file),
+        _ => faults_of(alloc, file),
     }
 }
 

@@ -85,9 +85,17 @@ stopped_rule = number_rule (codes "crashes") 0 16
 abbrev pub nodes_rule : Rule
 nodes_rule = number_rule (codes "nodes") 1 100000000
 
--- the subcommand `outcomes`, which takes a file, two numbers and a flag
+-- an option that takes no value
+abbrev pub task_rule : Rule
+task_rule = record (new_rule (codes "task")) { long = Some (codes "task"); action = Some SetTrue }
+
+-- the subcommand `outcomes` as far as it says which runs are searched: a file and two numbers
+abbrev pub searching_app : App
+searching_app = with_rule (with_rule (file_app (codes "outcomes")) stopped_rule) nodes_rule
+
+-- the subcommand `outcomes`, which takes besides two flags
 abbrev pub outcomes_app : App
-outcomes_app = with_rule (with_rule (with_rule (file_app (codes "outcomes")) stopped_rule) nodes_rule) brief_rule
+outcomes_app = with_rule (with_rule searching_app brief_rule) task_rule
 
 -- an option that takes a text, and has to be there
 abbrev pub goal_rule : Rule

@@ -4,7 +4,7 @@ ghost use Rattle.clap.specs.Kinds.{FailsBy};
 ghost use Rattle.clap.specs.declared.builder.command.Command.TheViews.{out-Command};
 ghost use Rattle.clap.specs.Words.{app_of, fault_of, subcommand_of, subcommand_rows_of, with_subcommand};
 ghost use Rattle.clap.specs.Walk.{rule_of};
-ghost use Rattle.bgview_command_line.specs.CommandLine.{bgview_app, brief_rule, choosing_app, commands_rule, crashes_rule, draw_app, drawing_app, fault_app, file_app, goal_rule, grade_app, group_rule, json_rule, outcome_rule, outcomes_app, page_app, plain_app, sample_app, scale_rule, schedules_rule, seed_rule, nodes_rule, stopped_rule, telling_app, top_rule, turns_rule, workers_rule};
+ghost use Rattle.bgview_command_line.specs.CommandLine.{bgview_app, brief_rule, choosing_app, commands_rule, crashes_rule, draw_app, drawing_app, fault_app, file_app, goal_rule, grade_app, group_rule, json_rule, outcome_rule, outcomes_app, page_app, plain_app, sample_app, scale_rule, schedules_rule, searching_app, seed_rule, nodes_rule, stopped_rule, task_rule, telling_app, top_rule, turns_rule, workers_rule};
 
 use clap::{Arg, ArgAction, ArgMatches, Command, Error, value_parser};
 use std::alloc::{AllocError, Global};
@@ -277,21 +277,30 @@ fn outcome_option<'a>(alloc: Global) -> Arg<'a>
         .help("Writes nothing but the script of the K-th most frequent outcome of each room")
 }
 
-/// The subcommand `outcomes`, which takes a file, numbers and a flag.
+/// The subcommand `outcomes`, which takes a file, numbers and flags.
 fn outcomes_command<'a>(alloc: Global) -> Result<Command<'a>, AllocError>
     ensures app { IfOk result (λ command. app_of command ≡ outcomes_app) }
+    ensures local { IfOk result (λ command. (out-Command command).has_globals ≡ false) }
+{
+    let outcomes = searching_command(alloc)?;
+    let with_brief = outcomes.arg(brief_option(alloc, "Leaves out the transcripts"))?;
+    with_brief.arg(task_option(alloc))
+}
+
+/// The subcommand `outcomes` with the options that say which runs are searched.
+fn searching_command<'a>(alloc: Global) -> Result<Command<'a>, AllocError>
+    ensures app { IfOk result (λ command. app_of command ≡ searching_app) }
     ensures local { IfOk result (λ command. (out-Command command).has_globals ≡ false) }
 {
     let outcomes = file_command(
         alloc,
         "outcomes",
         "Searches all runs of each room's protocol, and lists all outcomes",
-        "bgview outcomes [--crashes F] [--nodes N] [--brief] [FILE]",
+        "bgview outcomes [--crashes F] [--nodes N] [--brief] [--task] [FILE]",
         "The rooms; without it, standard input is read",
     )?;
     let with_crashes = outcomes.arg(stopped_option(alloc))?;
-    let with_nodes = with_crashes.arg(nodes_option(alloc))?;
-    with_nodes.arg(brief_option(alloc, "Leaves out the transcripts"))
+    with_crashes.arg(nodes_option(alloc))
 }
 
 /// The option `--crashes F` of `outcomes`.
@@ -327,6 +336,19 @@ fn brief_option<'a>(alloc: Global, help: &'a str) -> Arg<'a>
         .long("brief")
         .action(ArgAction::SetTrue)
         .help(help)
+}
+
+/// The option `--task`.
+fn task_option<'a>(alloc: Global) -> Arg<'a>
+    ensures rule { rule_of result ≡ task_rule }
+    ensures local { result.global ≡ false }
+{
+    Arg::new(alloc, "task")
+        .long("task")
+        .action(ArgAction::SetTrue)
+        .help(
+            "Judges the rooms' tasks alone: lists no outcome, and stops at the first run that breaks the task",
+        )
 }
 
 /// The subcommand `lint`.

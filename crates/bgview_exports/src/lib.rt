@@ -3,7 +3,7 @@
 //! they may be made on any number of threads. `include/bgview.h` says what a caller owes.
 #![tactic(auto)]
 
-ghost use Rattle.std.specs.Prelude.{◌≡◌, ◌∷◌, [], IsOk};
+ghost use Rattle.std.specs.Prelude.{◌≡◌, ◌∷◌, [], IsOk, false};
 ghost use Rattle.file_faults.specs.Lint.{IsLintFor};
 ghost use Rattle.file_verdicts.specs.Check.{IsOutputFor};
 ghost use Rattle.room_files.specs.Blocks.{IsFaultOr};
@@ -114,13 +114,14 @@ pub extern "C" fn bgview_outcomes(
     ended: &mut CallResult,
 )
     ensures { IsGiven (IsAnswerTo rooms.now
-        (IsComplete (IsOutcomesFor (record { crashes = number_unless_largest crashes; nodes = nodes; brief = brief }) rooms.now)) IsOutOfMemory)
+        (IsComplete (IsOutcomesFor (record { crashes = number_unless_largest crashes; nodes = nodes; brief = brief; task = false }) rooms.now)) IsOutOfMemory)
         output.old output.new ended.new }
 {
     let search = Search {
         crashes: number_unless_largest(crashes),
         nodes,
         brief,
+        task: false,
     };
     *ended = give(&searched(alloc, rooms, &search), output);
 }

@@ -239,9 +239,9 @@ all_keep spec most nodes is covers found history run =
     let covered = (covers state).0 (record { events = history; run = run; state_is = refl }) in
     own spec most history is (run_keeps spec most history run (found.none refl covered.1.0 covered.0 state covered.1.1 (node_at nodes covered.0 covered.1) covered.2))
 
-pub one_breaks : (spec : RoomSpec) (most : ℕ) (nodes : List Node) (breaking : Breaking) (history : List Event) → Some most ≡ spec.task → IsLeastBreaking spec most nodes (length nodes) (Some breaking) → IsRunTo spec history breaking.state.items → KeepsOwnTask spec history → ⊥
-one_breaks spec most nodes breaking history is found run keeps =
-    (found.some breaking refl).3 (subst (λ (s : List LocalState). AreFewInputs spec most (decided_values s)) (sym run.state_is) (state_keeps spec most history (from_own spec most history is keeps)))
+pub one_breaks : (spec : RoomSpec) (most : ℕ) (state : List LocalState) (history : List Event) → Some most ≡ spec.task → Breaks spec most state → IsRunTo spec history state → KeepsOwnTask spec history → ⊥
+one_breaks spec most state history is breaks run keeps =
+    breaks (subst (λ (s : List LocalState). AreFewInputs spec most (decided_values s)) (sym run.state_is) (state_keeps spec most history (from_own spec most history is keeps)))
 
 pub breaking_shortest : (spec : RoomSpec) (most : ℕ) (nodes : List Node) (breaking : Breaking) (history : List Event) → Some most ≡ spec.task → CoverAllReachable spec nodes → IsLeastBreaking spec most nodes (length nodes) (Some breaking) → IsRunTo spec history breaking.state.items
     → IsShortestBreaking spec history

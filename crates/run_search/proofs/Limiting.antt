@@ -105,7 +105,7 @@ listed_more old new nodes to listed there kept i node is = elim (cases_lt i (len
 
 -- ---- at the limit
 
-pub too_many : (spec : RoomSpec) (limit : ℕ) (nodes : List Node) → limit < length nodes → AreGathered spec nodes → AreApart spec nodes → AreTooMany spec limit
+unfoldable pub too_many : (spec : RoomSpec) (limit : ℕ) (nodes : List Node) → limit < length nodes → AreGathered spec nodes → AreApart spec nodes → AreTooMany spec limit
 too_many spec limit nodes many gathered apart = record {
   nodes = nodes;
   many = many;

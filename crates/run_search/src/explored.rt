@@ -53,7 +53,7 @@ pub fn explore<P: Progress>(
 }
 
 /// The node of the state before the first event, alone.
-fn open(alloc: Global, spec: &Spec) -> Result<Explored, AllocError>
+pub fn open(alloc: Global, spec: &Spec) -> Result<Explored, AllocError>
     ensures { IfOk result (IsSearched spec.now) }
 {
     let first = Node::first(alloc, spec)?;
@@ -66,7 +66,7 @@ fn open(alloc: Global, spec: &Spec) -> Result<Explored, AllocError>
 
 impl Explored {
     /// Adds the nodes that the node of this index leads to, unless a later one has all that it has.
-    fn visit(&mut self, alloc: Global, spec: &Spec, cursor: u32) -> Result<(), AllocError>
+    pub fn visit(&mut self, alloc: Global, spec: &Spec, cursor: u32) -> Result<(), AllocError>
         requires searched { IsSearched spec.now self.old }
         requires there { cursor < length self.old.nodes.items }
         ensures searched { OnOk result (IsSearched spec.now self.new) }

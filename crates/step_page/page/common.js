@@ -17,11 +17,19 @@ function readSpec(block) {
     inputs: words('inputs'),
     simulators: Number(words('simulators')[0]),
     rounds: Number(words('rounds')[0]),
+    turns: Number(words('turns')[0]),
     protocol: block.slice(block.indexOf('protocol') + 1),
   };
 }
 
-const table = (head, rows) => `<table><tr>${head.map(text => `<th>${text}</th>`).join('')}</tr>${rows.map(row => `<tr>${row.join('')}</tr>`).join('')}</table>`;
-const cell = (text, ...classes) => `<td class="${classes.filter(Boolean).join(' ')}">${text}</td>`;
-const headCell = text => `<th>${text}</th>`;
-const section = (title, body) => `<section><h2>${title}</h2>${body}</section>`;
+const table = rows => `<table>${rows.map(row => `<tr>${row.join('')}</tr>`).join('')}</table>`;
+// Each cell has a hint, which a browser shows if the mouse is on it.
+const cell = (text, hint, ...classes) => `<td title="${escaped(hint)}" class="${classes.filter(Boolean).join(' ')}">${text}</td>`;
+const headCell = (text, hint) => `<th title="${escaped(hint)}">${text}</th>`;
+const corner = '<th></th>';
+const section = (name, title, body) => `<section class="${name}"><h2>${title}</h2>${body}</section>`;
+
+// Some things in words: a, b and c.
+const listed = words => words.join(', ').replace(/, ([^,]*)$/, ' and $1');
+const many = (number, thing) => `${number} ${thing}${number === 1 ? '' : thing.endsWith('s') ? 'es' : 's'}`;
+const named = simulators => (simulators.length === 1 ? 'simulator ' : 'simulators ') + listed(simulators);

@@ -1,14 +1,7 @@
-// ---- the page
+// ---- the page: steps through the rooms of one file, or of two next to each other
 
-// The files in the page, in order: each is an element of a class that says what it is, followed by the answer to it.
-function readFile(element) {
-  const answer = element.nextElementSibling.textContent;
-  return element.className === 'transcript' ? readJudged(element.textContent, answer) : readScript(element.textContent, answer);
-}
-
-const runs = [...document.querySelectorAll('.script, .transcript')].map(readFile);
-if (runs.length > 1) layout = NARROW;
-
+let runs = []; // of each file what readScript or readJudged reads
+let whenShown = () => {}; // is called after each change of what is shown
 let current = 0; // which room of each file is shown
 let count = 0; // how many of its moments have passed
 let timer = null;
@@ -33,8 +26,6 @@ function differenceText(rooms) {
   return `The two runs first differ at step ${number}` + (ended < 0 ? '.' : `: the ${ended === 0 ? 'first' : 'second'} has ended by then.`);
 }
 
-const many = (number, thing) => `${number} ${thing}${number === 1 ? '' : thing.endsWith('s') ? 'es' : 's'}`;
-
 function panelOf(room) {
   const about = `${many(room.inputs.length, 'process')}, inputs ${room.inputs.join(' ')}; ${many(room.simulators, 'simulator')}; ${many(room.rounds, 'round')}`;
   return `<section class="run"><header><h1>${escaped(room.name)}</h1><p class="about">${escaped(about)}</p><code class="protocol">${escaped(room.protocol.join(' '))}</code></header>`
@@ -53,7 +44,7 @@ function showRooms() {
   }).join('');
   at('difference').textContent = differenceText(rooms);
   at('difference').hidden = rooms.length < 2;
-  at('letters').hidden = !rooms.some(room => room.show === SIMULATION);
+  at('legend').hidden = !rooms.some(room => room.show === SIMULATION);
 }
 
 function showPanel(room, panel) {
@@ -63,12 +54,23 @@ function showPanel(room, panel) {
   panel.querySelector('.tables').innerHTML = room.show.tables(room, reached);
 }
 
+// How much of a run is drawn: as much as can be read in this window.
+let layoutHere = () => (innerWidth < 700 ? PHONE : runs.length > 1 ? NARROW : WIDE);
+
 function show() {
+  layout = layoutHere();
   const rooms = shownRooms();
   at('slider').value = count;
   at('position').textContent = `step ${count} of ${lengthOf(rooms)}`;
   rooms.forEach((room, index) => showPanel(room, at('runs').children[index]));
-  history.replaceState(null, '', `#${current},${count}`);
+  at('future').textContent = isFutureShown ? 'hide the future' : 'show the future';
+  at('future').setAttribute('aria-pressed', !isFutureShown);
+  whenShown();
+}
+
+function hideOrShowFuture() {
+  isFutureShown = !isFutureShown;
+  show();
 }
 
 function go(to) {
@@ -116,6 +118,7 @@ const KEYS = {
   Home: () => go(0),
   End: () => go(Infinity),
   d: goToDifference,
+  h: hideOrShowFuture,
   ' ': play,
 };
 
@@ -126,19 +129,13 @@ function onKey(event) {
   KEYS[event.key](event);
 }
 
-function fromAddress() {
-  const [room, to] = location.hash.slice(1).split(',').map(Number);
-  open(room || 0, Number.isFinite(to) ? to : 0);
-}
-
-function start() {
+function showRefused() {
   const refused = runs.flatMap(run => run.refused);
   at('refused').hidden = refused.length === 0;
   at('refused').textContent = 'Refused: ' + refused.join(' | ');
-  if (roomCount() === 0) {
-    at('runs').textContent = 'The file opens no room.';
-    return;
-  }
+}
+
+function bindControls() {
   at('first').onclick = () => go(0);
   at('turn-back').onclick = () => goTurn(-1);
   at('back').onclick = () => go(count - 1);
@@ -147,11 +144,7 @@ function start() {
   at('turn-on').onclick = () => goTurn(1);
   at('last').onclick = () => go(Infinity);
   at('difference').onclick = goToDifference;
+  at('future').onclick = hideOrShowFuture;
   at('slider').oninput = event => go(Number(event.target.value));
   at('rooms').onclick = event => event.target.dataset.room && open(Number(event.target.dataset.room), 0);
-  onkeydown = onKey;
-  onhashchange = fromAddress;
-  fromAddress();
 }
-
-start();

@@ -57,7 +57,7 @@ function readStep(line, before) {
   const [, , turn, simulator, number, process, round, operation, sight = ''] = found;
   const of = turn ? { name: turn, simulator: +simulator, turn: +number, process: +process, round: +round }
     : { name: before.name, simulator: before.simulator, turn: before.turn, process: before.process, round: before.round };
-  return { ...of, operation, sight, letter: letterOf(operation, sight), word: Number((/, word (\d+)/.exec(operation) || [0, 0])[1]), here: '', ending: '', obstacle: '' };
+  return { ...of, operation, sight, letter: letterOf(operation, sight), word: Number((/, word (\d+)/.exec(operation) || [0, 0])[1]), here: '', ending: '', obstacle: '', spent: [] };
 }
 
 // The notes under a reply become moments of the room: steps, with what takes effect and how the turn ends.
@@ -68,9 +68,21 @@ function addSteps(room, notes) {
     const last = moments[moments.length - 1];
     if (step) moments.push(step);
     else if (/^ +here/.test(line) && last) last.here = line.trim();
-    else if (/^ +(useful|quiet)/.test(line) && last) last.ending = line.trim();
+    else if (/^ +(useful|quiet)/.test(line) && last) addEnding(last, line.trim());
     else if (/^ +(open|chosen|blocked)/.test(line) && last) last.obstacle = line.trim();
   }
+}
+
+function addEnding(moment, ending) {
+  moment.ending = ending;
+  const found = /process (\d+) is spent/.exec(ending);
+  if (found) moment.spent.push(Number(found[1]));
+}
+
+// What the page can't compute: which processes are out of rounds by now.
+function addReport(room, report) {
+  const spent = report.map(line => /^\S+ process (\d+) spent$/.exec(line)).filter(Boolean);
+  room.moments.at(-1)?.spent.push(...spent.map(found => Number(found[1])));
 }
 
 // All rooms that the script opened, in order, and the lines of what was refused.
@@ -84,14 +96,14 @@ function readScript(script, trace) {
     if (/ refused /.test(reply.line)) {
       refused.push([reply.line, ...reply.notes.map(note => note.trim())].join(': '));
     } else if (word === 'opened') {
-      const room = { ...readSpec(entries[index].block), moments: [], report: [], show: SIMULATION };
+      const room = { ...readSpec(entries[index].block), moments: [], show: SIMULATION };
       rooms.push(room);
       open.set(name, room);
     } else if (open.has(name)) {
       const room = open.get(name);
       addSteps(room, reply.notes);
-      if (word === 'crash' && answer === 'crashed') room.moments.push({ crash: true, simulator: Number(number), letter: 'x', here: '', ending: '', obstacle: '' });
-      if (word === 'report') room.report = reply.report;
+      if (word === 'crash' && answer === 'crashed') room.moments.push({ crash: true, simulator: Number(number), letter: 'x', here: '', ending: '', obstacle: '', spent: [] });
+      if (word === 'report') addReport(room, reply.report);
       if (word === 'closed') open.delete(name);
     }
   });

@@ -16,6 +16,8 @@ function emptyState(room) {
     chosen: new Map(), // of an agreement that is fixed: which simulator's proposal, and since which moment
     values: new Map(), // by simulator, process and round
     decided: new Map(), // by process
+    spent: new Set(), // processes that are out of rounds once the agreement of their last round is resolved
+    stopped: range(room.simulators).map(() => false), // simulators that have crashed or ended their last turn
     events: [], // those that are known by now
   };
 }
@@ -48,6 +50,8 @@ function look(state, room, { simulator, process, round }) {
 
 // The state after one more moment, whose number is `at`.
 function apply(state, room, moment, at) {
+  moment.spent.forEach(process => state.spent.add(process));
+  if (moment.crash || (moment.turn === room.turns && moment.ending)) state.stopped[moment.simulator] = true;
   if (moment.crash) {
     state.crashed[moment.simulator] = true;
     return;

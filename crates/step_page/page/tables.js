@@ -1,13 +1,15 @@
 // ---- tables
 
+const processHead = p => headCell('p' + p, 'process ' + p);
+const simulatorHead = i => headCell('simulator ' + i, `level and proposal of simulator ${i}`);
+
 function stepNumbers(room, state, moment) {
   const touched = (i, p) => moment && (moment.letter === 'S' || (moment.letter === '+' && moment.simulator === i && moment.process === p));
-  const rows = range(room.simulators).map(i => [headCell(`simulator ${i}${state.crashed[i] ? ' \u2715' : ''}`),
-    ...range(room.inputs.length).map(p => cell(state.counted[i][p], touched(i, p) && 'now'))]);
-  return section('Step numbers', table(['', ...range(room.inputs.length).map(p => 'p' + p)], rows));
+  const head = [corner, ...range(room.inputs.length).map(processHead)];
+  const rows = range(room.simulators).map(i => [headCell(`simulator ${i}${state.crashed[i] ? ' \u2715' : ''}`, `how many writes of each process simulator ${i} has counted${state.crashed[i] ? '; it has crashed' : ''}`),
+    ...range(room.inputs.length).map(p => cell(state.counted[i][p], countHint(i, p, state.counted[i][p]), touched(i, p) && 'now'))]);
+  return section('numbers', 'Step numbers', table([head, ...rows]));
 }
-
-const named = simulators => (simulators.length === 1 ? 'simulator ' : 'simulators ') + simulators.join(', ').replace(/, (\d+)$/, ' and $1');
 
 // The state of an agreement: open, fixed, resolved, or blocked for ever.
 function resultOf(state, key, levels) {
@@ -30,24 +32,28 @@ function agreementRow(room, state, moment, key) {
     const row = state.proposals.get(keyOf(i, process, round));
     const touched = here && ((moment.simulator === i && 'V120'.includes(moment.letter)) || '?A'.includes(moment.letter));
     const proposal = row ? ` <span class="row ${chosen && chosen.simulator !== i ? 'lost' : ''}">\u27e8${row.join(' ')}\u27e9</span>` : '';
-    return cell(`${levels[i]}${proposal}`, 'level' + levels[i], chosen && chosen.simulator === i && 'chosen', touched && 'now');
+    const fate = !chosen ? '' : chosen.simulator === i ? '; it is chosen' : '; another one is chosen';
+    return cell(`${levels[i]}${proposal}`, levelHint(i, process, round, levels[i], row, fate), 'level' + levels[i], chosen && chosen.simulator === i && 'chosen', touched && 'now');
   });
-  return [headCell(`p${process} r${round}`), ...cells, cell(resultOf(state, key, levels), 'text')];
+  const result = resultOf(state, key, levels);
+  return [headCell(`p${process} r${round}`, agreementHint(process, round)), ...cells, cell(result, resultHint(result), 'text')];
 }
 
 function agreements(room, state, moment) {
   const keys = new Set([...state.levels.keys(), ...[...state.proposals.keys()].map(key => key.split(',').slice(1).join(','))]);
   const ordered = [...keys].map(key => key.split(',').map(Number)).sort((one, other) => one[1] - other[1] || one[0] - other[0]).map(numbers => keyOf(...numbers));
-  const rows = ordered.map(key => agreementRow(room, state, moment, key));
-  return section('Agreements: level and proposal of each simulator', table(['', ...range(room.simulators).map(i => 'simulator ' + i), 'result'], rows));
+  const head = [corner, ...range(room.simulators).map(simulatorHead), headCell('result', 'whether a proposal is chosen, and may be read')];
+  return section('agreements', 'Agreements: level and proposal of each simulator', table([head, ...ordered.map(key => agreementRow(room, state, moment, key))]));
 }
 
-// What has become of a process by now.
+// What has become of a process by now, as a report says it, with all simulators that hold it.
 function standingOf(room, state, process) {
   if (state.decided.has(process)) return 'decided ' + state.decided.get(process);
+  if (state.spent.has(process) && isResolved(levelsOf(state, room, keyOf(process, room.rounds)))) return 'spent';
   const keys = [...state.levels.keys()].filter(key => key.startsWith(process + ','));
-  const held = range(room.simulators).find(i => state.crashed[i] && keys.some(key => levelsOf(state, room, key)[i] === 1));
-  return held === undefined ? '' : `held by simulator ${held}`;
+  const holders = range(room.simulators).filter(i => state.crashed[i] && keys.some(key => levelsOf(state, room, key)[i] === 1));
+  if (holders.length > 0) return `held by ${named(holders)}`;
+  return state.stopped.every(Boolean) ? 'no simulator left' : 'may still go on';
 }
 
 // The values that processes wrote, by round.
@@ -55,22 +61,21 @@ function values(room, state, moment) {
   const valued = range(room.inputs.length).map(p => range(room.rounds).map(index => valueOf(state, room, p, index + 1)));
   const rounds = Math.max(0, ...valued.map(row => row.findLastIndex(value => value !== undefined) + 1));
   const touched = (p, round) => moment && 'Wr'.includes(moment.letter) && new RegExp(`value\\(\\d+,${p},${round}\\)`).test(moment.operation);
-  const rows = valued.map((row, p) => [headCell('p' + p), ...range(rounds).map(index => cell(row[index] ?? '', touched(p, index + 1) && 'now'))]);
-  return section('Values', table(['', ...range(rounds).map(index => 'r' + (index + 1))], rows));
+  const head = [corner, ...range(rounds).map(index => headCell('r' + (index + 1), 'round ' + (index + 1)))];
+  const rows = valued.map((row, p) => [processHead(p), ...range(rounds).map(index => cell(row[index] ?? '', valueHint(p, index + 1, row[index]), touched(p, index + 1) && 'now'))]);
+  return section('values', 'Values', table([head, ...rows]));
 }
 
 // An event as the table has it, which says so if the report of this moment doesn't have it yet.
 const eventText = event => escaped(event.text) + (event.isReported ? '' : ' <small>(not in a report)</small>');
 
-function processes(room, state, count) {
+function processes(room, state) {
   const events = eventsOf(state, room);
-  const told = room.report.map(line => / process (\d+) (.*)$/.exec(line)).filter(Boolean);
   const rows = range(room.inputs.length).map(p => {
-    const reported = count === room.moments.length && told.find(found => +found[1] === p);
-    return [headCell('p' + p), cell(events.filter(event => event.process === p).map(eventText).join('; '), 'text', 'row'),
-      cell(reported ? reported[2] : standingOf(room, state, p), 'text')];
+    const standing = standingOf(room, state, p);
+    return [processHead(p), cell(events.filter(event => event.process === p).map(eventText).join('; '), EVENTS_HINT, 'text', 'row'), cell(standing, stateHint(standing), 'text')];
   });
-  return section('Simulated processes', table(['', 'events', 'state'], rows));
+  return section('processes', 'Simulated processes', table([[corner, headCell('events', EVENTS_HINT), headCell('state', 'what has become of it')], ...rows]));
 }
 
 // What a simulated room shows after a number of moments.
@@ -86,7 +91,7 @@ const SIMULATION = {
   tables(room, count) {
     const state = stateAt(room, count);
     const moment = room.moments[count - 1];
-    return stepNumbers(room, state, moment) + agreements(room, state, moment) + values(room, state, moment) + processes(room, state, count);
+    return stepNumbers(room, state, moment) + agreements(room, state, moment) + values(room, state, moment) + processes(room, state);
   },
   isSameTurn: (one, other) => one.simulator === other.simulator && one.turn === other.turn && !one.crash === !other.crash,
 };

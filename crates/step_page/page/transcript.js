@@ -72,7 +72,7 @@ function nextOf(room, writes, process, count) {
 
 // Of a long run as many events are drawn as there is room for, up to the current one and some more.
 function drawnFrom(room, count) {
-  let free = layout.width - 260;
+  let free = layout.width * 0.8;
   let first = Math.min(count + 3, room.moments.length);
   while (first > 0 && (free -= widthOf(room.moments[first - 1]) + 6) > 0) first--;
   return first;
@@ -85,23 +85,22 @@ function drawEventBox(room, index, count, x) {
   const y = TOP + moment.process * EVENTS;
   return `<g opacity="${index < count ? 1 : 0.35}"><title>${escaped('line ' + moment.line)}</title>`
     + `<rect x="${x}" y="${y}" width="${widthOf(moment)}" height="20" rx="${moment.deed === 'snap' ? 10 : 3}" fill="${filled ? hue : 'var(--paper)'}" stroke="${hue}" stroke-width="${index === room.broken ? 3 : 1}"/>`
-    + textAt(x + 5, y + 14, moment.text, `font-family="monospace" font-size="12" fill="${filled ? 'var(--paper)' : 'var(--ink)'}"`) + '</g>';
+    + textAt(x + 5, y + 15, moment.text, `font-family="monospace" font-size="13" fill="${filled ? 'var(--paper)' : 'var(--ink)'}"`) + '</g>';
 }
 
 function drawEventLanes(room, count) {
   const first = drawnFrom(room, count);
   const height = TOP + room.inputs.length * EVENTS + 6;
-  const lanes = range(room.inputs.length).map(p => textAt(4, TOP + p * EVENTS + 15, 'process ' + p, `fill="${hueOf(p)}"`) + `<path d="M 98 ${TOP + p * EVENTS + 10} H ${layout.width}" stroke="var(--rule)"/>`);
+  const lanes = range(room.inputs.length).map(p => textAt(2, TOP + p * EVENTS + 15, 'process ' + p, `fill="${hueOf(p)}"`) + `<path d="M 98 ${TOP + p * EVENTS + 10} H ${layout.width}" stroke="var(--rule)"/>`);
   let x = LEFT;
   let now = LEFT - 3;
   let boxes = '';
   for (let index = first; index < room.moments.length && x < layout.width - 60; index++) {
-    if (room.moments[index].process < room.inputs.length) boxes += drawEventBox(room, index, count, x);
+    if (room.moments[index].process < room.inputs.length && (isFutureShown || index < count)) boxes += drawEventBox(room, index, count, x);
     x += widthOf(room.moments[index]) + 6;
     if (index < count) now = x - 3;
   }
-  return `<svg viewBox="0 0 ${layout.width} ${height}" role="img" aria-label="Events of the processes" font-family="Helvetica, Arial, sans-serif" font-size="14">${lanes.join('')}${boxes}`
-    + `<path d="M ${now} 2 V ${height - 4}" stroke="var(--now)" stroke-width="2"/></svg>`;
+  return `<svg viewBox="0 0 ${layout.width} ${height}" style="--least: ${height * 0.75}px" preserveAspectRatio="xMinYMin meet" role="img" aria-label="Events of the processes" font-family="Helvetica, Arial, sans-serif" font-size="14">${lanes.join('')}${drawNow(now, height)}${boxes}</svg>`;
 }
 
 // What a room of a transcript shows after some of its events.
@@ -119,9 +118,10 @@ const TRANSCRIPT = {
     const known = room.broken >= 0 ? Math.min(count, room.broken) : count;
     const writes = writesOf(room, known);
     const moment = room.moments[count - 1];
-    const rows = range(room.inputs.length).map(p => [headCell('p' + p), cell(escaped(writes[p].map(write => write.values[0]).join(' ')), 'row', moment && moment.process === p && moment.deed === 'write' && 'now'),
-      cell(escaped(nextOf(room, writes, p, known)), 'text')]);
-    return section('Processes', table(['', 'writes', known < count ? 'could do instead' : 'may do next'], rows));
+    const head = [corner, headCell('writes', 'what it has written; the last one is in its cell'), headCell(known < count ? 'could do instead' : 'may do next', 'what the protocol and the memory allow')];
+    const rows = range(room.inputs.length).map(p => [processHead(p), cell(escaped(writes[p].map(write => write.values[0]).join(' ')), `the writes of process ${p}`, 'row', moment && moment.process === p && moment.deed === 'write' && 'now'),
+      cell(escaped(nextOf(room, writes, p, known)), `what process ${p} may do`, 'text')]);
+    return section('processes', 'Processes', table([head, ...rows]));
   },
   isSameTurn: (one, other) => one.process === other.process,
 };

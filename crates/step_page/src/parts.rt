@@ -9,31 +9,39 @@ pub const BEGIN: &[u8] = br####"<!DOCTYPE html>
 <style>
 :root { --ink: #1f2933; --faint: #5b6770; --rule: #c3cbd3; --paper: #ffffff; --band: #f0f3f6; --now: #c0263d; --inside: #f6e3c5; --hatch: #a86f1d; --stands: #d7efda; --chosen: #1b6e34; --process0: #2f5f9e; --process1: #b85c1a; --process2: #1b7a45; --process3: #8e3a8e; --process4: #8a6a12; --process5: #1f7f8a; --process6: #a33b4f; --process7: #5a5fc0; }
 @media (prefers-color-scheme: dark) { :root { --ink: #e6eaee; --faint: #a7b2bc; --rule: #4a5560; --paper: #14191e; --band: #20272e; --now: #ff7a8a; --inside: #4a3a1c; --hatch: #d9a24e; --stands: #1d4427; --chosen: #7fd494; --process0: #7fb0f0; --process1: #f0a060; --process2: #6fd49a; --process3: #d58ad5; --process4: #d9bd62; --process5: #6fd0db; --process6: #f08a9c; --process7: #a9adf5; } }
-@media print { :root { --ink: #000000; --faint: #444444; --rule: #999999; --paper: #ffffff; --band: #eeeeee; --now: #c0263d; --inside: #f6e3c5; --hatch: #a86f1d; --stands: #d7efda; --chosen: #1b6e34; --process0: #2f5f9e; --process1: #b85c1a; --process2: #1b7a45; --process3: #8e3a8e; --process4: #8a6a12; --process5: #1f7f8a; --process6: #a33b4f; --process7: #5a5fc0; } #controls, #rooms { display: none !important; } }
+@media print { :root { --ink: #000000; --faint: #444444; --rule: #999999; --paper: #ffffff; --band: #eeeeee; --now: #c0263d; --inside: #f6e3c5; --hatch: #a86f1d; --stands: #d7efda; --chosen: #1b6e34; --process0: #2f5f9e; --process1: #b85c1a; --process2: #1b7a45; --process3: #8e3a8e; --process4: #8a6a12; --process5: #1f7f8a; --process6: #a33b4f; --process7: #5a5fc0; } #controls, #rooms { display: none !important; } .lanes, .lanes svg, .tables section { max-height: none !important; } }
 * { box-sizing: border-box; }
-body { margin: 0; padding: 8px 16px; color: var(--ink); background: var(--paper); font: 15px/1.35 Helvetica, Arial, sans-serif; }
-#runs { display: flex; gap: 16px; }
+/* All sizes follow the window, so that a projector shows what is written to the last row. */
+html { font-size: max(15px, calc(5px + min(0.9vw, 1.6vh))); }
+body { margin: 0; padding: 0.4rem 0.9rem; color: var(--ink); background: var(--paper); font: 1rem/1.3 Helvetica, Arial, sans-serif; }
+#runs { display: flex; gap: 1rem; }
 .run { flex: 1; min-width: 0; }
-header { display: flex; flex-wrap: wrap; gap: 4px 16px; align-items: baseline; }
-h1 { font-size: 20px; margin: 0; }
+header { display: flex; flex-wrap: wrap; gap: 0.2rem 1rem; align-items: baseline; }
+h1 { font-size: 1.3rem; margin: 0; }
 .about { margin: 0; color: var(--faint); }
 code, .row { font-family: monospace; }
 .protocol { background: var(--band); padding: 1px 6px; max-height: 3.2em; overflow: auto; }
-#controls { display: flex; gap: 4px; align-items: center; margin: 6px 0; }
-#controls input { flex: 1; min-width: 120px; }
-#position { min-width: 9em; text-align: right; }
-button, select { font: inherit; color: inherit; background: var(--band); border: 1px solid var(--rule); border-radius: 4px; padding: 2px 8px; }
+#rooms, #controls { display: flex; flex-wrap: wrap; gap: 0.25rem; align-items: center; margin: 0 0 0.3rem; }
+#rooms[hidden] { display: none; }
+#controls input { flex: 1; min-width: 8rem; }
+#position { min-width: 8em; text-align: right; }
+button, select { font: inherit; color: inherit; background: var(--band); border: 1px solid var(--rule); border-radius: 4px; padding: 0.1rem 0.5rem; }
 button:focus-visible, select:focus-visible, input:focus-visible { outline: 3px solid var(--now); outline-offset: 1px; }
-[role=tab][aria-selected=true] { font-weight: 700; border-color: var(--ink); }
-.sentence { font-size: 21px; line-height: 1.3; min-height: 82px; border-left: 6px solid var(--now); padding-left: 12px; }
-.sentence small { display: block; font-size: 16px; color: var(--faint); }
-.lanes svg { display: block; width: 100%; height: auto; }
-#letters { margin: 0; font-size: 13px; color: var(--faint); }
-.tables { display: flex; flex-wrap: wrap; gap: 4px 28px; align-items: flex-start; }
-.tables section { max-height: 260px; overflow: auto; }
-.tables h2 { font-size: 15px; margin: 4px 0; }
+[role=tab][aria-selected=true], [aria-pressed=true] { font-weight: 700; border-color: var(--ink); }
+.sentence { font-size: 1.3rem; line-height: 1.25; min-height: 4.5rem; border-left: 6px solid var(--now); padding-left: 0.75rem; }
+.run + .run .sentence, .run:has(+ .run) .sentence { min-height: 6.1rem; }
+small { font-size: 0.9em; }
+.sentence small { display: block; font-size: 1.1rem; color: var(--faint); }
+.lanes { max-height: 55vh; overflow: auto; }
+.lanes svg { display: block; width: 100%; height: auto; max-height: max(55vh, var(--least)); }
+#legend { font-size: 0.9rem; color: var(--faint); margin-top: 0.3rem; }
+#legend p { margin: 0; }
+.tables { display: flex; flex-wrap: wrap; gap: 0 1.7rem; align-items: flex-start; }
+.tables section { max-height: 36vh; overflow: auto; }
+.tables h2 { font-size: 1rem; margin: 0.15rem 0 0.1rem; }
+.numbers, .values { order: -1; }
 table { border-collapse: collapse; }
-th, td { border: 1px solid var(--rule); padding: 1px 8px; text-align: center; font-weight: 400; }
+th, td { border: 1px solid var(--rule); padding: 1px 0.5rem; text-align: center; font-weight: 400; }
 th { background: var(--band); }
 td.text { text-align: left; }
 .level1 { background: repeating-linear-gradient(45deg, var(--inside) 0 6px, var(--paper) 6px 9px); }
@@ -42,6 +50,11 @@ td.text { text-align: left; }
 .lost { text-decoration: line-through; }
 .now { box-shadow: inset 0 0 0 2px var(--now); }
 #refused { border: 1px solid var(--now); padding: 4px 10px; margin-top: 8px; }
+@media (max-width: 699px) {
+  #runs { flex-direction: column; }
+  #controls input { flex-basis: 100%; order: 1; }
+  th, td { padding: 1px 0.25rem; }
+}
 </style>
 <main>
 <div id="rooms" role="tablist" aria-label="Rooms"></div>
@@ -57,9 +70,15 @@ td.text { text-align: left; }
 <output id="position"></output>
 <label>speed <select id="speed"><option value="2000">slow</option><option value="900" selected>normal</option><option value="250">fast</option></select></label>
 <button id="difference" title="To the first difference (d)" hidden></button>
+<button id="future" title="Hide or show what is still to come (h)" aria-pressed="false"></button>
 </div>
 <div id="runs"></div>
-<p id="letters">W store a write, + count it, S snapshot, V propose it, 1 enter the unsafe section (hatched), ? look, 2 leave, the proposal stands, 0 leave, withdrawn, A ask, G get the view, r read a value, D store the decision</p>
+<details id="legend" open>
+<summary>Legend</summary>
+<p><b>Steps</b>: W store a write, + count it, S snapshot, V propose it, 1 enter the unsafe section (hatched), ? look, 2 leave, the proposal stands, 0 leave, withdrawn, A ask, G get the view, r read a value, D store the decision; p0 r1 is a turn for process 0 in round 1; &#10005; is a crash</p>
+<p><b>Words of memory</b>: level(i,p,r), view(i,p,r) and value(i,p,r) are written by simulator i, for process p in round r; step(i,p) and out(i,p) by simulator i, for process p. Agreement (p,r) is on the snapshot of process p in round r. A decision is stored with 1 added, since 0 is none.</p>
+<p><b>Agreements</b>: level 0 outside, 1 in the unsafe section, 2 the proposal counts. &#10216;1 .&#10217; is a proposal by numbers of writes, not by values: the snapshot has 1 write of process 0 and none of process 1. The chosen proposal is framed, the others are struck through; a red frame is around what this step touches.</p>
+</details>
 <aside id="refused" hidden></aside>
 </main>
 <noscript>This page needs JavaScript. The text of its steps is that of bgview trace.</noscript>
@@ -86,14 +105,22 @@ function readSpec(block) {
     inputs: words('inputs'),
     simulators: Number(words('simulators')[0]),
     rounds: Number(words('rounds')[0]),
+    turns: Number(words('turns')[0]),
     protocol: block.slice(block.indexOf('protocol') + 1),
   };
 }
 
-const table = (head, rows) => `<table><tr>${head.map(text => `<th>${text}</th>`).join('')}</tr>${rows.map(row => `<tr>${row.join('')}</tr>`).join('')}</table>`;
-const cell = (text, ...classes) => `<td class="${classes.filter(Boolean).join(' ')}">${text}</td>`;
-const headCell = text => `<th>${text}</th>`;
-const section = (title, body) => `<section><h2>${title}</h2>${body}</section>`;
+const table = rows => `<table>${rows.map(row => `<tr>${row.join('')}</tr>`).join('')}</table>`;
+// Each cell has a hint, which a browser shows if the mouse is on it.
+const cell = (text, hint, ...classes) => `<td title="${escaped(hint)}" class="${classes.filter(Boolean).join(' ')}">${text}</td>`;
+const headCell = (text, hint) => `<th title="${escaped(hint)}">${text}</th>`;
+const corner = '<th></th>';
+const section = (name, title, body) => `<section class="${name}"><h2>${title}</h2>${body}</section>`;
+
+// Some things in words: a, b and c.
+const listed = words => words.join(', ').replace(/, ([^,]*)$/, ' and $1');
+const many = (number, thing) => `${number} ${thing}${number === 1 ? '' : thing.endsWith('s') ? 'es' : 's'}`;
+const named = simulators => (simulators.length === 1 ? 'simulator ' : 'simulators ') + listed(simulators);
 
 // ---- a script and its trace: the moments of each room
 
@@ -154,7 +181,7 @@ function readStep(line, before) {
   const [, , turn, simulator, number, process, round, operation, sight = ''] = found;
   const of = turn ? { name: turn, simulator: +simulator, turn: +number, process: +process, round: +round }
     : { name: before.name, simulator: before.simulator, turn: before.turn, process: before.process, round: before.round };
-  return { ...of, operation, sight, letter: letterOf(operation, sight), word: Number((/, word (\d+)/.exec(operation) || [0, 0])[1]), here: '', ending: '', obstacle: '' };
+  return { ...of, operation, sight, letter: letterOf(operation, sight), word: Number((/, word (\d+)/.exec(operation) || [0, 0])[1]), here: '', ending: '', obstacle: '', spent: [] };
 }
 
 // The notes under a reply become moments of the room: steps, with what takes effect and how the turn ends.
@@ -165,9 +192,21 @@ function addSteps(room, notes) {
     const last = moments[moments.length - 1];
     if (step) moments.push(step);
     else if (/^ +here/.test(line) && last) last.here = line.trim();
-    else if (/^ +(useful|quiet)/.test(line) && last) last.ending = line.trim();
+    else if (/^ +(useful|quiet)/.test(line) && last) addEnding(last, line.trim());
     else if (/^ +(open|chosen|blocked)/.test(line) && last) last.obstacle = line.trim();
   }
+}
+
+function addEnding(moment, ending) {
+  moment.ending = ending;
+  const found = /process (\d+) is spent/.exec(ending);
+  if (found) moment.spent.push(Number(found[1]));
+}
+
+// What the page can't compute: which processes are out of rounds by now.
+function addReport(room, report) {
+  const spent = report.map(line => /^\S+ process (\d+) spent$/.exec(line)).filter(Boolean);
+  room.moments.at(-1)?.spent.push(...spent.map(found => Number(found[1])));
 }
 
 // All rooms that the script opened, in order, and the lines of what was refused.
@@ -181,14 +220,14 @@ function readScript(script, trace) {
     if (/ refused /.test(reply.line)) {
       refused.push([reply.line, ...reply.notes.map(note => note.trim())].join(': '));
     } else if (word === 'opened') {
-      const room = { ...readSpec(entries[index].block), moments: [], report: [], show: SIMULATION };
+      const room = { ...readSpec(entries[index].block), moments: [], show: SIMULATION };
       rooms.push(room);
       open.set(name, room);
     } else if (open.has(name)) {
       const room = open.get(name);
       addSteps(room, reply.notes);
-      if (word === 'crash' && answer === 'crashed') room.moments.push({ crash: true, simulator: Number(number), letter: 'x', here: '', ending: '', obstacle: '' });
-      if (word === 'report') room.report = reply.report;
+      if (word === 'crash' && answer === 'crashed') room.moments.push({ crash: true, simulator: Number(number), letter: 'x', here: '', ending: '', obstacle: '', spent: [] });
+      if (word === 'report') addReport(room, reply.report);
       if (word === 'closed') open.delete(name);
     }
   });
@@ -214,6 +253,8 @@ function emptyState(room) {
     chosen: new Map(), // of an agreement that is fixed: which simulator's proposal, and since which moment
     values: new Map(), // by simulator, process and round
     decided: new Map(), // by process
+    spent: new Set(), // processes that are out of rounds once the agreement of their last round is resolved
+    stopped: range(room.simulators).map(() => false), // simulators that have crashed or ended their last turn
     events: [], // those that are known by now
   };
 }
@@ -246,6 +287,8 @@ function look(state, room, { simulator, process, round }) {
 
 // The state after one more moment, whose number is `at`.
 function apply(state, room, moment, at) {
+  moment.spent.forEach(process => state.spent.add(process));
+  if (moment.crash || (moment.turn === room.turns && moment.ending)) state.stopped[moment.simulator] = true;
   if (moment.crash) {
     state.crashed[moment.simulator] = true;
     return;
@@ -295,14 +338,55 @@ function snapshotsOf(state, room) {
 // All events of a state's processes, in the order in which they take effect.
 const eventsOf = (state, room) => [...state.events, ...snapshotsOf(state, room)].sort((one, other) => one.at - other.at);
 
+// ---- hints: what a cell of a table means, in words
+
+const LEVELS = ['level 0: outside', 'level 1: in the unsafe section', 'level 2: its proposal counts'];
+
+// A row of step numbers in words: how many writes of each process it has.
+const writesIn = row => listed(row.map((number, p) => `${number === '.' ? 'no write' : many(Number(number), 'write')} of process ${p}`));
+
+const agreementHint = (process, round) => `agreement (${process},${round}): on the snapshot of process ${process} in round ${round}`;
+
+const countHint = (simulator, process, number) => `step(${simulator},${process}): simulator ${simulator} has counted ${many(number, 'write')} of process ${process}`;
+
+const proposalHint = (simulator, row, fate) => (row ? `; it proposes a snapshot with ${writesIn(row)}${fate}` : `; simulator ${simulator} proposes nothing yet`);
+
+const levelHint = (simulator, process, round, level, row, fate) => `simulator ${simulator} in agreement (${process},${round}): ${LEVELS[level]}${proposalHint(simulator, row, fate)}`;
+
+// What the words of a result mean, by their first one.
+const RESULTS = {
+  resolved: 'some level is 2 and none is 1: every simulator may read the proposal, which can\'t change any more',
+  blocked: 'a simulator crashed in the unsafe section, so some level is 1 for ever: no simulator may read a proposal',
+  chosen: 'the choice can\'t change any more, but no simulator may read it while some level is 1',
+  open: 'some level is 1: more than one proposal may still be chosen, or none counts yet',
+  no: 'no level is 2',
+};
+const resultHint = result => RESULTS[/^\w+/.exec(result)[0]];
+
+const valueHint = (process, round, value) => (value === undefined ? `process ${process} has not written in round ${round}` : `process ${process} writes ${value} in round ${round}`);
+
+// What the words of a state mean, by their first one.
+const STATES = {
+  decided: 'it has ended',
+  spent: 'it is out of rounds, and its protocol asks for one more write',
+  held: 'it is blocked: a simulator crashed in the unsafe section of an agreement on its snapshot',
+  may: 'it has not decided, and some simulator has turns left',
+  no: 'each simulator has crashed or ended its last turn',
+};
+const stateHint = state => STATES[/^\w+/.exec(state)[0]];
+
+const EVENTS_HINT = 'what the process has done, in the order in which it took effect: the values in a snapshot are those that were written, . is none';
+
 // ---- drawing the lanes of simulators and processes
 
-const SQUARE = 27, LANE = 42, EVENTS = 28, LEFT = 104, TOP = 16;
+const SQUARE = 27, LANE = 42, EVENTS = 26, LEFT = 104, TOP = 16;
 
-// How many moments of a long run are drawn, and how wide the picture is at least. Next to another run it is narrow.
-const WIDE = { columns: 42, width: 1240 };
-const NARROW = { columns: 18, width: 620 };
+// How many moments of a long run are drawn, and how wide the picture is at least: alone, next to another run, and on a phone.
+const WIDE = { columns: 31, width: 1030 };
+const NARROW = { columns: 15, width: 596 };
+const PHONE = { columns: 10, width: 434 };
 let layout = WIDE;
+let isFutureShown = true; // paler than what has passed
 
 // The first moment that is drawn: all of a short run, and a part of a long one, around the current moment.
 const firstDrawn = (total, count) => Math.max(0, Math.min(count - Math.ceil(layout.columns / 2), total - layout.columns));
@@ -317,22 +401,30 @@ function drawSquare(moment, x, y, isDone) {
     + textAt(x + SQUARE / 2, y + 17, moment.letter, `text-anchor="middle" font-weight="700" fill="${filled ? 'var(--paper)' : 'var(--ink)'}"`) + '</g>';
 }
 
-// Where a simulator is in the unsafe section: from the step by which it enters to that by which it leaves, or to the end.
-function insideOf(room, simulator) {
+// Where a simulator is in the unsafe section: from the step by which it enters to that by which it leaves, or to the last moment that is shown.
+function insideOf(room, simulator, shown) {
   const parts = [];
-  room.moments.forEach((moment, at) => {
+  room.moments.slice(0, shown).forEach((moment, at) => {
     if (moment.simulator !== simulator) return;
-    if (moment.letter === '1') parts.push({ from: at, to: room.moments.length });
+    if (moment.letter === '1') parts.push({ from: at, to: shown });
     if (moment.letter === '2' || moment.letter === '0') parts[parts.length - 1].to = at + 1;
   });
   return parts;
 }
 
+// The name of a simulator, with a cross once it has crashed.
+function drawName(room, simulator, count, y) {
+  const hasCrashed = room.moments.slice(0, count).some(moment => moment.crash && moment.simulator === simulator);
+  const cross = hasCrashed ? ' <tspan class="crashed" fill="var(--now)" font-weight="700">\u2715</tspan>' : '';
+  return `<text class="name" x="2" y="${y + 17}" fill="var(--ink)">simulator ${simulator}${cross}</text>`;
+}
+
 function drawLane(room, simulator, first, count, y) {
-  const last = Math.min(first + layout.columns, room.moments.length);
+  const shown = isFutureShown ? room.moments.length : count;
+  const last = Math.min(first + layout.columns, shown);
   const x = at => LEFT + (at - first) * SQUARE;
-  let lane = textAt(4, y + 17, 'simulator ' + simulator, 'fill="var(--ink)"');
-  for (const { from, to } of insideOf(room, simulator)) {
+  let lane = drawName(room, simulator, count, y);
+  for (const { from, to } of insideOf(room, simulator, shown)) {
     const [begin, end] = [Math.max(from, first), Math.min(to, last)];
     if (begin < end) lane += `<rect x="${x(begin)}" y="${y - 4}" width="${(end - begin) * SQUARE}" height="32" fill="url(#hatch)"/>`;
   }
@@ -345,7 +437,7 @@ function drawLane(room, simulator, first, count, y) {
     lane += drawSquare(moment, x(at), y, at < count);
     const before = room.moments[at - 1];
     if (!before || before.simulator !== simulator || before.turn !== moment.turn || at === first) {
-      lane += textAt(x(at) + 2, y + 36, `p${moment.process} r${moment.round}`, `font-size="11" fill="${hueOf(moment.process)}"`);
+      lane += textAt(x(at) + 2, y + 37, `p${moment.process} r${moment.round}`, `class="turn" font-size="13" fill="${hueOf(moment.process)}"`);
     }
   });
   return lane;
@@ -358,12 +450,16 @@ function drawEvent(room, event, first, count, y, left) {
   const hue = hueOf(event.process);
   const from = TOP + room.moments[event.at].simulator * LANE + 24;
   const filled = event.text.startsWith('decide');
-  return `<g opacity="${event.known < count ? 1 : 0.35}"><path d="M ${x} ${from} L ${Math.max(x, left + 8)} ${y}" stroke="${hue}" stroke-dasharray="2 3"/>`
+  const title = `<title>process ${event.process}: ${escaped(event.text)}; takes effect at step ${event.at + 1}</title>`;
+  return `<g opacity="${event.known < count ? 1 : 0.35}">${title}<path d="M ${x} ${from} L ${Math.max(x, left + 8)} ${y}" stroke="${hue}" stroke-dasharray="2 3"/>`
     + `<rect x="${left}" y="${y}" width="${widthOf(event)}" height="20" rx="${event.text.startsWith('snap') ? 10 : 3}" fill="${filled ? hue : 'var(--paper)'}" stroke="${hue}"${room.unreported.has(event.at) ? ' stroke-dasharray="4 2"' : ''}/>`
-    + textAt(left + 5, y + 14, event.text, `font-family="monospace" font-size="12" fill="${filled ? 'var(--paper)' : 'var(--ink)'}"`) + '</g>';
+    + textAt(left + 5, y + 15, event.text, `font-family="monospace" font-size="13" fill="${filled ? 'var(--paper)' : 'var(--ink)'}"`) + '</g>';
 }
 
-const widthOf = event => 10 + 7.3 * event.text.length;
+const widthOf = event => 10 + 7.9 * event.text.length;
+
+// The line of the current moment. Boxes come after it, so that their texts aren't crossed.
+const drawNow = (x, height) => `<path class="now-line" d="M ${x} 2 V ${height - 4}" stroke="var(--now)" stroke-width="2"/>`;
 
 // The events of one process, none over another.
 function drawEvents(room, events, first, count, y) {
@@ -383,26 +479,29 @@ function drawLanes(room, count) {
   const width = LEFT + (Math.min(total, layout.columns) + 1) * SQUARE + 60;
   room.events ??= eventsOf(stateAt(room, total), room);
   room.unreported = new Set(eventsOf(stateAt(room, count), room).filter(event => !event.isReported).map(event => event.at));
-  const events = room.events.filter(event => event.at >= first && event.at < first + layout.columns);
+  const events = room.events.filter(event => event.at >= first && event.at < first + layout.columns && (isFutureShown || event.known < count));
   const now = LEFT + (count - first) * SQUARE;
-  return `<svg viewBox="0 0 ${Math.max(width, layout.width)} ${height}" role="img" aria-label="Lanes of simulators and processes" font-family="Helvetica, Arial, sans-serif" font-size="14">`
+  return `<svg viewBox="0 0 ${Math.max(width, layout.width)} ${height}" style="--least: ${height * 0.75}px" preserveAspectRatio="xMinYMin meet" role="img" aria-label="Lanes of simulators and processes" font-family="Helvetica, Arial, sans-serif" font-size="14">`
     + '<defs><pattern id="hatch" width="7" height="7" patternUnits="userSpaceOnUse" patternTransform="rotate(45)"><rect width="7" height="7" fill="var(--inside)"/><path d="M 0 0 V 7" stroke="var(--hatch)" stroke-width="2"/></pattern></defs>'
     + range(room.simulators).map(i => drawLane(room, i, first, count, TOP + i * LANE)).join('')
-    + range(room.inputs.length).map(p => textAt(4, top + p * EVENTS + 15, 'process ' + p, `fill="${hueOf(p)}"`) + `<path d="M 98 ${top + p * EVENTS + 10} H ${width}" stroke="var(--rule)"/>`).join('')
+    + drawNow(now, height)
+    + range(room.inputs.length).map(p => textAt(2, top + p * EVENTS + 15, 'process ' + p, `fill="${hueOf(p)}"`) + `<path d="M 98 ${top + p * EVENTS + 10} H ${width}" stroke="var(--rule)"/>`).join('')
     + range(room.inputs.length).map(p => drawEvents(room, events.filter(event => event.process === p), first, count, top + p * EVENTS)).join('')
-    + `<path d="M ${now} 2 V ${height - 4}" stroke="var(--now)" stroke-width="2"/></svg>`;
+    + '</svg>';
 }
 
 // ---- tables
 
+const processHead = p => headCell('p' + p, 'process ' + p);
+const simulatorHead = i => headCell('simulator ' + i, `level and proposal of simulator ${i}`);
+
 function stepNumbers(room, state, moment) {
   const touched = (i, p) => moment && (moment.letter === 'S' || (moment.letter === '+' && moment.simulator === i && moment.process === p));
-  const rows = range(room.simulators).map(i => [headCell(`simulator ${i}${state.crashed[i] ? ' \u2715' : ''}`),
-    ...range(room.inputs.length).map(p => cell(state.counted[i][p], touched(i, p) && 'now'))]);
-  return section('Step numbers', table(['', ...range(room.inputs.length).map(p => 'p' + p)], rows));
+  const head = [corner, ...range(room.inputs.length).map(processHead)];
+  const rows = range(room.simulators).map(i => [headCell(`simulator ${i}${state.crashed[i] ? ' \u2715' : ''}`, `how many writes of each process simulator ${i} has counted${state.crashed[i] ? '; it has crashed' : ''}`),
+    ...range(room.inputs.length).map(p => cell(state.counted[i][p], countHint(i, p, state.counted[i][p]), touched(i, p) && 'now'))]);
+  return section('numbers', 'Step numbers', table([head, ...rows]));
 }
-
-const named = simulators => (simulators.length === 1 ? 'simulator ' : 'simulators ') + simulators.join(', ').replace(/, (\d+)$/, ' and $1');
 
 // The state of an agreement: open, fixed, resolved, or blocked for ever.
 function resultOf(state, key, levels) {
@@ -425,24 +524,28 @@ function agreementRow(room, state, moment, key) {
     const row = state.proposals.get(keyOf(i, process, round));
     const touched = here && ((moment.simulator === i && 'V120'.includes(moment.letter)) || '?A'.includes(moment.letter));
     const proposal = row ? ` <span class="row ${chosen && chosen.simulator !== i ? 'lost' : ''}">\u27e8${row.join(' ')}\u27e9</span>` : '';
-    return cell(`${levels[i]}${proposal}`, 'level' + levels[i], chosen && chosen.simulator === i && 'chosen', touched && 'now');
+    const fate = !chosen ? '' : chosen.simulator === i ? '; it is chosen' : '; another one is chosen';
+    return cell(`${levels[i]}${proposal}`, levelHint(i, process, round, levels[i], row, fate), 'level' + levels[i], chosen && chosen.simulator === i && 'chosen', touched && 'now');
   });
-  return [headCell(`p${process} r${round}`), ...cells, cell(resultOf(state, key, levels), 'text')];
+  const result = resultOf(state, key, levels);
+  return [headCell(`p${process} r${round}`, agreementHint(process, round)), ...cells, cell(result, resultHint(result), 'text')];
 }
 
 function agreements(room, state, moment) {
   const keys = new Set([...state.levels.keys(), ...[...state.proposals.keys()].map(key => key.split(',').slice(1).join(','))]);
   const ordered = [...keys].map(key => key.split(',').map(Number)).sort((one, other) => one[1] - other[1] || one[0] - other[0]).map(numbers => keyOf(...numbers));
-  const rows = ordered.map(key => agreementRow(room, state, moment, key));
-  return section('Agreements: level and proposal of each simulator', table(['', ...range(room.simulators).map(i => 'simulator ' + i), 'result'], rows));
+  const head = [corner, ...range(room.simulators).map(simulatorHead), headCell('result', 'whether a proposal is chosen, and may be read')];
+  return section('agreements', 'Agreements: level and proposal of each simulator', table([head, ...ordered.map(key => agreementRow(room, state, moment, key))]));
 }
 
-// What has become of a process by now.
+// What has become of a process by now, as a report says it, with all simulators that hold it.
 function standingOf(room, state, process) {
   if (state.decided.has(process)) return 'decided ' + state.decided.get(process);
+  if (state.spent.has(process) && isResolved(levelsOf(state, room, keyOf(process, room.rounds)))) return 'spent';
   const keys = [...state.levels.keys()].filter(key => key.startsWith(process + ','));
-  const held = range(room.simulators).find(i => state.crashed[i] && keys.some(key => levelsOf(state, room, key)[i] === 1));
-  return held === undefined ? '' : `held by simulator ${held}`;
+  const holders = range(room.simulators).filter(i => state.crashed[i] && keys.some(key => levelsOf(state, room, key)[i] === 1));
+  if (holders.length > 0) return `held by ${named(holders)}`;
+  return state.stopped.every(Boolean) ? 'no simulator left' : 'may still go on';
 }
 
 // The values that processes wrote, by round.
@@ -450,22 +553,21 @@ function values(room, state, moment) {
   const valued = range(room.inputs.length).map(p => range(room.rounds).map(index => valueOf(state, room, p, index + 1)));
   const rounds = Math.max(0, ...valued.map(row => row.findLastIndex(value => value !== undefined) + 1));
   const touched = (p, round) => moment && 'Wr'.includes(moment.letter) && new RegExp(`value\\(\\d+,${p},${round}\\)`).test(moment.operation);
-  const rows = valued.map((row, p) => [headCell('p' + p), ...range(rounds).map(index => cell(row[index] ?? '', touched(p, index + 1) && 'now'))]);
-  return section('Values', table(['', ...range(rounds).map(index => 'r' + (index + 1))], rows));
+  const head = [corner, ...range(rounds).map(index => headCell('r' + (index + 1), 'round ' + (index + 1)))];
+  const rows = valued.map((row, p) => [processHead(p), ...range(rounds).map(index => cell(row[index] ?? '', valueHint(p, index + 1, row[index]), touched(p, index + 1) && 'now'))]);
+  return section('values', 'Values', table([head, ...rows]));
 }
 
 // An event as the table has it, which says so if the report of this moment doesn't have it yet.
 const eventText = event => escaped(event.text) + (event.isReported ? '' : ' <small>(not in a report)</small>');
 
-function processes(room, state, count) {
+function processes(room, state) {
   const events = eventsOf(state, room);
-  const told = room.report.map(line => / process (\d+) (.*)$/.exec(line)).filter(Boolean);
   const rows = range(room.inputs.length).map(p => {
-    const reported = count === room.moments.length && told.find(found => +found[1] === p);
-    return [headCell('p' + p), cell(events.filter(event => event.process === p).map(eventText).join('; '), 'text', 'row'),
-      cell(reported ? reported[2] : standingOf(room, state, p), 'text')];
+    const standing = standingOf(room, state, p);
+    return [processHead(p), cell(events.filter(event => event.process === p).map(eventText).join('; '), EVENTS_HINT, 'text', 'row'), cell(standing, stateHint(standing), 'text')];
   });
-  return section('Simulated processes', table(['', 'events', 'state'], rows));
+  return section('processes', 'Simulated processes', table([[corner, headCell('events', EVENTS_HINT), headCell('state', 'what has become of it')], ...rows]));
 }
 
 // What a simulated room shows after a number of moments.
@@ -481,7 +583,7 @@ const SIMULATION = {
   tables(room, count) {
     const state = stateAt(room, count);
     const moment = room.moments[count - 1];
-    return stepNumbers(room, state, moment) + agreements(room, state, moment) + values(room, state, moment) + processes(room, state, count);
+    return stepNumbers(room, state, moment) + agreements(room, state, moment) + values(room, state, moment) + processes(room, state);
   },
   isSameTurn: (one, other) => one.simulator === other.simulator && one.turn === other.turn && !one.crash === !other.crash,
 };
@@ -560,7 +662,7 @@ function nextOf(room, writes, process, count) {
 
 // Of a long run as many events are drawn as there is room for, up to the current one and some more.
 function drawnFrom(room, count) {
-  let free = layout.width - 260;
+  let free = layout.width * 0.8;
   let first = Math.min(count + 3, room.moments.length);
   while (first > 0 && (free -= widthOf(room.moments[first - 1]) + 6) > 0) first--;
   return first;
@@ -573,23 +675,22 @@ function drawEventBox(room, index, count, x) {
   const y = TOP + moment.process * EVENTS;
   return `<g opacity="${index < count ? 1 : 0.35}"><title>${escaped('line ' + moment.line)}</title>`
     + `<rect x="${x}" y="${y}" width="${widthOf(moment)}" height="20" rx="${moment.deed === 'snap' ? 10 : 3}" fill="${filled ? hue : 'var(--paper)'}" stroke="${hue}" stroke-width="${index === room.broken ? 3 : 1}"/>`
-    + textAt(x + 5, y + 14, moment.text, `font-family="monospace" font-size="12" fill="${filled ? 'var(--paper)' : 'var(--ink)'}"`) + '</g>';
+    + textAt(x + 5, y + 15, moment.text, `font-family="monospace" font-size="13" fill="${filled ? 'var(--paper)' : 'var(--ink)'}"`) + '</g>';
 }
 
 function drawEventLanes(room, count) {
   const first = drawnFrom(room, count);
   const height = TOP + room.inputs.length * EVENTS + 6;
-  const lanes = range(room.inputs.length).map(p => textAt(4, TOP + p * EVENTS + 15, 'process ' + p, `fill="${hueOf(p)}"`) + `<path d="M 98 ${TOP + p * EVENTS + 10} H ${layout.width}" stroke="var(--rule)"/>`);
+  const lanes = range(room.inputs.length).map(p => textAt(2, TOP + p * EVENTS + 15, 'process ' + p, `fill="${hueOf(p)}"`) + `<path d="M 98 ${TOP + p * EVENTS + 10} H ${layout.width}" stroke="var(--rule)"/>`);
   let x = LEFT;
   let now = LEFT - 3;
   let boxes = '';
   for (let index = first; index < room.moments.length && x < layout.width - 60; index++) {
-    if (room.moments[index].process < room.inputs.length) boxes += drawEventBox(room, index, count, x);
+    if (room.moments[index].process < room.inputs.length && (isFutureShown || index < count)) boxes += drawEventBox(room, index, count, x);
     x += widthOf(room.moments[index]) + 6;
     if (index < count) now = x - 3;
   }
-  return `<svg viewBox="0 0 ${layout.width} ${height}" role="img" aria-label="Events of the processes" font-family="Helvetica, Arial, sans-serif" font-size="14">${lanes.join('')}${boxes}`
-    + `<path d="M ${now} 2 V ${height - 4}" stroke="var(--now)" stroke-width="2"/></svg>`;
+  return `<svg viewBox="0 0 ${layout.width} ${height}" style="--least: ${height * 0.75}px" preserveAspectRatio="xMinYMin meet" role="img" aria-label="Events of the processes" font-family="Helvetica, Arial, sans-serif" font-size="14">${lanes.join('')}${drawNow(now, height)}${boxes}</svg>`;
 }
 
 // What a room of a transcript shows after some of its events.
@@ -607,24 +708,18 @@ const TRANSCRIPT = {
     const known = room.broken >= 0 ? Math.min(count, room.broken) : count;
     const writes = writesOf(room, known);
     const moment = room.moments[count - 1];
-    const rows = range(room.inputs.length).map(p => [headCell('p' + p), cell(escaped(writes[p].map(write => write.values[0]).join(' ')), 'row', moment && moment.process === p && moment.deed === 'write' && 'now'),
-      cell(escaped(nextOf(room, writes, p, known)), 'text')]);
-    return section('Processes', table(['', 'writes', known < count ? 'could do instead' : 'may do next'], rows));
+    const head = [corner, headCell('writes', 'what it has written; the last one is in its cell'), headCell(known < count ? 'could do instead' : 'may do next', 'what the protocol and the memory allow')];
+    const rows = range(room.inputs.length).map(p => [processHead(p), cell(escaped(writes[p].map(write => write.values[0]).join(' ')), `the writes of process ${p}`, 'row', moment && moment.process === p && moment.deed === 'write' && 'now'),
+      cell(escaped(nextOf(room, writes, p, known)), `what process ${p} may do`, 'text')]);
+    return section('processes', 'Processes', table([head, ...rows]));
   },
   isSameTurn: (one, other) => one.process === other.process,
 };
 
-// ---- the page
+// ---- the page: steps through the rooms of one file, or of two next to each other
 
-// The files in the page, in order: each is an element of a class that says what it is, followed by the answer to it.
-function readFile(element) {
-  const answer = element.nextElementSibling.textContent;
-  return element.className === 'transcript' ? readJudged(element.textContent, answer) : readScript(element.textContent, answer);
-}
-
-const runs = [...document.querySelectorAll('.script, .transcript')].map(readFile);
-if (runs.length > 1) layout = NARROW;
-
+let runs = []; // of each file what readScript or readJudged reads
+let whenShown = () => {}; // is called after each change of what is shown
 let current = 0; // which room of each file is shown
 let count = 0; // how many of its moments have passed
 let timer = null;
@@ -649,8 +744,6 @@ function differenceText(rooms) {
   return `The two runs first differ at step ${number}` + (ended < 0 ? '.' : `: the ${ended === 0 ? 'first' : 'second'} has ended by then.`);
 }
 
-const many = (number, thing) => `${number} ${thing}${number === 1 ? '' : thing.endsWith('s') ? 'es' : 's'}`;
-
 function panelOf(room) {
   const about = `${many(room.inputs.length, 'process')}, inputs ${room.inputs.join(' ')}; ${many(room.simulators, 'simulator')}; ${many(room.rounds, 'round')}`;
   return `<section class="run"><header><h1>${escaped(room.name)}</h1><p class="about">${escaped(about)}</p><code class="protocol">${escaped(room.protocol.join(' '))}</code></header>`
@@ -669,7 +762,7 @@ function showRooms() {
   }).join('');
   at('difference').textContent = differenceText(rooms);
   at('difference').hidden = rooms.length < 2;
-  at('letters').hidden = !rooms.some(room => room.show === SIMULATION);
+  at('legend').hidden = !rooms.some(room => room.show === SIMULATION);
 }
 
 function showPanel(room, panel) {
@@ -679,12 +772,23 @@ function showPanel(room, panel) {
   panel.querySelector('.tables').innerHTML = room.show.tables(room, reached);
 }
 
+// How much of a run is drawn: as much as can be read in this window.
+let layoutHere = () => (innerWidth < 700 ? PHONE : runs.length > 1 ? NARROW : WIDE);
+
 function show() {
+  layout = layoutHere();
   const rooms = shownRooms();
   at('slider').value = count;
   at('position').textContent = `step ${count} of ${lengthOf(rooms)}`;
   rooms.forEach((room, index) => showPanel(room, at('runs').children[index]));
-  history.replaceState(null, '', `#${current},${count}`);
+  at('future').textContent = isFutureShown ? 'hide the future' : 'show the future';
+  at('future').setAttribute('aria-pressed', !isFutureShown);
+  whenShown();
+}
+
+function hideOrShowFuture() {
+  isFutureShown = !isFutureShown;
+  show();
 }
 
 function go(to) {
@@ -732,6 +836,7 @@ const KEYS = {
   Home: () => go(0),
   End: () => go(Infinity),
   d: goToDifference,
+  h: hideOrShowFuture,
   ' ': play,
 };
 
@@ -742,19 +847,13 @@ function onKey(event) {
   KEYS[event.key](event);
 }
 
-function fromAddress() {
-  const [room, to] = location.hash.slice(1).split(',').map(Number);
-  open(room || 0, Number.isFinite(to) ? to : 0);
-}
-
-function start() {
+function showRefused() {
   const refused = runs.flatMap(run => run.refused);
   at('refused').hidden = refused.length === 0;
   at('refused').textContent = 'Refused: ' + refused.join(' | ');
-  if (roomCount() === 0) {
-    at('runs').textContent = 'The file opens no room.';
-    return;
-  }
+}
+
+function bindControls() {
   at('first').onclick = () => go(0);
   at('turn-back').onclick = () => goTurn(-1);
   at('back').onclick = () => go(count - 1);
@@ -763,10 +862,41 @@ function start() {
   at('turn-on').onclick = () => goTurn(1);
   at('last').onclick = () => go(Infinity);
   at('difference').onclick = goToDifference;
+  at('future').onclick = hideOrShowFuture;
   at('slider').oninput = event => go(Number(event.target.value));
   at('rooms').onclick = event => event.target.dataset.room && open(Number(event.target.dataset.room), 0);
+}
+
+// ---- the files in the page, and its address
+
+let isEmpty = true; // so far: no file has any text
+
+// Each file is an element of a class that says what it is, followed by the answer to it.
+function readFile(element) {
+  const answer = element.nextElementSibling.textContent;
+  isEmpty = isEmpty && element.textContent === '';
+  return element.className === 'transcript' ? readJudged(element.textContent, answer) : readScript(element.textContent, answer);
+}
+
+function fromAddress() {
+  const [numbers, hidden] = location.hash.slice(1).split(',hidden');
+  const [room, to] = numbers.split(',').map(Number);
+  isFutureShown = hidden === undefined;
+  open(room || 0, Number.isFinite(to) ? to : 0);
+}
+
+function start() {
+  runs = [...document.querySelectorAll('.script, .transcript')].map(readFile);
+  whenShown = () => history.replaceState(null, '', `#${current},${count}${isFutureShown ? '' : ',hidden'}`);
+  showRefused();
+  if (roomCount() === 0) {
+    at('runs').textContent = isEmpty ? 'The file is empty. A shell empties the file that a command writes to before the command reads: `bgview page x > x` has lost x.' : 'The file opens no room.';
+    return;
+  }
+  bindControls();
   onkeydown = onKey;
   onhashchange = fromAddress;
+  onresize = show;
   fromAddress();
 }
 

@@ -1,5 +1,6 @@
 -- Texts of rooms, one by one.
-use Rattle.std.proofs.Common.{◌≡◌, ◌∙◌, ℕ, ◌+◌, ◌≤◌, ◌&&◌, Bool, true, false, List, [], ◌∷◌, ◌++◌, Some, Ok, length, take, is_none, is_some, not, Option, None, option_map, refl, sym, ap, subst, arith, inl}
+use Rattle.std.proofs.Common.{◌≡◌, ◌∙◌, ℕ, ◌+◌, ◌≤◌, ◌&&◌, Bool, true, false, List, [], ◌∷◌, ◌++◌, Some, Ok, Err, Result, length, take, is_none, is_some, not, Option, None, option_map, refl, sym, ap, subst, arith, inl, inr}
+use Rattle.std.specs.Prelude.{IfOk}
 use Rattle.std.specs.List.{concat}
 use Rattle.std.proofs.lemmas.List.{append-nil, append_assoc, take_all, take_more}
 use Rattle.std.proofs.lemmas.List.Folds.{concat-append}
@@ -7,11 +8,13 @@ use Rattle.std.proofs.lemmas.Option.{get_or_from_slice_get, slice_get_within}
 use Rattle.room_spec.specs.Blocks.{block_in}
 use Rattle.room_spec.specs.Rooms.{RoomSpec}
 use Rattle.room_files.specs.BlockLists.{IsBlockAt}
+use Rattle.run_search.specs.declared.judging.Judgement.{Judgement}
+use Rattle.run_search.specs.Judging.{AreTooManyKept, HasNodes, IsJudged}
 use Rattle.view_outcomes.specs.declared.rooms.Search.{Search}
 use Rattle.view_outcomes.specs.declared.listing.AllOutcomes.{AllOutcomes}
-use Rattle.view_outcomes.specs.Listing.{AreAllListed, HasNodes, IsTaskOfRuns}
-use Rattle.view_outcomes.specs.Rooms.{AddsOutcomes, AreRoomAnswers, IsRoomAnswer, crashes_for}
-use Rattle.view_outcomes.specs.Texts.{found_text, head_line}
+use Rattle.view_outcomes.specs.Listing.{AreAllListed, IsTaskOfRuns}
+use Rattle.view_outcomes.specs.Rooms.{AddsOutcomes, AreRoomAnswers, IsListText, IsRoomAnswer, IsTaskText, IsTextFor, crashes_for, is_kept}
+use Rattle.view_outcomes.specs.Texts.{found_text, head_line, judgement_text, taskless_line, unjudged_text}
 
 and_right : (b : Bool) → b ≡ (b && true)
 and_right true = refl
@@ -57,15 +60,13 @@ none_is (Some value) true is = absurd cc
 none_is (Some value) false is = refl
 
 -- what was written of a room that was searched to the end
-pub found_told : (search : Search) (spec : RoomSpec) (block name : List ℕ) (crashes : ℕ) (all : AllOutcomes) (well : Bool) (before head after : List ℕ) → block_in block ≡ Ok (spec, length block) → name ≡ spec.name → crashes ≡ crashes_for spec search.crashes
+pub found_told : (search : Search) (spec : RoomSpec) (block name : List ℕ) (crashes : ℕ) (all : AllOutcomes) (well : Bool) (before head after : List ℕ) → name ≡ spec.name → crashes ≡ crashes_for spec search.crashes
     → AreAllListed spec crashes search.brief all.listed.items → HasNodes spec search.nodes all.nodes → IsTaskOfRuns spec (option_map (λ events. events.items) all.breaking) → well ≡ is_none all.breaking
-    → head ≡ before ++ head_line name crashes → after ≡ head ++ found_text spec block all → (text : List ℕ) × IsRoomAnswer search spec well text × (after ≡ before ++ text)
-found_told search spec block name crashes all well before head after says named stopped outcomes nodes task well_is head_is after_is =
+    → head ≡ before ++ head_line name crashes → after ≡ head ++ found_text spec block all → (text : List ℕ) × IsListText search spec block well text × (after ≡ before ++ text)
+found_told search spec block name crashes all well before head after named stopped outcomes nodes task well_is head_is after_is =
     let rest = found_text spec block all in
     let first : head_line name crashes ≡ head_line spec.name (crashes_for spec search.crashes) = ap (λ (n : List ℕ). head_line n crashes) named ∙ ap (head_line spec.name) stopped in
-    let answer : IsRoomAnswer search spec well (head_line spec.name (crashes_for spec search.crashes) ++ rest) = record {
-      block = block;
-      says = says;
+    let answer : IsListText search spec block well (head_line spec.name (crashes_for spec search.crashes) ++ rest) = record {
       rest = rest;
       rest_is = inl (record { all = all; outcomes = subst (λ (n : ℕ). AreAllListed spec n search.brief all.listed.items) stopped outcomes; nodes = nodes; task = task; well_is = well_is; text_is = refl });
       text_is = refl;
@@ -74,3 +75,26 @@ found_told search spec block name crashes all well before head after says named 
       answer,
       after_is ∙ ap (λ (t : List ℕ). t ++ rest) head_is ∙ append_assoc before (head_line name crashes) rest ∙ ap (λ (t : List ℕ). before ++ (t ++ rest)) first,
     )
+
+-- ---- the task alone
+
+pub taskless_told : (limit : ℕ) (spec : RoomSpec) (block name before after : List ℕ) → name ≡ spec.name → None ≡ spec.task → after ≡ before ++ taskless_line name → (text : List ℕ) × IsTaskText limit spec block true text × (after ≡ before ++ text)
+taskless_told limit spec block name before after named none is =
+    (taskless_line spec.name, inl (record { none = sym none; text_is = refl; well_is = refl }), is ∙ ap (λ (n : List ℕ). before ++ taskless_line n) named)
+
+pub judged_told : (limit : ℕ) (spec : RoomSpec) (block name : List ℕ) (judgement : Judgement) (well : Bool) (before after : List ℕ) → name ≡ spec.name → IsJudged spec limit judgement → well ≡ is_kept judgement → after ≡ before ++ judgement_text name block judgement
+    → (text : List ℕ) × IsTaskText limit spec block well text × (after ≡ before ++ text)
+judged_told limit spec block name judgement well before after named judged well_is is =
+    (judgement_text spec.name block judgement, inr (inl (record { judgement = judgement; judged = judged; text_is = refl; well_is = well_is })), is ∙ ap (λ (n : List ℕ). before ++ judgement_text n block judgement) named)
+
+pub unjudged_told : (limit : ℕ) (spec : RoomSpec) (block name before after : List ℕ) → name ≡ spec.name → AreTooManyKept spec limit → after ≡ before ++ unjudged_text name limit → (text : List ℕ) × IsTaskText limit spec block false text × (after ≡ before ++ text)
+unjudged_told limit spec block name before after named kept is =
+    (unjudged_text spec.name limit, inr (inr (record { kept = kept; text_is = refl; well_is = refl })), is ∙ ap (λ (n : List ℕ). before ++ unjudged_text n limit) named)
+
+-- ---- what is asked for
+
+pub asked_told : {E : Type 0} (search : Search) (spec : RoomSpec) (block : List ℕ) (task : Bool) (before after : List ℕ) (result : Result Bool E) → search.task ≡ task → block_in block ≡ Ok (spec, length block)
+    → IfOk result (λ well. (text : List ℕ) × IsTextFor task search spec block well text × (after ≡ before ++ text)) → IfOk result (λ well. (text : List ℕ) × IsRoomAnswer search spec well text × (after ≡ before ++ text))
+asked_told search spec block task before after (Ok well) is says told =
+    (told.0, record { block = block; says = says; text_is = subst (λ (asked : Bool). IsTextFor asked search spec block well told.0) (sym is) told.1 }, told.2)
+asked_told search spec block task before after (Err error) is says told = tt

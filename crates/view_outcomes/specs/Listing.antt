@@ -1,5 +1,5 @@
 -- All outcomes of a room, each with a run that has it.
-use Rattle.std.specs.Prelude.{◌≡◌, ℕ, ◌≤◌, Bool, IfSome, is_none, List, length, map, Option, Some, None, slice_get}
+use Rattle.std.specs.Prelude.{◌≡◌, ℕ, Bool, IfSome, is_none, List, map, Option, Some, None, slice_get}
 use Rattle.std.specs.List.{Contains}
 use Rattle.room_spec.specs.Rooms.{RoomSpec}
 use Rattle.transcript.specs.declared.event.Event.{Event}
@@ -7,7 +7,6 @@ use Rattle.transcript.specs.Runs.{IsRun}
 use Rattle.transcript.specs.Tasks.{KeepsOwnTask}
 use Rattle.run_search.specs.declared.ended.Ended.{Ended}
 use Rattle.run_search.specs.Outcomes.{IsRunOutcome, IsShortest, outcome_of}
-use Rattle.run_search.specs.Nodes.{CoverAllReachable, Node}
 use Rattle.run_search.specs.Tasks.{IsBreakingRun, IsShortestBreaking}
 use Rattle.view_outcomes.specs.declared.listing.Listed.{Listed}
 
@@ -25,10 +24,6 @@ pub record AreAllListed (spec : RoomSpec) (crashes : ℕ) (brief : Bool) (all : 
   pub sound : (outcome : List Ended) → Contains (listed_ends all) outcome → IsRunOutcome spec crashes outcome
   pub complete : (outcome : List Ended) → IsRunOutcome spec crashes outcome → Contains (listed_ends all) outcome
   pub distinct : (i j : ℕ) (outcome : List Ended) → slice_get (listed_ends all) i ≡ Some outcome → slice_get (listed_ends all) j ≡ Some outcome → i ≡ j
-
--- this number of nodes, which is within the limit, stands for the states of all runs of the room
-abbrev pub HasNodes : RoomSpec → ℕ → ℕ → Type 0
-HasNodes spec limit count = (nodes : List Node) × CoverAllReachable spec nodes × (length nodes ≡ count) × (count ≤ limit)
 
 -- each run keeps the room's task, or these are the events of a shortest one that breaks it
 abbrev pub IsTaskOfRuns : RoomSpec → Option (List Event) → Type 0

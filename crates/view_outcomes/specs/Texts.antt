@@ -8,6 +8,8 @@ use Rattle.transcript.specs.declared.event.Event.{Event}
 use Rattle.report_text.specs.ReportTexts.{event_lines}
 use Rattle.run_search.specs.declared.ended.Ended.{Ended}
 use Rattle.run_search.specs.declared.ended.Ended.TheVariants.{Decided, Spent, Stopped}
+use Rattle.run_search.specs.declared.judging.Judgement.{Judgement}
+use Rattle.run_search.specs.declared.judging.Judgement.TheVariants.{Kept, Broken}
 use Rattle.view_outcomes.specs.declared.listing.AllOutcomes.{AllOutcomes}
 use Rattle.view_outcomes.specs.declared.listing.Listed.{Listed}
 use Rattle.view_outcomes.specs.Counts.{can_be_spent, has_spent, most_values, values_in}
@@ -100,3 +102,21 @@ found_text spec block all =
     ++ (most_line spec.name all.listed.items
     ++ ((spent_lines spec.name (processes spec) all.listed.items ++ none_spent_if spec.name all.listed.items)
     ++ (task_text spec.name block spec.task (option_map (λ events. events.items) all.breaking) ++ complete_line all)))
+
+-- ---- the task alone
+
+abbrev pub taskless_line : List ℕ → List ℕ
+taskless_line name = name ++ codes " has no task\n"
+
+-- how many nodes stand for the states of all runs
+abbrev pub all_runs_line : ℕ → List ℕ
+all_runs_line nodes = codes "these are all runs:" ++ ((32 ∷ decimal nodes) ++ codes " nodes searched\n")
+
+-- each run keeps the task, or this one breaks it
+abbrev pub judgement_text : List ℕ → List ℕ → Judgement → List ℕ
+judgement_text name block (Kept nodes) = (name ++ codes " task holds in every run\n") ++ all_runs_line nodes
+judgement_text name block (Broken events) = breaking_text name block events.items
+
+-- no run that was searched breaks the task
+abbrev pub unjudged_text : List ℕ → ℕ → List ℕ
+unjudged_text name limit = (name ++ codes " task holds so far\n") ++ unfinished_line limit advice

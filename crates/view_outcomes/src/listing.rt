@@ -3,7 +3,8 @@ ghost use Rattle.std.specs.Prelude.{◌≡◌, ◌<◌, ℕ, IfErr, IfOk, Some, 
 ghost use Rattle.run_search.specs.Limits.{AreTooMany};
 ghost use Rattle.run_search.specs.Outcomes.{IsFoundFor, outcomes_in};
 ghost use Rattle.run_search.specs.declared.fault.SearchFault.TheVariants.{TooManyNodes};
-ghost use Rattle.view_outcomes.specs.Listing.{AreAllListed, HasRun, HasNodes, IsTaskOfRuns, listed_ends};
+ghost use Rattle.run_search.specs.Judging.{HasNodes};
+ghost use Rattle.view_outcomes.specs.Listing.{AreAllListed, HasRun, IsTaskOfRuns, listed_ends};
 ghost use Rattle.view_outcomes.specs.declared.listing.Listed.{Listed as ListedValue};
 
 use room_spec::Spec;

@@ -1,7 +1,7 @@
 //! All outcomes of a room, as text.
 ghost use Rattle.std.specs.Prelude.{◌≡◌, ◌+◌, ◌-◌, ◌∷◌, ◌++◌, OnOk, codes, decimal, option_map};
 ghost use Rattle.std.specs.List.{flat_map, range_with_len};
-ghost use Rattle.view_outcomes.specs.Texts.{breaking_text, complete_line, end_line, end_lines, end_words, found_text, head_line, most_line, none_spent_if, outcome_text, outcomes_text, outcomes_with, spent_line, spent_line_if, spent_lines, task_text, text_if, transcript_text, unfinished_line};
+ghost use Rattle.view_outcomes.specs.Texts.{advice, all_runs_line, breaking_text, complete_line, end_line, end_lines, end_words, found_text, head_line, judgement_text, most_line, none_spent_if, outcome_text, outcomes_text, outcomes_with, spent_line, spent_line_if, spent_lines, task_text, taskless_line, text_if, transcript_text, unfinished_line, unjudged_text};
 
 use crate::counts::{can_be_spent, is_any_spent, most_values, values_in};
 use crate::listing::{AllOutcomes, Listed};
@@ -9,7 +9,7 @@ use io_text::Text;
 use report_text::write_events;
 use room_files::write_block;
 use room_spec::Spec;
-use run_search::Ended;
+use run_search::{Ended, Judgement};
 use std::alloc::AllocError;
 use transcript::Event;
 
@@ -23,12 +23,21 @@ pub fn write_head(output: &mut Text, name: &[u8], crashes: usize) -> Result<(), 
 }
 
 /// Writes the line of a room that has more nodes than this number, and what may help.
-pub fn write_unfinished(output: &mut Text, limit: u32, advice: &[u8]) -> Result<(), AllocError>
+fn write_unfinished_line(output: &mut Text, limit: u32, advice: &[u8]) -> Result<(), AllocError>
     ensures { OnOk result (output.new ≡ output.old ++ unfinished_line limit advice.now) }
 {
     output.put(b"more than")?;
     output.put_number(u64::from(limit))?;
     output.put(advice)
+}
+
+/// Writes that the room has more nodes than this number, and what may help.
+pub fn write_unfinished(output: &mut Text, limit: u32) -> Result<(), AllocError>
+    ensures { OnOk result (output.new ≡ output.old ++ unfinished_line limit advice) }
+{
+    let advice =
+        b" nodes: not searched to the end; try a greater --nodes, fewer rounds, or sample\n";
+    write_unfinished_line(output, limit, advice)
 }
 
 /// Writes all outcomes of the room that this block says, those with most decided values first, each with its transcript, if there is one;
@@ -299,4 +308,49 @@ fn write_outcome_count(output: &mut Text, outcomes: usize) -> Result<(), AllocEr
     output.put(b"these are all outcomes:")?;
     output.put_number(outcomes as u64)?;
     output.put(b" of them,")
+}
+
+/// Writes that the room has no task.
+pub fn write_taskless(output: &mut Text, name: &[u8]) -> Result<(), AllocError>
+    ensures { OnOk result (output.new ≡ output.old ++ taskless_line name.now) }
+{
+    output.put_two(name, b" has no task\n")
+}
+
+/// Writes that each run keeps the task, and how many nodes were searched; or a transcript of a run that breaks it.
+pub fn write_judgement(
+    output: &mut Text,
+    name: &[u8],
+    block: &[u8],
+    judgement: &Judgement,
+) -> Result<(), AllocError>
+    ensures { OnOk result (output.new ≡ output.old ++ judgement_text name.now block.now judgement.now) }
+{
+    match judgement {
+        Judgement::Kept(nodes) => write_kept(output, name, *nodes),
+        Judgement::Broken(events) => write_breaking(output, name, block, events.as_slice()),
+    }
+}
+
+fn write_kept(output: &mut Text, name: &[u8], nodes: usize) -> Result<(), AllocError>
+    ensures { OnOk result (output.new ≡ output.old ++ ((name.now ++ codes " task holds in every run\n") ++ all_runs_line nodes)) }
+{
+    output.put_two(name, b" task holds in every run\n")?;
+    write_all_runs(output, nodes)
+}
+
+fn write_all_runs(output: &mut Text, nodes: usize) -> Result<(), AllocError>
+    ensures { OnOk result (output.new ≡ output.old ++ all_runs_line nodes) }
+{
+    output.put(b"these are all runs:")?;
+    output.put_number(nodes as u64)?;
+    output.put(b" nodes searched\n")
+}
+
+/// Writes that no run that was searched breaks the task, and that the room has more nodes than this number.
+pub fn write_unjudged(output: &mut Text, name: &[u8], limit: u32) -> Result<(), AllocError>
+    ensures { OnOk result (output.new ≡ output.old ++ unjudged_text name.now limit) }
+{
+    output.put_two(name, b" task holds so far\n")?;
+    write_unfinished(output, limit)
 }

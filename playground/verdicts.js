@@ -1,0 +1,37 @@
+// ---- verdicts: at once whether a transcript is a run, and whether a task is broken, with the reason that `bgview why` gives
+
+const hasTask = script => /^task agree /m.test(script);
+
+// The lines of `why` to show: of a transcript all verdicts, and of a script those on broken tasks.
+function verdictLines(reading, text) {
+  if (reading.kind === 'transcript') return view.why(text).text;
+  if (!hasTask(reading.script)) return '';
+  const said = view.why(view.transcript(reading.script).text).text;
+  return partsBy(said.split('\n'), line => !line.startsWith('    ')).filter(([line]) => / task broken: line \d+$/.test(line)).flat().join('\n');
+}
+
+// Lines in groups, each of which begins with a line of a kind.
+function partsBy(lines, begins) {
+  const parts = [];
+  for (const line of lines) {
+    if (begins(line)) parts.push([line]);
+    else parts.at(-1)?.push(line);
+  }
+  return parts;
+}
+
+function showVerdict(reading, text) {
+  const said = reading.status === 0 ? verdictLines(reading, text).trimEnd() : '';
+  const isBad = / is not a run: | task broken: | refused /.test(said);
+  at('verdict').hidden = said === '';
+  at('verdict').className = isBad ? 'broken' : '';
+  at('verdict').innerHTML = `<pre>${escaped(said)}</pre>` + (isBad && reading.kind === 'transcript' ? '<button id="to-break">go to the line</button>' : '');
+}
+
+// The moment at which the first broken room breaks.
+function goToBreak() {
+  const room = runs[0].rooms.findIndex(one => one.broken >= 0);
+  if (room >= 0) open(room, runs[0].rooms[room].broken + 1);
+  const line = Number(/(?:not a run|task broken): line (\d+)/.exec(at('verdict').textContent)[1]);
+  if (room < 0) goToLine(line);
+}
