@@ -8,6 +8,10 @@ import { availableParallelism } from 'os';
 const words = process.argv.slice(2);
 const some = words[0] === '--some' ? Number(words.splice(0, 2)[1]) : Infinity;
 const [module, ...given] = words;
+if (given.length === 0) {
+  console.error('usage: node web/compare.mjs [--some N] MODULE FILE..');
+  process.exit(2);
+}
 // A room at random may have so many outcomes that the list doesn't fit into the module's memory, so fewer nodes are searched there.
 const NODES = some === Infinity ? 20000 : 1000;
 const MODES = [
