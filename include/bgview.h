@@ -26,7 +26,7 @@ extern "C" {
 /* How a call ended. With the first two and BGVIEW_INCOMPLETE there is an answer; else its length is 0. */
 enum bgview_status {
     BGVIEW_OK = 0,         /* all is well */
-    BGVIEW_REFUSED = 1,    /* something was refused, broken, not reached (grade), or not searched to the end (outcomes) */
+    BGVIEW_REFUSED = 1,    /* something was refused, broken, not reached (grade), or not searched to the end (outcomes, task) */
     BGVIEW_BAD_INPUT = 2,  /* a line of the input is malformed: `line` and `fault` say which, and why */
     BGVIEW_NO_MEMORY = 3,  /* an allocation failed */
     BGVIEW_INCOMPLETE = 4, /* an allocation failed for a command of a script, and the answer says for which and has the rest; or for a room that was
@@ -88,11 +88,18 @@ void bgview_page(const uint8_t *file, size_t length, uint8_t *output, size_t siz
    1000000 if no number is given. `brief` leaves out the transcripts. */
 void bgview_outcomes(const uint8_t *rooms, size_t length, uint32_t crashes, uint32_t nodes, bool brief, uint8_t *output, size_t size, struct bgview_result *result);
 
+/* bgview outcomes --task: whether each run keeps the room's task, without a list of outcomes. The search stops at the first run that breaks it, and shows
+   that run. `crashes` is there as for outcomes: who stops makes no difference to a task. */
+void bgview_task(const uint8_t *rooms, size_t length, uint32_t crashes, uint32_t nodes, uint8_t *output, size_t size, struct bgview_result *result);
+
 /* bgview sample: the outcomes of each room by random schedules, and how often each came. All schedules run on the caller's thread. */
 void bgview_sample(const uint8_t *rooms, size_t length, const struct bgview_plan *plan, uint8_t *output, size_t size, struct bgview_result *result);
 
 /* bgview lint: all faults of a file of rooms, a script or a transcript, with the line, the place in it, and hints. */
 void bgview_lint(const uint8_t *file, size_t length, uint8_t *output, size_t size, struct bgview_result *result);
+
+/* What bgview lint warns of on standard error: what is no fault, but can hardly be meant. Nothing, if there is no such thing. */
+void bgview_warnings(const uint8_t *file, size_t length, uint8_t *output, size_t size, struct bgview_result *result);
 
 /* bgview fault: what the number of a fault means, in a line. */
 void bgview_fault(uint32_t number, uint8_t *output, size_t size, struct bgview_result *result);

@@ -33,7 +33,7 @@ function takeLesson(name) {
 
 let addressTimer = null;
 
-// What an address says: a lesson, an exercise, or both a text and its exercise; the tab; the room and the moment; and whether the future is hidden.
+// What an address says: a lesson, an exercise, or both a text and its exercise; the tab; the room and the moment; whether the future is hidden; and the run before a branch.
 async function addressNow() {
   const words = [];
   const lesson = lessonNamed(at('lessons').value);
@@ -43,10 +43,12 @@ async function addressNow() {
   if (tab !== 'steps') words.push('tab=' + tab);
   if (current > 0 || !isAtEnd()) words.push(`at=${current},${count}`);
   if (!isFutureShown) words.push('future=hidden');
-  return words.join('&');
+  const before = paper.before === null ? null : 'before=' + await packed(paper.before);
+  const whole = [...words, before].join('&');
+  return before === null || whole.length > LONGEST_LINK ? words.join('&') : whole;
 }
 
-// Puts into the address what is shown, unless that is too long.
+// Puts into the address what is shown, unless that is too long. The run before a branch is left out if it is too long with it.
 async function writeAddress() {
   const address = await addressNow();
   const isShort = address.length <= LONGEST_LINK;
@@ -59,14 +61,22 @@ function noteAddress() {
   addressTimer = setTimeout(writeAddress, 400);
 }
 
+// The text and the run before, as an address has them.
+async function textsIn(words) {
+  const texts = {};
+  for (const name of ['text', 'before']) if (words.has(name)) texts[name] = await unpacked(words.get(name));
+  if (texts.before !== undefined && view.trace(texts.before).status > 1) throw new Error('the run before is no script');
+  return texts;
+}
+
 async function fromAddress() {
   const words = new URLSearchParams(location.hash.slice(1));
   const name = words.get('lesson') ?? (words.get('exercise') ? `exercise/${words.get('exercise')}` : words.get('text') === null ? 'trace/inside' : '');
   at('lessons').value = name;
   takeLesson(at('lessons').value);
-  if (words.get('text') !== null) {
+  if (words.has('text') || words.has('before')) {
     try {
-      change({ text: await unpacked(words.get('text')) }, Infinity);
+      change(await textsIn(words), Infinity);
     } catch {
       at('note').textContent = 'The link is damaged: it has no whole text.';
     }

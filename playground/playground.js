@@ -32,7 +32,7 @@ function read() {
   const answer = lint.status > 1 ? lint : kind === 'transcript' ? view.why(paper.text) : view.trace(script, { json: true });
   const status = answer.status > 1 ? answer.status : 0;
   reading = { kind, isWell: lint.status === 0, status, script, effects: kind === 'transcript' || status > 0 ? [] : effectsOf(answer.text) };
-  showLint(paper.text, lint);
+  showLint(paper.text, lint, view.warnings(paper.text).text);
   return status === 0;
 }
 

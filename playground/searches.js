@@ -4,6 +4,7 @@ const FIELDS = {
   outcomes: [
     { name: 'crashes', words: 'processes that stop, at most', least: 0, most: 16, usual: '', empty: 'all but one' },
     { name: 'nodes', words: 'nodes, at most', least: 1, most: 100000000, usual: 1000000, growsFrom: 20000 },
+    { name: 'task', words: 'the task alone', isSwitch: true },
   ],
   sample: [
     { name: 'schedules', words: 'schedules', least: 1, most: 1000000, usual: 1000, growsFrom: 1000 },
@@ -144,12 +145,12 @@ function search(mode, rooms) {
     at('fields').reportValidity();
     return;
   }
-  const given = givenFields(mode);
+  const { task, ...given } = givenFields(mode);
   const { name, growsFrom } = FIELDS[mode].find(field => field.growsFrom);
   const limits = growing(growsFrom, given[name]);
   at('shown').innerHTML = '';
   showProgress(0, limits, name);
-  searching = callInWorker(limits.map(limit => ({ mode, text: rooms, given: { ...given, [name]: limit } })), (answer, index) => {
+  searching = callInWorker(limits.map(limit => ({ mode: task ? 'task' : mode, text: rooms, given: { ...given, [name]: limit } })), (answer, index) => {
     const isWhole = mode === 'outcomes' && !/: not searched to the end; /.test(answer.text);
     showCards(answer);
     if (isWhole || index + 1 === limits.length || answer.status > 1) stopSearch();

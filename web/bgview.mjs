@@ -3,10 +3,11 @@
 
 const LARGEST = 0xffffffff;
 const OPTIONS = {
-  check: [], play: [], lint: [], transcript: [], page: [],
+  check: [], play: [], lint: [], warnings: [], transcript: [], page: [],
   trace: [['json', false]], why: [['json', false]],
   draw: [['percent', 100], ['byTurns', false]],
   outcomes: [['crashes', LARGEST], ['nodes', 1000000], ['brief', false]],
+  task: [['crashes', LARGEST], ['nodes', 1000000]],
   grade: [['commands', LARGEST]],
 };
 const PLAN = [['schedules', 1000], ['crashes', 1], ['seed', 1], ['top', LARGEST], ['outcome', LARGEST]]; // the numbers of a struct bgview_plan,

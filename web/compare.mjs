@@ -1,63 +1,94 @@
-// node web/compare.mjs [--some N] MODULE FILE..: whether the module answers each file in each mode, or in N modes by turns, as the programs bgsim and bgview on the path
-// do, byte for byte, with the same status, line and fault. `@FILE` is a list of files.
+// node web/compare.mjs [--some N] [--in BROWSER] MODULE FILE..: whether the module answers each file in each mode, or in N modes by turns, as the programs bgsim and bgview
+// on the path do, with the same bytes (by their SHA-256), status, line and fault: in node, and in a browser if one is named. `@FILE` is a list of files.
 import { load } from './bgview.mjs';
+import { inBrowser } from './browser.mjs';
+import { differing, sumOf } from './judging.mjs';
 import { execFile } from 'child_process';
+import { webcrypto } from 'crypto';
 import { readFileSync } from 'fs';
 import { availableParallelism } from 'os';
 
-const words = process.argv.slice(2);
-const some = words[0] === '--some' ? Number(words.splice(0, 2)[1]) : Infinity;
-const [module, ...given] = words;
-if (given.length === 0) {
-  console.error('usage: node web/compare.mjs [--some N] MODULE FILE..');
+globalThis.crypto ??= webcrypto;
+
+function options(words) {
+  const given = { some: Infinity, browser: null };
+  while (words[0]?.startsWith('--')) {
+    const [name, value] = words.splice(0, 2);
+    if (name === '--some' && Number(value) > 0) given.some = Number(value);
+    else if (name === '--in' && value) given.browser = value;
+    else return null;
+  }
+  const [module, ...files] = words;
+  return files.length > 0 ? { ...given, module, files: files.flatMap(file => (file.startsWith('@') ? readFileSync(file.slice(1), 'utf8').split('\n').filter(Boolean) : [file])) } : null;
+}
+
+const given = options(process.argv.slice(2));
+if (!given) {
+  console.error('usage: node web/compare.mjs [--some N] [--in BROWSER] MODULE FILE..');
   process.exit(2);
 }
 // A room at random may have so many outcomes that the list doesn't fit into the module's memory, so fewer nodes are searched there.
-const NODES = some === Infinity ? 20000 : 1000;
+const NODES = given.some === Infinity ? 20000 : 1000;
+// For each the call, the program's words, the options of the call, and whether its answer is what the program writes to standard error.
 const MODES = [
   ['check', 'bgsim check', {}], ['play', 'bgsim play', {}], ['why', 'bgview why', {}], ['why', 'bgview why --json', { json: true }],
-  ['trace', 'bgview trace', {}], ['trace', 'bgview trace --json', { json: true }], ['lint', 'bgview lint', {}], ['transcript', 'bgview transcript', {}],
+  ['trace', 'bgview trace', {}], ['trace', 'bgview trace --json', { json: true }], ['lint', 'bgview lint', {}], ['warnings', 'bgview lint', {}, true],
+  ['transcript', 'bgview transcript', {}],
   ['draw', 'bgview draw', {}], ['draw', 'bgview draw --turns --scale 50', { percent: 50, byTurns: true }], ['page', 'bgview page', {}],
   ['outcomes', `bgview outcomes --nodes ${NODES}`, { nodes: NODES }],
   ['outcomes', `bgview outcomes --nodes ${NODES} --brief --crashes 0`, { nodes: NODES, brief: true, crashes: 0 }],
+  ['task', `bgview outcomes --nodes ${NODES} --task`, { nodes: NODES }], ['task', `bgview outcomes --nodes ${NODES} --task --crashes 0`, { nodes: NODES, crashes: 0 }],
   ['sample', 'bgview sample --schedules 20', { schedules: 20 }],
   ['sample', 'bgview sample --schedules 20 --crashes 2 --seed 5 --group --brief --top 2', { schedules: 20, crashes: 2, seed: 5, group: true, brief: true, top: 2 }],
   ['sample', 'bgview sample --schedules 20 --json --outcome 2', { schedules: 20, json: true, outcome: 2 }],
   ['grade', 'bgview grade --commands 2 --goal spent', { commands: 2, goal: 'spent' }],
   ['grade', 'bgview grade --goal spent_0', { goal: 'spent 0' }],
 ];
-const STATUS = [0, 1, 2, 3, 3, 2, 2]; // the exit status for each status of a call
 
-const files = given.flatMap(file => (file.startsWith('@') ? readFileSync(file.slice(1), 'utf8').split('\n').filter(Boolean) : [file]));
-const view = await load(readFileSync(module));
-
-// What a program answers to a file.
-function answered(command, file) {
+// What a program answers to a file; or what it warns of, with which all is well.
+function answered(command, file, isWarning) {
   const [program, ...rest] = command.split(' ').map(word => word.replace('_', ' '));
-  return new Promise(resolve => {
-    execFile(program, [...rest, file], { encoding: 'buffer', maxBuffer: 1 << 30 }, (error, stdout, stderr) => resolve({ status: error ? error.code : 0, stdout, stderr: stderr.toString() }));
+  return new Promise((resolve, reject) => {
+    execFile(program, [...rest, file], { encoding: 'buffer', maxBuffer: 1 << 30 }, async (error, stdout, stderr) => {
+      if (error && typeof error.code !== 'number') return reject(error);
+      if (isWarning) return resolve({ status: 0, line: 0, fault: 0, sum: await sumOf(stderr) });
+      const [, line, fault, claim] = /^bg\w+: (?:line (\d+): fault (\d+)\n|claim (\d+) of the goal )/.exec(stderr) ?? [];
+      resolve({ status: error ? error.code : 0, line: Number(line ?? claim ?? 0), fault: Number(fault ?? 0), sum: await sumOf(stdout) });
+    });
   });
 }
 
-async function isSame(file, [mode, command, options]) {
-  const ran = await answered(command, file);
-  const answer = view[mode](readFileSync(file), options);
-  return ran.stdout.equals(answer.bytes) && ran.status === STATUS[answer.status] && (answer.status !== 2 || ran.stderr.includes(`line ${answer.line}: fault ${answer.fault}\n`));
+// Some modes of each file, such that each mode has as many files as any other; and what the programs answer.
+const count = Math.min(given.some, MODES.length);
+const files = given.files.map((file, number) => {
+  const modes = Array.from({ length: count }, (_, place) => MODES[(number * count + place) % MODES.length]);
+  return { number, input: readFileSync(file, 'latin1'), wanted: modes.map(([call, command, options, isWarning]) => ({ call, options, command, isWarning })) };
+});
+const queue = files.flatMap(({ number, wanted }) => wanted.map(one => [given.files[number], one])).values();
+await Promise.all(Array.from({ length: availableParallelism() }, async () => {
+  for (const [file, one] of queue) one.program = await answered(one.command, file, one.isWarning);
+}));
+
+const total = count * files.length;
+const module = readFileSync(given.module);
+
+async function inNode() {
+  return { engine: `node ${process.version}`, found: await differing(await load(module), files) };
 }
 
-// Some modes of each file, such that each mode has as many files as any other.
-const count = Math.min(some, MODES.length);
-const pairs = files.flatMap((file, index) => Array.from({ length: count }, (_, place) => [file, MODES[(index * count + place) % MODES.length]]));
-const queue = pairs.values();
-let same = 0;
+function differences({ engine, found }) {
+  for (const [number, place] of found) console.log(`differs: ${files[number].wanted[place].command} ${given.files[number]}`);
+  console.log(`${total - found.length} of ${total} answers are the same in ${engine}`);
+  return found.length;
+}
 
-async function work() {
-  for (const [file, mode] of queue) {
-    if (await isSame(file, mode)) same++;
-    else console.log(`differs: ${mode[1]} ${file}`);
+let faults = differences(await inNode());
+if (given.browser) {
+  try {
+    faults += differences(await inBrowser(given.browser, module, files));
+  } catch (error) {
+    console.log(`${given.browser}: ${error.message}`);
+    faults++;
   }
 }
-
-await Promise.all(Array.from({ length: availableParallelism() }, work));
-console.log(`${same} of ${pairs.length} answers are the same`);
-process.exit(same === pairs.length ? 0 : 1);
+process.exit(faults === 0 ? 0 : 1);

@@ -1,6 +1,7 @@
 """Each button, field and key of the page once, with what it has to do; and that there is no other button."""
 
 import pathlib
+import random
 import re
 import tempfile
 
@@ -43,6 +44,10 @@ def editing(page):
     page.click("#undo")
     page.click("#redo")
     holds("the text after undo and redo", text_of(page), typed)
+    for name in ("rooms", "script", "transcript"):
+        text = pathlib.Path(f"program/view/warnings/{name}.txt").read_text()
+        page.run(f"change({{ text: {text!r} }})")
+        compare_lint(page, text)
     page.key("e")
     holds("whether the editor has the focus", page.run("document.activeElement.id"), "text")
     page.key("Escape")
@@ -51,7 +56,7 @@ def editing(page):
 def failing(page):
     """What is said if a call has no answer, or a part of one."""
     for status, words in ((3, "There is not enough memory for this."), (5, "The text has more than 16777216 bytes.")):
-        holds(f"what is said of the status {status}", page.run(f"showLint('open', {{ status: {status}, text: '' }}); at('words').textContent"), words)
+        holds(f"what is said of the status {status}", page.run(f"showLint('open', {{ status: {status}, text: '' }}, ''); at('words').textContent"), words)
         holds(f"what a search says of the status {status}", page.run(f"showCards({{ status: {status}, text: '' }}); at('shown').textContent"), words)
     holds("what a search says of the status 4", page.run("showCards({ status: 4, text: 'pair sample 9 crashes 0 seed 1\\n' }); at('shown').textContent"), "There was not enough memory for more than this.pair sample 9 crashes 0 seed 1")
     page.run("showPaper()")
@@ -83,10 +88,30 @@ def moving(page):
     holds("the heading of the run before", page.run("getComputedStyle(document.querySelectorAll('.run h1')[1], '::after').content").strip('"'), " \u2013 the run before")
     page.click("#difference")
     holds("the first difference", page.run("count"), 3)
+    linking(page)
     page.click("#one-run")
     holds("the number of runs", page.run("runs.length"), 1)
     for selector in ("#last", "#turn-back", "#turn-on", "#back", "#play", "#play"):
         page.click(selector)
+
+
+def linking(page):
+    """A link to a branch has the run before, unless it is too long with it; one whose run before is damaged, or no script, is not opened in part."""
+    page.click("#copy-link")
+    page.until("/link is copied/.test(at('note').textContent)")
+    other = page.browser.page(clipboard(page))
+    holds("the runs of a link to a branch", other.run("[paper.text, paper.before]"), page.run("[paper.text, paper.before]"))
+    holds("the headings of a link to a branch", other.run("document.querySelectorAll('.run h1').length"), 2)
+    text, before = other.run("paper.text"), other.run("paper.before")
+    for damaged in ("abc", other.run("await packed('no script')")):
+        other.run(f"location.hash = '#text=' + await packed(paper.text) + '&before={damaged}'")
+        other.until("/damaged/.test(at('note').textContent)")
+        holds("the run before of a damaged link", other.run("paper.before"), None)
+        other.run(f"at('note').textContent = ''; change({{ text: {text!r}, before: {before!r} }})")
+    long = "".join(random.Random(1).choices("abcdefghijklmnopqrstuvwxyz", k=50000))
+    address = other.run(f"paper.before += {long!r}; await addressNow()")
+    holds("the address without a run before that is too long", (len(address) < 1000, "before" in address), (True, False))
+    other.close()
 
 
 def branching(page):
@@ -161,6 +186,11 @@ def searching(page):
     page.until("/ of 100,000,000 nodes; going on to /.test(at('progress').textContent)", 60)
     page.click("#stop")
     holds("what is said of a search that was stopped", page.run("[at('progress').hidden, at('shown').querySelector('.fault').textContent]"), [True, "The search was stopped."])
+    choose(page, "outcomes/consensus")
+    tab(page, "outcomes")
+    page.run("at('fields').task.checked = true")
+    page.click("#fields button")
+    compare_search(page, "outcomes", text, ["--task"])
     choose(page, "sample/one-crash")
     run = next(card["run"] for card in cards(page) if card["run"])
     page.click("#shown [data-run]")

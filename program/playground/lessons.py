@@ -8,7 +8,7 @@ import shlex
 from programs import Differs, answered, blocks_of, holds, moves_of, opening, rooms_of
 
 TOP = pathlib.Path(__file__).resolve().parent.parent.parent
-PLACES = "[...at('marks').querySelectorAll('mark')].map(mark => { const place = mark.querySelector('b'); return place ? (place.previousSibling?.textContent.length ?? 0) : null; })"
+PLACES = "[...at('marks').querySelectorAll('mark')].map(mark => { const place = mark.querySelector('b'); return [mark.className, place ? (place.previousSibling?.textContent.length ?? 0) : null]; })"
 MOMENTS = 4  # are compared of each room, and its end
 SEARCHED = ("outcomes", "sample")  # the lessons whose rooms are searched
 
@@ -31,15 +31,22 @@ def fault_of(said):
     return f"Line {line} has a fault ({fault}), which has to be mended first."
 
 
+def places_in(said, text, kind):
+    """The lines that are named, each with the kind of its mark and the place in it."""
+    lines, places = text.split("\n"), {}
+    for number, line, caret in re.findall(r"^    line (\d+): .*(?:\n    (.*)\n( +\^)$)?", said, re.M):
+        places.setdefault(int(number), [kind, len(caret) - 5 if caret and line == lines[int(number) - 1] else None])
+    return places
+
+
 def compare_lint(page, text):
     said = answered(["bgview", "lint"], text)
-    holds("the words of lint", page.run("at('words').textContent"), said.stdout.rstrip() if text.strip() else "Write a script, rooms or a transcript, or take a lesson.")
-    lines = text.split("\n")
-    places = {}
-    for number, line, caret in re.findall(r"^    line (\d+): .*(?:\n    (.*)\n( +\^)$)?", said.stdout if said.returncode == 1 else "", re.M):
-        places.setdefault(int(number), len(caret) - 5 if caret and line == lines[int(number) - 1] else None)
-    holds("the marked lines", page.run("[...at('numbers').querySelectorAll('b')].map(one => Number(one.textContent))"), sorted(places))
+    words = [said.stdout.rstrip(), said.stderr.rstrip()] if text.strip() else ["Write a script, rooms or a transcript, or take a lesson.", ""]
+    holds("the words of lint", page.run("[...at('words').children].map(one => [one.className, one.textContent])"), [["", words[0]], *([["warning", words[1]]] if words[1] else [])])
+    places = {**places_in(said.stderr, text, "warning"), **places_in(said.stdout if said.returncode == 1 else "", text, "")}
+    holds("the marked lines", page.run("[...at('numbers').querySelectorAll('b')].map(one => [one.className, Number(one.textContent)])"), [[places[line][0], line] for line in sorted(places)])
     holds("the marked places", page.run(PLACES), [places[line] for line in sorted(places)])
+    holds("whether the text counts as well", page.run("at('words').className"), "faulty" if text.strip() and said.returncode else "well")
     return kind_of(said.stdout)
 
 
@@ -118,6 +125,11 @@ def compare_search(page, mode, text, options):
     return found
 
 
+def searched(options):
+    """The options of a lesson that the page has: it shows all runs, and searches with the inputs of the text alone."""
+    return [word for at, word in enumerate(options) if word not in ("--brief", "--inputs") and options[at - 1 : at] != ["--inputs"]]
+
+
 def lesson(page, folder, dice):
     mode, name = folder.parts[-2:]
     text = (folder / "input.txt").read_text()
@@ -135,8 +147,8 @@ def lesson(page, folder, dice):
         compare_answer(page, "replies", ["bgsim", "play"], script)
         compare_answer(page, "trace", ["bgview", "transcript"], script)
         compare_picture(page, script)
-    if mode in SEARCHED and "--task" not in options:  # the list of that lesson is longer than the page shows
-        compare_search(page, mode, text, [word for word in options if word != "--brief"])
+    if mode in SEARCHED:
+        compare_search(page, mode, text, searched(options))
     page.holds_no_fault()
 
 

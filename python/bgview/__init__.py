@@ -8,11 +8,11 @@
 
 A text of an input is `str` or `bytes`. Each function may be called by any number of threads at the same time."""
 
-from .answers import Answer, Objects, Page, Picture, check, draw, fault, grade, lint, outcomes, page, play, sample, sample_json, trace, trace_json, transcript, why, why_json
+from .answers import Answer, Objects, Page, Picture, check, draw, fault, grade, lint, outcomes, page, play, sample, sample_json, task, trace, trace_json, transcript, warnings, why, why_json
 from .errors import BgviewError, GoalError, InputError, OutOfMemory, Refused, TooLong
 from .room import Report, Room
 
 __all__ = [
     "Answer", "BgviewError", "GoalError", "InputError", "Objects", "OutOfMemory", "Page", "Picture", "Refused", "Report", "Room", "TooLong",
-    "check", "draw", "fault", "grade", "lint", "outcomes", "page", "play", "sample", "sample_json", "trace", "trace_json", "transcript", "why", "why_json",
+    "check", "draw", "fault", "grade", "lint", "outcomes", "page", "play", "sample", "sample_json", "task", "trace", "trace_json", "transcript", "warnings", "why", "why_json",
 ]

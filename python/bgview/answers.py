@@ -136,6 +136,12 @@ def outcomes(rooms: Text, crashes: Optional[int] = None, nodes: int = 1000000, b
     return Answer(*_answer("outcomes", rooms, _unless_none("crashes", crashes, 16), number("nodes", nodes, 100000000, 1), flag(brief)))
 
 
+def task(rooms: Text, crashes: Optional[int] = None, nodes: int = 1000000) -> Answer:
+    """Whether each run of each room keeps its task; no outcomes are listed. The search stops at the first run that breaks the task, and shows it. If a room has more than
+    `nodes` nodes, the answer says so, and not all is well. How many processes stop (`crashes`) makes no difference. As `bgview outcomes --task`."""
+    return Answer(*_answer("task", rooms, _unless_none("crashes", crashes, 16), number("nodes", nodes, 100000000, 1)))
+
+
 def _plan(json: bool, schedules: int, crashes: int, seed: int, group: bool, brief: bool, top: Optional[int], outcome: Optional[int]) -> Any:
     """How rooms are sampled, as a call takes it."""
     numbers = number("schedules", schedules, 1000000, 1), number("crashes", crashes, 8), number("seed", seed)
@@ -161,6 +167,11 @@ def sample_json(
 def lint(file: Text) -> Answer:
     """All faults of a file of rooms, a script or a transcript, explained. As `bgview lint`."""
     return Answer(*_library.call("lint", *slice_of(file)))
+
+
+def warnings(file: Text) -> Answer:
+    """What `lint` warns of in a file: what is no fault, but can hardly be meant. Nothing, if there is no such thing. As `bgview lint` on standard error."""
+    return Answer(*_library.call("warnings", *slice_of(file)))
 
 
 def grade(script: Text, goal: Text, commands: Optional[int] = None) -> Answer:

@@ -6,7 +6,7 @@ import re
 from dataclasses import dataclass
 from typing import List, Optional
 
-from .answers import Answer, Json, Page, Picture, Text, draw, lint, outcomes, page, place_in, trace, trace_json
+from .answers import Answer, Json, Page, Picture, Text, draw, lint, outcomes, page, place_in, task, trace, trace_json
 from .errors import InputError, Refused
 
 _MOST_STEPS = 65535
@@ -128,6 +128,10 @@ class Room:
     def outcomes(self, crashes: Optional[int] = None, nodes: int = 1000000, brief: bool = False) -> Answer:
         """All outcomes of the room's protocol."""
         return outcomes(self._block, crashes, nodes, brief)
+
+    def task(self, crashes: Optional[int] = None, nodes: int = 1000000) -> Answer:
+        """Whether each run of the room's protocol keeps its task."""
+        return task(self._block, crashes, nodes)
 
     def __str__(self) -> str:
         """What the last command did, step by step."""

@@ -1,2 +1,4 @@
 mod Finding
+mod Live
 mod Reading
+mod Saying

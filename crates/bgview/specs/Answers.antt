@@ -1,30 +1,44 @@
 -- What is answered for an input, by what is requested.
-use Rattle.std.specs.Prelude.{◌≡◌, ⊤, ℕ, ◌<◌, ◌≤◌, List, [], ◌∷◌, ◌++◌, length, Option, Some, None, Result, Ok, Err, alloc_error}
+use Rattle.std.specs.Prelude.{◌≡◌, ◌≢◌, ⊤, ℕ, ◌<◌, ◌≤◌, Bool, List, [], ◌∷◌, ◌++◌, length, Option, Some, None, Result, Ok, Err, OnOk, alloc_error, if◌then◌else◌, option_map}
 use Rattle.std.specs.declared.alloc.AllocError.{AllocError}
 use Rattle.io_text.specs.Reading.{most_bytes}
+use Rattle.io_text.specs.declared.fault.DeviceFault.{DeviceFault}
 use Rattle.io_text.specs.declared.fault.DeviceFault.TheVariants.{Read, Write, TooLong, Memory}
 use Rattle.room_files.specs.Faults.{FaultAt}
 use Rattle.room_files.specs.Inputs.{input_says}
 use Rattle.room_files.specs.declared.outcome.Outcome.{Outcome}
 use Rattle.script_play.specs.Script.{script_says}
+use Rattle.live_script.specs.Sessions.{IsServed}
 use Rattle.view_grade.specs.Goals.{goal_in}
 use Rattle.view_grade.specs.Grades.{IsGraded}
 use Rattle.view_grade.specs.declared.goal.Claim.{Claim}
 use Rattle.view_grade.specs.declared.goal.GoalFault.{GoalFault}
 use Rattle.file_faults.specs.Lint.{IsLintFor}
 use Rattle.view_outcomes.specs.Blocks.{IsOutcomesFor}
+use Rattle.decision_tasks.specs.Tasks.{task_in}
+use Rattle.decision_tasks.specs.declared.task.LineFault.{LineFault}
+use Rattle.view_outcomes.specs.Values.{values_in}
+use Rattle.view_outcomes.specs.declared.search.Asked.{Asked}
+use Rattle.view_outcomes.specs.declared.search.Asked.TheVariants.{Task}
+use Rattle.view_outcomes.specs.declared.search.Asked.TheVariants as asking
+use Rattle.view_outcomes.specs.declared.search.Search.{Search}
+use Rattle.view_outcomes.specs.declared.values.ValuesFault.{ValuesFault}
 use Rattle.view_draw.specs.Drawn.{IsDrawn}
 use Rattle.view_transcript.specs.Transcripts.{IsTranscribed}
 use Rattle.view_page.specs.Pages.{IsPageFor, fault_among, fault_in}
 use Rattle.view_sample.specs.Sample.{IsSampleFor}
 use Rattle.view_trace.specs.Trace.{IsTraceIn}
 use Rattle.view_why.specs.Why.{IsExplanationIn}
+use Rattle.bgview.specs.Ends.{written}
 use Rattle.bgview.specs.declared.request.Grading.{Grading}
 use Rattle.bgview_command_line.specs.declared.words.Mode.{Mode}
-use Rattle.bgview_command_line.specs.declared.words.Mode.TheVariants.{Why, Trace, Draw, Page, Transcript, Fault, Grade, Sample, Outcomes, Lint}
+use Rattle.bgview_command_line.specs.declared.words.Mode.TheVariants.{Why, Trace, Draw, Page, Transcript, Fault, Grade, Sample, Outcomes, Lint, Live}
 use Rattle.bgview.specs.declared.request.Request.{Request}
+use Rattle.bgview.specs.declared.request.Searching.{Searching}
+use Rattle.bgview.specs.declared.fault.OptionFault.{OptionFault}
+use Rattle.bgview.specs.declared.fault.OptionFault.TheVariants.{Both, Goal, Inputs, Keeps}
 use Rattle.bgview.specs.declared.fault.ViewFault.{ViewFault}
-use Rattle.bgview.specs.declared.fault.ViewFault.TheVariants.{BadGoal, BadInput, Device, Incomplete}
+use Rattle.bgview.specs.declared.fault.ViewFault.TheVariants.{BadInput, BadOption, Device, Incomplete}
 
 -- ---- what is shown of a valid input, and how that ends
 
@@ -40,7 +54,52 @@ goal_text grading = grading.goal.now
 unfoldable pub IsGradeFor : Grading → List ℕ → Result Outcome AllocError → List ℕ → Type 0
 IsGradeFor grading input ending output = (claims : List Claim) × (goal_in (goal_text grading) ≡ Ok claims) × IsGraded claims grading.most input ending output
 
--- as text, or as JSON if that is asked for; `fault` reads no input
+-- the values of which inputs are made, as text
+abbrev pub values_text : Searching → Option (List ℕ)
+values_text searching = option_map (λ text. text.now) searching.values
+
+-- the task of one's own, as text
+abbrev pub keeps_text : Searching → Option (List ℕ)
+keeps_text searching = option_map (λ text. text.now) searching.keeps
+
+-- what is asked of each room is with which inputs of these values it keeps its task
+abbrev pub AreInputsAsked : List ℕ → Asked → Type 0
+AreInputsAsked text (asking.Inputs values) = values_in text ≡ Ok values.now
+AreInputsAsked text (asking.Keeps task) = ⊥
+AreInputsAsked text Task = ⊥
+AreInputsAsked text asking.Outcomes = ⊥
+
+-- what is asked of each room is whether it keeps this task
+abbrev pub IsTaskAsked : List ℕ → Asked → Type 0
+IsTaskAsked text (asking.Keeps task) = task_in text ≡ Ok task.now
+IsTaskAsked text (asking.Inputs values) = ⊥
+IsTaskAsked text Task = ⊥
+IsTaskAsked text asking.Outcomes = ⊥
+
+-- what is asked of each room: with which inputs it keeps its task, if values are given for them; whether it keeps a task of one's own, if that is given; else whether it keeps its
+-- own, or all its outcomes
+abbrev pub IsAskedBy : Bool → Option (List ℕ) → Option (List ℕ) → Asked → Type 0
+IsAskedBy task None None asked = asked ≡ (if task then Task else asking.Outcomes)
+IsAskedBy task (Some values) None asked = AreInputsAsked values asked
+IsAskedBy task None (Some keeps) asked = IsTaskAsked keeps asked
+IsAskedBy task (Some values) (Some keeps) asked = ⊥
+
+-- rooms are searched as is requested, whatever is asked of each
+pub record IsSearchFor (searching : Searching) (search : Search) : Type 0 where
+  pub crashes : search.crashes ≡ searching.crashes
+  pub nodes : search.nodes ≡ searching.nodes
+  pub brief : search.brief ≡ searching.brief
+
+-- the search that is requested
+pub record IsSearchBy (searching : Searching) (search : Search) : Type 0 where
+  pub search_is : IsSearchFor searching search
+  pub asked : IsAskedBy searching.task (values_text searching) (keeps_text searching) search.asked
+
+-- rooms are searched as is requested
+abbrev pub IsSearchShown : Searching → List ℕ → Result Outcome AllocError → List ℕ → Type 0
+IsSearchShown searching input ending output = (search : Search) × IsSearchBy searching search × IsWhole (IsOutcomesFor search input) ending output
+
+-- as text, or as JSON if that is asked for; `fault` reads no input, and `live` doesn't wait for all of it
 abbrev pub IsShownIn : Mode → Request → List ℕ → Result Outcome AllocError → List ℕ → Type 0
 IsShownIn Why request input ending output = IsWhole (IsExplanationIn request.json input) ending output
 IsShownIn Fault request input ending output = IsWhole (IsExplanationIn request.json input) ending output
@@ -50,8 +109,9 @@ IsShownIn Page request input ending output = IsPageFor (input ∷ []) ending out
 IsShownIn Transcript request input ending output = IsTranscribed input ending output
 IsShownIn Grade request input ending output = IsGradeFor request.grading input ending output
 IsShownIn Sample request input ending output = IsSampleFor request.plan input ending output
-IsShownIn Outcomes request input ending output = IsWhole (IsOutcomesFor request.search input) ending output
+IsShownIn Outcomes request input ending output = IsSearchShown request.search input ending output
 IsShownIn Lint request input ending output = IsWhole (IsLintFor input) ending output
+IsShownIn Live request input ending output = ⊥
 
 abbrev pub IsShown : Request → List ℕ → Result Outcome AllocError → List ℕ → Type 0
 IsShown request input ending output = IsShownIn request.mode request input ending output
@@ -70,55 +130,92 @@ first_fault Grade input = fault_in (script_says input)
 first_fault Sample input = None
 first_fault Outcomes input = None
 first_fault Lint input = None
+first_fault Live input = None
 
-abbrev pub goal_fault_in : {A : Type 0} → Result A GoalFault → Option GoalFault
+abbrev pub goal_fault_in : {A : Type 0} → Result A GoalFault → Option OptionFault
 goal_fault_in (Ok goal) = None
-goal_fault_in (Err fault) = Some fault
+goal_fault_in (Err fault) = Some (Goal fault)
 
--- the fault of the goal that a script is graded by
-abbrev pub goal_fault : Mode → Request → Option GoalFault
-goal_fault Grade request = goal_fault_in (goal_in (goal_text request.grading))
-goal_fault Why request = None
-goal_fault Fault request = None
-goal_fault Trace request = None
-goal_fault Draw request = None
-goal_fault Page request = None
-goal_fault Transcript request = None
-goal_fault Sample request = None
-goal_fault Outcomes request = None
-goal_fault Lint request = None
+abbrev pub values_fault_in : {A : Type 0} → Result A ValuesFault → Option OptionFault
+values_fault_in (Ok values) = None
+values_fault_in (Err fault) = Some (Inputs fault)
+
+abbrev pub keeps_fault_in : {A : Type 0} → Result A LineFault → Option OptionFault
+keeps_fault_in (Ok task) = None
+keeps_fault_in (Err fault) = Some (Keeps fault)
+
+-- the fault of the values of which inputs are made, or of a task of one's own, if they are given; and they are not given together
+abbrev pub search_fault : Option (List ℕ) → Option (List ℕ) → Option OptionFault
+search_fault None None = None
+search_fault (Some values) None = values_fault_in (values_in values)
+search_fault None (Some keeps) = keeps_fault_in (task_in keeps)
+search_fault (Some values) (Some keeps) = Some Both
+
+-- the fault of the goal that a script is graded by, or of the values of which inputs are made
+abbrev pub option_fault : Mode → Request → Option OptionFault
+option_fault Grade request = goal_fault_in (goal_in (goal_text request.grading))
+option_fault Why request = None
+option_fault Fault request = None
+option_fault Trace request = None
+option_fault Draw request = None
+option_fault Page request = None
+option_fault Transcript request = None
+option_fault Sample request = None
+option_fault Outcomes request = search_fault (values_text request.search) (keeps_text request.search)
+option_fault Lint request = None
+option_fault Live request = None
 
 -- ---- the answer
 
--- What is shown of inputs that have this fault if they have one, with a goal that has that fault if it has one: The answer is an outcome, with
+-- What is shown of inputs that have this fault if they have one, with an option that has that fault if it has one: The answer is an outcome, with
 -- what is shown; or a fault, with nothing. But if an allocation failed for a part of a script or for a room's sample, the rest is shown; and if writing
 -- failed, a beginning is written.
-abbrev pub IsAnswerOf : Type 0 → Type 0 → (Result Outcome AllocError → List ℕ → Type 0) → Option FaultAt → Option GoalFault → Result Outcome ViewFault → List ℕ → Type 0
-IsAnswerOf fit long shown fault bad_goal (Ok outcome) output = fit × shown (Ok outcome) output
-IsAnswerOf fit long shown fault bad_goal (Err Incomplete) output = fit × shown (Err alloc_error) output
-IsAnswerOf fit long shown fault bad_goal (Err (BadInput line text)) output = fit × (fault ≡ Some (line, text)) × (output ≡ [])
-IsAnswerOf fit long shown fault bad_goal (Err (BadGoal goal)) output = (bad_goal ≡ Some goal) × (output ≡ [])
-IsAnswerOf fit long shown fault bad_goal (Err (Device TooLong)) output = long × (output ≡ [])
-IsAnswerOf fit long shown fault bad_goal (Err (Device Memory)) output = output ≡ []
-IsAnswerOf fit long shown fault bad_goal (Err (Device Read)) output = output ≡ []
-IsAnswerOf fit long shown fault bad_goal (Err (Device Write)) output = fit × (ending : Result Outcome AllocError) × (rest : List ℕ) × shown ending (output ++ rest)
+abbrev pub IsAnswerOf : Type 0 → Type 0 → (Result Outcome AllocError → List ℕ → Type 0) → Option FaultAt → Option OptionFault → Result Outcome ViewFault → List ℕ → Type 0
+IsAnswerOf fit long shown fault bad_option (Ok outcome) output = fit × shown (Ok outcome) output
+IsAnswerOf fit long shown fault bad_option (Err Incomplete) output = fit × shown (Err alloc_error) output
+IsAnswerOf fit long shown fault bad_option (Err (BadInput line text)) output = fit × (fault ≡ Some (line, text)) × (output ≡ [])
+IsAnswerOf fit long shown fault bad_option (Err (BadOption option)) output = (bad_option ≡ Some option) × (output ≡ [])
+IsAnswerOf fit long shown fault bad_option (Err (Device TooLong)) output = long × (output ≡ [])
+IsAnswerOf fit long shown fault bad_option (Err (Device Memory)) output = output ≡ []
+IsAnswerOf fit long shown fault bad_option (Err (Device Read)) output = output ≡ []
+IsAnswerOf fit long shown fault bad_option (Err (Device Write)) output = fit × (ending : Result Outcome AllocError) × (rest : List ℕ) × shown ending (output ++ rest)
 
--- the answer to an input
-abbrev pub IsAnswer : Request → List ℕ → Result Outcome ViewFault → List ℕ → Type 0
-IsAnswer request input result output =
-    IsAnswerOf (length input ≤ most_bytes) (most_bytes < length input) (IsShown request input) (first_fault request.mode input) (goal_fault request.mode request) result output
+-- the answer to an input that was read whole before
+abbrev pub IsWholeAnswer : Request → List ℕ → Result Outcome ViewFault → List ℕ → Type 0
+IsWholeAnswer request input result output =
+    IsAnswerOf (length input ≤ most_bytes) (most_bytes < length input) (IsShown request input) (first_fault request.mode input) (option_fault request.mode request) result output
+
+-- how a script ends that was played as it was written
+abbrev pub live_result : Result (Result Outcome AllocError) DeviceFault → Result Outcome ViewFault
+live_result (Ok ending) = written ending
+live_result (Err fault) = Err (Device fault)
+
+-- The answer to a script that is played as it is written: to what was read of it, and that is all unless a fault ended it.
+pub record IsLiveAnswer (input : List ℕ) (result : Result Outcome ViewFault) (output : List ℕ) : Type 0 where
+  pub bytes : List ℕ
+  pub unread : List ℕ
+  pub parts : input ≡ bytes ++ unread
+  pub served : Result (Result Outcome AllocError) DeviceFault
+  pub is : IsServed bytes served output
+  pub result_is : result ≡ live_result served
+  pub all : OnOk served (unread ≡ [])
+
+-- The answer to an input, by whether the mode reads it whole before it answers.
+pub record IsAnswer (request : Request) (input : List ℕ) (result : Result Outcome ViewFault) (output : List ℕ) : Type 0 where
+  pub whole : request.mode ≢ Live → IsWholeAnswer request input result output
+  pub live : request.mode ≡ Live → IsLiveAnswer input result output
 
 -- ---- inside the crate
 
 -- with these nothing is shown
-abbrev pub Ends : Option FaultAt → Option GoalFault → ViewFault → Type 0
-Ends fault bad_goal (BadInput line text) = fault ≡ Some (line, text)
-Ends fault bad_goal (BadGoal goal) = bad_goal ≡ Some goal
-Ends fault bad_goal (Device Memory) = ⊤
-Ends fault bad_goal (Device Read) = ⊥
-Ends fault bad_goal (Device Write) = ⊥
-Ends fault bad_goal (Device TooLong) = ⊥
-Ends fault bad_goal Incomplete = ⊥
+abbrev pub Ends : Option FaultAt → Option OptionFault → ViewFault → Type 0
+Ends fault bad_option (BadInput line text) = fault ≡ Some (line, text)
+Ends fault bad_option (BadOption option) = bad_option ≡ Some option
+Ends fault bad_option (Device Memory) = ⊤
+Ends fault bad_option (Device Read) = ⊥
+Ends fault bad_option (Device Write) = ⊥
+Ends fault bad_option (Device TooLong) = ⊥
+Ends fault bad_option Incomplete = ⊥
 
 abbrev pub EndsRequest : Request → List ℕ → ViewFault → Type 0
-EndsRequest request input fault = Ends (first_fault request.mode input) (goal_fault request.mode request) fault
+EndsRequest request input fault = Ends (first_fault request.mode input) (option_fault request.mode request) fault

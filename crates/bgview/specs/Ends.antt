@@ -7,7 +7,7 @@ use Rattle.room_files.specs.declared.fault.InputFault.TheVariants as inputs
 use Rattle.room_files.specs.Verdicts.{outcome_status}
 use Rattle.room_files.specs.declared.outcome.Outcome.{Outcome}
 use Rattle.bgview.specs.declared.fault.ViewFault.{ViewFault}
-use Rattle.bgview.specs.declared.fault.ViewFault.TheVariants.{BadGoal, BadInput, Device, Incomplete}
+use Rattle.bgview.specs.declared.fault.ViewFault.TheVariants.{BadInput, BadOption, Device, Incomplete}
 
 abbrev pub fault_status : ViewFault → ℕ
 fault_status (Device Memory) = 3
@@ -15,7 +15,7 @@ fault_status (Device Read) = 2
 fault_status (Device Write) = 2
 fault_status (Device TooLong) = 2
 fault_status Incomplete = 3
-fault_status (BadGoal fault) = 2
+fault_status (BadOption fault) = 2
 fault_status (BadInput line fault) = 2
 
 abbrev pub ending_status : Result Outcome ViewFault → ℕ
@@ -40,7 +40,7 @@ is_read_failed (Err (Device Write)) = false
 is_read_failed (Err (Device TooLong)) = false
 is_read_failed (Err (Device Memory)) = false
 is_read_failed (Err Incomplete) = false
-is_read_failed (Err (BadGoal fault)) = false
+is_read_failed (Err (BadOption fault)) = false
 is_read_failed (Err (BadInput line fault)) = false
 
 -- writing ended the answer
@@ -51,5 +51,5 @@ is_write_failed (Err (Device Write)) = true
 is_write_failed (Err (Device TooLong)) = false
 is_write_failed (Err (Device Memory)) = false
 is_write_failed (Err Incomplete) = false
-is_write_failed (Err (BadGoal fault)) = false
+is_write_failed (Err (BadOption fault)) = false
 is_write_failed (Err (BadInput line fault)) = false

@@ -8,16 +8,16 @@ use Rattle.view_grade.specs.Goals.{goal_forms}
 use Rattle.view_page.specs.Faults.{AreBothFaults, AreFileFaults, NamedFile}
 use Rattle.view_page.specs.Pages.{kind_of}
 use Rattle.bgview_command_line.specs.declared.words.Mode.{Mode}
-use Rattle.bgview_command_line.specs.declared.words.Mode.TheVariants.{Why, Trace, Draw, Page, Transcript, Fault, Grade, Sample, Outcomes, Lint}
+use Rattle.bgview_command_line.specs.declared.words.Mode.TheVariants.{Why, Trace, Draw, Page, Transcript, Fault, Grade, Sample, Outcomes, Lint, Live}
 use Rattle.bgview.specs.declared.fault.ViewFault.{ViewFault}
-use Rattle.bgview.specs.declared.fault.ViewFault.TheVariants.{BadGoal, BadInput, Device, Incomplete}
+use Rattle.bgview.specs.declared.fault.ViewFault.TheVariants.{BadInput, BadOption, Device, Incomplete}
 
 -- of a transcript with a malformed line, and of no other: the answer to those has it
 abbrev pub AreNotes : {A : Type 0} → List ℕ → Result A ViewFault → List ℕ → List ℕ → Type 0
 AreNotes input (Ok value) old new = new ≡ old
 AreNotes input (Err (Device fault)) old new = new ≡ old
 AreNotes input (Err Incomplete) old new = new ≡ old
-AreNotes input (Err (BadGoal fault)) old new = new ≡ old
+AreNotes input (Err (BadOption fault)) old new = new ≡ old
 AreNotes input (Err (BadInput line fault)) old new = AreTranscriptFaults input new
 
 -- this is said wherever the input was read, unless an allocation failed
@@ -25,7 +25,7 @@ abbrev pub AreSaid : {A : Type 0} → (List ℕ → Type 0) → Result A ViewFau
 AreSaid said (Ok value) notes = said notes
 AreSaid said (Err (BadInput line fault)) notes = said notes
 AreSaid said (Err Incomplete) notes = said notes
-AreSaid said (Err (BadGoal fault)) notes = ⊤
+AreSaid said (Err (BadOption fault)) notes = ⊤
 AreSaid said (Err (Device Write)) notes = said notes
 AreSaid said (Err (Device Read)) notes = ⊤
 AreSaid said (Err (Device TooLong)) notes = ⊤
@@ -63,7 +63,7 @@ AreBothNotes file next result notes = AreSaid (AreBothFaults file next) result n
 
 -- of a goal that is not valid
 abbrev pub AreGoalNotes : {A : Type 0} → Result A ViewFault → List ℕ → Type 0
-AreGoalNotes (Err (BadGoal fault)) notes = notes ≡ goal_forms
+AreGoalNotes (Err (BadOption fault)) notes = notes ≡ goal_forms
 AreGoalNotes (Ok value) notes = ⊤
 AreGoalNotes (Err (Device fault)) notes = ⊤
 AreGoalNotes (Err Incomplete) notes = ⊤
@@ -71,13 +71,14 @@ AreGoalNotes (Err (BadInput line fault)) notes = ⊤
 
 -- of a script's faults, or of a goal that is not valid
 abbrev pub AreGradeNotes : {A : Type 0} → List ℕ → Result A ViewFault → List ℕ → Type 0
-AreGradeNotes input (Err (BadGoal fault)) notes = notes ≡ goal_forms
+AreGradeNotes input (Err (BadOption fault)) notes = notes ≡ goal_forms
 AreGradeNotes input (Ok value) notes = notes ≡ script_faults input
 AreGradeNotes input (Err (Device fault)) notes = AreSaid {A = ⊤} (λ (said : List ℕ). said ≡ script_faults input) (Err (Device fault)) notes
 AreGradeNotes input (Err Incomplete) notes = notes ≡ script_faults input
 AreGradeNotes input (Err (BadInput line fault)) notes = notes ≡ script_faults input
 
--- what each mode says on standard error: of an input's faults, and `lint`, which says these as its answer, what it warns of
+-- what each mode says on standard error: of an input's faults; `lint`, which says these as its answer, what it warns of; and `live`, which says
+-- them in place, nothing
 abbrev pub AreNotesIn : {A : Type 0} → Mode → Bool → List ℕ → Result A ViewFault → List ℕ → List ℕ → Type 0
 AreNotesIn Why json input result old new = AreWhyNotes json input result old new
 AreNotesIn Fault json input result old new = AreWhyNotes json input result old new
@@ -89,3 +90,4 @@ AreNotesIn Grade json input result old new = AreGradeNotes input result new
 AreNotesIn Sample json input result old new = AreRoomNotes input result new
 AreNotesIn Outcomes json input result old new = AreRoomNotes input result new
 AreNotesIn Lint json input result old new = AreWarnings input result new
+AreNotesIn Live json input result old new = new ≡ old

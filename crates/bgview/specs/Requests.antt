@@ -1,12 +1,12 @@
 -- What the words of the command line request of an input.
-use Rattle.std.specs.Prelude.{◌≡◌, ℕ, List, [], Option, codes, unwrap_or}
+use Rattle.std.specs.Prelude.{◌≡◌, ℕ, List, [], Option, codes, option_map, unwrap_or}
 use Rattle.clap.specs.Words.{Row}
 use Rattle.room_sample.specs.declared.sampling.Plan.{Plan}
-use Rattle.view_outcomes.specs.declared.rooms.Search.{Search}
 use Rattle.run_picture.specs.declared.picture.Style.{Style}
 use Rattle.bgview_command_line.specs.CommandLine.{IsNumber, IsNumberIfAny, is_given, json_among, mode_among, value_among}
 use Rattle.bgview.specs.declared.request.Grading.{Grading}
 use Rattle.bgview.specs.declared.request.Request.{Request}
+use Rattle.bgview.specs.declared.request.Searching.{Searching}
 
 -- the plan that the values of `sample` say
 pub record IsPlanAmong (found : Option (List ℕ × List Row)) (plan : Plan) : Type 0 where
@@ -21,11 +21,13 @@ pub record IsPlanAmong (found : Option (List ℕ × List Row)) (plan : Plan) : T
   pub outcome : IsNumberIfAny (value_among (codes "outcome") found) plan.outcome
 
 -- the search that the values of `outcomes` say
-pub record IsSearchAmong (found : Option (List ℕ × List Row)) (search : Search) : Type 0 where
+pub record IsSearchAmong (found : Option (List ℕ × List Row)) (search : Searching) : Type 0 where
   pub crashes : IsNumberIfAny (value_among (codes "crashes") found) search.crashes
   pub nodes : IsNumber (value_among (codes "nodes") found) 1000000 search.nodes
   pub brief : search.brief ≡ is_given (value_among (codes "brief") found)
   pub task : search.task ≡ is_given (value_among (codes "task") found)
+  pub values : option_map (λ text. text.now) search.values ≡ value_among (codes "inputs") found
+  pub keeps : option_map (λ text. text.now) search.keeps ≡ value_among (codes "keeps") found
 
 -- what the values of `grade` say that a script is graded by
 pub record IsGradingAmong (found : Option (List ℕ × List Row)) (grading : Grading) : Type 0 where

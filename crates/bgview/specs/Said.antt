@@ -1,18 +1,33 @@
 -- What the program says on standard error at its end.
-use Rattle.std.specs.Prelude.{ℕ, List, [], ◌++◌, Option, Some, None, Result, Ok, Err, codes}
+use Rattle.std.specs.Prelude.{ℕ, List, [], ◌++◌, Option, Some, None, Result, Ok, Err, codes, decimal}
+use Rattle.protocol_lang.specs.Faults.{sentence_of}
+use Rattle.decision_tasks.specs.declared.task.LineFault.{LineFault}
 use Rattle.program_io.specs.Errors.{Errors, IsSaid, fault_line, place_words}
 use Rattle.io_text.specs.declared.fault.DeviceFault.TheVariants.{Read, Write, TooLong, Memory}
 use Rattle.room_files.specs.Faults.{text_code}
 use Rattle.room_files.specs.declared.outcome.Outcome.{Outcome}
 use Rattle.room_files.specs.declared.outcome.Outcome.TheVariants.{AllWell, SomeRefused}
 use Rattle.view_grade.specs.Grades.{fault_text}
+use Rattle.view_outcomes.specs.Values.{values_fault_text}
 use Rattle.bgview_command_line.specs.declared.words.Mode.{Mode}
 use Rattle.bgview_command_line.specs.declared.words.Mode.TheVariants.{Draw, Transcript}
 use Rattle.bgview.specs.Unread.{unread_note}
 use Rattle.bgview.specs.declared.ended.Ended.{Ended}
+use Rattle.bgview.specs.declared.fault.OptionFault.TheVariants.{Both, Goal, Inputs, Keeps}
 use Rattle.bgview.specs.declared.fault.ViewFault.{ViewFault}
-use Rattle.bgview.specs.declared.fault.ViewFault.TheVariants.{BadGoal, BadInput, Device, Incomplete}
+use Rattle.bgview.specs.declared.fault.ViewFault.TheVariants.{BadInput, BadOption, Device, Incomplete}
 use Rattle.bgview.specs.declared.unread.Unread.{Unread}
+
+-- where in a line of a task of one's own its fault is, and the fault
+abbrev pub line_reason_text : LineFault → List ℕ
+line_reason_text fault = (decimal fault.at ++ codes ": ") ++ sentence_of fault.fault
+
+abbrev pub line_place_text : LineFault → List ℕ
+line_place_text fault = (decimal fault.line ++ codes " of --keeps, byte ") ++ line_reason_text fault
+
+-- which line of a task of one's own is no condition, where, and why
+abbrev pub line_fault_text : LineFault → List ℕ
+line_fault_text fault = codes "line " ++ line_place_text fault
 
 abbrev pub fault_words : ViewFault → List ℕ
 fault_words (Device Read) = codes "read failed"
@@ -21,7 +36,10 @@ fault_words (Device TooLong) = codes "input too long"
 fault_words (Device Memory) = codes "out of memory"
 fault_words Incomplete = codes "out of memory"
 fault_words (BadInput line fault) = place_words line (text_code fault)
-fault_words (BadGoal fault) = fault_text fault
+fault_words (BadOption (Goal fault)) = fault_text fault
+fault_words (BadOption (Inputs fault)) = values_fault_text fault
+fault_words (BadOption (Keeps fault)) = line_fault_text fault
+fault_words (BadOption Both) = codes "--inputs and --keeps can't be given together"
 
 -- the file that was not read, and why
 abbrev pub unread_text : Option Unread → List ℕ

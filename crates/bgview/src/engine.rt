@@ -1,19 +1,21 @@
 //! Reads inputs, and writes the answers to them.
-ghost use Rattle.std.specs.Prelude.{◌≡◌, ◌+◌, ◌≤◌, ◌||◌, ◌∷◌, [], List, ℕ, false, length, map, IfSome};
+ghost use Rattle.std.specs.Prelude.{◌≡◌, ◌≢◌, ◌+◌, ◌≤◌, ◌||◌, ◌∷◌, [], List, ℕ, false, length, map, IfSome};
 ghost use Rattle.std.specs.Io.KnownBytes.{Appends};
 ghost use Rattle.io_text.specs.Devices.{HasRead, HasWritten, failed_writes};
 ghost use Rattle.io_text.specs.Reading.{most_bytes};
-ghost use Rattle.bgview.specs.Answers.{IsAnswer};
+ghost use Rattle.bgview.specs.Answers.{IsLiveAnswer, IsWholeAnswer};
 ghost use Rattle.bgview.specs.Ends.{is_read_failed, is_write_failed};
 ghost use Rattle.bgview.specs.Faults.{AreFaultsSaid};
 ghost use Rattle.bgview.specs.Notes.{AreBothNotes, AreNotesIn};
 ghost use Rattle.bgview.specs.Pages.{IsPageAnswer};
+ghost use Rattle.bgview_command_line.specs.declared.words.Mode.TheVariants.{Live};
 
 use crate::fault::{ViewFault, written};
 use crate::request::Request;
 use crate::showing::show;
 use fault_words::say_faults;
 use io_text::{Device, Text, read_input, write_output};
+use live_script::serve;
 use room_files::Outcome;
 use run_search::Progress;
 use std::alloc::Global;
@@ -26,7 +28,7 @@ use view_page::{faults_of_both, page_of_both};
 ///
 /// # Errors
 ///
-/// A device that failed; an input that is too long; the input's first fault, or the goal's; or an allocation that failed. If that was for a
+/// A device that failed; an input that is too long; the input's first fault, or an option's; or an allocation that failed. If that was for a
 /// block or a command of a script, the script goes on to its end; if it was for a room's sample, what there is memory for is written.
 pub fn answer_io<H: Threads + Sync, R: Read, W: Write, P: Progress>(
     rt: &H,
@@ -39,8 +41,10 @@ pub fn answer_io<H: Threads + Sync, R: Read, W: Write, P: Progress>(
 ) -> Result<Outcome, ViewFault>
     requires reader { reader.old.failed ≡ false }
     requires writer { writer.old.failed ≡ false }
+    // `live` reads no input whole.
+    requires mode { request.now.mode ≢ Live }
     // What is written is the answer to what was read, and the outcome goes with it. No write is of nothing.
-    ensures text { IfSome (R.remaining reader.old.inner) (λ input. (output : List ℕ) × IsAnswer request.now input result output
+    ensures text { IfSome (R.remaining reader.old.inner) (λ input. (output : List ℕ) × IsWholeAnswer request.now input result output
         × Appends (W.contents writer.old.inner) (W.contents writer.new.inner) output
         × (writer.new.calls ≤ writer.old.calls + length output + failed_writes (is_write_failed result))) }
     ensures reader { HasRead reader.old reader.new (R.remaining reader.old.inner) (is_read_failed result) }
@@ -63,7 +67,8 @@ fn write_answer<H: Threads + Sync, W: Write, P: Progress>(
 ) -> Result<Outcome, ViewFault>
     requires input { length input.now ≤ most_bytes }
     requires writer { writer.old.failed ≡ false }
-    ensures text { (output : List ℕ) × IsAnswer request.now input.now result output
+    requires mode { request.now.mode ≢ Live }
+    ensures text { (output : List ℕ) × IsWholeAnswer request.now input.now result output
         × Appends (W.contents writer.old.inner) (W.contents writer.new.inner) output
         × (writer.new.calls ≤ writer.old.calls + length output + failed_writes (is_write_failed result)) }
     ensures read { is_read_failed result ≡ false }
@@ -73,6 +78,26 @@ fn write_answer<H: Threads + Sync, W: Write, P: Progress>(
     let shown = show(rt, alloc, request, input, notes, progress)?;
     write_output(writer, shown.output.as_bytes())?;
     written(shown.ending)
+}
+
+/// Plays the script that the reader gives as it is written.
+///
+/// # Errors
+///
+/// A device that failed; a line or a block that is too long; or an allocation that failed. If that was for a block or a command, the script
+/// goes on to its end.
+pub fn live_io<R: Read, W: Write>(
+    alloc: Global,
+    reader: &mut Device<R>,
+    writer: &mut Device<W>,
+) -> Result<Outcome, ViewFault>
+    requires reader { reader.old.failed ≡ false }
+    requires writer { writer.old.failed ≡ false }
+    ensures { IfSome (R.remaining reader.old.inner) (λ input. (output : List ℕ) × IsLiveAnswer input result output
+        × Appends (W.contents writer.old.inner) (W.contents writer.new.inner) output) }
+{
+    let ending = serve(alloc, reader, writer)?;
+    written(ending)
 }
 
 /// Answers the files of these names that two readers give, and writes a page that steps through both next to each other. What is said of

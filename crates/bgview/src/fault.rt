@@ -4,10 +4,25 @@ ghost use Rattle.bgview.specs.Ends.{fault_status, input_fault, written};
 ghost use Rattle.bgview.specs.declared.fault.ViewFault.TheVariants.{Device};
 ghost use Rattle.io_text.specs.declared.fault.DeviceFault.TheVariants.{Memory};
 
+use decision_tasks::LineFault;
 use io_text::DeviceFault;
 use room_files::{InputFault, Outcome, TextFault};
 use std::alloc::AllocError;
 use view_grade::GoalFault;
+use view_outcomes::ValuesFault;
+
+/// Why an option's text says nothing.
+#[derive(Clone, Copy, Debug)]
+pub enum OptionFault {
+    /// The goal that a script is graded by has this fault.
+    Goal(GoalFault),
+    /// The values of which inputs are made have this fault.
+    Inputs(ValuesFault),
+    /// The task of one's own has this fault.
+    Keeps(LineFault),
+    /// Values for inputs and a task of one's own are both given.
+    Both,
+}
 
 /// Why an answer was not written whole.
 #[derive(Clone, Copy, Debug)]
@@ -18,8 +33,8 @@ pub enum ViewFault {
     Incomplete,
     /// The input has this fault on this line, counted from 1. A message has the fault's number.
     BadInput { line: u64, fault: TextFault },
-    /// The goal that a script is graded by has this fault.
-    BadGoal(GoalFault),
+    /// The text of an option has this fault.
+    BadOption(OptionFault),
 }
 
 impl ViewFault {

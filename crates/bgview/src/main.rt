@@ -22,7 +22,7 @@ mod unread;
 use bgview_command_line::{Mode, line_in, read_words};
 use clap::ArgMatches;
 use ended::Ended;
-use engine::{answer_io, fault_io, pages_io};
+use engine::{answer_io, fault_io, live_io, pages_io};
 use fault::ViewFault;
 use io_text::{Device, Text};
 use program_io::{Inputs, unread_status, words, words_status};
@@ -218,6 +218,9 @@ fn answered<H: Threads + Sync, R: Read + Drop, W: Write, P: Progress>(
 {
     let mut reader = Device::new(input);
     let request = request_in(matches);
+    if matches!(request.mode, Mode::Live) {
+        return live_io(alloc, &mut reader, writer);
+    }
     answer_io(
         threads,
         alloc,

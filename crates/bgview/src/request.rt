@@ -2,11 +2,12 @@
 ghost use Rattle.clap.specs.Words.{subcommand_rows_of};
 ghost use Rattle.bgview.specs.Requests.{IsGradingAmong, IsPlanAmong, IsRequestAmong, IsSearchAmong, IsStyleAmong};
 
-use bgview_command_line::{Mode, is_given, line_in, number_among, number_if_any, text_among};
+use bgview_command_line::{
+    Mode, is_given, line_in, number_among, number_if_any, text_among, text_if_any,
+};
 use clap::ArgMatches;
 use room_sample::Plan;
 use run_picture::Style;
-use view_outcomes::Search;
 
 /// What a script is graded by.
 #[derive(Clone, Copy)]
@@ -17,6 +18,23 @@ pub struct Grading<'a> {
     pub most: Option<u32>,
 }
 
+/// How rooms are searched, and what is asked of each, as far as the words say it.
+#[derive(Clone, Copy)]
+pub struct Searching<'a> {
+    /// At most this number of processes stop; if it is not said, all but one.
+    pub crashes: Option<u32>,
+    /// How many nodes of a room are searched at most.
+    pub nodes: u32,
+    /// Whether transcripts are left out.
+    pub brief: bool,
+    /// Whether the rooms' tasks alone are judged.
+    pub task: bool,
+    /// The values of which inputs are made, as text, if the rooms' tasks are judged with all of them.
+    pub values: Option<&'a str>,
+    /// A task of one's own, as text, if runs are judged by it.
+    pub keeps: Option<&'a str>,
+}
+
 /// What is requested of an input.
 #[derive(Clone, Copy)]
 pub struct Request<'a> {
@@ -24,7 +42,7 @@ pub struct Request<'a> {
     /// Whether the answer is written as JSON, if the mode has such an answer.
     pub json: bool,
     pub plan: Plan,
-    pub search: Search,
+    pub search: Searching<'a>,
     pub grading: Grading<'a>,
     pub style: Style,
 }
@@ -81,13 +99,15 @@ fn plan_in(matches: &ArgMatches<'_>) -> Plan
 }
 
 /// How outcomes are searched by what the words ask for.
-fn search_in(matches: &ArgMatches<'_>) -> Search
+fn search_in<'a>(matches: &ArgMatches<'a>) -> Searching<'a>
     ensures { IsSearchAmong (subcommand_rows_of matches.now) result }
 {
-    Search {
+    Searching {
         crashes: number_if_any(matches, "crashes"),
         nodes: number_among(matches, "nodes", 1000000),
         brief: is_given(matches, "brief"),
         task: is_given(matches, "task"),
+        values: text_if_any(matches, "inputs"),
+        keeps: text_if_any(matches, "keeps"),
     }
 }

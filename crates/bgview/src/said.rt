@@ -1,20 +1,23 @@
 //! What the program says on standard error at its end.
-ghost use Rattle.std.specs.Prelude.{◌≡◌, ◌++◌, ◌||◌, List, OnOk, codes, false, is_err, ℕ};
+ghost use Rattle.std.specs.Prelude.{◌≡◌, ◌++◌, ◌||◌, List, OnOk, codes, false, is_err, ℕ, decimal};
 ghost use Rattle.std.specs.Io.KnownBytes.{Appends};
 ghost use Rattle.program_io.specs.Errors.{fault_line};
 ghost use Rattle.view_grade.specs.Grades.{fault_text};
-ghost use Rattle.bgview.specs.Said.{IsEndSaid, fault_words, refused_note, unread_text};
+ghost use Rattle.view_outcomes.specs.Values.{values_fault_text};
+ghost use Rattle.bgview.specs.Said.{IsEndSaid, fault_words, line_fault_text, line_place_text, line_reason_text, refused_note, unread_text};
 ghost use Rattle.bgview.specs.Unread.{unread_note};
 
 use crate::ended::Ended;
-use crate::fault::ViewFault;
+use crate::fault::{OptionFault, ViewFault};
 use crate::unread::{Unread, why};
 use bgview_command_line::Mode;
+use decision_tasks::LineFault;
 use io_text::{Device, DeviceFault, write_output};
 use program_io::{say_both, say_number, say_place};
 use room_files::Outcome;
 use std::io::Write;
 use view_grade::GoalFault;
+use view_outcomes::ValuesFault;
 
 /// Says how the program ends, with these notes on its inputs.
 pub fn say_end<E: Write>(errors: &mut Device<E>, mode: Mode, ended: &Ended<'_>, notes: &[u8])
@@ -71,7 +74,12 @@ fn say_words<E: Write>(errors: &mut Device<E>, fault: ViewFault) -> Result<(), D
             write_output(errors, b"out of memory")
         }
         ViewFault::BadInput { line, fault } => say_place(errors, line, fault.code()),
-        ViewFault::BadGoal(fault) => say_goal_fault(errors, fault),
+        ViewFault::BadOption(OptionFault::Goal(fault)) => say_goal_fault(errors, fault),
+        ViewFault::BadOption(OptionFault::Inputs(fault)) => say_values_fault(errors, fault),
+        ViewFault::BadOption(OptionFault::Keeps(fault)) => say_line_fault(errors, &fault),
+        ViewFault::BadOption(OptionFault::Both) => {
+            write_output(errors, b"--inputs and --keeps can't be given together")
+        }
     }
 }
 
@@ -90,6 +98,60 @@ fn say_goal_fault<E: Write>(errors: &mut Device<E>, fault: GoalFault) -> Result<
             b" of the goal is followed by neither `and` nor `or`",
         ),
     }
+}
+
+fn say_values_fault<E: Write>(errors: &mut Device<E>, fault: ValuesFault) -> Result<(), DeviceFault>
+    ensures said { OnOk result (Appends (E.contents errors.old.inner) (E.contents errors.new.inner) (values_fault_text fault)) }
+    ensures failed { errors.new.failed ≡ (errors.old.failed || is_err result) }
+{
+    match fault {
+        ValuesFault::NoNumber(number) => say_value(
+            errors,
+            number,
+            b" of --inputs is not a number of 0 to 4294967295",
+        ),
+        ValuesFault::Repeated(number) => say_value(errors, number, b" of --inputs is there twice"),
+        ValuesFault::TooMany => write_output(errors, b"--inputs has more than 16 values"),
+    }
+}
+
+/// Says something of the value of this number.
+fn say_value<E: Write>(
+    errors: &mut Device<E>,
+    number: usize,
+    what: &[u8],
+) -> Result<(), DeviceFault>
+    ensures said { OnOk result (Appends (E.contents errors.old.inner) (E.contents errors.new.inner) (codes "value " ++ (decimal number ++ what.now))) }
+    ensures failed { errors.new.failed ≡ (errors.old.failed || is_err result) }
+{
+    write_output(errors, b"value ")?;
+    say_number(errors, number as u64, what)
+}
+
+fn say_line_fault<E: Write>(errors: &mut Device<E>, fault: &LineFault) -> Result<(), DeviceFault>
+    ensures said { OnOk result (Appends (E.contents errors.old.inner) (E.contents errors.new.inner) (line_fault_text fault.now)) }
+    ensures failed { errors.new.failed ≡ (errors.old.failed || is_err result) }
+{
+    write_output(errors, b"line ")?;
+    say_line_place(errors, fault)
+}
+
+/// Says the number of the line, and what `say_line_reason` does.
+fn say_line_place<E: Write>(errors: &mut Device<E>, fault: &LineFault) -> Result<(), DeviceFault>
+    ensures said { OnOk result (Appends (E.contents errors.old.inner) (E.contents errors.new.inner) (line_place_text fault.now)) }
+    ensures failed { errors.new.failed ≡ (errors.old.failed || is_err result) }
+{
+    say_number(errors, fault.line as u64, b" of --keeps, byte ")?;
+    say_line_reason(errors, fault)
+}
+
+/// Says where in the line the fault is, and the fault.
+fn say_line_reason<E: Write>(errors: &mut Device<E>, fault: &LineFault) -> Result<(), DeviceFault>
+    ensures said { OnOk result (Appends (E.contents errors.old.inner) (E.contents errors.new.inner) (line_reason_text fault.now)) }
+    ensures failed { errors.new.failed ≡ (errors.old.failed || is_err result) }
+{
+    say_number(errors, fault.at as u64, b": ")?;
+    write_output(errors, fault.fault.sentence().as_bytes())
 }
 
 /// Says the notes, and which file was not read.

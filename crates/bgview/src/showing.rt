@@ -1,19 +1,26 @@
 //! From a request and an input to what is shown: one call for each mode.
-ghost use Rattle.std.specs.Prelude.{◌≡◌, ◌≤◌, Ok, None, IfErr, IfOk, IsOk, false, length};
+ghost use Rattle.std.specs.Prelude.{◌≡◌, ◌≢◌, ◌≤◌, Ok, None, IfErr, IfOk, IsOk, false, if◌then◌else◌, length};
 ghost use Rattle.io_text.specs.Reading.{most_bytes};
 ghost use Rattle.room_files.specs.Blocks.{IsFaultOr};
 ghost use Rattle.room_files.specs.Inputs.{input_says};
 ghost use Rattle.view_grade.specs.Goals.{goal_in};
 ghost use Rattle.script_play.specs.Script.{script_says};
+ghost use Rattle.view_outcomes.specs.Blocks.{IsOutcomesFor};
+ghost use Rattle.decision_tasks.specs.Tasks.{task_in};
+ghost use Rattle.view_outcomes.specs.Values.{values_in};
+ghost use Rattle.view_outcomes.specs.declared.search.Asked.TheVariants.{Outcomes, Task};
+ghost use Rattle.view_outcomes.specs.declared.search.Search.{Search as SearchValue};
 ghost use Rattle.view_page.specs.Pages.{fault_in};
 ghost use Rattle.view_trace.specs.Trace.{IsTraceIn};
 ghost use Rattle.view_why.specs.Why.{IsExplanationIn};
-ghost use Rattle.bgview.specs.Answers.{Ends, EndsRequest, IsGradeFor, IsShown, IsWhole, goal_fault_in, goal_text};
-ghost use Rattle.bgview.specs.Notes.{AreGoalNotes, AreGradeNotes, AreNotes, AreNotesIn, AreSaidOfFile, AreWhyNotes};
+ghost use Rattle.bgview.specs.Answers.{AreInputsAsked, Ends, EndsRequest, IsGradeFor, IsSearchFor, IsSearchShown, IsShown, IsTaskAsked, IsWhole, goal_fault_in, goal_text, keeps_fault_in, keeps_text, search_fault, values_fault_in, values_text};
+ghost use Rattle.bgview_command_line.specs.declared.words.Mode.TheVariants.{Live};
+ghost use Rattle.bgview.specs.Notes.{AreGoalNotes, AreGradeNotes, AreNotes, AreNotesIn, AreRoomNotes, AreSaidOfFile, AreWhyNotes};
 
-use crate::fault::ViewFault;
-use crate::request::{Grading, Request};
+use crate::fault::{OptionFault, ViewFault};
+use crate::request::{Grading, Request, Searching};
 use bgview_command_line::Mode;
+use decision_tasks::DecisionTask;
 use file_faults::{lint, room_faults, script_faults, transcript_faults, warnings_of};
 use io_text::{DeviceFault, Text};
 use room_files::{Answer, InputFault};
@@ -24,7 +31,7 @@ use std::alloc::{AllocError, Global};
 use std::thread::Threads;
 use view_draw::draw;
 use view_grade::{Goal, goal_forms, grade, read_goal};
-use view_outcomes::search_blocks;
+use view_outcomes::{Asked, Search, read_values, search_blocks};
 use view_page::{faults_of, page};
 use view_sample::sample_blocks;
 use view_trace::{trace, trace_json};
@@ -40,7 +47,8 @@ pub fn show<H: Threads + Sync, P: Progress>(
     notes: &mut Text,
     progress: &mut P,
 ) -> Result<PlayText, ViewFault>
-    requires { length input.now ≤ most_bytes }
+    requires short { length input.now ≤ most_bytes }
+    requires mode { request.now.mode ≢ Live }
     ensures shown { IfOk result (λ shown. IsShown request.now input.now shown.ending shown.output) }
     ensures err { IfErr result (EndsRequest request.now input.now) }
     ensures notes { AreNotesIn request.now.mode request.now.json input.now result notes.old notes.new }
@@ -68,14 +76,12 @@ pub fn show<H: Threads + Sync, P: Progress>(
             *notes = room_faults(alloc, input)?;
             Ok(sample_blocks(&Threaded::new(rt), alloc, input, &request.plan, progress)?)
         }
-        Mode::Outcomes => {
-            *notes = room_faults(alloc, input)?;
-            Ok(whole(search_blocks(alloc, input, &request.search, progress)?))
-        }
+        Mode::Outcomes => search_or_fail(alloc, &request.search, input, notes, progress),
         Mode::Lint => {
             *notes = warnings_of(alloc, input)?;
             Ok(whole(lint(alloc, input)?))
         }
+        Mode::Live => unreachable!(), // it doesn't wait for its whole input
     }
 }
 
@@ -149,6 +155,112 @@ fn explain_or_note(alloc: Global, input: &[u8], notes: &mut Text) -> Result<Play
     }
 }
 
+/// Searches rooms, unless the values of inputs, or a task of one's own, are not valid. What is said of refused blocks becomes `notes`.
+fn search_or_fail<P: Progress>(
+    alloc: Global,
+    searching: &Searching<'_>,
+    input: &[u8],
+    notes: &mut Text,
+    progress: &mut P,
+) -> Result<PlayText, ViewFault>
+    requires { length input.now ≤ most_bytes }
+    ensures shown { IfOk result (λ shown. IsSearchShown searching.now input.now shown.ending shown.output) }
+    ensures err { IfErr result (Ends None (search_fault (values_text searching.now) (keeps_text searching.now))) }
+    ensures notes { AreRoomNotes input.now result notes.new }
+{
+    match (searching.values, searching.keeps) {
+        (None, None) => {
+            let search = search_for(searching, asked_alone(searching.task));
+            searched(alloc, &search, input, notes, progress)
+        }
+        (Some(values), None) => search_inputs(alloc, searching, values, input, notes, progress),
+        (None, Some(keeps)) => search_kept(alloc, searching, keeps, input, notes, progress),
+        (Some(_), Some(_)) => Err(ViewFault::BadOption(OptionFault::Both)),
+    }
+}
+
+/// Searches rooms with all inputs of the values that a text says.
+fn search_inputs<P: Progress>(
+    alloc: Global,
+    searching: &Searching<'_>,
+    text: &str,
+    input: &[u8],
+    notes: &mut Text,
+    progress: &mut P,
+) -> Result<PlayText, ViewFault>
+    requires { length input.now ≤ most_bytes }
+    ensures shown { IfOk result (λ shown. (search : SearchValue) × IsSearchFor searching.now search × AreInputsAsked text.now search.asked × IsWhole (IsOutcomesFor search input.now) shown.ending shown.output) }
+    ensures err { IfErr result (Ends None (values_fault_in (values_in text.now))) }
+    ensures notes { AreRoomNotes input.now result notes.new }
+{
+    match read_values(text.as_bytes()) {
+        Ok(values) => {
+            let search = search_for(searching, Asked::Inputs(values.as_slice()));
+            searched(alloc, &search, input, notes, progress)
+        }
+        Err(fault) => Err(ViewFault::BadOption(OptionFault::Inputs(fault))),
+    }
+}
+
+/// Searches rooms for runs that break the task that a text says.
+fn search_kept<P: Progress>(
+    alloc: Global,
+    searching: &Searching<'_>,
+    text: &str,
+    input: &[u8],
+    notes: &mut Text,
+    progress: &mut P,
+) -> Result<PlayText, ViewFault>
+    requires { length input.now ≤ most_bytes }
+    ensures shown { IfOk result (λ shown. (search : SearchValue) × IsSearchFor searching.now search × IsTaskAsked text.now search.asked × IsWhole (IsOutcomesFor search input.now) shown.ending shown.output) }
+    ensures err { IfErr result (Ends None (keeps_fault_in (task_in text.now))) }
+    ensures notes { AreRoomNotes input.now result notes.new }
+{
+    match DecisionTask::read(alloc, text.as_bytes())? {
+        Ok(task) => {
+            let search = search_for(searching, Asked::Keeps(&task));
+            searched(alloc, &search, input, notes, progress)
+        }
+        Err(fault) => Err(ViewFault::BadOption(OptionFault::Keeps(fault))),
+    }
+}
+
+/// What is asked of each room if neither values for inputs nor a task of one's own are given.
+fn asked_alone<'a>(task: bool) -> Asked<'a>
+    ensures { result ≡ (if task then Task else Outcomes) }
+{
+    if task { Asked::Task } else { Asked::Outcomes }
+}
+
+/// The search that asks this of each room.
+fn search_for<'a>(searching: &Searching<'_>, asked: Asked<'a>) -> Search<'a>
+    ensures { result ≡ record { crashes = searching.now.crashes; nodes = searching.now.nodes; brief = searching.now.brief; asked = asked.entry } }
+{
+    Search {
+        crashes: searching.crashes,
+        nodes: searching.nodes,
+        brief: searching.brief,
+        asked,
+    }
+}
+
+/// Searches rooms. What is said of refused blocks becomes `notes`.
+fn searched<P: Progress>(
+    alloc: Global,
+    search: &Search<'_>,
+    input: &[u8],
+    notes: &mut Text,
+    progress: &mut P,
+) -> Result<PlayText, ViewFault>
+    requires { length input.now ≤ most_bytes }
+    ensures shown { IfOk result (λ shown. IsWhole (IsOutcomesFor search.now input.now) shown.ending shown.output) }
+    ensures err { IfErr result (Ends None None) }
+    ensures notes { AreRoomNotes input.now result notes.new }
+{
+    *notes = room_faults(alloc, input)?;
+    Ok(whole(search_blocks(alloc, input, search, progress)?))
+}
+
 /// Grades a script. What is said of all its faults, or of a goal that is not valid, becomes `notes`.
 fn grade_or_note(
     alloc: Global,
@@ -192,7 +304,7 @@ fn goal_or_note(alloc: Global, text: &[u8], notes: &mut Text) -> Result<Goal, Vi
         Ok(goal) => Ok(goal),
         Err(fault) => {
             *notes = goal_forms(alloc)?;
-            Err(ViewFault::BadGoal(fault))
+            Err(ViewFault::BadOption(OptionFault::Goal(fault)))
         }
     }
 }

@@ -8,7 +8,7 @@ use Rattle.clap.specs.Words.{App, Row, Rule, Shape, all_of, first_of, new_app, n
 use Rattle.clap.specs.declared.builder.action.ArgAction.TheVariants.{SetTrue}
 use Rattle.clap.specs.declared.builder.value_parser.ValueParser.TheVariants.{Signed}
 use Rattle.bgview_command_line.specs.declared.words.Mode.{Mode}
-use Rattle.bgview_command_line.specs.declared.words.Mode.TheVariants.{Why, Trace, Draw, Page, Transcript, Fault, Grade, Sample, Outcomes, Lint}
+use Rattle.bgview_command_line.specs.declared.words.Mode.TheVariants.{Why, Trace, Draw, Page, Transcript, Fault, Grade, Sample, Outcomes, Lint, Live}
 
 -- the subcommand of a word, which takes a file
 abbrev pub file_app : List ℕ → App
@@ -93,9 +93,16 @@ task_rule = record (new_rule (codes "task")) { long = Some (codes "task"); actio
 abbrev pub searching_app : App
 searching_app = with_rule (with_rule (file_app (codes "outcomes")) stopped_rule) nodes_rule
 
--- the subcommand `outcomes`, which takes besides two flags
+-- an option that takes a text
+abbrev pub inputs_rule : Rule
+inputs_rule = record (new_rule (codes "inputs")) { long = Some (codes "inputs"); value_names = 1 }
+
+abbrev pub keeps_rule : Rule
+keeps_rule = record (new_rule (codes "keeps")) { long = Some (codes "keeps"); value_names = 1 }
+
+-- the subcommand `outcomes`, which takes besides two flags and two texts
 abbrev pub outcomes_app : App
-outcomes_app = with_rule (with_rule searching_app brief_rule) task_rule
+outcomes_app = with_rule (with_rule (with_rule (with_rule searching_app brief_rule) task_rule) inputs_rule) keeps_rule
 
 -- an option that takes a text, and has to be there
 abbrev pub goal_rule : Rule
@@ -126,12 +133,12 @@ abbrev pub bgview_app : App
 bgview_app =
     let showing = with_subcommand (with_subcommand (with_subcommand (with_subcommand plain_app (telling_app (codes "why")).top) (telling_app (codes "trace")).top) draw_app.top) page_app.top in
     let finding = with_subcommand (with_subcommand (with_subcommand (with_subcommand showing (file_app (codes "transcript")).top) fault_app.top) sample_app.top) outcomes_app.top in
-    with_subcommand (with_subcommand finding (file_app (codes "lint")).top) grade_app.top
+    with_subcommand (with_subcommand (with_subcommand finding (file_app (codes "lint")).top) grade_app.top) (file_app (codes "live")).top
 
 -- the mode of a word, which is that of a subcommand
 abbrev pub mode_of : List ℕ → Mode
 mode_of word =
-    if bytes_eq word (codes "trace") then Trace else if bytes_eq word (codes "draw") then Draw else if bytes_eq word (codes "page") then Page else if bytes_eq word (codes "transcript") then Transcript else if bytes_eq word (codes "fault") then Fault else if bytes_eq word (codes "sample") then Sample else if bytes_eq word (codes "outcomes") then Outcomes else if bytes_eq word (codes "lint") then Lint else if bytes_eq word (codes "grade") then Grade else Why
+    if bytes_eq word (codes "trace") then Trace else if bytes_eq word (codes "draw") then Draw else if bytes_eq word (codes "page") then Page else if bytes_eq word (codes "transcript") then Transcript else if bytes_eq word (codes "fault") then Fault else if bytes_eq word (codes "sample") then Sample else if bytes_eq word (codes "outcomes") then Outcomes else if bytes_eq word (codes "lint") then Lint else if bytes_eq word (codes "grade") then Grade else if bytes_eq word (codes "live") then Live else Why
 
 -- the mode of the subcommand that was found
 abbrev pub mode_among : Option (List ℕ × List Row) → Mode

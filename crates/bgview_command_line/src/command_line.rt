@@ -4,7 +4,7 @@ ghost use Rattle.clap.specs.Kinds.{FailsBy};
 ghost use Rattle.clap.specs.declared.builder.command.Command.TheViews.{out-Command};
 ghost use Rattle.clap.specs.Words.{app_of, fault_of, subcommand_of, subcommand_rows_of, with_subcommand};
 ghost use Rattle.clap.specs.Walk.{rule_of};
-ghost use Rattle.bgview_command_line.specs.CommandLine.{bgview_app, brief_rule, choosing_app, commands_rule, crashes_rule, draw_app, drawing_app, fault_app, file_app, goal_rule, grade_app, group_rule, json_rule, outcome_rule, outcomes_app, page_app, plain_app, sample_app, scale_rule, schedules_rule, searching_app, seed_rule, nodes_rule, stopped_rule, task_rule, telling_app, top_rule, turns_rule, workers_rule};
+ghost use Rattle.bgview_command_line.specs.CommandLine.{bgview_app, brief_rule, choosing_app, commands_rule, crashes_rule, draw_app, drawing_app, fault_app, file_app, goal_rule, grade_app, group_rule, inputs_rule, json_rule, keeps_rule, outcome_rule, outcomes_app, page_app, plain_app, sample_app, scale_rule, schedules_rule, searching_app, seed_rule, nodes_rule, stopped_rule, task_rule, telling_app, top_rule, turns_rule, workers_rule};
 
 use clap::{Arg, ArgAction, ArgMatches, Command, Error, value_parser};
 use std::alloc::{AllocError, Global};
@@ -277,14 +277,16 @@ fn outcome_option<'a>(alloc: Global) -> Arg<'a>
         .help("Writes nothing but the script of the K-th most frequent outcome of each room")
 }
 
-/// The subcommand `outcomes`, which takes a file, numbers and flags.
+/// The subcommand `outcomes`, which takes a file, numbers, flags and texts.
 fn outcomes_command<'a>(alloc: Global) -> Result<Command<'a>, AllocError>
     ensures app { IfOk result (λ command. app_of command ≡ outcomes_app) }
     ensures local { IfOk result (λ command. (out-Command command).has_globals ≡ false) }
 {
     let outcomes = searching_command(alloc)?;
     let with_brief = outcomes.arg(brief_option(alloc, "Leaves out the transcripts"))?;
-    with_brief.arg(task_option(alloc))
+    let with_task = with_brief.arg(task_option(alloc))?;
+    let with_inputs = with_task.arg(inputs_option(alloc))?;
+    with_inputs.arg(keeps_option(alloc))
 }
 
 /// The subcommand `outcomes` with the options that say which runs are searched.
@@ -296,7 +298,7 @@ fn searching_command<'a>(alloc: Global) -> Result<Command<'a>, AllocError>
         alloc,
         "outcomes",
         "Searches all runs of each room's protocol, and lists all outcomes",
-        "bgview outcomes [--crashes F] [--nodes N] [--brief] [--task] [FILE]",
+        "bgview outcomes [--crashes F] [--nodes N] [--brief] [--task] [--inputs A,B,..] [--keeps TASK] [FILE]",
         "The rooms; without it, standard input is read",
     )?;
     let with_crashes = outcomes.arg(stopped_option(alloc))?;
@@ -348,6 +350,32 @@ fn task_option<'a>(alloc: Global) -> Arg<'a>
         .action(ArgAction::SetTrue)
         .help(
             "Judges the rooms' tasks alone: lists no outcome, and stops at the first run that breaks the task",
+        )
+}
+
+/// The option `--inputs A,B,..`.
+fn inputs_option<'a>(alloc: Global) -> Arg<'a>
+    ensures rule { rule_of result ≡ inputs_rule }
+    ensures local { result.global ≡ false }
+{
+    Arg::new(alloc, "inputs")
+        .long("inputs")
+        .value_name("VALUES")
+        .help(
+            "Judges the rooms' tasks with all inputs of these values, as in 0,1: 1 to 16 numbers of 0 to 4294967295, each once; at most 65536 vectors of inputs for a room",
+        )
+}
+
+/// The option `--keeps TASK`.
+fn keeps_option<'a>(alloc: Global) -> Arg<'a>
+    ensures rule { rule_of result ≡ keeps_rule }
+    ensures local { result.global ≡ false }
+{
+    Arg::new(alloc, "keeps")
+        .long("keeps")
+        .value_name("TASK")
+        .help(
+            "Judges whether one of these lines holds for each process that has decided, at each moment of each run, as in 'mine == min; mine == max': conditions of the protocol language over the decisions, with `given` for how many processes have `mine` as their input",
         )
 }
 
@@ -407,6 +435,20 @@ fn commands_option<'a>(alloc: Global) -> Arg<'a>
         )
 }
 
+/// The subcommand `live`.
+fn live_command<'a>(alloc: Global) -> Result<Command<'a>, AllocError>
+    ensures app { IfOk result (λ command. app_of command ≡ file_app (codes "live")) }
+    ensures local { IfOk result (λ command. (out-Command command).has_globals ≡ false) }
+{
+    file_command(
+        alloc,
+        "live",
+        "Plays a script as it is written, and answers each line before it reads the next",
+        "bgview live [FILE]",
+        "The script, for example a named pipe; without it, standard input is read",
+    )
+}
+
 /// The subcommand `fault`.
 fn fault_command<'a>(alloc: Global) -> Result<Command<'a>, AllocError>
     ensures app { IfOk result (λ command. app_of command ≡ fault_app) }
@@ -461,7 +503,8 @@ fn command<'a>(alloc: Global) -> Result<Command<'a>, AllocError>
     let with_sample = with_subcommand(with_fault, sample_command(alloc))?;
     let with_outcomes = with_subcommand(with_sample, outcomes_command(alloc))?;
     let with_lint = with_subcommand(with_outcomes, lint_command(alloc))?;
-    with_subcommand(with_lint, grade_command(alloc))
+    let with_grade = with_subcommand(with_lint, grade_command(alloc))?;
+    with_subcommand(with_grade, live_command(alloc))
 }
 
 /// What `clap` finds in the words after the program's name.

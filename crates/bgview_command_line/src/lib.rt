@@ -6,5 +6,5 @@ mod values;
 mod words;
 
 pub use command_line::read_words;
-pub use values::{is_given, line_in, number_among, number_if_any, text_among};
+pub use values::{is_given, line_in, number_among, number_if_any, text_among, text_if_any};
 pub use words::{Line, Mode};

@@ -39,6 +39,13 @@ fn value_among<'a>(matches: &ArgMatches<'a>, name: &str) -> Option<&'a str>
     }
 }
 
+/// The text after an option, if the option is there.
+pub fn text_if_any<'a>(matches: &ArgMatches<'a>, name: &str) -> Option<&'a str>
+    ensures { option_map (λ text. text.now) result ≡ value_among name.now (subcommand_rows_of matches.now) }
+{
+    value_among(matches, name)
+}
+
 /// The text after an option, which is empty if the option isn't there.
 pub fn text_among<'a>(matches: &ArgMatches<'a>, name: &str) -> &'a str
     ensures { result.now ≡ unwrap_or (value_among name.now (subcommand_rows_of matches.now)) [] }

@@ -25,6 +25,8 @@ pub enum Mode {
     Lint,
     /// Says whether a script reaches a goal.
     Grade,
+    /// Plays a script as it is written.
+    Live,
 }
 
 impl Mode {
@@ -50,6 +52,8 @@ impl Mode {
             Mode::Lint
         } else if word == "grade" {
             Mode::Grade
+        } else if word == "live" {
+            Mode::Live
         } else {
             Mode::Why
         }

@@ -3,6 +3,7 @@ use Rattle.std.specs.Prelude.{◌≡◌, ⊤, ℕ, ◌<◌, ◌≤◌, ◌==◌,
 use Rattle.std.specs.List.{flat_map}
 use Rattle.std.specs.declared.alloc.AllocError.{AllocError}
 use Rattle.fault_words.specs.Faults.{fault_line, faults_outcome}
+use Rattle.file_faults.specs.Warnings.{file_warnings}
 use Rattle.io_text.specs.Reading.{most_bytes}
 use Rattle.room_files.specs.Faults.{text_code}
 use Rattle.room_files.specs.declared.outcome.Outcome.{Outcome}
@@ -54,6 +55,10 @@ IsGradeOf script goal most (Err (BadGoal fault)) = (length script ≤ most_bytes
 -- the line of the fault of this number
 abbrev pub IsFaultSaid : ℕ → Outcome → List ℕ → Type 0
 IsFaultSaid number outcome output = (output ≡ flat_map fault_line (decimal number ∷ [])) × (outcome ≡ faults_outcome (decimal number ∷ []))
+
+-- what is warned of in a file; all is well with it
+abbrev pub AreWarningsOf : List ℕ → Outcome → List ℕ → Type 0
+AreWarningsOf file outcome output = (output ≡ file_warnings file) × (outcome ≡ AllWell)
 
 -- a number that may be left out, as C says it: the largest one says that it is
 abbrev pub number_unless_largest : ℕ → Option ℕ

@@ -14,16 +14,16 @@ ghost use Rattle.view_sample.specs.Sample.{IsSampleFor};
 ghost use Rattle.view_trace.specs.Trace.{IsTraceIn};
 ghost use Rattle.view_transcript.specs.Transcripts.{IsTranscribed};
 ghost use Rattle.view_why.specs.Why.{IsExplanationIn};
-ghost use Rattle.bgview_exports.specs.Calls.{IsAnswerTo, IsComplete, IsFaultSaid, IsGradeOf, IsOutOfMemory};
+ghost use Rattle.bgview_exports.specs.Calls.{AreWarningsOf, IsAnswerTo, IsComplete, IsFaultSaid, IsGradeOf, IsOutOfMemory};
 ghost use Rattle.bgview_exports.specs.declared.given.NoAnswer.TheVariants.{TooLong};
 
 use crate::given::NoAnswer;
 use fault_words::say_faults;
-use file_faults::lint;
+use file_faults::{lint, warnings_of};
 use file_verdicts::judge;
 use io_text::MAX_INPUT;
 use itoa::Buffer;
-use room_files::Answer;
+use room_files::{Answer, Outcome};
 use room_sample::{OneWorker, Plan};
 use run_picture::Style;
 use run_search::Silent;
@@ -106,8 +106,19 @@ pub fn linted(alloc: Global, file: &[u8]) -> Result<PlayText, NoAnswer>
     Ok(complete(lint(alloc, file)?))
 }
 
+/// Warns of what a file has that is no fault, but can hardly be meant.
+pub fn warned(alloc: Global, file: &[u8]) -> Result<PlayText, NoAnswer>
+    ensures { IsAnswerTo file.now (IsComplete (AreWarningsOf file.now)) IsOutOfMemory result }
+{
+    fits(file)?;
+    Ok(PlayText {
+        output: warnings_of(alloc, file)?,
+        ending: Ok(Outcome::AllWell),
+    })
+}
+
 /// Searches all runs of each room of a file.
-pub fn searched(alloc: Global, rooms: &[u8], search: &Search) -> Result<PlayText, NoAnswer>
+pub fn searched(alloc: Global, rooms: &[u8], search: &Search<'_>) -> Result<PlayText, NoAnswer>
     ensures { IsAnswerTo rooms.now (IsComplete (IsOutcomesFor search.now rooms.now)) IsOutOfMemory result }
 {
     fits(rooms)?;

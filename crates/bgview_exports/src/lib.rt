@@ -3,7 +3,7 @@
 //! they may be made on any number of threads. `include/bgview.h` says what a caller owes.
 #![tactic(auto)]
 
-ghost use Rattle.std.specs.Prelude.{◌≡◌, ◌∷◌, [], IsOk, false};
+ghost use Rattle.std.specs.Prelude.{◌≡◌, ◌∷◌, [], IsOk, false, true};
 ghost use Rattle.file_faults.specs.Lint.{IsLintFor};
 ghost use Rattle.file_verdicts.specs.Check.{IsOutputFor};
 ghost use Rattle.room_files.specs.Blocks.{IsFaultOr};
@@ -12,12 +12,13 @@ ghost use Rattle.script_play.specs.Play.{IsPlayFor};
 ghost use Rattle.script_play.specs.Script.{script_says};
 ghost use Rattle.view_draw.specs.Drawn.{IsDrawn};
 ghost use Rattle.view_outcomes.specs.Blocks.{IsOutcomesFor};
+ghost use Rattle.view_outcomes.specs.declared.search.Asked.TheVariants.{Outcomes, Task};
 ghost use Rattle.view_page.specs.Pages.{IsFaultOf, IsPageFor, fault_among};
 ghost use Rattle.view_sample.specs.Sample.{IsSampleFor};
 ghost use Rattle.view_trace.specs.Trace.{IsTraceIn};
 ghost use Rattle.view_transcript.specs.Transcripts.{IsTranscribed};
 ghost use Rattle.view_why.specs.Why.{IsExplanationIn};
-ghost use Rattle.bgview_exports.specs.Calls.{IsAnswerTo, IsComplete, IsFaultSaid, IsGiven, IsGradeOf, IsOutOfMemory, number_unless_largest, plan_of};
+ghost use Rattle.bgview_exports.specs.Calls.{AreWarningsOf, IsAnswerTo, IsComplete, IsFaultSaid, IsGiven, IsGradeOf, IsOutOfMemory, number_unless_largest, plan_of};
 
 mod answers;
 mod asked;
@@ -25,7 +26,7 @@ mod given;
 
 use answers::{
     checked, drawn, explained, graded, linted, paged, played, said, sampled, searched, traced,
-    transcribed,
+    transcribed, warned,
 };
 pub use asked::SamplePlan;
 use asked::{number_unless_largest, plan_of};
@@ -33,7 +34,7 @@ use given::give;
 pub use given::{CallResult, NoAnswer};
 use run_picture::Style;
 use std::alloc::Global;
-use view_outcomes::Search;
+use view_outcomes::{Asked, Search};
 
 /// Judges a transcript, as `bgsim check`.
 #[unsafe(no_mangle)]
@@ -101,6 +102,19 @@ pub extern "C" fn bgview_lint(alloc: Global, file: &[u8], output: &mut [u8], end
     *ended = give(&linted(alloc, file), output);
 }
 
+/// Warns of what a file has that is no fault but can hardly be meant, as `bgview lint` on standard error.
+#[unsafe(no_mangle)]
+pub extern "C" fn bgview_warnings(
+    alloc: Global,
+    file: &[u8],
+    output: &mut [u8],
+    ended: &mut CallResult,
+)
+    ensures { IsGiven (IsAnswerTo file.now (IsComplete (AreWarningsOf file.now)) IsOutOfMemory) output.old output.new ended.new }
+{
+    *ended = give(&warned(alloc, file), output);
+}
+
 /// Searches all runs of each room of a file, as `bgview outcomes`. At most `crashes` processes stop, or all but one if it is 4294967295; at most `nodes` nodes of
 /// a room are searched; `brief` leaves out the transcripts.
 #[unsafe(no_mangle)]
@@ -114,14 +128,38 @@ pub extern "C" fn bgview_outcomes(
     ended: &mut CallResult,
 )
     ensures { IsGiven (IsAnswerTo rooms.now
-        (IsComplete (IsOutcomesFor (record { crashes = number_unless_largest crashes; nodes = nodes; brief = brief; task = false }) rooms.now)) IsOutOfMemory)
+        (IsComplete (IsOutcomesFor (record { crashes = number_unless_largest crashes; nodes = nodes; brief = brief; asked = Outcomes }) rooms.now)) IsOutOfMemory)
         output.old output.new ended.new }
 {
     let search = Search {
         crashes: number_unless_largest(crashes),
         nodes,
         brief,
-        task: false,
+        asked: Asked::Outcomes,
+    };
+    *ended = give(&searched(alloc, rooms, &search), output);
+}
+
+/// Judges the task of each room of a file, and lists no outcomes, as `bgview outcomes --task`. At most `nodes` nodes of a room are searched; `crashes` is as for
+/// outcomes, and makes no difference to a task.
+#[unsafe(no_mangle)]
+pub extern "C" fn bgview_task(
+    alloc: Global,
+    rooms: &[u8],
+    crashes: u32,
+    nodes: u32,
+    output: &mut [u8],
+    ended: &mut CallResult,
+)
+    ensures { IsGiven (IsAnswerTo rooms.now
+        (IsComplete (IsOutcomesFor (record { crashes = number_unless_largest crashes; nodes = nodes; brief = false; asked = Task }) rooms.now)) IsOutOfMemory)
+        output.old output.new ended.new }
+{
+    let search = Search {
+        crashes: number_unless_largest(crashes),
+        nodes,
+        brief: false,
+        asked: Asked::Task,
     };
     *ended = give(&searched(alloc, rooms, &search), output);
 }

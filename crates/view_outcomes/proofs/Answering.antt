@@ -10,10 +10,12 @@ use Rattle.room_spec.specs.Rooms.{RoomSpec}
 use Rattle.room_files.specs.BlockLists.{IsBlockAt}
 use Rattle.run_search.specs.declared.judging.Judgement.{Judgement}
 use Rattle.run_search.specs.Judging.{AreTooManyKept, HasNodes, IsJudged}
-use Rattle.view_outcomes.specs.declared.rooms.Search.{Search}
+use Rattle.view_outcomes.specs.declared.search.Asked.{Asked}
+use Rattle.view_outcomes.specs.declared.search.Search.{Search}
 use Rattle.view_outcomes.specs.declared.listing.AllOutcomes.{AllOutcomes}
 use Rattle.view_outcomes.specs.Listing.{AreAllListed, IsTaskOfRuns}
-use Rattle.view_outcomes.specs.Rooms.{AddsOutcomes, AreRoomAnswers, IsListText, IsRoomAnswer, IsTaskText, IsTextFor, crashes_for, is_kept}
+use Rattle.view_outcomes.specs.Judgements.{IsTaskText, is_kept}
+use Rattle.view_outcomes.specs.Rooms.{AddsOutcomes, AreRoomAnswers, IsListText, IsRoomAnswer, IsTextFor, crashes_for}
 use Rattle.view_outcomes.specs.Texts.{found_text, head_line, judgement_text, taskless_line, unjudged_text}
 
 and_right : (b : Bool) → b ≡ (b && true)
@@ -93,8 +95,8 @@ unjudged_told limit spec block name before after named kept is =
 
 -- ---- what is asked for
 
-pub asked_told : {E : Type 0} (search : Search) (spec : RoomSpec) (block : List ℕ) (task : Bool) (before after : List ℕ) (result : Result Bool E) → search.task ≡ task → block_in block ≡ Ok (spec, length block)
-    → IfOk result (λ well. (text : List ℕ) × IsTextFor task search spec block well text × (after ≡ before ++ text)) → IfOk result (λ well. (text : List ℕ) × IsRoomAnswer search spec well text × (after ≡ before ++ text))
-asked_told search spec block task before after (Ok well) is says told =
-    (told.0, record { block = block; says = says; text_is = subst (λ (asked : Bool). IsTextFor asked search spec block well told.0) (sym is) told.1 }, told.2)
-asked_told search spec block task before after (Err error) is says told = tt
+pub asked_told : {E : Type 0} (search : Search) (spec : RoomSpec) (block : List ℕ) (asked : Asked) (before after : List ℕ) (result : Result Bool E) → search.asked ≡ asked → block_in block ≡ Ok (spec, length block)
+    → IfOk result (λ well. (text : List ℕ) × IsTextFor asked search spec block well text × (after ≡ before ++ text)) → IfOk result (λ well. (text : List ℕ) × IsRoomAnswer search spec well text × (after ≡ before ++ text))
+asked_told search spec block asked before after (Ok well) is says told =
+    (told.0, record { block = block; says = says; text_is = subst (λ (what : Asked). IsTextFor what search spec block well told.0) (sym is) told.1 }, told.2)
+asked_told search spec block asked before after (Err error) is says told = tt

@@ -1,3 +1,10 @@
 mod AllListed
-mod Counting
+mod AllVectors
 mod Answering
+mod Counting
+mod JudgingVectors
+mod OtherInputs
+mod ReadingBlocks
+mod ReadingValues
+mod WorkedVectors
+mod Both

@@ -4,7 +4,7 @@ use Rattle.room_files.specs.Blocks.{Setup}
 use Rattle.room_files.specs.Inputs.{all_blocks}
 use Rattle.room_files.specs.Verdicts.{outcome_if}
 use Rattle.room_files.specs.declared.outcome.Outcome.{Outcome}
-use Rattle.view_outcomes.specs.declared.rooms.Search.{Search}
+use Rattle.view_outcomes.specs.declared.search.Search.{Search}
 use Rattle.view_outcomes.specs.Rooms.{AddsOutcomes}
 
 -- The lines of the refused blocks, and then all outcomes of each room. All is well if no block was refused, and all is for each room.

@@ -1,5 +1,11 @@
+pub mod AllInputs
 pub mod Blocks
 pub mod Counts
+pub mod Judgements
+pub mod Keeping
 pub mod Listing
 pub mod Rooms
 pub mod Texts
+pub mod Values
+pub mod Vectors
+pub mod VectorTexts

@@ -3,15 +3,16 @@ ghost use Rattle.std.specs.Prelude.{◌≤◌, IfOk, length};
 ghost use Rattle.io_text.specs.Reading.{most_bytes};
 ghost use Rattle.view_outcomes.specs.Blocks.{IsOutcomesFor};
 
-use crate::rooms::{Search, write_rooms};
+use crate::rooms::write_rooms;
+use crate::search::Search;
 use io_text::Text;
 use room_files::{Answer, BlockList, Setup, outcome_if, read_all_blocks};
 use run_search::Progress;
 use std::alloc::{AllocError, Global};
 
-/// Searches each room of a file, and writes the lines of the refused blocks and then all outcomes of each room. All is well if no block
-/// was refused, each room was searched to the end, and each run of each keeps its room's task. Reports how many nodes of a room have been
-/// searched.
+/// Searches each room of a file, and writes the lines of the refused blocks and then what is asked for of each room. All is well if no block
+/// was refused, each room was searched to the end, and each run of each keeps its room's task, with each vector of inputs that is asked for. Reports how many nodes of a
+/// room have been searched.
 ///
 /// # Errors
 ///
@@ -19,7 +20,7 @@ use std::alloc::{AllocError, Global};
 pub fn search_blocks<P: Progress>(
     alloc: Global,
     input: &[u8],
-    search: &Search,
+    search: &Search<'_>,
     progress: &mut P,
 ) -> Result<Answer, AllocError>
     requires { length input.now ≤ most_bytes }

@@ -1,12 +1,22 @@
-//! All outcomes of the rooms of a file, as text: each with a transcript that leads to it.
+//! All outcomes of the rooms of a file, as text: each with a transcript that leads to it. Or whether the rooms' tasks are kept, with their own inputs or with all of some values, or a task of one's own.
 #![tactic(auto)]
 
+mod block;
 mod blocks;
 mod counts;
+mod inputs;
+mod judging;
+mod keeping;
+pub mod laws;
 mod listing;
 mod rooms;
+mod search;
 mod text;
+mod values;
+mod vector_text;
+mod vectors;
 
 pub use blocks::search_blocks;
 pub use listing::{AllOutcomes, Listed, find_all};
-pub use rooms::Search;
+pub use search::{Asked, Search};
+pub use values::{MAX_VALUES, Values, ValuesFault, read_values};

@@ -1,39 +1,28 @@
 //! The outcomes of the rooms of a file.
-ghost use Rattle.std.specs.Prelude.{◌≡◌, ◌++◌, ◌&&◌, IfOk, IfSome, ℕ, List, length, is_none};
+ghost use Rattle.std.specs.Prelude.{◌≡◌, ◌++◌, ◌&&◌, Ok, IfOk, ℕ, List, length};
 ghost use Rattle.room_files.specs.BlockLists.{IsBlockAt};
 ghost use Rattle.room_spec.specs.Blocks.{block_in};
+ghost use Rattle.room_spec.specs.Grammar.{IsBlock};
 ghost use Rattle.room_spec.specs.Rooms.{RoomSpec};
-ghost use Rattle.view_outcomes.specs.Rooms.{AddsOutcomes, IsListText, IsRoomAnswer, IsTaskText, crashes_for, is_kept};
+ghost use Rattle.view_outcomes.specs.Rooms.{AddsOutcomes, IsListText, IsRoomAnswer, crashes_for};
 
+use crate::inputs::judge_all;
+use crate::judging::judge;
+use crate::keeping::judge_both;
 use crate::listing::find_all;
-use crate::text::{
-    write_found, write_head, write_judgement, write_taskless, write_unfinished, write_unjudged,
-};
+use crate::search::{Asked, Search};
+use crate::text::{write_found, write_head, write_unfinished};
 use io_text::Text;
-use room_files::{BlockList, read_room};
-use room_spec::Spec;
-use run_search::{Judgement, Progress, SearchFault, judge_task};
+use room_files::BlockList;
+use room_spec::{Spec, read_block};
+use run_search::{Progress, SearchFault};
 use std::alloc::{AllocError, Global};
 
-/// How the outcomes of rooms are searched and written.
-#[derive(Clone, Copy)]
-pub struct Search {
-    /// At most this number of processes stop; if it is not said, all but one.
-    pub crashes: Option<u32>,
-    /// How many nodes of a room are searched at most.
-    pub nodes: u32,
-    /// Whether transcripts are left out.
-    pub brief: bool,
-    /// Whether the rooms' tasks alone are judged, and no outcome is listed.
-    pub task: bool,
-}
-
-/// Writes all outcomes of each room, or whether each run keeps its task, or that it has too many nodes. Gives whether all rooms were searched to the end, and each
-/// run of each keeps its room's task.
+/// Writes what is asked for of each room. Gives whether all is well: each room was searched to the end, and each run of each keeps its room's task.
 pub fn write_rooms<P: Progress>(
     alloc: Global,
     rooms: &BlockList,
-    search: &Search,
+    search: &Search<'_>,
     output: &mut Text,
     progress: &mut P,
 ) -> Result<bool, AllocError>
@@ -51,7 +40,7 @@ pub fn write_rooms<P: Progress>(
 fn write_room<P: Progress>(
     alloc: Global,
     block: &[u8],
-    search: &Search,
+    search: &Search<'_>,
     output: &mut Text,
     progress: &mut P,
 ) -> Result<bool, AllocError>
@@ -59,28 +48,43 @@ fn write_room<P: Progress>(
     ensures { IfOk result (λ well. (spec : RoomSpec) → block_in block.now ≡ Ok (spec, length block.now) →
         (text : List ℕ) × IsRoomAnswer search.now spec well text × (output.new ≡ output.old ++ text)) }
 {
-    let Ok((spec, _)) = read_room(alloc, block)? else {
-        unreachable!() // it is a room's block
-    };
+    let spec = room_of(alloc, block)?;
     answer(alloc, &spec, block, search, output, progress)
 }
 
-/// Writes all outcomes of a room, or whether each run keeps its task if that alone is asked for.
+/// The room that a block says.
+fn room_of(alloc: Global, block: &[u8]) -> Result<Spec, AllocError>
+    requires { (spec : RoomSpec) × (block_in block.now ≡ Ok (spec, length block.now)) }
+    ensures says { IfOk result (λ spec. block_in block.now ≡ Ok (spec, length block.now)) }
+    ensures block { IfOk result (λ spec. IsBlock block.now spec (length block.now)) }
+{
+    match read_block(alloc, block) {
+        Ok((spec, _)) => Ok(spec),
+        Err(_) => Err(AllocError), // the block is valid, so an allocation failed
+    }
+}
+
+/// Writes what is asked for of a room.
 fn answer<P: Progress>(
     alloc: Global,
     spec: &Spec,
     block: &[u8],
-    search: &Search,
+    search: &Search<'_>,
     output: &mut Text,
     progress: &mut P,
 ) -> Result<bool, AllocError>
-    requires { block_in block.now ≡ Ok (spec.now, length block.now) }
+    requires says { block_in block.now ≡ Ok (spec.now, length block.now) }
+    requires block { IsBlock block.now spec.now (length block.now) }
     ensures { IfOk result (λ well. (text : List ℕ) × IsRoomAnswer search.now spec.now well text × (output.new ≡ output.old ++ text)) }
 {
-    if search.task {
-        return judge(alloc, spec, block, search.nodes, output, progress);
+    match search.asked {
+        Asked::Outcomes => list(alloc, spec, block, search, output, progress),
+        Asked::Task => judge(alloc, spec, block, search.nodes, output, progress),
+        Asked::Inputs(values) => judge_all(alloc, spec, block, search, values, output, progress),
+        Asked::Keeps(task) => {
+            judge_both(alloc, spec, block, task, search.nodes, output, progress)
+        }
     }
-    list(alloc, spec, block, search, output, progress)
 }
 
 /// Writes all outcomes of a room, or that it has too many nodes.
@@ -88,7 +92,7 @@ fn list<P: Progress>(
     alloc: Global,
     spec: &Spec,
     block: &[u8],
-    search: &Search,
+    search: &Search<'_>,
     output: &mut Text,
     progress: &mut P,
 ) -> Result<bool, AllocError>
@@ -107,42 +111,6 @@ fn list<P: Progress>(
         }
         Err(SearchFault::OutOfMemory) => Err(AllocError),
     }
-}
-
-/// Writes whether each run keeps the room's task, and else a run that breaks it; or that the room has too many nodes, or no task.
-fn judge<P: Progress>(
-    alloc: Global,
-    spec: &Spec,
-    block: &[u8],
-    limit: u32,
-    output: &mut Text,
-    progress: &mut P,
-) -> Result<bool, AllocError>
-    ensures { IfOk result (λ well. (text : List ℕ) × IsTaskText limit spec.now block.now well text × (output.new ≡ output.old ++ text)) }
-{
-    let name = spec.name().as_str().as_bytes();
-    let Some(_task) = spec.task() else {
-        write_taskless(output, name)?;
-        return Ok(true);
-    };
-    match judge_task(alloc, spec, limit, progress) {
-        Ok(judgement) => {
-            write_judgement(output, name, block, &judgement)?;
-            Ok(is_kept(&judgement))
-        }
-        Err(SearchFault::TooManyNodes) => {
-            write_unjudged(output, name, limit)?;
-            Ok(false)
-        }
-        Err(SearchFault::OutOfMemory) => Err(AllocError),
-    }
-}
-
-/// Whether each run keeps the task.
-fn is_kept(judgement: &Judgement) -> bool
-    ensures { result ≡ is_kept judgement.now }
-{
-    matches!(judgement, Judgement::Kept(_))
 }
 
 /// How many processes stop at most: all but one, if it is not said.

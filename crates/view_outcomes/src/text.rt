@@ -162,7 +162,7 @@ fn write_decided(output: &mut Text, value: u32) -> Result<(), AllocError>
 }
 
 /// Writes a transcript of these events, as `bgsim check` reads it.
-fn write_transcript(
+pub fn write_transcript(
     output: &mut Text,
     name: &[u8],
     block: &[u8],
@@ -339,7 +339,7 @@ fn write_kept(output: &mut Text, name: &[u8], nodes: usize) -> Result<(), AllocE
     write_all_runs(output, nodes)
 }
 
-fn write_all_runs(output: &mut Text, nodes: usize) -> Result<(), AllocError>
+pub fn write_all_runs(output: &mut Text, nodes: usize) -> Result<(), AllocError>
     ensures { OnOk result (output.new ≡ output.old ++ all_runs_line nodes) }
 {
     output.put(b"these are all runs:")?;

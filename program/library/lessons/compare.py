@@ -23,6 +23,8 @@ MODES = {
     "bgview page": bgview.page,
     "bgview outcomes --nodes 20000": lambda text: bgview.outcomes(text, nodes=20000),
     "bgview outcomes --nodes 20000 --crashes 0 --brief": lambda text: bgview.outcomes(text, 0, 20000, True),
+    "bgview outcomes --nodes 20000 --task": lambda text: bgview.task(text, nodes=20000),
+    "bgview outcomes --nodes 20000 --task --crashes 0": lambda text: bgview.task(text, 0, 20000),
     "bgview sample --schedules 20": lambda text: bgview.sample(text, 20),
     "bgview sample --schedules 20 --crashes 2 --seed 5 --group --brief --top 2": lambda text: bgview.sample(text, 20, 2, 5, group=True, brief=True, top=2),
     "bgview sample --schedules 20 --outcome 2": lambda text: bgview.sample(text, 20, outcome=2),
@@ -56,6 +58,15 @@ def differs(words, file):
         print(f"{words} {file.relative_to(TOP)}")
 
 
+def is_warned_of(file):
+    """Whether something is warned of. Says if it is not what `lint` writes to standard error."""
+    ran = subprocess.run(["bgview", "lint", file], capture_output=True, check=False)
+    warned = bgview.warnings(file.read_bytes())
+    if not warned.well or warned.encode(errors="surrogateescape") != ran.stderr:
+        print(f"the warnings of {file.relative_to(TOP)}")
+    return bool(warned)
+
+
 def said():
     """Whether each fault from 0 to 99 has the words that the program has for it."""
     by_words = subprocess.run(["bgview", "fault", *map(str, range(100))], capture_output=True, text=True, check=False).stdout
@@ -66,4 +77,6 @@ files = sorted([*TOP.glob("examples/*/*/input.txt"), *TOP.glob("exercises/*/*.tx
 print("answers that differ:")
 with ThreadPoolExecutor(4) as pool:
     list(pool.map(lambda one: differs(*one), [(words, file) for file in files for words in MODES]))
+    warned = list(pool.map(is_warned_of, [*files, *TOP.glob("program/view/warnings/*.txt")]))
+print(f"something is warned of: {any(warned)}")
 print(f"each of {len(MODES)} modes was tried, on {'more than 60' if len(files) > 60 else len(files)} files; the faults have the same words: {said()}")

@@ -9,6 +9,7 @@ static void call_each(size_t length, struct bgview_result *result) {
     bgview_check(input, length, output, sizeof output, result);
     bgview_play(input, length, output, sizeof output, result);
     bgview_lint(input, length, output, sizeof output, result);
+    bgview_warnings(input, length, output, sizeof output, result);
     bgview_transcript(input, length, output, sizeof output, result);
     bgview_page(input, length, output, sizeof output, result);
     bgview_grade(input, length, (const uint8_t *)"spent 0", 7, 3, output, sizeof output, result);
@@ -21,6 +22,7 @@ static void call_each(size_t length, struct bgview_result *result) {
         bgview_draw(input, length, 100, option, output, sizeof output, result);
         bgview_outcomes(input, length, BGVIEW_ALL_BUT_ONE, 5000, option, output, sizeof output, result);
     }
+    bgview_task(input, length, BGVIEW_ALL_BUT_ONE, 5000, output, sizeof output, result);
     bgview_fault(13, output, sizeof output, result);
 }
 

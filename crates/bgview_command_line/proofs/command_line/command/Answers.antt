@@ -12,4 +12,5 @@ returns c =
     let sample_is = grown _ _ _ c.sample_command.result _ fault_is c.sample_command.ensures.app c.sample_command.ensures.local c.in_ok-with_sample.ensures in
     let outcomes_is = grown _ _ _ c.outcomes_command.result _ sample_is c.outcomes_command.ensures.app c.outcomes_command.ensures.local c.in_ok-with_outcomes.ensures in
     let lint_is = grown _ _ _ c.lint_command.result _ outcomes_is c.lint_command.ensures.app c.lint_command.ensures.local c.in_ok-with_lint.ensures in
-    all_grown _ _ _ c.grade_command.result _ lint_is c.grade_command.ensures.app c.grade_command.ensures.local c.with_subcommand-10.ensures
+    let grade_is = grown _ _ _ c.grade_command.result _ lint_is c.grade_command.ensures.app c.grade_command.ensures.local c.in_ok-with_grade.ensures in
+    all_grown _ _ _ c.live_command.result _ grade_is c.live_command.ensures.app c.live_command.ensures.local c.with_subcommand-11.ensures

@@ -1,9 +1,13 @@
-use Rattle.std.proofs.Common.{true, false}
+use Rattle.view_outcomes.specs.declared.search.Asked.TheVariants.{Outcomes, Task, Inputs}
 use Rattle.view_outcomes.proofs.Answering.{asked_told}
 use Rattle.view_outcomes.proofs.rooms.answer.Goals as goal
 
-pub returns-then-search : goal.returns-then-search
-returns-then-search g c = asked_told c.args.search.now c.args.spec.now c.args.block.now true c.args.output.now c.judge.new.output c.judge.result c.if-search.true c.requires c.judge.ensures
+pub returns-in-Outcomes : goal.returns-in-Outcomes
+returns-in-Outcomes g c = asked_told c.args.search.now c.args.spec.now c.args.block.now Outcomes c.args.output.now c.list.new.output c.list.result c.in-Outcomes.is c.requires.says c.list.ensures
 
-pub returns : goal.returns
-returns g c = asked_told c.args.search.now c.args.spec.now c.args.block.now false c.args.output.now c.list.new.output c.list.result c.if-search.false c.requires c.list.ensures
+pub returns-in-Task : goal.returns-in-Task
+returns-in-Task g c = asked_told c.args.search.now c.args.spec.now c.args.block.now Task c.args.output.now c.judge.new.output c.judge.result c.in-Task.is c.requires.says c.judge.ensures
+
+pub returns-in-Inputs : goal.returns-in-Inputs
+returns-in-Inputs g c =
+    asked_told c.args.search.now c.args.spec.now c.args.block.now (Inputs c.in-Inputs.values) c.args.output.now c.judge_all.new.output c.judge_all.result c.in-Inputs.is c.requires.says c.judge_all.ensures

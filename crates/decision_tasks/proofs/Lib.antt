@@ -1,0 +1,5 @@
+mod Agreeing
+mod Moments
+mod Reading
+mod Renaming
+mod Worked

@@ -1,0 +1,4 @@
+pub mod Lines
+pub mod Decisions
+pub mod Tasks
+pub mod Laws

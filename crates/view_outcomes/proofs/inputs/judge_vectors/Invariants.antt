@@ -1,0 +1,8 @@
+use Rattle.std.proofs.Common.{◌≤◌, take}
+use Rattle.room_spec.specs.Rooms.{processes}
+use Rattle.view_outcomes.specs.AllInputs.{AddsVectors}
+use Rattle.view_outcomes.specs.Vectors.{vectors}
+use Rattle.view_outcomes.proofs.inputs.judge_vectors.Given as goal
+
+abbrev pub invariant-loop-index : goal.invariant-loop-index
+invariant-loop-index g l = (l.kept ≤ l.index) × AddsVectors l.search l.spec l.block (take l.index (vectors l.values (processes l.spec))) l.kept l.initial.output l.output
