@@ -65,9 +65,14 @@ const files = given.files.map((file, number) => {
   return { number, input: readFileSync(file, 'latin1'), wanted: modes.map(([call, command, options, isWarning]) => ({ call, options, command, isWarning })) };
 });
 const queue = files.flatMap(({ number, wanted }) => wanted.map(one => [given.files[number], one])).values();
-await Promise.all(Array.from({ length: availableParallelism() }, async () => {
-  for (const [file, one] of queue) one.program = await answered(one.command, file, one.isWarning);
-}));
+try {
+  await Promise.all(Array.from({ length: availableParallelism() }, async () => {
+    for (const [file, one] of queue) one.program = await answered(one.command, file, one.isWarning);
+  }));
+} catch (error) {
+  console.error(`node web/compare.mjs: the programs bgsim and bgview have to be on the path (${error.message})`);
+  process.exit(2);
+}
 
 const total = count * files.length;
 const module = readFileSync(given.module);
