@@ -26,19 +26,21 @@ extern "C" {
 /* How a call ended. With the first two and BGVIEW_INCOMPLETE there is an answer; else its length is 0. */
 enum bgview_status {
     BGVIEW_OK = 0,         /* all is well */
-    BGVIEW_REFUSED = 1,    /* something was refused, broken, not reached (grade), or not searched to the end (outcomes, task) */
+    BGVIEW_REFUSED = 1,    /* something was refused, broken, not reached (grade), or not searched to the end (outcomes, task, inputs, keeps) */
     BGVIEW_BAD_INPUT = 2,  /* a line of the input is malformed: `line` and `fault` say which, and why */
     BGVIEW_NO_MEMORY = 3,  /* an allocation failed */
     BGVIEW_INCOMPLETE = 4, /* an allocation failed for a command of a script, and the answer says for which and has the rest; or for a room that was
                               sampled, and the answer has the sample so far */
     BGVIEW_TOO_LONG = 5,   /* the input has more than BGVIEW_MAX_INPUT bytes */
-    BGVIEW_BAD_GOAL = 6    /* the goal is not valid (grade); `line` is the number of the claim at which it stops being one */
+    BGVIEW_BAD_GOAL = 6,   /* the goal is not valid (grade); `line` is the number of the claim at which it stops being one */
+    BGVIEW_BAD_VALUES = 7, /* the values are not valid (inputs); `line` is the number of the one at which they stop being so: the 17th if there are more than 16 */
+    BGVIEW_BAD_TASK = 8    /* the task is not valid (keeps); `line` is the number of the line that is no condition, and `fault` says why */
 };
 
 struct bgview_result {
     uint32_t status; /* an enum bgview_status */
-    uint32_t fault;  /* the number of the input's fault, which bgview_fault puts into words; or 0 */
-    uint64_t line;   /* the line that has the fault, or the goal's claim, counted from 1; or 0 */
+    uint32_t fault;  /* the number of the fault of the input or the task, which bgview_fault puts into words; or 0 */
+    uint64_t line;   /* the line that has the fault, or the goal's claim, or the value, counted from 1; or 0 */
     uint64_t length; /* how many bytes the whole answer has */
 };
 
@@ -91,6 +93,16 @@ void bgview_outcomes(const uint8_t *rooms, size_t length, uint32_t crashes, uint
 /* bgview outcomes --task: whether each run keeps the room's task, without a list of outcomes. The search stops at the first run that breaks it, and shows
    that run. `crashes` is there as for outcomes: who stops makes no difference to a task. */
 void bgview_task(const uint8_t *rooms, size_t length, uint32_t crashes, uint32_t nodes, uint8_t *output, size_t size, struct bgview_result *result);
+
+/* bgview outcomes --inputs: with which inputs each run keeps the room's task, of all lists of these values in place of the room's. `values` is text: 1 to 16
+   different numbers of 0 to 4294967295 with commas between them, as 0,1,5. For each list at most `nodes` nodes are searched. */
+void bgview_inputs(const uint8_t *rooms, size_t length, const uint8_t *values, size_t values_length, uint32_t nodes, uint8_t *output, size_t size,
+                   struct bgview_result *result);
+
+/* bgview outcomes --keeps: whether each run keeps a task of your own, and the room's. `task` is text: conditions of the protocol language on what the
+   processes have decided, with semicolons between them. */
+void bgview_keeps(const uint8_t *rooms, size_t length, const uint8_t *task, size_t task_length, uint32_t nodes, uint8_t *output, size_t size,
+                  struct bgview_result *result);
 
 /* bgview sample: the outcomes of each room by random schedules, and how often each came. All schedules run on the caller's thread. */
 void bgview_sample(const uint8_t *rooms, size_t length, const struct bgview_plan *plan, uint8_t *output, size_t size, struct bgview_result *result);

@@ -5,6 +5,8 @@ const FIELDS = {
     { name: 'crashes', words: 'processes that stop, at most', least: 0, most: 16, usual: '', empty: 'all but one' },
     { name: 'nodes', words: 'nodes, at most', least: 1, most: 100000000, usual: 1000000, growsFrom: 20000 },
     { name: 'task', words: 'the task alone', isSwitch: true },
+    { name: 'values', words: 'the task with all inputs of', isText: true, empty: '0,1' },
+    { name: 'keeps', words: 'a task of your own', isText: true, empty: 'equal(mine) == count; given >= 2' },
   ],
   sample: [
     { name: 'schedules', words: 'schedules', least: 1, most: 1000000, usual: 1000, growsFrom: 1000 },
@@ -68,7 +70,7 @@ const withCommas = number => number.toLocaleString('en');
 
 const openButton = run => `<button data-run="${escaped(run)}">step through</button>`;
 
-const isBroken = line => / task broken /.test(line);
+const isBroken = line => / task broken |, which no line allows, /.test(line);
 
 function cardOf({ lines, run }) {
   const words = lines.map(line => `<span>${escaped(line)}</span>`).join('');
@@ -80,6 +82,8 @@ function answerFault({ status, line, fault, words }) {
   if (status === 2) return `Line ${line} has a fault (${fault}), which has to be mended first.`;
   if (status === NO_MEMORY) return words || 'There is not enough memory for this.';
   if (status === 5) return 'The text has more than 16777216 bytes.';
+  if (status === 7) return `Value ${line} of the inputs is not a number of 0 to 4294967295, or is there twice, or is one too many: there may be 16.`;
+  if (status === 8) return `Line ${line} of the task is no condition: ${view.fault(fault).text.split(': ').slice(1).join(': ').trim()}.`;
   return '';
 }
 
@@ -101,9 +105,10 @@ function showCards(answer) {
   at('shown').innerHTML = `<p class="fault">${escaped(answerFault(answer) || incomplete)}</p>${rooms.filter(parts => parts.length > 0).map(cardsOf).join('')}`;
 }
 
-function fieldOf({ name, words, least, most, usual, empty, isSwitch }, given) {
+function fieldOf({ name, words, least, most, usual, empty, isSwitch, isText }, given) {
   const value = given[name] ?? usual;
   const input = isSwitch ? `<input type="checkbox" name="${name}"${given[name] ? ' checked' : ''}>`
+    : isText ? `<input name="${name}" value="${escaped(given[name] ?? '')}" placeholder="${escaped(empty)}">`
     : `<input type="number" name="${name}" min="${least}" max="${most}" value="${value}" placeholder="${empty ?? ''}"${empty ? '' : ' required'}>`;
   return `<label>${words} ${input}</label>`;
 }
@@ -112,10 +117,20 @@ function showFields(mode, given) {
   at('fields').innerHTML = FIELDS[mode].map(field => fieldOf(field, given)).join('') + '<button>search</button>';
 }
 
-// The numbers in the fields; an empty one is left out.
+// What is in the fields: numbers, and texts; an empty one is left out.
 function givenFields(mode) {
-  const entries = FIELDS[mode].map(({ name, isSwitch }) => [name, isSwitch ? at('fields')[name].checked : at('fields')[name].value]);
-  return Object.fromEntries(entries.filter(([, value]) => value !== '').map(([name, value]) => [name, Number(value)]));
+  const entries = FIELDS[mode].map(({ name, isSwitch, isText }) => {
+    const field = at('fields')[name];
+    return [name, isSwitch ? Number(field.checked) : isText || field.value === '' ? field.value : Number(field.value)];
+  });
+  return Object.fromEntries(entries.filter(([, value]) => value !== ''));
+}
+
+// The call that answers what the fields ask for, and its options.
+function callOf(mode, { task, values, keeps, ...given }) {
+  if (keeps) return { mode: 'keeps', given: { ...given, task: keeps } };
+  if (values) return { mode: 'inputs', given: { ...given, values } };
+  return { mode: task ? 'task' : mode, given };
 }
 
 // Limits that grow up to the one that was asked for.
@@ -145,12 +160,17 @@ function search(mode, rooms) {
     at('fields').reportValidity();
     return;
   }
-  const { task, ...given } = givenFields(mode);
+  const fields = givenFields(mode);
+  if (fields.values && fields.keeps) {
+    at('shown').innerHTML = '<p class="fault">There can be other inputs, or a task of your own, but not both.</p>';
+    return;
+  }
+  const asked = callOf(mode, fields);
   const { name, growsFrom } = FIELDS[mode].find(field => field.growsFrom);
-  const limits = growing(growsFrom, given[name]);
+  const limits = growing(growsFrom, fields[name]);
   at('shown').innerHTML = '';
   showProgress(0, limits, name);
-  searching = callInWorker(limits.map(limit => ({ mode: task ? 'task' : mode, text: rooms, given: { ...given, [name]: limit } })), (answer, index) => {
+  searching = callInWorker(limits.map(limit => ({ mode: asked.mode, text: rooms, given: { ...asked.given, [name]: limit } })), (answer, index) => {
     const isWhole = mode === 'outcomes' && !/: not searched to the end; /.test(answer.text);
     showCards(answer);
     if (isWhole || index + 1 === limits.length || answer.status > 1) stopSearch();

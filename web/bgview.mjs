@@ -8,8 +8,10 @@ const OPTIONS = {
   draw: [['percent', 100], ['byTurns', false]],
   outcomes: [['crashes', LARGEST], ['nodes', 1000000], ['brief', false]],
   task: [['crashes', LARGEST], ['nodes', 1000000]],
+  inputs: [['nodes', 1000000]], keeps: [['nodes', 1000000]],
   grade: [['commands', LARGEST]],
 };
+const TEXTS = { grade: 'goal', inputs: 'values', keeps: 'task' }; // the calls with a second input, and the option that has it
 const PLAN = [['schedules', 1000], ['crashes', 1], ['seed', 1], ['top', LARGEST], ['outcome', LARGEST]]; // the numbers of a struct bgview_plan,
 const PLAN_FLAGS = ['group', 'brief', 'json']; // and after them these
 const RESULT = 24; // the bytes of a struct bgview_result
@@ -69,7 +71,7 @@ export async function load(bytes, { most = 1024 * 1048576, size: usual = 1048576
   for (const [name, options] of Object.entries(OPTIONS)) {
     view[name] = (input, given = {}) => {
       const more = options.map(([option, value]) => Number(given[option] ?? value));
-      return call(name, name === 'grade' ? [input, given.goal ?? ''] : [input], more);
+      return call(name, TEXTS[name] ? [input, given[TEXTS[name]] ?? ''] : [input], more);
     };
   }
   return view;

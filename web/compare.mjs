@@ -3,7 +3,7 @@
 import { load } from './bgview.mjs';
 import { inBrowser } from './browser.mjs';
 import { differing, sumOf } from './judging.mjs';
-import { execFile } from 'child_process';
+import { execFile, execFileSync } from 'child_process';
 import { webcrypto } from 'crypto';
 import { readFileSync } from 'fs';
 import { availableParallelism } from 'os';
@@ -29,6 +29,8 @@ if (!given) {
 }
 // A room at random may have so many outcomes that the list doesn't fit into the module's memory, so fewer nodes are searched there.
 const NODES = given.some === Infinity ? 20000 : 1000;
+// The numbers of the faults of protocols and of tasks, by what the program says of them.
+const SENTENCES = new Map(execFileSync('bgview', ['fault', '1', '2', '3', '4', '5', '6', '7', '8'], { encoding: 'utf8' }).trim().split('\n').map(line => line.split(': ')).map(([number, ...words]) => [words.join(': '), number]));
 // For each the call, the program's words, the options of the call, and whether its answer is what the program writes to standard error.
 const MODES = [
   ['check', 'bgsim check', {}], ['play', 'bgsim play', {}], ['why', 'bgview why', {}], ['why', 'bgview why --json', { json: true }],
@@ -38,6 +40,9 @@ const MODES = [
   ['outcomes', `bgview outcomes --nodes ${NODES}`, { nodes: NODES }],
   ['outcomes', `bgview outcomes --nodes ${NODES} --brief --crashes 0`, { nodes: NODES, brief: true, crashes: 0 }],
   ['task', `bgview outcomes --nodes ${NODES} --task`, { nodes: NODES }], ['task', `bgview outcomes --nodes ${NODES} --task --crashes 0`, { nodes: NODES, crashes: 0 }],
+  ['inputs', 'bgview outcomes --nodes 200 --inputs 0,7', { nodes: 200, values: '0,7' }], ['inputs', 'bgview outcomes --inputs 4,4', { values: '4,4' }],
+  ['keeps', `bgview outcomes --nodes ${NODES} --keeps equal(mine)_==_count;given_>=_2`, { nodes: NODES, task: 'equal(mine) == count;given >= 2' }],
+  ['keeps', 'bgview outcomes --keeps count', { task: 'count' }],
   ['sample', 'bgview sample --schedules 20', { schedules: 20 }],
   ['sample', 'bgview sample --schedules 20 --crashes 2 --seed 5 --group --brief --top 2', { schedules: 20, crashes: 2, seed: 5, group: true, brief: true, top: 2 }],
   ['sample', 'bgview sample --schedules 20 --json --outcome 2', { schedules: 20, json: true, outcome: 2 }],
@@ -45,15 +50,22 @@ const MODES = [
   ['grade', 'bgview grade --goal spent_0', { goal: 'spent 0' }],
 ];
 
+// The line and the number of the fault that a program names: of its input, or of an option's text.
+function namedIn(said) {
+  const [, line, fault] = /^bg\w+: line (\d+): fault (\d+)\n/.exec(said) ?? [];
+  const [, of] = /^bg\w+: (?:claim|value|line) (\d+) of /.exec(said) ?? [];
+  const [, sentence] = /^bg\w+: line \d+ of --keeps, byte \d+: (.*)\n/.exec(said) ?? [];
+  return { line: Number(line ?? of ?? 0), fault: Number(fault ?? SENTENCES.get(sentence) ?? 0) };
+}
+
 // What a program answers to a file; or what it warns of, with which all is well.
 function answered(command, file, isWarning) {
-  const [program, ...rest] = command.split(' ').map(word => word.replace('_', ' '));
+  const [program, ...rest] = command.split(' ').map(word => word.replaceAll('_', ' '));
   return new Promise((resolve, reject) => {
     execFile(program, [...rest, file], { encoding: 'buffer', maxBuffer: 1 << 30 }, async (error, stdout, stderr) => {
       if (error && typeof error.code !== 'number') return reject(error);
       if (isWarning) return resolve({ status: 0, line: 0, fault: 0, sum: await sumOf(stderr) });
-      const [, line, fault, claim] = /^bg\w+: (?:line (\d+): fault (\d+)\n|claim (\d+) of the goal )/.exec(stderr) ?? [];
-      resolve({ status: error ? error.code : 0, line: Number(line ?? claim ?? 0), fault: Number(fault ?? 0), sum: await sumOf(stdout) });
+      resolve({ status: error ? error.code : 0, ...namedIn(String(stderr)), sum: await sumOf(stdout) });
     });
   });
 }

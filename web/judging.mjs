@@ -1,6 +1,6 @@
 // Which answers of the module differ from those of the programs, the same in node and in a browser.
 
-const STATUS = [0, 1, 2, 3, 3, 2, 2]; // the exit status for each status of a call
+const STATUS = [0, 1, 2, 3, 3, 2, 2, 2, 2]; // the exit status for each status of a call
 
 export async function sumOf(bytes) {
   return Array.from(new Uint8Array(await crypto.subtle.digest('SHA-256', bytes)), byte => byte.toString(16).padStart(2, '0')).join('');

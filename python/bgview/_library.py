@@ -7,12 +7,12 @@ import os
 import pathlib
 from typing import Any, Tuple, Union
 
-from .errors import GoalError, InputError, OutOfMemory, TooLong
+from .errors import GoalError, InputError, OutOfMemory, TaskError, TooLong, ValuesError
 
 Text = Union[str, bytes]
 
 LARGEST = 2**32 - 1
-_OK, _REFUSED, _BAD_INPUT, _NO_MEMORY, _INCOMPLETE, _TOO_LONG, _BAD_GOAL = range(7)
+_OK, _REFUSED, _BAD_INPUT, _NO_MEMORY, _INCOMPLETE, _TOO_LONG, _BAD_GOAL, _BAD_VALUES, _BAD_TASK = range(9)
 _FIRST_SIZE = 1 << 16
 
 
@@ -85,6 +85,10 @@ def call(name: str, *words: Any) -> Tuple[str, bool]:
         raise TooLong()
     if result.status == _BAD_GOAL:
         raise GoalError(result.line)
+    if result.status == _BAD_VALUES:
+        raise ValuesError(result.line)
+    if result.status == _BAD_TASK:
+        raise TaskError(result.line, result.fault, sentence(result.fault))
     return answer, result.status == _OK
 
 

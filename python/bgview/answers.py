@@ -5,7 +5,7 @@ from __future__ import annotations
 import ctypes
 import json
 import re
-from typing import Any, Dict, List, Optional, Tuple
+from typing import Any, Dict, Iterable, List, Optional, Tuple
 
 from . import _library
 from ._library import LARGEST, Plan, Text, bytes_of, flag, number, sentence, slice_of
@@ -140,6 +140,17 @@ def task(rooms: Text, crashes: Optional[int] = None, nodes: int = 1000000) -> An
     """Whether each run of each room keeps its task; no outcomes are listed. The search stops at the first run that breaks the task, and shows it. If a room has more than
     `nodes` nodes, the answer says so, and not all is well. How many processes stop (`crashes`) makes no difference. As `bgview outcomes --task`."""
     return Answer(*_answer("task", rooms, _unless_none("crashes", crashes, 16), number("nodes", nodes, 100000000, 1)))
+
+
+def inputs(rooms: Text, values: Iterable[int], nodes: int = 1000000) -> Answer:
+    """With which inputs each run of each room keeps its task, of all lists of these values in place of the room's. As `bgview outcomes --inputs`."""
+    return Answer(*_answer("inputs", rooms, *slice_of(",".join(map(str, values))), number("nodes", nodes, 100000000, 1)))
+
+
+def keeps(rooms: Text, task: Text, nodes: int = 1000000) -> Answer:
+    """Whether each run of each room keeps a task of your own: conditions on what the processes have decided, with semicolons between them, of which one has to hold for
+    each process that has decided, as `equal(mine) == count and given >= 1`. As `bgview outcomes --keeps`."""
+    return Answer(*_answer("keeps", rooms, *slice_of(task), number("nodes", nodes, 100000000, 1)))
 
 
 def _plan(json: bool, schedules: int, crashes: int, seed: int, group: bool, brief: bool, top: Optional[int], outcome: Optional[int]) -> Any:

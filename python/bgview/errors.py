@@ -50,6 +50,40 @@ class GoalError(BgviewError, ValueError):
         return f"claim {self.claim} of the goal is not valid, or is followed by neither `and` nor `or`"
 
 
+class ValuesError(BgviewError, ValueError):
+    """The values of which inputs are made are not valid."""
+
+    value: int
+    """The number of the value, counted from 1, that is not a number of 0 to 4294967295, or is there before, or is the 17th."""
+
+    def __init__(self, value: int) -> None:
+        super().__init__(value)
+        self.value = value
+
+    def __str__(self) -> str:
+        return f"value {self.value} of the inputs is not a number of 0 to 4294967295, or is there twice, or is one too many: there may be 16"
+
+
+class TaskError(BgviewError, ValueError):
+    """A line of a task is no condition."""
+
+    line: int
+    """The number of the line, counted from 1."""
+    fault: int
+    """The number of the fault, as docs/FORMATS.md has it."""
+    sentence: str
+    """What the fault says."""
+
+    def __init__(self, line: int, fault: int, sentence: str) -> None:
+        super().__init__(line, fault, sentence)
+        self.line = line
+        self.fault = fault
+        self.sentence = sentence
+
+    def __str__(self) -> str:
+        return f"line {self.line} of the task: {self.sentence} (fault {self.fault})"
+
+
 class TooLong(BgviewError, ValueError):
     """An input has more than 16777216 bytes."""
 

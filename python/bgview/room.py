@@ -4,9 +4,9 @@ from __future__ import annotations
 
 import re
 from dataclasses import dataclass
-from typing import List, Optional
+from typing import Iterable, List, Optional
 
-from .answers import Answer, Json, Page, Picture, Text, draw, lint, outcomes, page, place_in, task, trace, trace_json
+from .answers import Answer, Json, Page, Picture, Text, draw, inputs, keeps, lint, outcomes, page, place_in, task, trace, trace_json
 from .errors import InputError, Refused
 
 _MOST_STEPS = 65535
@@ -132,6 +132,14 @@ class Room:
     def task(self, crashes: Optional[int] = None, nodes: int = 1000000) -> Answer:
         """Whether each run of the room's protocol keeps its task."""
         return task(self._block, crashes, nodes)
+
+    def inputs(self, values: Iterable[int], nodes: int = 1000000) -> Answer:
+        """With which inputs each run of the room's protocol keeps its task, of all lists of these values."""
+        return inputs(self._block, values, nodes)
+
+    def keeps(self, task: Text, nodes: int = 1000000) -> Answer:
+        """Whether each run of the room's protocol keeps a task of your own."""
+        return keeps(self._block, task, nodes)
 
     def __str__(self) -> str:
         """What the last command did, step by step."""

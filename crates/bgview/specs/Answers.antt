@@ -14,6 +14,7 @@ use Rattle.view_grade.specs.Grades.{IsGraded}
 use Rattle.view_grade.specs.declared.goal.Claim.{Claim}
 use Rattle.view_grade.specs.declared.goal.GoalFault.{GoalFault}
 use Rattle.file_faults.specs.Lint.{IsLintFor}
+use Rattle.view_outcomes.specs.Asked.{AreInputsAsked, IsTaskAsked}
 use Rattle.view_outcomes.specs.Blocks.{IsOutcomesFor}
 use Rattle.decision_tasks.specs.Tasks.{task_in}
 use Rattle.decision_tasks.specs.declared.task.LineFault.{LineFault}
@@ -61,20 +62,6 @@ values_text searching = option_map (λ text. text.now) searching.values
 -- the task of one's own, as text
 abbrev pub keeps_text : Searching → Option (List ℕ)
 keeps_text searching = option_map (λ text. text.now) searching.keeps
-
--- what is asked of each room is with which inputs of these values it keeps its task
-abbrev pub AreInputsAsked : List ℕ → Asked → Type 0
-AreInputsAsked text (asking.Inputs values) = values_in text ≡ Ok values.now
-AreInputsAsked text (asking.Keeps task) = ⊥
-AreInputsAsked text Task = ⊥
-AreInputsAsked text asking.Outcomes = ⊥
-
--- what is asked of each room is whether it keeps this task
-abbrev pub IsTaskAsked : List ℕ → Asked → Type 0
-IsTaskAsked text (asking.Keeps task) = task_in text ≡ Ok task.now
-IsTaskAsked text (asking.Inputs values) = ⊥
-IsTaskAsked text Task = ⊥
-IsTaskAsked text asking.Outcomes = ⊥
 
 -- what is asked of each room: with which inputs it keeps its task, if values are given for them; whether it keeps a task of one's own, if that is given; else whether it keeps its
 -- own, or all its outcomes

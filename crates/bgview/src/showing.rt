@@ -5,6 +5,7 @@ ghost use Rattle.room_files.specs.Blocks.{IsFaultOr};
 ghost use Rattle.room_files.specs.Inputs.{input_says};
 ghost use Rattle.view_grade.specs.Goals.{goal_in};
 ghost use Rattle.script_play.specs.Script.{script_says};
+ghost use Rattle.view_outcomes.specs.Asked.{AreInputsAsked, IsTaskAsked};
 ghost use Rattle.view_outcomes.specs.Blocks.{IsOutcomesFor};
 ghost use Rattle.decision_tasks.specs.Tasks.{task_in};
 ghost use Rattle.view_outcomes.specs.Values.{values_in};
@@ -13,7 +14,7 @@ ghost use Rattle.view_outcomes.specs.declared.search.Search.{Search as SearchVal
 ghost use Rattle.view_page.specs.Pages.{fault_in};
 ghost use Rattle.view_trace.specs.Trace.{IsTraceIn};
 ghost use Rattle.view_why.specs.Why.{IsExplanationIn};
-ghost use Rattle.bgview.specs.Answers.{AreInputsAsked, Ends, EndsRequest, IsGradeFor, IsSearchFor, IsSearchShown, IsShown, IsTaskAsked, IsWhole, goal_fault_in, goal_text, keeps_fault_in, keeps_text, search_fault, values_fault_in, values_text};
+ghost use Rattle.bgview.specs.Answers.{Ends, EndsRequest, IsGradeFor, IsSearchFor, IsSearchShown, IsShown, IsWhole, goal_fault_in, goal_text, keeps_fault_in, keeps_text, search_fault, values_fault_in, values_text};
 ghost use Rattle.bgview_command_line.specs.declared.words.Mode.TheVariants.{Live};
 ghost use Rattle.bgview.specs.Notes.{AreGoalNotes, AreGradeNotes, AreNotes, AreNotesIn, AreRoomNotes, AreSaidOfFile, AreWhyNotes};
 

@@ -1,10 +1,13 @@
 -- What a call answers, and what it says of its answer.
-use Rattle.std.specs.Prelude.{◌≡◌, ⊤, ℕ, ◌<◌, ◌≤◌, ◌==◌, if◌then◌else◌, List, [], ◌∷◌, ◌++◌, length, take, drop, Option, Some, None, Result, Ok, Err, IsOk, decimal}
+use Rattle.std.specs.Prelude.{◌≡◌, ⊤, ℕ, ◌+◌, ◌<◌, ◌≤◌, ◌==◌, false, if◌then◌else◌, List, [], ◌∷◌, ◌++◌, length, take, drop, Option, Some, None, Result, Ok, Err, IsOk, decimal}
 use Rattle.std.specs.List.{flat_map}
 use Rattle.std.specs.declared.alloc.AllocError.{AllocError}
+use Rattle.decision_tasks.specs.Tasks.{task_in}
+use Rattle.decision_tasks.specs.declared.task.LineFault.{LineFault}
 use Rattle.fault_words.specs.Faults.{fault_line, faults_outcome}
 use Rattle.file_faults.specs.Warnings.{file_warnings}
 use Rattle.io_text.specs.Reading.{most_bytes}
+use Rattle.protocol_lang.specs.Faults.{code_of}
 use Rattle.room_files.specs.Faults.{text_code}
 use Rattle.room_files.specs.declared.outcome.Outcome.{Outcome}
 use Rattle.room_files.specs.declared.outcome.Outcome.TheVariants.{AllWell, SomeRefused}
@@ -18,9 +21,17 @@ use Rattle.view_grade.specs.Grades.{IsGraded}
 use Rattle.view_grade.specs.declared.goal.Claim.{Claim}
 use Rattle.view_grade.specs.declared.goal.GoalFault.{GoalFault}
 use Rattle.view_grade.specs.declared.goal.GoalFault.TheVariants.{NoClaim, NoJoint}
+use Rattle.view_outcomes.specs.Asked.{AreInputsAsked, IsTaskAsked}
+use Rattle.view_outcomes.specs.Blocks.{IsOutcomesFor}
+use Rattle.view_outcomes.specs.Values.{values_in}
+use Rattle.view_outcomes.specs.declared.search.Asked.{Asked}
+use Rattle.view_outcomes.specs.declared.search.Search.{Search}
+use Rattle.view_outcomes.specs.declared.values.TheConstants.{MAX_VALUES}
+use Rattle.view_outcomes.specs.declared.values.ValuesFault.{ValuesFault}
+use Rattle.view_outcomes.specs.declared.values.ValuesFault.TheVariants.{NoNumber, Repeated, TooMany}
 use Rattle.bgview_exports.specs.declared.asked.SamplePlan.{SamplePlan}
 use Rattle.bgview_exports.specs.declared.given.NoAnswer.{NoAnswer}
-use Rattle.bgview_exports.specs.declared.given.NoAnswer.TheVariants.{TooLong, Fault, BadGoal}
+use Rattle.bgview_exports.specs.declared.given.NoAnswer.TheVariants.{TooLong, Fault, BadGoal, BadValues, BadTask}
 use Rattle.bgview_exports.specs.declared.given.CallResult.{CallResult}
 
 -- ---- the answer
@@ -31,6 +42,8 @@ IsAnswerTo input shown IsFault (Ok text) = (length input ≤ most_bytes) × show
 IsAnswerTo input shown IsFault (Err (Fault fault)) = (length input ≤ most_bytes) × IsFault fault
 IsAnswerTo input shown IsFault (Err TooLong) = most_bytes < length input
 IsAnswerTo input shown IsFault (Err (BadGoal fault)) = ⊥
+IsAnswerTo input shown IsFault (Err (BadValues fault)) = ⊥
+IsAnswerTo input shown IsFault (Err (BadTask fault)) = ⊥
 
 -- it is there whole, so no allocation failed
 abbrev pub IsComplete : (Outcome → List ℕ → Type 0) → Result Outcome AllocError → List ℕ → Type 0
@@ -51,6 +64,36 @@ IsGradeOf script goal most (Ok text) = (length script ≤ most_bytes) × (claims
 IsGradeOf script goal most (Err (Fault fault)) = (length script ≤ most_bytes) × IsGradeFault script goal fault
 IsGradeOf script goal most (Err TooLong) = most_bytes < length script
 IsGradeOf script goal most (Err (BadGoal fault)) = (length script ≤ most_bytes) × (goal_in goal ≡ Err fault)
+IsGradeOf script goal most (Err (BadValues fault)) = ⊥
+IsGradeOf script goal most (Err (BadTask fault)) = ⊥
+
+-- Rooms are searched as is said, within this many nodes of each, and no transcript is left out.
+pub record IsSearchWithin (nodes : ℕ) (search : Search) : Type 0 where
+  pub crashes : search.crashes ≡ None
+  pub nodes_are : search.nodes ≡ nodes
+  pub brief : search.brief ≡ false
+
+-- what such a search says of rooms, for which no allocation failed
+abbrev pub IsSearchedFor : (Asked → Type 0) → ℕ → List ℕ → Result Outcome AllocError → List ℕ → Type 0
+IsSearchedFor IsAsked nodes rooms ending output = (search : Search) × IsSearchWithin nodes search × IsAsked search.asked × IsComplete (IsOutcomesFor search rooms) ending output
+
+-- With which inputs, of all vectors of the values that a text says, each room keeps its task; or why there is no answer, which may also be that the text says no values.
+abbrev pub AreInputsJudged : List ℕ → List ℕ → ℕ → Result PlayText NoAnswer → Type 0
+AreInputsJudged rooms values nodes (Ok text) = (length rooms ≤ most_bytes) × IsSearchedFor (AreInputsAsked values) nodes rooms text.ending text.output
+AreInputsJudged rooms values nodes (Err (Fault fault)) = (length rooms ≤ most_bytes) × (fault ≡ Memory)
+AreInputsJudged rooms values nodes (Err TooLong) = most_bytes < length rooms
+AreInputsJudged rooms values nodes (Err (BadGoal fault)) = ⊥
+AreInputsJudged rooms values nodes (Err (BadValues fault)) = (length rooms ≤ most_bytes) × (values_in values ≡ Err fault)
+AreInputsJudged rooms values nodes (Err (BadTask fault)) = ⊥
+
+-- Whether each room keeps the task that a text says; or why there is no answer, which may also be that the text says no task.
+abbrev pub IsTaskJudged : List ℕ → List ℕ → ℕ → Result PlayText NoAnswer → Type 0
+IsTaskJudged rooms task nodes (Ok text) = (length rooms ≤ most_bytes) × IsSearchedFor (IsTaskAsked task) nodes rooms text.ending text.output
+IsTaskJudged rooms task nodes (Err (Fault fault)) = (length rooms ≤ most_bytes) × (fault ≡ Memory)
+IsTaskJudged rooms task nodes (Err TooLong) = most_bytes < length rooms
+IsTaskJudged rooms task nodes (Err (BadGoal fault)) = ⊥
+IsTaskJudged rooms task nodes (Err (BadValues fault)) = ⊥
+IsTaskJudged rooms task nodes (Err (BadTask fault)) = (length rooms ≤ most_bytes) × (task_in task ≡ Err fault)
 
 -- the line of the fault of this number
 abbrev pub IsFaultSaid : ℕ → Outcome → List ℕ → Type 0
@@ -91,26 +134,38 @@ status_of (Err (Fault (BadInput line fault))) = 2
 status_of (Err (Fault Memory)) = 3
 status_of (Err TooLong) = 5
 status_of (Err (BadGoal fault)) = 6
+status_of (Err (BadValues fault)) = 7
+status_of (Err (BadTask fault)) = 8
 
--- the number of the input's fault, or 0
+-- the number of the fault of the input or the task, or 0
 abbrev pub fault_of : Result PlayText NoAnswer → ℕ
 fault_of (Ok text) = 0
 fault_of (Err (Fault (BadInput line fault))) = text_code fault
 fault_of (Err (Fault Memory)) = 0
 fault_of (Err TooLong) = 0
 fault_of (Err (BadGoal fault)) = 0
+fault_of (Err (BadValues fault)) = 0
+fault_of (Err (BadTask fault)) = code_of fault.fault
 
 abbrev pub claim_of : GoalFault → ℕ
 claim_of (NoClaim number) = number
 claim_of (NoJoint number) = number
 
--- the number of the line that has it, or of the goal's claim, or 0
+-- the number of the value at which a text stops saying values: the first that is too many, if all before it are well
+abbrev pub value_of : ValuesFault → ℕ
+value_of (NoNumber number) = number
+value_of (Repeated number) = number
+value_of TooMany = MAX_VALUES + 1
+
+-- the number of the line that has it, or of the goal's claim, or of the value, or 0
 abbrev pub line_of : Result PlayText NoAnswer → ℕ
 line_of (Ok text) = 0
 line_of (Err (Fault (BadInput line fault))) = line
 line_of (Err (Fault Memory)) = 0
 line_of (Err TooLong) = 0
 line_of (Err (BadGoal fault)) = claim_of fault
+line_of (Err (BadValues fault)) = value_of fault
+line_of (Err (BadTask fault)) = fault.line
 
 -- if there is no answer there is no text
 abbrev pub text_of : Result PlayText NoAnswer → List ℕ

@@ -1,5 +1,5 @@
 //! What each mode answers to inputs of any length.
-ghost use Rattle.std.specs.Prelude.{◌≡◌, ◌<◌, ◌≤◌, ◌∷◌, [], Ok, IfErr, IsOk, OnOk, length};
+ghost use Rattle.std.specs.Prelude.{◌≡◌, ◌<◌, ◌≤◌, ◌∷◌, [], Ok, None, false, IfErr, IsOk, OnOk, length};
 ghost use Rattle.io_text.specs.Reading.{most_bytes};
 ghost use Rattle.file_faults.specs.Lint.{IsLintFor};
 ghost use Rattle.file_verdicts.specs.Check.{IsOutputFor};
@@ -14,10 +14,11 @@ ghost use Rattle.view_sample.specs.Sample.{IsSampleFor};
 ghost use Rattle.view_trace.specs.Trace.{IsTraceIn};
 ghost use Rattle.view_transcript.specs.Transcripts.{IsTranscribed};
 ghost use Rattle.view_why.specs.Why.{IsExplanationIn};
-ghost use Rattle.bgview_exports.specs.Calls.{AreWarningsOf, IsAnswerTo, IsComplete, IsFaultSaid, IsGradeOf, IsOutOfMemory};
+ghost use Rattle.bgview_exports.specs.Calls.{AreInputsJudged, AreWarningsOf, IsAnswerTo, IsComplete, IsFaultSaid, IsGradeOf, IsOutOfMemory, IsTaskJudged};
 ghost use Rattle.bgview_exports.specs.declared.given.NoAnswer.TheVariants.{TooLong};
 
 use crate::given::NoAnswer;
+use decision_tasks::DecisionTask;
 use fault_words::say_faults;
 use file_faults::{lint, warnings_of};
 use file_verdicts::judge;
@@ -31,7 +32,7 @@ use script_play::{PlayText, play};
 use std::alloc::Global;
 use view_draw::draw;
 use view_grade::{grade, read_goal};
-use view_outcomes::{Search, search_blocks};
+use view_outcomes::{Asked, Search, read_values, search_blocks};
 use view_page::page;
 use view_sample::sample_blocks;
 use view_trace::{trace, trace_json};
@@ -123,6 +124,54 @@ pub fn searched(alloc: Global, rooms: &[u8], search: &Search<'_>) -> Result<Play
 {
     fits(rooms)?;
     Ok(complete(search_blocks(alloc, rooms, search, &mut Silent)?))
+}
+
+/// Judges the task of each room of a file with all inputs of the values that a text says.
+pub fn judged_with_inputs(
+    alloc: Global,
+    rooms: &[u8],
+    values: &[u8],
+    nodes: u32,
+) -> Result<PlayText, NoAnswer>
+    ensures { AreInputsJudged rooms.now values.now nodes result }
+{
+    fits(rooms)?;
+    match read_values(values) {
+        Ok(values) => searched(
+            alloc,
+            rooms,
+            &within(nodes, Asked::Inputs(values.as_slice())),
+        ),
+        Err(fault) => Err(NoAnswer::BadValues(fault)),
+    }
+}
+
+/// Judges each room of a file by the task that a text says.
+pub fn judged_by_task(
+    alloc: Global,
+    rooms: &[u8],
+    task: &[u8],
+    nodes: u32,
+) -> Result<PlayText, NoAnswer>
+    ensures { IsTaskJudged rooms.now task.now nodes result }
+{
+    fits(rooms)?;
+    match DecisionTask::read(alloc, task)? {
+        Ok(task) => searched(alloc, rooms, &within(nodes, Asked::Keeps(&task))),
+        Err(fault) => Err(NoAnswer::BadTask(fault)),
+    }
+}
+
+/// The search of at most this many nodes of a room that asks this of each, and leaves out no transcript.
+pub fn within(nodes: u32, asked: Asked<'_>) -> Search<'_>
+    ensures { result ≡ record { crashes = None; nodes = nodes; brief = false; asked = asked.entry } }
+{
+    Search {
+        crashes: None,
+        nodes,
+        brief: false,
+        asked,
+    }
 }
 
 /// Runs each room of a file by random schedules, on this thread, and counts the outcomes.

@@ -18,15 +18,15 @@ ghost use Rattle.view_sample.specs.Sample.{IsSampleFor};
 ghost use Rattle.view_trace.specs.Trace.{IsTraceIn};
 ghost use Rattle.view_transcript.specs.Transcripts.{IsTranscribed};
 ghost use Rattle.view_why.specs.Why.{IsExplanationIn};
-ghost use Rattle.bgview_exports.specs.Calls.{AreWarningsOf, IsAnswerTo, IsComplete, IsFaultSaid, IsGiven, IsGradeOf, IsOutOfMemory, number_unless_largest, plan_of};
+ghost use Rattle.bgview_exports.specs.Calls.{AreInputsJudged, AreWarningsOf, IsAnswerTo, IsComplete, IsFaultSaid, IsGiven, IsGradeOf, IsOutOfMemory, IsTaskJudged, number_unless_largest, plan_of};
 
 mod answers;
 mod asked;
 mod given;
 
 use answers::{
-    checked, drawn, explained, graded, linted, paged, played, said, sampled, searched, traced,
-    transcribed, warned,
+    checked, drawn, explained, graded, judged_by_task, judged_with_inputs, linted, paged, played,
+    said, sampled, searched, traced, transcribed, warned,
 };
 pub use asked::SamplePlan;
 use asked::{number_unless_largest, plan_of};
@@ -162,6 +162,37 @@ pub extern "C" fn bgview_task(
         asked: Asked::Task,
     };
     *ended = give(&searched(alloc, rooms, &search), output);
+}
+
+/// Judges the task of each room of a file with all inputs of these values, as `bgview outcomes --inputs`. The values are text, as `0,1,5`. At most `nodes` nodes
+/// of a room are searched for each vector of inputs.
+#[unsafe(no_mangle)]
+pub extern "C" fn bgview_inputs(
+    alloc: Global,
+    rooms: &[u8],
+    values: &[u8],
+    nodes: u32,
+    output: &mut [u8],
+    ended: &mut CallResult,
+)
+    ensures { IsGiven (AreInputsJudged rooms.now values.now nodes) output.old output.new ended.new }
+{
+    *ended = give(&judged_with_inputs(alloc, rooms, values, nodes), output);
+}
+
+/// Judges each room of a file by a task of one's own, as `bgview outcomes --keeps`. At most `nodes` nodes of a room are searched.
+#[unsafe(no_mangle)]
+pub extern "C" fn bgview_keeps(
+    alloc: Global,
+    rooms: &[u8],
+    task: &[u8],
+    nodes: u32,
+    output: &mut [u8],
+    ended: &mut CallResult,
+)
+    ensures { IsGiven (IsTaskJudged rooms.now task.now nodes) output.old output.new ended.new }
+{
+    *ended = give(&judged_by_task(alloc, rooms, task, nodes), output);
 }
 
 /// Runs each room of a file by random schedules on this thread, and counts the outcomes, as `bgview sample`.

@@ -1,4 +1,5 @@
 pub mod AllInputs
+pub mod Asked
 pub mod Blocks
 pub mod Counts
 pub mod Judgements
