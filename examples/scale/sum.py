@@ -9,12 +9,17 @@ import sys
 def read(path):
     """The outcomes of a sample, each with its number, and what it says of each room."""
     outcomes, rooms = collections.Counter(), {}
-    with open(path, encoding="utf-8") as file:
-        for one in map(json.loads, file):
-            if "times" in one:
-                outcomes[one["room"], json.dumps(one["processes"], separators=(",", ":"))] += one["times"]
-            else:
-                rooms[one["room"]] = one
+    try:
+        with open(path, encoding="utf-8") as file:
+            for one in map(json.loads, file):
+                if "times" in one:
+                    outcomes[one["room"], json.dumps(one["processes"], separators=(",", ":"))] += one["times"]
+                else:
+                    rooms[one["room"]] = {"seed": one["seed"], "schedules": one["schedules"]}
+    except OSError as fault:
+        sys.exit(f"sum.py: {path}: {fault.strerror}")
+    except (ValueError, KeyError, TypeError):
+        sys.exit(f"sum.py: {path} is not what `bgview sample --json` writes")
     return outcomes, rooms
 
 
@@ -35,4 +40,6 @@ def main(paths):
 
 
 if __name__ == "__main__":
+    if not sys.argv[1:]:
+        sys.exit("usage: sum.py FILE ..")
     main(sys.argv[1:])
