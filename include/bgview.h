@@ -87,22 +87,28 @@ void bgview_grade(const uint8_t *script, size_t length, const uint8_t *goal, siz
 void bgview_page(const uint8_t *file, size_t length, uint8_t *output, size_t size, struct bgview_result *result);
 
 /* bgview outcomes: all outcomes of the protocol of each room, if at most `crashes` processes stop, by a search of at most `nodes` nodes of a room; bgview takes
-   1000000 if no number is given. `brief` leaves out the transcripts. */
+   1000000 if no number is given. `brief` leaves out the transcripts. With _json, here and below: the same answer, an object of JSON a line. */
 void bgview_outcomes(const uint8_t *rooms, size_t length, uint32_t crashes, uint32_t nodes, bool brief, uint8_t *output, size_t size, struct bgview_result *result);
+void bgview_outcomes_json(const uint8_t *rooms, size_t length, uint32_t crashes, uint32_t nodes, bool brief, uint8_t *output, size_t size, struct bgview_result *result);
 
 /* bgview outcomes --task: whether each run keeps the room's task, without a list of outcomes. The search stops at the first run that breaks it, and shows
    that run. `crashes` is there as for outcomes: who stops makes no difference to a task. */
 void bgview_task(const uint8_t *rooms, size_t length, uint32_t crashes, uint32_t nodes, uint8_t *output, size_t size, struct bgview_result *result);
+void bgview_task_json(const uint8_t *rooms, size_t length, uint32_t crashes, uint32_t nodes, uint8_t *output, size_t size, struct bgview_result *result);
 
 /* bgview outcomes --inputs: with which inputs each run keeps the room's task, of all lists of these values in place of the room's. `values` is text: 1 to 16
    different numbers of 0 to 4294967295 with commas between them, as 0,1,5. For each list at most `nodes` nodes are searched. */
 void bgview_inputs(const uint8_t *rooms, size_t length, const uint8_t *values, size_t values_length, uint32_t nodes, uint8_t *output, size_t size,
                    struct bgview_result *result);
+void bgview_inputs_json(const uint8_t *rooms, size_t length, const uint8_t *values, size_t values_length, uint32_t nodes, uint8_t *output, size_t size,
+                        struct bgview_result *result);
 
 /* bgview outcomes --keeps: whether each run keeps a task of your own, and the room's. `task` is text: conditions of the protocol language on what the
    processes have decided, with semicolons between them. */
 void bgview_keeps(const uint8_t *rooms, size_t length, const uint8_t *task, size_t task_length, uint32_t nodes, uint8_t *output, size_t size,
                   struct bgview_result *result);
+void bgview_keeps_json(const uint8_t *rooms, size_t length, const uint8_t *task, size_t task_length, uint32_t nodes, uint8_t *output, size_t size,
+                       struct bgview_result *result);
 
 /* bgview sample: the outcomes of each room by random schedules, and how often each came. All schedules run on the caller's thread. */
 void bgview_sample(const uint8_t *rooms, size_t length, const struct bgview_plan *plan, uint8_t *output, size_t size, struct bgview_result *result);

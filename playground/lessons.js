@@ -65,7 +65,7 @@ function noteAddress() {
 async function textsIn(words) {
   const texts = {};
   for (const name of ['text', 'before']) if (words.has(name)) texts[name] = await unpacked(words.get(name));
-  if (texts.before !== undefined && view.trace(texts.before).status > 1) throw new Error('the run before is no script');
+  if (texts.before !== undefined && tracedScript(texts.before).status > 1) throw new Error('the run before is no script');
   return texts;
 }
 

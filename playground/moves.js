@@ -4,7 +4,7 @@ const lastLine = text => text.slice(text.lastIndexOf('\n', text.length - 2) + 1)
 
 // The steps that a simulator takes next, at most this many, and the answer to its last try: it is let go on a copy of the script.
 function stepsAhead(script, name, simulator, most) {
-  const lines = view.trace(withLine(script, `step ${name} ${simulator} ${most}`), { json: true }).text.trimEnd().split('\n');
+  const lines = tracedScript(withLine(script, `step ${name} ${simulator} ${most}`)).text.trimEnd().split('\n');
   const reply = lines.findLastIndex(line => line.includes('"reply":'));
   return { steps: lines.slice(reply + 1).map(line => JSON.parse(line)), last: JSON.parse(lines[reply]).last };
 }

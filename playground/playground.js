@@ -11,8 +11,8 @@ const past = [];
 const future = [];
 let typedAt = 0; // when the last change was typed, for one undo of what is typed in a row
 
-// What the text is read as: its kind, whether lint finds no fault, the status if there is no answer to it (else 0), and of a script or rooms the script that is played, with what its commands did.
-let reading = { kind: 'rooms', isWell: true, status: 0, script: '', effects: [] };
+// What the text is read as: its kind, whether lint finds no fault, the status if there is no answer to it (else 0), the answer, and of a script or rooms the script that is played, with what its commands did.
+let reading = { kind: 'rooms', isWell: true, status: 0, answer: '', script: '', effects: [] };
 let tab = 'steps';
 const given = { outcomes: {}, sample: {}, picture: {} }; // what was entered in the fields of each
 
@@ -20,27 +20,25 @@ const TYPING_PAUSE = 1000;
 const isTranscript = () => reading.kind === 'transcript';
 const isAtEnd = () => count >= (runs[0]?.rooms[current]?.moments.length ?? 0);
 
-function readRun(text) {
-  return isTranscript() ? readJudged(text, view.why(text).text) : readScript(text, view.trace(text).text);
-}
+const tracedScript = script => view.trace(script, { json: true });
 
 // Reads the text; whether there is something to step through.
 function read() {
   const lint = view.lint(paper.text);
   const kind = kindOf(lint.text);
   const script = kind === 'rooms' ? openingScript(paper.text) : kind === 'script' ? paper.text : '';
-  const answer = lint.status > 1 ? lint : kind === 'transcript' ? view.why(paper.text) : view.trace(script, { json: true });
+  const answer = lint.status > 1 ? lint : kind === 'transcript' ? view.why(paper.text) : tracedScript(script);
   const status = answer.status > 1 ? answer.status : 0;
-  reading = { kind, isWell: lint.status === 0, status, script, effects: kind === 'transcript' || status > 0 ? [] : effectsOf(answer.text) };
+  reading = { kind, isWell: lint.status === 0, status, answer: answer.text, script, effects: kind === 'transcript' || status > 0 ? [] : effectsOf(answer.text) };
   showLint(paper.text, lint, view.warnings(paper.text).text);
   return status === 0;
 }
 
 // The files that are shown: the run, and the one before it.
 function runsOf() {
-  const run = readRun(isTranscript() ? paper.text : reading.script);
+  const run = isTranscript() ? readJudged(paper.text, reading.answer) : readScript(reading.script, reading.answer);
   if (reading.kind === 'rooms') run.refused = []; // lint has said it
-  return paper.before === null || isTranscript() ? [run] : [run, { ...readScript(paper.before, view.trace(paper.before).text), refused: [] }];
+  return paper.before === null || isTranscript() ? [run] : [run, { ...readScript(paper.before, tracedScript(paper.before).text), refused: [] }];
 }
 
 // As many moments are drawn as there is space for, with letters of the size of the others.

@@ -32,20 +32,13 @@ const isOpenEnded = script => commandsOf(script).some(({ lines }) => lines[0] ==
 // What each command of a script did, by what `bgview trace --json` answers: its reply, its room by its place among the rooms that the script opens, and
 // for each step and crash that it brought the number of the simulator.
 function effectsOf(answer) {
-  const effects = [];
   const open = new Map();
   let opened = 0;
-  for (const line of answer.split('\n').filter(Boolean)) {
-    const { reply, room, simulator, last } = JSON.parse(line);
-    if (reply === undefined) {
-      effects.at(-1).simulators.push(simulator);
-      continue;
-    }
+  return readReplies(answer).map(({ said: { reply, room, simulator, last }, taken }) => {
     if (reply === 'opened') open.set(room, opened++);
-    effects.push({ reply, room: reply === 'refused' ? undefined : open.get(room), simulators: reply === 'crash' && last === 'crashed' ? [simulator] : [] });
-    if (reply === 'closed') open.delete(room);
-  }
-  return effects;
+    const simulators = reply === 'crash' && last === 'crashed' ? [simulator] : taken.map(step => step.simulator);
+    return { reply, room: reply === 'refused' ? undefined : open.get(room), simulators };
+  });
 }
 
 // Steps as commands: one for each stretch of a simulator.

@@ -11,6 +11,7 @@ const OPTIONS = {
   inputs: [['nodes', 1000000]], keeps: [['nodes', 1000000]],
   grade: [['commands', LARGEST]],
 };
+const JSON_TOO = ['outcomes', 'task', 'inputs', 'keeps']; // with `json: true` these are calls of their own
 const TEXTS = { grade: 'goal', inputs: 'values', keeps: 'task' }; // the calls with a second input, and the option that has it
 const PLAN = [['schedules', 1000], ['crashes', 1], ['seed', 1], ['top', LARGEST], ['outcome', LARGEST]]; // the numbers of a struct bgview_plan,
 const PLAN_FLAGS = ['group', 'brief', 'json']; // and after them these
@@ -71,7 +72,8 @@ export async function load(bytes, { most = 1024 * 1048576, size: usual = 1048576
   for (const [name, options] of Object.entries(OPTIONS)) {
     view[name] = (input, given = {}) => {
       const more = options.map(([option, value]) => Number(given[option] ?? value));
-      return call(name, TEXTS[name] ? [input, given[TEXTS[name]] ?? ''] : [input], more);
+      const called = given.json && JSON_TOO.includes(name) ? `${name}_json` : name;
+      return call(called, TEXTS[name] ? [input, given[TEXTS[name]] ?? ''] : [input], more);
     };
   }
   return view;

@@ -43,6 +43,8 @@ const MODES = [
   ['inputs', 'bgview outcomes --nodes 200 --inputs 0,7', { nodes: 200, values: '0,7' }], ['inputs', 'bgview outcomes --inputs 4,4', { values: '4,4' }],
   ['keeps', `bgview outcomes --nodes ${NODES} --keeps equal(mine)_==_count;given_>=_2`, { nodes: NODES, task: 'equal(mine) == count;given >= 2' }],
   ['keeps', 'bgview outcomes --keeps count', { task: 'count' }],
+  ['outcomes', `bgview outcomes --nodes ${NODES} --json`, { nodes: NODES, json: true }], ['task', `bgview outcomes --nodes ${NODES} --task --json`, { nodes: NODES, json: true }],
+  ['inputs', 'bgview outcomes --nodes 200 --inputs 0,7 --json', { nodes: 200, values: '0,7', json: true }],
   ['sample', 'bgview sample --schedules 20', { schedules: 20 }],
   ['sample', 'bgview sample --schedules 20 --crashes 2 --seed 5 --group --brief --top 2', { schedules: 20, crashes: 2, seed: 5, group: true, brief: true, top: 2 }],
   ['sample', 'bgview sample --schedules 20 --json --outcome 2', { schedules: 20, json: true, outcome: 2 }],

@@ -227,6 +227,7 @@ def compare_simulated(room, panels, columns):
             compare_obstacle(where, room["moments"][count - 1], now)
         compare_words(where, panel, now)
         compare_agreements(where, panel, now)
+        compare_frames(where, panel, room["moments"][count - 1]["operation"] if count else "")
         compare_processes(where, room, panel, now, count)
         compare_hints(where, panel, now)
         compare_lanes(where, room, panel, panel["drawn"], now, all_now[-1], count, columns)
@@ -290,6 +291,23 @@ def compare_agreements(where, panel, now):
             holds(f"{where}: simulator {i} in agreement {key}", cell, str(of.get(i, 0)) + (f" \u27e8{' '.join(proposal)}\u27e9" if proposal else ""))
             holds(f"{where}: the frame of simulator {i} in agreement {key}", "chosen" in marks, chosen == i)
             holds(f"{where}: whether simulator {i} has lost in agreement {key}", "lost" in marks, bool(proposal) and chosen is not None and chosen != i)
+
+
+def touches(operation, kind, *numbers):
+    """Whether an operation is on a field: of a kind with these numbers, each of which may be any if it is None."""
+    field = re.search(rf" {kind}\(([\d,]+)\)", operation)
+    return bool(field) and all(wanted in (None, number) for wanted, number in zip(numbers, map(int, field[1].split(","))))
+
+
+def compare_frames(where, panel, operation):
+    """The red frames: around the fields that the operation is on. Who reads a proposal doesn't touch it."""
+    numbers, agreements, values, _ = [[["now" in classes.split() for classes in row[1:]] for row in table] for table in panel["classes"]]
+    holds(f"{where}: the frames of step numbers", numbers, [[operation.startswith("load the step numbers") or touches(operation, "step", i, p) for p in range(len(row))] for i, row in enumerate(numbers)])
+    holds(f"{where}: the frames of values", values, [[touches(operation, "value", None, p, r) for r in range(1, len(row) + 1)] for p, row in enumerate(values)])
+    for row, frames in zip(panel["tables"][1], agreements):
+        key = tuple(map(int, re.match(r"p(\d+) r(\d+)", row[0]).groups()))
+        is_load = touches(operation, "agreement ", *key)
+        holds(f"{where}: the frames of agreement {key}", frames, [is_load or touches(operation, "level", i, *key) or (operation.startswith("store") and touches(operation, "view", i, *key)) for i in range(len(frames) - 1)] + [False])
 
 
 def has_stopped(room, i, count):

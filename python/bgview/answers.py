@@ -130,27 +130,52 @@ def page(file: Text) -> Page:
     return Page(*_answer("page", file))
 
 
+def _nodes(nodes: int) -> Any:
+    """How many nodes of a room are searched at most, as a call takes it."""
+    return number("nodes", nodes, 100000000, 1)
+
+
 def outcomes(rooms: Text, crashes: Optional[int] = None, nodes: int = 1000000, brief: bool = False) -> Answer:
     """All outcomes of the protocol of each room, if at most `crashes` processes stop (without a number all but one). A room is searched up to
     `nodes` nodes; if one has more, the answer says so, and not all is well. `brief` leaves out the transcripts. As `bgview outcomes`."""
-    return Answer(*_answer("outcomes", rooms, _unless_none("crashes", crashes, 16), number("nodes", nodes, 100000000, 1), flag(brief)))
+    return Answer(*_answer("outcomes", rooms, _unless_none("crashes", crashes, 16), _nodes(nodes), flag(brief)))
+
+
+def outcomes_json(rooms: Text, crashes: Optional[int] = None, nodes: int = 1000000, brief: bool = False) -> Objects:
+    """The same: for each room an object for each outcome, and one for the room. As `bgview outcomes --json`."""
+    return Objects(*_answer("outcomes_json", rooms, _unless_none("crashes", crashes, 16), _nodes(nodes), flag(brief)))
 
 
 def task(rooms: Text, crashes: Optional[int] = None, nodes: int = 1000000) -> Answer:
     """Whether each run of each room keeps its task; no outcomes are listed. The search stops at the first run that breaks the task, and shows it. If a room has more than
     `nodes` nodes, the answer says so, and not all is well. How many processes stop (`crashes`) makes no difference. As `bgview outcomes --task`."""
-    return Answer(*_answer("task", rooms, _unless_none("crashes", crashes, 16), number("nodes", nodes, 100000000, 1)))
+    return Answer(*_answer("task", rooms, _unless_none("crashes", crashes, 16), _nodes(nodes)))
+
+
+def task_json(rooms: Text, crashes: Optional[int] = None, nodes: int = 1000000) -> Objects:
+    """The same: an object for each room. As `bgview outcomes --task --json`."""
+    return Objects(*_answer("task_json", rooms, _unless_none("crashes", crashes, 16), _nodes(nodes)))
 
 
 def inputs(rooms: Text, values: Iterable[int], nodes: int = 1000000) -> Answer:
     """With which inputs each run of each room keeps its task, of all lists of these values in place of the room's. As `bgview outcomes --inputs`."""
-    return Answer(*_answer("inputs", rooms, *slice_of(",".join(map(str, values))), number("nodes", nodes, 100000000, 1)))
+    return Answer(*_answer("inputs", rooms, *slice_of(",".join(map(str, values))), _nodes(nodes)))
+
+
+def inputs_json(rooms: Text, values: Iterable[int], nodes: int = 1000000) -> Objects:
+    """The same: for each room an object for each list of inputs, and one for the room. As `bgview outcomes --inputs --json`."""
+    return Objects(*_answer("inputs_json", rooms, *slice_of(",".join(map(str, values))), _nodes(nodes)))
 
 
 def keeps(rooms: Text, task: Text, nodes: int = 1000000) -> Answer:
     """Whether each run of each room keeps a task of your own: conditions on what the processes have decided, with semicolons between them, of which one has to hold for
     each process that has decided, as `equal(mine) == count and given >= 1`. As `bgview outcomes --keeps`."""
-    return Answer(*_answer("keeps", rooms, *slice_of(task), number("nodes", nodes, 100000000, 1)))
+    return Answer(*_answer("keeps", rooms, *slice_of(task), _nodes(nodes)))
+
+
+def keeps_json(rooms: Text, task: Text, nodes: int = 1000000) -> Objects:
+    """The same: an object for each room. As `bgview outcomes --keeps --json`."""
+    return Objects(*_answer("keeps_json", rooms, *slice_of(task), _nodes(nodes)))
 
 
 def _plan(json: bool, schedules: int, crashes: int, seed: int, group: bool, brief: bool, top: Optional[int], outcome: Optional[int]) -> Any:

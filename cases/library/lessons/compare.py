@@ -25,6 +25,10 @@ MODES = {
     "bgview outcomes --nodes 20000 --crashes 0 --brief": lambda text: bgview.outcomes(text, 0, 20000, True),
     "bgview outcomes --nodes 20000 --task": lambda text: bgview.task(text, nodes=20000),
     "bgview outcomes --nodes 20000 --task --crashes 0": lambda text: bgview.task(text, 0, 20000),
+    "bgview outcomes --nodes 20000 --json": lambda text: bgview.outcomes_json(text, nodes=20000),
+    "bgview outcomes --nodes 20000 --task --json": lambda text: bgview.task_json(text, nodes=20000),
+    "bgview outcomes --nodes 200 --inputs 0,7 --json": lambda text: bgview.inputs_json(text, (0, 7), 200),
+    "bgview outcomes --nodes 20000 --json --keeps": lambda text: bgview.keeps_json(text, "equal(mine) == count; given >= 2", 20000),
     "bgview outcomes --nodes 200 --inputs 0,7": lambda text: bgview.inputs(text, (0, 7), 200),
     "bgview outcomes --nodes 20000 --keeps": lambda text: bgview.keeps(text, "equal(mine) == count; given >= 2", 20000),
     "bgview sample --schedules 20": lambda text: bgview.sample(text, 20),
@@ -39,6 +43,7 @@ TEXTS = {
     "bgview grade --goal": ["held 0 or not crashed 1"],
     "bgview grade --commands 2 --goal": ["decided 1 3"],
     "bgview outcomes --nodes 20000 --keeps": ["equal(mine) == count; given >= 2"],
+    "bgview outcomes --nodes 20000 --json --keeps": ["equal(mine) == count; given >= 2"],
 }
 
 

@@ -22,11 +22,16 @@ static void call_each(size_t length, struct bgview_result *result) {
         bgview_why(input, length, option, output, sizeof output, result);
         bgview_draw(input, length, 100, option, output, sizeof output, result);
         bgview_outcomes(input, length, BGVIEW_ALL_BUT_ONE, 5000, option, output, sizeof output, result);
+        bgview_outcomes_json(input, length, BGVIEW_ALL_BUT_ONE, 5000, option, output, sizeof output, result);
     }
     bgview_task(input, length, BGVIEW_ALL_BUT_ONE, 5000, output, sizeof output, result);
+    bgview_task_json(input, length, BGVIEW_ALL_BUT_ONE, 5000, output, sizeof output, result);
     bgview_inputs(input, length, (const uint8_t *)"0,7", 3, 200, output, sizeof output, result);
-    for (const char *const *task = (const char *const[]){"equal(mine) == count; given >= 2", "count > 0; cou", NULL}; *task != NULL; task++)
+    bgview_inputs_json(input, length, (const uint8_t *)"0,7", 3, 200, output, sizeof output, result);
+    for (const char *const *task = (const char *const[]){"equal(mine) == count; given >= 2", "count > 0; cou", NULL}; *task != NULL; task++) {
         bgview_keeps(input, length, (const uint8_t *)*task, strlen(*task), 5000, output, sizeof output, result);
+        bgview_keeps_json(input, length, (const uint8_t *)*task, strlen(*task), 5000, output, sizeof output, result);
+    }
     bgview_fault(13, output, sizeof output, result);
 }
 

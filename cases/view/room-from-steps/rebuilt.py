@@ -18,6 +18,10 @@ def nothing(word):
     return [nothing(one) for one in word] if isinstance(word, list) else word and 0
 
 
+def least(simulators):
+    return min(simulators, default=None)
+
+
 def greatest(rows):
     """The greatest number at each place of these rows."""
     return [max(column) for column in zip(*rows)]
@@ -27,7 +31,7 @@ class Room:
     """The words of a room, by their places, who has crashed, and which processes are spent."""
 
     def __init__(self):
-        self.words, self.crashed, self.spent = {}, set(), set()
+        self.words, self.crashed, self.spent, self.chosen = {}, set(), set(), {}
 
     def take(self, step):
         """Takes a step. Says whether it fits what is known of the room."""
@@ -38,7 +42,19 @@ class Room:
         self.words[place] = access["after"]
         if (step["end"] or {}).get("state") == "spent":
             self.spent.add(step["process"])
-        return access["place"]["kind"] == kind and is_known and access["after"] == (access["before"] if stays else self.changed(step))
+        return access["place"]["kind"] == kind and is_known and access["after"] == (access["before"] if stays else self.changed(step)) and self.fits(step)
+
+    def fits(self, step):
+        """Whether what a step says of an agreement is what its levels say: who is inside, who crashed there and, once nobody is inside, whose proposal is chosen. A
+        choice was made by a simulator that left with its proposal, and stays."""
+        if step["access"]["place"]["kind"] != "levels":
+            return step["agreement"] is None
+        said, levels = step["agreement"], step["access"]["after"]
+        inside = [i for i, level in enumerate(levels) if level == 1]
+        left = least(i for i, level in enumerate(levels) if level == 2)
+        known = self.chosen.setdefault((step["process"], step["round"]), said["chosen"])
+        self.chosen[step["process"], step["round"]] = said["chosen"]
+        return said["inside"] == least(inside) and said["blocked_by"] == least(i for i in inside if i in self.crashed) and said["chosen"] in ([None, left] if inside else [left]) and known in (None, said["chosen"])
 
     def changed(self, step):
         """What the word has to be after a step that changes it: one that raises or lowers a number changes that of its simulator, and no other."""

@@ -76,6 +76,7 @@ pub record IsSearchFor (searching : Searching) (search : Search) : Type 0 where
   pub crashes : search.crashes ≡ searching.crashes
   pub nodes : search.nodes ≡ searching.nodes
   pub brief : search.brief ≡ searching.brief
+  pub form : search.form ≡ searching.form
 
 -- the search that is requested
 pub record IsSearchBy (searching : Searching) (search : Search) : Type 0 where

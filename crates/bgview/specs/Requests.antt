@@ -3,6 +3,7 @@ use Rattle.std.specs.Prelude.{◌≡◌, ℕ, List, [], Option, codes, option_ma
 use Rattle.clap.specs.Words.{Row}
 use Rattle.room_sample.specs.declared.sampling.Plan.{Plan}
 use Rattle.run_picture.specs.declared.picture.Style.{Style}
+use Rattle.view_outcomes.specs.Forms.{form_if}
 use Rattle.bgview_command_line.specs.CommandLine.{IsNumber, IsNumberIfAny, is_given, json_among, mode_among, value_among}
 use Rattle.bgview.specs.declared.request.Grading.{Grading}
 use Rattle.bgview.specs.declared.request.Request.{Request}
@@ -25,6 +26,7 @@ pub record IsSearchAmong (found : Option (List ℕ × List Row)) (search : Searc
   pub crashes : IsNumberIfAny (value_among (codes "crashes") found) search.crashes
   pub nodes : IsNumber (value_among (codes "nodes") found) 1000000 search.nodes
   pub brief : search.brief ≡ is_given (value_among (codes "brief") found)
+  pub form : search.form ≡ form_if (json_among found)
   pub task : search.task ≡ is_given (value_among (codes "task") found)
   pub values : option_map (λ text. text.now) search.values ≡ value_among (codes "inputs") found
   pub keeps : option_map (λ text. text.now) search.keeps ≡ value_among (codes "keeps") found

@@ -8,6 +8,7 @@ use bgview_command_line::{
 use clap::ArgMatches;
 use room_sample::Plan;
 use run_picture::Style;
+use view_outcomes::Form;
 
 /// What a script is graded by.
 #[derive(Clone, Copy)]
@@ -25,8 +26,9 @@ pub struct Searching<'a> {
     pub crashes: Option<u32>,
     /// How many nodes of a room are searched at most.
     pub nodes: u32,
-    /// Whether transcripts are left out.
+    /// Whether transcripts are left out, in JSON the events of runs.
     pub brief: bool,
+    pub form: Form,
     /// Whether the rooms' tasks alone are judged.
     pub task: bool,
     /// The values of which inputs are made, as text, if the rooms' tasks are judged with all of them.
@@ -106,6 +108,7 @@ fn search_in<'a>(matches: &ArgMatches<'a>) -> Searching<'a>
         crashes: number_if_any(matches, "crashes"),
         nodes: number_among(matches, "nodes", 1000000),
         brief: is_given(matches, "brief"),
+        form: Form::of(is_given(matches, "json")),
         task: is_given(matches, "task"),
         values: text_if_any(matches, "inputs"),
         keeps: text_if_any(matches, "keeps"),

@@ -235,12 +235,13 @@ fn asked_alone<'a>(task: bool) -> Asked<'a>
 
 /// The search that asks this of each room.
 fn search_for<'a>(searching: &Searching<'_>, asked: Asked<'a>) -> Search<'a>
-    ensures { result ≡ record { crashes = searching.now.crashes; nodes = searching.now.nodes; brief = searching.now.brief; asked = asked.entry } }
+    ensures { result ≡ record { crashes = searching.now.crashes; nodes = searching.now.nodes; brief = searching.now.brief; form = searching.now.form; asked = asked.entry } }
 {
     Search {
         crashes: searching.crashes,
         nodes: searching.nodes,
         brief: searching.brief,
+        form: searching.form,
         asked,
     }
 }

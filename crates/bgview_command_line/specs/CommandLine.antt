@@ -93,6 +93,10 @@ task_rule = record (new_rule (codes "task")) { long = Some (codes "task"); actio
 abbrev pub searching_app : App
 searching_app = with_rule (with_rule (file_app (codes "outcomes")) stopped_rule) nodes_rule
 
+-- and how the outcomes are listed
+abbrev pub listing_app : App
+listing_app = with_rule (with_rule searching_app json_rule) brief_rule
+
 -- an option that takes a text
 abbrev pub inputs_rule : Rule
 inputs_rule = record (new_rule (codes "inputs")) { long = Some (codes "inputs"); value_names = 1 }
@@ -100,9 +104,9 @@ inputs_rule = record (new_rule (codes "inputs")) { long = Some (codes "inputs");
 abbrev pub keeps_rule : Rule
 keeps_rule = record (new_rule (codes "keeps")) { long = Some (codes "keeps"); value_names = 1 }
 
--- the subcommand `outcomes`, which takes besides two flags and two texts
+-- the subcommand `outcomes`, which takes besides a flag and two texts
 abbrev pub outcomes_app : App
-outcomes_app = with_rule (with_rule (with_rule (with_rule searching_app brief_rule) task_rule) inputs_rule) keeps_rule
+outcomes_app = with_rule (with_rule (with_rule listing_app task_rule) inputs_rule) keeps_rule
 
 -- an option that takes a text, and has to be there
 abbrev pub goal_rule : Rule

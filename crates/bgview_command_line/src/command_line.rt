@@ -4,7 +4,7 @@ ghost use Rattle.clap.specs.Kinds.{FailsBy};
 ghost use Rattle.clap.specs.declared.builder.command.Command.TheViews.{out-Command};
 ghost use Rattle.clap.specs.Words.{app_of, fault_of, subcommand_of, subcommand_rows_of, with_subcommand};
 ghost use Rattle.clap.specs.Walk.{rule_of};
-ghost use Rattle.bgview_command_line.specs.CommandLine.{bgview_app, brief_rule, choosing_app, commands_rule, crashes_rule, draw_app, drawing_app, fault_app, file_app, goal_rule, grade_app, group_rule, inputs_rule, json_rule, keeps_rule, outcome_rule, outcomes_app, page_app, plain_app, sample_app, scale_rule, schedules_rule, searching_app, seed_rule, nodes_rule, stopped_rule, task_rule, telling_app, top_rule, turns_rule, workers_rule};
+ghost use Rattle.bgview_command_line.specs.CommandLine.{bgview_app, brief_rule, choosing_app, commands_rule, crashes_rule, draw_app, drawing_app, fault_app, file_app, goal_rule, grade_app, group_rule, inputs_rule, json_rule, keeps_rule, listing_app, outcome_rule, outcomes_app, page_app, plain_app, sample_app, scale_rule, schedules_rule, searching_app, seed_rule, nodes_rule, stopped_rule, task_rule, telling_app, top_rule, turns_rule, workers_rule};
 
 use clap::{Arg, ArgAction, ArgMatches, Command, Error, value_parser};
 use std::alloc::{AllocError, Global};
@@ -282,11 +282,23 @@ fn outcomes_command<'a>(alloc: Global) -> Result<Command<'a>, AllocError>
     ensures app { IfOk result (λ command. app_of command ≡ outcomes_app) }
     ensures local { IfOk result (λ command. (out-Command command).has_globals ≡ false) }
 {
-    let outcomes = searching_command(alloc)?;
-    let with_brief = outcomes.arg(brief_option(alloc, "Leaves out the transcripts"))?;
-    let with_task = with_brief.arg(task_option(alloc))?;
+    let outcomes = listing_command(alloc)?;
+    let with_task = outcomes.arg(task_option(alloc))?;
     let with_inputs = with_task.arg(inputs_option(alloc))?;
     with_inputs.arg(keeps_option(alloc))
+}
+
+/// The subcommand `outcomes` with the options that say which runs are searched, and how the outcomes are listed.
+fn listing_command<'a>(alloc: Global) -> Result<Command<'a>, AllocError>
+    ensures app { IfOk result (λ command. app_of command ≡ listing_app) }
+    ensures local { IfOk result (λ command. (out-Command command).has_globals ≡ false) }
+{
+    let outcomes = searching_command(alloc)?;
+    let with_json = outcomes.arg(json_option(alloc))?;
+    with_json.arg(brief_option(
+        alloc,
+        "Leaves out the transcripts, and in JSON the events of runs",
+    ))
 }
 
 /// The subcommand `outcomes` with the options that say which runs are searched.
@@ -298,7 +310,7 @@ fn searching_command<'a>(alloc: Global) -> Result<Command<'a>, AllocError>
         alloc,
         "outcomes",
         "Searches all runs of each room's protocol, and lists all outcomes",
-        "bgview outcomes [--crashes F] [--nodes N] [--brief] [--task] [--inputs A,B,..] [--keeps TASK] [FILE]",
+        "bgview outcomes [--crashes F] [--nodes N] [--json] [--brief] [--task] [--inputs A,B,..] [--keeps TASK] [FILE]",
         "The rooms; without it, standard input is read",
     )?;
     let with_crashes = outcomes.arg(stopped_option(alloc))?;

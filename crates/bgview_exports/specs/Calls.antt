@@ -25,6 +25,7 @@ use Rattle.view_outcomes.specs.Asked.{AreInputsAsked, IsTaskAsked}
 use Rattle.view_outcomes.specs.Blocks.{IsOutcomesFor}
 use Rattle.view_outcomes.specs.Values.{values_in}
 use Rattle.view_outcomes.specs.declared.search.Asked.{Asked}
+use Rattle.view_outcomes.specs.declared.search.Form.{Form}
 use Rattle.view_outcomes.specs.declared.search.Search.{Search}
 use Rattle.view_outcomes.specs.declared.values.TheConstants.{MAX_VALUES}
 use Rattle.view_outcomes.specs.declared.values.ValuesFault.{ValuesFault}
@@ -67,33 +68,34 @@ IsGradeOf script goal most (Err (BadGoal fault)) = (length script ≤ most_bytes
 IsGradeOf script goal most (Err (BadValues fault)) = ⊥
 IsGradeOf script goal most (Err (BadTask fault)) = ⊥
 
--- Rooms are searched as is said, within this many nodes of each, and no transcript is left out.
-pub record IsSearchWithin (nodes : ℕ) (search : Search) : Type 0 where
+-- Rooms are searched within this many nodes of each, no run is left out, and the answer has this form.
+pub record IsSearchWithin (nodes : ℕ) (form : Form) (search : Search) : Type 0 where
   pub crashes : search.crashes ≡ None
   pub nodes_are : search.nodes ≡ nodes
   pub brief : search.brief ≡ false
+  pub form_is : search.form ≡ form
 
 -- what such a search says of rooms, for which no allocation failed
-abbrev pub IsSearchedFor : (Asked → Type 0) → ℕ → List ℕ → Result Outcome AllocError → List ℕ → Type 0
-IsSearchedFor IsAsked nodes rooms ending output = (search : Search) × IsSearchWithin nodes search × IsAsked search.asked × IsComplete (IsOutcomesFor search rooms) ending output
+abbrev pub IsSearchedFor : (Asked → Type 0) → ℕ → Form → List ℕ → Result Outcome AllocError → List ℕ → Type 0
+IsSearchedFor IsAsked nodes form rooms ending output = (search : Search) × IsSearchWithin nodes form search × IsAsked search.asked × IsComplete (IsOutcomesFor search rooms) ending output
 
 -- With which inputs, of all vectors of the values that a text says, each room keeps its task; or why there is no answer, which may also be that the text says no values.
-abbrev pub AreInputsJudged : List ℕ → List ℕ → ℕ → Result PlayText NoAnswer → Type 0
-AreInputsJudged rooms values nodes (Ok text) = (length rooms ≤ most_bytes) × IsSearchedFor (AreInputsAsked values) nodes rooms text.ending text.output
-AreInputsJudged rooms values nodes (Err (Fault fault)) = (length rooms ≤ most_bytes) × (fault ≡ Memory)
-AreInputsJudged rooms values nodes (Err TooLong) = most_bytes < length rooms
-AreInputsJudged rooms values nodes (Err (BadGoal fault)) = ⊥
-AreInputsJudged rooms values nodes (Err (BadValues fault)) = (length rooms ≤ most_bytes) × (values_in values ≡ Err fault)
-AreInputsJudged rooms values nodes (Err (BadTask fault)) = ⊥
+abbrev pub AreInputsJudged : List ℕ → List ℕ → ℕ → Form → Result PlayText NoAnswer → Type 0
+AreInputsJudged rooms values nodes form (Ok text) = (length rooms ≤ most_bytes) × IsSearchedFor (AreInputsAsked values) nodes form rooms text.ending text.output
+AreInputsJudged rooms values nodes form (Err (Fault fault)) = (length rooms ≤ most_bytes) × (fault ≡ Memory)
+AreInputsJudged rooms values nodes form (Err TooLong) = most_bytes < length rooms
+AreInputsJudged rooms values nodes form (Err (BadGoal fault)) = ⊥
+AreInputsJudged rooms values nodes form (Err (BadValues fault)) = (length rooms ≤ most_bytes) × (values_in values ≡ Err fault)
+AreInputsJudged rooms values nodes form (Err (BadTask fault)) = ⊥
 
 -- Whether each room keeps the task that a text says; or why there is no answer, which may also be that the text says no task.
-abbrev pub IsTaskJudged : List ℕ → List ℕ → ℕ → Result PlayText NoAnswer → Type 0
-IsTaskJudged rooms task nodes (Ok text) = (length rooms ≤ most_bytes) × IsSearchedFor (IsTaskAsked task) nodes rooms text.ending text.output
-IsTaskJudged rooms task nodes (Err (Fault fault)) = (length rooms ≤ most_bytes) × (fault ≡ Memory)
-IsTaskJudged rooms task nodes (Err TooLong) = most_bytes < length rooms
-IsTaskJudged rooms task nodes (Err (BadGoal fault)) = ⊥
-IsTaskJudged rooms task nodes (Err (BadValues fault)) = ⊥
-IsTaskJudged rooms task nodes (Err (BadTask fault)) = (length rooms ≤ most_bytes) × (task_in task ≡ Err fault)
+abbrev pub IsTaskJudged : List ℕ → List ℕ → ℕ → Form → Result PlayText NoAnswer → Type 0
+IsTaskJudged rooms task nodes form (Ok text) = (length rooms ≤ most_bytes) × IsSearchedFor (IsTaskAsked task) nodes form rooms text.ending text.output
+IsTaskJudged rooms task nodes form (Err (Fault fault)) = (length rooms ≤ most_bytes) × (fault ≡ Memory)
+IsTaskJudged rooms task nodes form (Err TooLong) = most_bytes < length rooms
+IsTaskJudged rooms task nodes form (Err (BadGoal fault)) = ⊥
+IsTaskJudged rooms task nodes form (Err (BadValues fault)) = ⊥
+IsTaskJudged rooms task nodes form (Err (BadTask fault)) = (length rooms ≤ most_bytes) × (task_in task ≡ Err fault)
 
 -- the line of the fault of this number
 abbrev pub IsFaultSaid : ℕ → Outcome → List ℕ → Type 0

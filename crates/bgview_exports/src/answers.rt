@@ -14,9 +14,10 @@ ghost use Rattle.view_sample.specs.Sample.{IsSampleFor};
 ghost use Rattle.view_trace.specs.Trace.{IsTraceIn};
 ghost use Rattle.view_transcript.specs.Transcripts.{IsTranscribed};
 ghost use Rattle.view_why.specs.Why.{IsExplanationIn};
-ghost use Rattle.bgview_exports.specs.Calls.{AreInputsJudged, AreWarningsOf, IsAnswerTo, IsComplete, IsFaultSaid, IsGradeOf, IsOutOfMemory, IsTaskJudged};
+ghost use Rattle.bgview_exports.specs.Calls.{AreInputsJudged, AreWarningsOf, IsAnswerTo, IsComplete, IsFaultSaid, IsGradeOf, IsOutOfMemory, IsTaskJudged, number_unless_largest};
 ghost use Rattle.bgview_exports.specs.declared.given.NoAnswer.TheVariants.{TooLong};
 
+use crate::asked::number_unless_largest;
 use crate::given::NoAnswer;
 use decision_tasks::DecisionTask;
 use fault_words::say_faults;
@@ -32,7 +33,7 @@ use script_play::{PlayText, play};
 use std::alloc::Global;
 use view_draw::draw;
 use view_grade::{grade, read_goal};
-use view_outcomes::{Asked, Search, read_values, search_blocks};
+use view_outcomes::{Asked, Form, Search, read_values, search_blocks};
 use view_page::page;
 use view_sample::sample_blocks;
 use view_trace::{trace, trace_json};
@@ -132,16 +133,16 @@ pub fn judged_with_inputs(
     rooms: &[u8],
     values: &[u8],
     nodes: u32,
+    form: Form,
 ) -> Result<PlayText, NoAnswer>
-    ensures { AreInputsJudged rooms.now values.now nodes result }
+    ensures { AreInputsJudged rooms.now values.now nodes form result }
 {
     fits(rooms)?;
     match read_values(values) {
-        Ok(values) => searched(
-            alloc,
-            rooms,
-            &within(nodes, Asked::Inputs(values.as_slice())),
-        ),
+        Ok(values) => {
+            let search = within(nodes, form, Asked::Inputs(values.as_slice()));
+            searched(alloc, rooms, &search)
+        }
         Err(fault) => Err(NoAnswer::BadValues(fault)),
     }
 }
@@ -152,24 +153,39 @@ pub fn judged_by_task(
     rooms: &[u8],
     task: &[u8],
     nodes: u32,
+    form: Form,
 ) -> Result<PlayText, NoAnswer>
-    ensures { IsTaskJudged rooms.now task.now nodes result }
+    ensures { IsTaskJudged rooms.now task.now nodes form result }
 {
     fits(rooms)?;
     match DecisionTask::read(alloc, task)? {
-        Ok(task) => searched(alloc, rooms, &within(nodes, Asked::Keeps(&task))),
+        Ok(task) => searched(alloc, rooms, &within(nodes, form, Asked::Keeps(&task))),
         Err(fault) => Err(NoAnswer::BadTask(fault)),
     }
 }
 
-/// The search of at most this many nodes of a room that asks this of each, and leaves out no transcript.
-pub fn within(nodes: u32, asked: Asked<'_>) -> Search<'_>
-    ensures { result ≡ record { crashes = None; nodes = nodes; brief = false; asked = asked.entry } }
+/// The search that asks this of each room, in which at most `crashes` processes stop, or all but one if it is 4294967295.
+pub fn search_of(crashes: u32, nodes: u32, brief: bool, form: Form, asked: Asked<'_>) -> Search<'_>
+    ensures { result ≡ record { crashes = number_unless_largest crashes; nodes = nodes; brief = brief; form = form; asked = asked.entry } }
+{
+    Search {
+        crashes: number_unless_largest(crashes),
+        nodes,
+        brief,
+        form,
+        asked,
+    }
+}
+
+/// The search of at most this many nodes of a room that asks this of each, and leaves out no run.
+fn within(nodes: u32, form: Form, asked: Asked<'_>) -> Search<'_>
+    ensures { result ≡ record { crashes = None; nodes = nodes; brief = false; form = form; asked = asked.entry } }
 {
     Search {
         crashes: None,
         nodes,
         brief: false,
+        form,
         asked,
     }
 }

@@ -13,6 +13,7 @@ ghost use Rattle.script_play.specs.Script.{script_says};
 ghost use Rattle.view_draw.specs.Drawn.{IsDrawn};
 ghost use Rattle.view_outcomes.specs.Blocks.{IsOutcomesFor};
 ghost use Rattle.view_outcomes.specs.declared.search.Asked.TheVariants.{Outcomes, Task};
+ghost use Rattle.view_outcomes.specs.declared.search.Form.TheVariants.{Json, Text as TextForm};
 ghost use Rattle.view_page.specs.Pages.{IsFaultOf, IsPageFor, fault_among};
 ghost use Rattle.view_sample.specs.Sample.{IsSampleFor};
 ghost use Rattle.view_trace.specs.Trace.{IsTraceIn};
@@ -26,7 +27,7 @@ mod given;
 
 use answers::{
     checked, drawn, explained, graded, judged_by_task, judged_with_inputs, linted, paged, played,
-    said, sampled, searched, traced, transcribed, warned,
+    said, sampled, search_of, searched, traced, transcribed, warned,
 };
 pub use asked::SamplePlan;
 use asked::{number_unless_largest, plan_of};
@@ -34,7 +35,7 @@ use given::give;
 pub use given::{CallResult, NoAnswer};
 use run_picture::Style;
 use std::alloc::Global;
-use view_outcomes::{Asked, Search};
+use view_outcomes::{Asked, Form};
 
 /// Judges a transcript, as `bgsim check`.
 #[unsafe(no_mangle)]
@@ -128,15 +129,29 @@ pub extern "C" fn bgview_outcomes(
     ended: &mut CallResult,
 )
     ensures { IsGiven (IsAnswerTo rooms.now
-        (IsComplete (IsOutcomesFor (record { crashes = number_unless_largest crashes; nodes = nodes; brief = brief; asked = Outcomes }) rooms.now)) IsOutOfMemory)
+        (IsComplete (IsOutcomesFor (record { crashes = number_unless_largest crashes; nodes = nodes; brief = brief; form = TextForm; asked = Outcomes }) rooms.now)) IsOutOfMemory)
         output.old output.new ended.new }
 {
-    let search = Search {
-        crashes: number_unless_largest(crashes),
-        nodes,
-        brief,
-        asked: Asked::Outcomes,
-    };
+    let search = search_of(crashes, nodes, brief, Form::Text, Asked::Outcomes);
+    *ended = give(&searched(alloc, rooms, &search), output);
+}
+
+/// The same as JSON: an object a line, as `bgview outcomes --json`.
+#[unsafe(no_mangle)]
+pub extern "C" fn bgview_outcomes_json(
+    alloc: Global,
+    rooms: &[u8],
+    crashes: u32,
+    nodes: u32,
+    brief: bool,
+    output: &mut [u8],
+    ended: &mut CallResult,
+)
+    ensures { IsGiven (IsAnswerTo rooms.now
+        (IsComplete (IsOutcomesFor (record { crashes = number_unless_largest crashes; nodes = nodes; brief = brief; form = Json; asked = Outcomes }) rooms.now)) IsOutOfMemory)
+        output.old output.new ended.new }
+{
+    let search = search_of(crashes, nodes, brief, Form::Json, Asked::Outcomes);
     *ended = give(&searched(alloc, rooms, &search), output);
 }
 
@@ -152,15 +167,28 @@ pub extern "C" fn bgview_task(
     ended: &mut CallResult,
 )
     ensures { IsGiven (IsAnswerTo rooms.now
-        (IsComplete (IsOutcomesFor (record { crashes = number_unless_largest crashes; nodes = nodes; brief = false; asked = Task }) rooms.now)) IsOutOfMemory)
+        (IsComplete (IsOutcomesFor (record { crashes = number_unless_largest crashes; nodes = nodes; brief = false; form = TextForm; asked = Task }) rooms.now)) IsOutOfMemory)
         output.old output.new ended.new }
 {
-    let search = Search {
-        crashes: number_unless_largest(crashes),
-        nodes,
-        brief: false,
-        asked: Asked::Task,
-    };
+    let search = search_of(crashes, nodes, false, Form::Text, Asked::Task);
+    *ended = give(&searched(alloc, rooms, &search), output);
+}
+
+/// The same as JSON: an object for each room, as `bgview outcomes --task --json`.
+#[unsafe(no_mangle)]
+pub extern "C" fn bgview_task_json(
+    alloc: Global,
+    rooms: &[u8],
+    crashes: u32,
+    nodes: u32,
+    output: &mut [u8],
+    ended: &mut CallResult,
+)
+    ensures { IsGiven (IsAnswerTo rooms.now
+        (IsComplete (IsOutcomesFor (record { crashes = number_unless_largest crashes; nodes = nodes; brief = false; form = Json; asked = Task }) rooms.now)) IsOutOfMemory)
+        output.old output.new ended.new }
+{
+    let search = search_of(crashes, nodes, false, Form::Json, Asked::Task);
     *ended = give(&searched(alloc, rooms, &search), output);
 }
 
@@ -175,9 +203,26 @@ pub extern "C" fn bgview_inputs(
     output: &mut [u8],
     ended: &mut CallResult,
 )
-    ensures { IsGiven (AreInputsJudged rooms.now values.now nodes) output.old output.new ended.new }
+    ensures { IsGiven (AreInputsJudged rooms.now values.now nodes TextForm) output.old output.new ended.new }
 {
-    *ended = give(&judged_with_inputs(alloc, rooms, values, nodes), output);
+    let judged = judged_with_inputs(alloc, rooms, values, nodes, Form::Text);
+    *ended = give(&judged, output);
+}
+
+/// The same as JSON: an object for each vector and for each room, as `bgview outcomes --inputs --json`.
+#[unsafe(no_mangle)]
+pub extern "C" fn bgview_inputs_json(
+    alloc: Global,
+    rooms: &[u8],
+    values: &[u8],
+    nodes: u32,
+    output: &mut [u8],
+    ended: &mut CallResult,
+)
+    ensures { IsGiven (AreInputsJudged rooms.now values.now nodes Json) output.old output.new ended.new }
+{
+    let judged = judged_with_inputs(alloc, rooms, values, nodes, Form::Json);
+    *ended = give(&judged, output);
 }
 
 /// Judges each room of a file by a task of one's own, as `bgview outcomes --keeps`. At most `nodes` nodes of a room are searched.
@@ -190,9 +235,26 @@ pub extern "C" fn bgview_keeps(
     output: &mut [u8],
     ended: &mut CallResult,
 )
-    ensures { IsGiven (IsTaskJudged rooms.now task.now nodes) output.old output.new ended.new }
+    ensures { IsGiven (IsTaskJudged rooms.now task.now nodes TextForm) output.old output.new ended.new }
 {
-    *ended = give(&judged_by_task(alloc, rooms, task, nodes), output);
+    let judged = judged_by_task(alloc, rooms, task, nodes, Form::Text);
+    *ended = give(&judged, output);
+}
+
+/// The same as JSON: an object for each room, as `bgview outcomes --keeps --json`.
+#[unsafe(no_mangle)]
+pub extern "C" fn bgview_keeps_json(
+    alloc: Global,
+    rooms: &[u8],
+    task: &[u8],
+    nodes: u32,
+    output: &mut [u8],
+    ended: &mut CallResult,
+)
+    ensures { IsGiven (IsTaskJudged rooms.now task.now nodes Json) output.old output.new ended.new }
+{
+    let judged = judged_by_task(alloc, rooms, task, nodes, Form::Json);
+    *ended = give(&judged, output);
 }
 
 /// Runs each room of a file by random schedules on this thread, and counts the outcomes, as `bgview sample`.

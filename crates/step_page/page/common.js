@@ -1,6 +1,6 @@
 'use strict';
-// A page to step through the rooms of one file, or of two next to each other. All that it shows is computed from texts in the page: a script
-// and what `bgview trace` answers to it, or a transcript and what `bgview why` answers to it.
+// A page to step through the rooms of one file, or of two next to each other. All that it shows follows from texts in the page: a script
+// and what `bgview trace --json` answers to it, or a transcript and what `bgview why` answers to it.
 
 // ---- for all files
 

@@ -3,7 +3,7 @@
 const LEVELS = ['level 0: outside', 'level 1: in the unsafe section', 'level 2: its proposal counts'];
 
 // A row of step numbers in words: how many writes of each process it has.
-const writesIn = row => listed(row.map((number, p) => `${number === '.' ? 'no write' : many(Number(number), 'write')} of process ${p}`));
+const writesIn = row => listed(row.map((number, p) => `${number === 0 ? 'no write' : many(number, 'write')} of process ${p}`));
 
 const agreementHint = (process, round) => `agreement (${process},${round}): on the snapshot of process ${process} in round ${round}`;
 

@@ -17,7 +17,7 @@ const textAt = (x, y, text, more = '') => `<text x="${x}" y="${y}" ${more}>${esc
 function drawSquare(moment, x, y, isDone) {
   const hue = hueOf(moment.process);
   const filled = '120D'.includes(moment.letter);
-  const title = `<title>${escaped(moment.name + ': ' + moment.operation + ': ' + moment.sight)}</title>`;
+  const title = `<title>${escaped(`${moment.name}: ${moment.operation}: ${moment.shows}`)}</title>`;
   return `<g opacity="${isDone ? 1 : 0.4}">${title}<rect x="${x + 1}" y="${y}" width="${SQUARE - 2}" height="24" rx="4" fill="${filled ? hue : 'var(--paper)'}" stroke="${hue}" stroke-width="1.5"/>`
     + textAt(x + SQUARE / 2, y + 17, moment.letter, `text-anchor="middle" font-weight="700" fill="${filled ? 'var(--paper)' : 'var(--ink)'}"`) + '</g>';
 }

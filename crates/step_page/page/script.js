@@ -1,112 +1,68 @@
 // ---- a script and its trace: the moments of each room
 
-// The entries of a script: a block after the line `open`, or a command's line.
-function readEntries(script) {
+// The blocks of a script's entries, in order: the lines of one after the line `open`, and null for a command.
+function blocksOf(script) {
   const lines = script.split('\n');
-  const entries = [];
+  const blocks = [];
   for (let at = 0; at < lines.length; at++) {
     if (lines[at] === 'open') {
       const found = lines.indexOf('end', at);
       const end = found < 0 ? lines.length : found; // a block without an end takes all that is left
-      entries.push({ block: lines.slice(at + 1, end) });
+      blocks.push(lines.slice(at + 1, end));
       at = end;
     } else if (lines[at] !== '') {
-      entries.push({ block: null });
+      blocks.push(null);
     }
   }
-  return entries;
+  return blocks;
 }
 
-// The replies of a trace: the first line of each, the lines of its report, and what is said under it.
+// The replies of a trace, each with the steps that its command took: a trace has a line of JSON for each reply and for each step.
 function readReplies(trace) {
   const replies = [];
-  let report = false;
-  for (const line of trace.split('\n')) {
-    if (line.startsWith('    ')) {
-      replies[replies.length - 1].notes.push(line);
-    } else if (report) {
-      replies[replies.length - 1].report.push(line);
-      report = !/^\S+ end$/.test(line);
-    } else if (line !== '') {
-      replies.push({ line, notes: [], report: [] });
-      report = /^\S+ report$/.test(line);
-    }
+  for (const line of trace.split('\n').filter(Boolean)) {
+    const said = JSON.parse(line);
+    if (said.reply) replies.push({ said, taken: [] });
+    else replies.at(-1).taken.push(said);
   }
   return replies;
 }
 
-const OPERATION = '(load the step numbers(?:, word \\d+)?|load the levels of agreement \\(\\d+,\\d+\\)|load \\w+\\([\\d,]+\\)(?:, word \\d+)?'
-  + '|store (?:them|\\d+ \\+ 1|\\d+) in \\w+\\([\\d,]+\\)(?:, word \\d+)?|(?:add 1 to|subtract 1 from) \\w+\\([\\d,]+\\))';
-const STEP = new RegExp('^    (\\d+) +(?:(simulator (\\d+), turn (\\d+), process (\\d+), round (\\d+)) +)?' + OPERATION + '(?: +(.*))?$');
+// The letter of a step by its line, as in the pictures of `bgview draw`. A step that enters or leaves an agreement has the level that it comes to.
+const LETTERS = { write: 'W', raise: '+', snap: 'S', show: 'V', look: '?', ask: 'A', view: 'G', values: 'r', out: 'D' };
+const letterOf = ({ simulator, access: { line, after } }) => LETTERS[line] ?? String(after[simulator]);
 
-// The letter of a step, as in the pictures of `bgview draw`.
-function letterOf(operation, sight) {
-  if (operation.startsWith('store')) return operation.includes(' in value') ? 'W' : operation.includes(' in out') ? 'D' : 'V';
-  if (operation.startsWith('add 1 to step')) return '+';
-  if (operation.startsWith('add 1 to level')) return sight.startsWith('0 to 1') ? '1' : '2';
-  if (operation.startsWith('subtract')) return '0';
-  if (operation.startsWith('load the step')) return 'S';
-  if (operation.startsWith('load the levels')) return /proposal stands/.test(sight) ? '?' : 'A';
-  return operation.startsWith('load view') ? 'G' : 'r';
+// A step as a moment of its room. `spent`: the processes of which the trace says at this moment that they are out of rounds.
+function momentOf(step) {
+  const { simulator, turn, process, round, end } = step;
+  return { ...step, name: `simulator ${simulator}, turn ${turn}, process ${process}, round ${round}`, letter: letterOf(step), spent: end?.state === 'spent' ? [process] : [] };
 }
 
-// A step from its line, which names its turn only if that begins or goes on there; or null for another line.
-function readStep(line, before) {
-  const found = STEP.exec(line);
-  if (!found) return null;
-  const [, , turn, simulator, number, process, round, operation, sight = ''] = found;
-  const of = turn ? { name: turn, simulator: +simulator, turn: +number, process: +process, round: +round }
-    : { name: before.name, simulator: before.simulator, turn: before.turn, process: before.process, round: before.round };
-  return { ...of, operation, sight, letter: letterOf(operation, sight), word: Number((/, word (\d+)/.exec(operation) || [0, 0])[1]), here: '', ending: '', obstacle: '', spent: [] };
+// What a reply, and the steps of its command, add to the moments of a room.
+function addMoments(moments, { reply, simulator, last, processes }, taken) {
+  for (const step of taken) moments.push(momentOf(step));
+  if (reply === 'crash' && last === 'crashed') moments.push({ crash: true, simulator, spent: [] });
+  if (reply === 'report') moments.at(-1)?.spent.push(...range(processes.length).filter(p => processes[p].state === 'spent'));
 }
 
-// The notes under a reply become moments of the room: steps, with what takes effect and how the turn ends.
-function addSteps(room, notes) {
-  for (const line of notes) {
-    const moments = room.moments;
-    const step = readStep(line, moments.findLast(moment => moment.name) || {});
-    const last = moments[moments.length - 1];
-    if (step) moments.push(step);
-    else if (/^ +here/.test(line) && last) last.here = line.trim();
-    else if (/^ +(useful|quiet)/.test(line) && last) addEnding(last, line.trim());
-    else if (/^ +(open|chosen|blocked)/.test(line) && last) last.obstacle = line.trim();
-  }
-}
+// The name of a command may be no text.
+const refusalText = ({ line, room, fault, words }) => `${line ? `line ${line}` : room ?? '\ufffd'} refused ${fault.join(' ')}: ${words}`;
 
-function addEnding(moment, ending) {
-  moment.ending = ending;
-  const found = /process (\d+) is spent/.exec(ending);
-  if (found) moment.spent.push(Number(found[1]));
-}
-
-// What the page can't compute: which processes are out of rounds by now.
-function addReport(room, report) {
-  const spent = report.map(line => /^\S+ process (\d+) spent$/.exec(line)).filter(Boolean);
-  room.moments.at(-1)?.spent.push(...spent.map(found => Number(found[1])));
-}
-
-// All rooms that the script opened, in order, and the lines of what was refused.
+// All rooms that the script opened, in order, and what was refused.
 function readScript(script, trace) {
+  const blocks = blocksOf(script);
   const rooms = [];
   const open = new Map();
   const refused = [];
-  const entries = readEntries(script);
-  readReplies(trace).forEach((reply, index) => {
-    const [name, word, number, answer] = reply.line.split(' ');
-    if (/ refused /.test(reply.line)) {
-      refused.push([reply.line, ...reply.notes.map(note => note.trim())].join(': '));
-    } else if (word === 'opened') {
-      const room = { ...readSpec(entries[index].block), moments: [], show: SIMULATION };
-      rooms.push(room);
-      open.set(name, room);
-    } else if (open.has(name)) {
-      const room = open.get(name);
-      addSteps(room, reply.notes);
-      if (word === 'crash' && answer === 'crashed') room.moments.push({ crash: true, simulator: Number(number), letter: 'x', here: '', ending: '', obstacle: '', spent: [] });
-      if (word === 'report') addReport(room, reply.report);
-      if (word === 'closed') open.delete(name);
+  readReplies(trace).forEach(({ said, taken }, index) => {
+    if (said.reply === 'refused') {
+      refused.push(refusalText(said));
+    } else if (said.reply === 'opened') {
+      rooms.push({ ...readSpec(blocks[index]), moments: [], show: SIMULATION });
+      open.set(said.room, rooms.at(-1));
+    } else {
+      addMoments(open.get(said.room).moments, said, taken);
     }
   });
   return { rooms, refused };
 }
-

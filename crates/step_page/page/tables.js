@@ -6,16 +6,19 @@ const simulatorHead = i => headCell('simulator ' + i, `level and proposal of sim
 function stepNumbers(room, state, moment) {
   const touched = (i, p) => moment && (moment.letter === 'S' || (moment.letter === '+' && moment.simulator === i && moment.process === p));
   const head = [corner, ...range(room.inputs.length).map(processHead)];
-  const rows = range(room.simulators).map(i => [headCell(`simulator ${i}${state.crashed[i] ? ' \u2715' : ''}`, `how many writes of each process simulator ${i} has counted${state.crashed[i] ? '; it has crashed' : ''}`),
-    ...range(room.inputs.length).map(p => cell(state.counted[i][p], countHint(i, p, state.counted[i][p]), touched(i, p) && 'now'))]);
+  const rows = range(room.simulators).map(i => {
+    const hasCrashed = state.crashed.has(i);
+    const counts = range(room.inputs.length).map(p => countedBy(state, i, p));
+    return [headCell(`simulator ${i}${hasCrashed ? ' \u2715' : ''}`, `how many writes of each process simulator ${i} has counted${hasCrashed ? '; it has crashed' : ''}`),
+      ...counts.map((number, p) => cell(number, countHint(i, p, number), touched(i, p) && 'now'))];
+  });
   return section('numbers', 'Step numbers', table([head, ...rows]));
 }
 
 // The state of an agreement: open, fixed, resolved, or blocked for ever.
-function resultOf(state, key, levels) {
-  const chosen = state.chosen.get(key);
+function resultOf(state, chosen, levels) {
   const inside = range(levels.length).filter(i => levels[i] === 1);
-  const blockers = inside.filter(i => state.crashed[i]);
+  const blockers = inside.filter(i => state.crashed.has(i));
   const are = inside.length === 1 ? 'is' : 'are';
   if (isResolved(levels)) return `resolved: the proposal of simulator ${chosen.simulator}`;
   if (blockers.length > 0) return `blocked for ever by ${named(blockers)}`;
@@ -23,44 +26,44 @@ function resultOf(state, key, levels) {
   return inside.length > 0 ? `open: ${named(inside)} ${are} inside` : 'no proposal stands';
 }
 
-function agreementRow(room, state, moment, key) {
-  const [process, round] = key.split(',').map(Number);
-  const levels = levelsOf(state, room, key);
-  const chosen = state.chosen.get(key);
+function agreementRow(room, state, moment, agreement) {
+  const { process, round, chosen } = agreement;
+  const levels = levelsOf(state, room, agreement);
   const here = moment && moment.process === process && moment.round === round;
   const cells = range(room.simulators).map(i => {
-    const row = state.proposals.get(keyOf(i, process, round));
+    const row = proposalOf(state, room, i, agreement);
     const touched = here && ((moment.simulator === i && 'V120'.includes(moment.letter)) || '?A'.includes(moment.letter));
-    const proposal = row ? ` <span class="row ${chosen && chosen.simulator !== i ? 'lost' : ''}">\u27e8${row.join(' ')}\u27e9</span>` : '';
+    const proposal = row ? ` <span class="row ${chosen && chosen.simulator !== i ? 'lost' : ''}">\u27e8${row.map(number => number || '.').join(' ')}\u27e9</span>` : '';
     const fate = !chosen ? '' : chosen.simulator === i ? '; it is chosen' : '; another one is chosen';
     return cell(`${levels[i]}${proposal}`, levelHint(i, process, round, levels[i], row, fate), 'level' + levels[i], chosen && chosen.simulator === i && 'chosen', touched && 'now');
   });
-  const result = resultOf(state, key, levels);
+  const result = resultOf(state, chosen, levels);
   return [headCell(`p${process} r${round}`, agreementHint(process, round)), ...cells, cell(result, resultHint(result), 'text')];
 }
 
 function agreements(room, state, moment) {
-  const keys = new Set([...state.levels.keys(), ...[...state.proposals.keys()].map(key => key.split(',').slice(1).join(','))]);
-  const ordered = [...keys].map(key => key.split(',').map(Number)).sort((one, other) => one[1] - other[1] || one[0] - other[0]).map(numbers => keyOf(...numbers));
+  const ordered = [...state.agreements.values()].sort((one, other) => one.round - other.round || one.process - other.process);
   const head = [corner, ...range(room.simulators).map(simulatorHead), headCell('result', 'whether a proposal is chosen, and may be read')];
-  return section('agreements', 'Agreements: level and proposal of each simulator', table([head, ...ordered.map(key => agreementRow(room, state, moment, key))]));
+  return section('agreements', 'Agreements: level and proposal of each simulator', table([head, ...ordered.map(agreement => agreementRow(room, state, moment, agreement))]));
 }
 
 // What has become of a process by now, as a report says it, with all simulators that hold it.
 function standingOf(room, state, process) {
-  if (state.decided.has(process)) return 'decided ' + state.decided.get(process);
-  if (state.spent.has(process) && isResolved(levelsOf(state, room, keyOf(process, room.rounds)))) return 'spent';
-  const keys = [...state.levels.keys()].filter(key => key.startsWith(process + ','));
-  const holders = range(room.simulators).filter(i => state.crashed[i] && keys.some(key => levelsOf(state, room, key)[i] === 1));
+  const decision = decisionOf(state, room, process);
+  if (decision !== undefined) return `decided ${decision}`;
+  if (state.spent.has(process) && isResolved(levelsOf(state, room, { process, round: room.rounds }))) return 'spent';
+  const own = [...state.agreements.values()].filter(agreement => agreement.process === process);
+  const holders = range(room.simulators).filter(i => state.crashed.has(i) && own.some(agreement => levelsOf(state, room, agreement)[i] === 1));
   if (holders.length > 0) return `held by ${named(holders)}`;
-  return state.stopped.every(Boolean) ? 'no simulator left' : 'may still go on';
+  return state.stopped.size === room.simulators ? 'no simulator left' : 'may still go on';
 }
 
 // The values that processes wrote, by round.
 function values(room, state, moment) {
   const valued = range(room.inputs.length).map(p => range(room.rounds).map(index => valueOf(state, room, p, index + 1)));
   const rounds = Math.max(0, ...valued.map(row => row.findLastIndex(value => value !== undefined) + 1));
-  const touched = (p, round) => moment && 'Wr'.includes(moment.letter) && new RegExp(`value\\(\\d+,${p},${round}\\)`).test(moment.operation);
+  const place = moment?.access?.place;
+  const touched = (p, round) => place?.kind === 'value' && place.process === p && place.round === round;
   const head = [corner, ...range(rounds).map(index => headCell('r' + (index + 1), 'round ' + (index + 1)))];
   const rows = valued.map((row, p) => [processHead(p), ...range(rounds).map(index => cell(row[index] ?? '', valueHint(p, index + 1, row[index]), touched(p, index + 1) && 'now'))]);
   return section('values', 'Values', table([head, ...rows]));
@@ -84,8 +87,9 @@ const SIMULATION = {
     const moment = room.moments[count - 1];
     if (!moment) return 'Nobody has taken a step.';
     if (moment.crash) return `<b>simulator ${moment.simulator}</b> crashes`;
-    const more = [moment.here, moment.ending, moment.obstacle].filter(Boolean).map(text => `<small>${escaped(text)}</small>`).join('');
-    return `<b>${escaped(moment.name)}</b>: ${escaped(moment.operation)} \u2192 <b>${escaped(moment.sight)}</b>${more}`;
+    const { effect, end, obstacle } = moment.notes;
+    const more = [effect, end, obstacle].filter(Boolean).map(text => `<small>${escaped(text)}</small>`).join('');
+    return `<b>${escaped(moment.name)}</b>: ${escaped(moment.operation)} \u2192 <b>${escaped(moment.shows)}</b>${more}`;
   },
   lanes: drawLanes,
   tables(room, count) {

@@ -11,7 +11,7 @@ use std::alloc::AllocError;
 /// What a file of a page is.
 #[derive(Clone, Copy)]
 pub enum FileKind {
-    /// A script; the answer to it is its trace.
+    /// A script; the answer to it is its trace as JSON.
     Script,
     /// A transcript; the answer to it is the verdict on each room, with the reasons.
     Transcript,

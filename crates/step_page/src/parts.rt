@@ -87,8 +87,8 @@ td.text { text-align: left; }
 /// What is after the files: the code.
 pub const END: &[u8] = br####"<script>
 'use strict';
-// A page to step through the rooms of one file, or of two next to each other. All that it shows is computed from texts in the page: a script
-// and what `bgview trace` answers to it, or a transcript and what `bgview why` answers to it.
+// A page to step through the rooms of one file, or of two next to each other. All that it shows follows from texts in the page: a script
+// and what `bgview trace --json` answers to it, or a transcript and what `bgview why` answers to it.
 
 // ---- for all files
 
@@ -124,214 +124,161 @@ const named = simulators => (simulators.length === 1 ? 'simulator ' : 'simulator
 
 // ---- a script and its trace: the moments of each room
 
-// The entries of a script: a block after the line `open`, or a command's line.
-function readEntries(script) {
+// The blocks of a script's entries, in order: the lines of one after the line `open`, and null for a command.
+function blocksOf(script) {
   const lines = script.split('\n');
-  const entries = [];
+  const blocks = [];
   for (let at = 0; at < lines.length; at++) {
     if (lines[at] === 'open') {
       const found = lines.indexOf('end', at);
       const end = found < 0 ? lines.length : found; // a block without an end takes all that is left
-      entries.push({ block: lines.slice(at + 1, end) });
+      blocks.push(lines.slice(at + 1, end));
       at = end;
     } else if (lines[at] !== '') {
-      entries.push({ block: null });
+      blocks.push(null);
     }
   }
-  return entries;
+  return blocks;
 }
 
-// The replies of a trace: the first line of each, the lines of its report, and what is said under it.
+// The replies of a trace, each with the steps that its command took: a trace has a line of JSON for each reply and for each step.
 function readReplies(trace) {
   const replies = [];
-  let report = false;
-  for (const line of trace.split('\n')) {
-    if (line.startsWith('    ')) {
-      replies[replies.length - 1].notes.push(line);
-    } else if (report) {
-      replies[replies.length - 1].report.push(line);
-      report = !/^\S+ end$/.test(line);
-    } else if (line !== '') {
-      replies.push({ line, notes: [], report: [] });
-      report = /^\S+ report$/.test(line);
-    }
+  for (const line of trace.split('\n').filter(Boolean)) {
+    const said = JSON.parse(line);
+    if (said.reply) replies.push({ said, taken: [] });
+    else replies.at(-1).taken.push(said);
   }
   return replies;
 }
 
-const OPERATION = '(load the step numbers(?:, word \\d+)?|load the levels of agreement \\(\\d+,\\d+\\)|load \\w+\\([\\d,]+\\)(?:, word \\d+)?'
-  + '|store (?:them|\\d+ \\+ 1|\\d+) in \\w+\\([\\d,]+\\)(?:, word \\d+)?|(?:add 1 to|subtract 1 from) \\w+\\([\\d,]+\\))';
-const STEP = new RegExp('^    (\\d+) +(?:(simulator (\\d+), turn (\\d+), process (\\d+), round (\\d+)) +)?' + OPERATION + '(?: +(.*))?$');
+// The letter of a step by its line, as in the pictures of `bgview draw`. A step that enters or leaves an agreement has the level that it comes to.
+const LETTERS = { write: 'W', raise: '+', snap: 'S', show: 'V', look: '?', ask: 'A', view: 'G', values: 'r', out: 'D' };
+const letterOf = ({ simulator, access: { line, after } }) => LETTERS[line] ?? String(after[simulator]);
 
-// The letter of a step, as in the pictures of `bgview draw`.
-function letterOf(operation, sight) {
-  if (operation.startsWith('store')) return operation.includes(' in value') ? 'W' : operation.includes(' in out') ? 'D' : 'V';
-  if (operation.startsWith('add 1 to step')) return '+';
-  if (operation.startsWith('add 1 to level')) return sight.startsWith('0 to 1') ? '1' : '2';
-  if (operation.startsWith('subtract')) return '0';
-  if (operation.startsWith('load the step')) return 'S';
-  if (operation.startsWith('load the levels')) return /proposal stands/.test(sight) ? '?' : 'A';
-  return operation.startsWith('load view') ? 'G' : 'r';
+// A step as a moment of its room. `spent`: the processes of which the trace says at this moment that they are out of rounds.
+function momentOf(step) {
+  const { simulator, turn, process, round, end } = step;
+  return { ...step, name: `simulator ${simulator}, turn ${turn}, process ${process}, round ${round}`, letter: letterOf(step), spent: end?.state === 'spent' ? [process] : [] };
 }
 
-// A step from its line, which names its turn only if that begins or goes on there; or null for another line.
-function readStep(line, before) {
-  const found = STEP.exec(line);
-  if (!found) return null;
-  const [, , turn, simulator, number, process, round, operation, sight = ''] = found;
-  const of = turn ? { name: turn, simulator: +simulator, turn: +number, process: +process, round: +round }
-    : { name: before.name, simulator: before.simulator, turn: before.turn, process: before.process, round: before.round };
-  return { ...of, operation, sight, letter: letterOf(operation, sight), word: Number((/, word (\d+)/.exec(operation) || [0, 0])[1]), here: '', ending: '', obstacle: '', spent: [] };
+// What a reply, and the steps of its command, add to the moments of a room.
+function addMoments(moments, { reply, simulator, last, processes }, taken) {
+  for (const step of taken) moments.push(momentOf(step));
+  if (reply === 'crash' && last === 'crashed') moments.push({ crash: true, simulator, spent: [] });
+  if (reply === 'report') moments.at(-1)?.spent.push(...range(processes.length).filter(p => processes[p].state === 'spent'));
 }
 
-// The notes under a reply become moments of the room: steps, with what takes effect and how the turn ends.
-function addSteps(room, notes) {
-  for (const line of notes) {
-    const moments = room.moments;
-    const step = readStep(line, moments.findLast(moment => moment.name) || {});
-    const last = moments[moments.length - 1];
-    if (step) moments.push(step);
-    else if (/^ +here/.test(line) && last) last.here = line.trim();
-    else if (/^ +(useful|quiet)/.test(line) && last) addEnding(last, line.trim());
-    else if (/^ +(open|chosen|blocked)/.test(line) && last) last.obstacle = line.trim();
-  }
-}
+// The name of a command may be no text.
+const refusalText = ({ line, room, fault, words }) => `${line ? `line ${line}` : room ?? '\ufffd'} refused ${fault.join(' ')}: ${words}`;
 
-function addEnding(moment, ending) {
-  moment.ending = ending;
-  const found = /process (\d+) is spent/.exec(ending);
-  if (found) moment.spent.push(Number(found[1]));
-}
-
-// What the page can't compute: which processes are out of rounds by now.
-function addReport(room, report) {
-  const spent = report.map(line => /^\S+ process (\d+) spent$/.exec(line)).filter(Boolean);
-  room.moments.at(-1)?.spent.push(...spent.map(found => Number(found[1])));
-}
-
-// All rooms that the script opened, in order, and the lines of what was refused.
+// All rooms that the script opened, in order, and what was refused.
 function readScript(script, trace) {
+  const blocks = blocksOf(script);
   const rooms = [];
   const open = new Map();
   const refused = [];
-  const entries = readEntries(script);
-  readReplies(trace).forEach((reply, index) => {
-    const [name, word, number, answer] = reply.line.split(' ');
-    if (/ refused /.test(reply.line)) {
-      refused.push([reply.line, ...reply.notes.map(note => note.trim())].join(': '));
-    } else if (word === 'opened') {
-      const room = { ...readSpec(entries[index].block), moments: [], show: SIMULATION };
-      rooms.push(room);
-      open.set(name, room);
-    } else if (open.has(name)) {
-      const room = open.get(name);
-      addSteps(room, reply.notes);
-      if (word === 'crash' && answer === 'crashed') room.moments.push({ crash: true, simulator: Number(number), letter: 'x', here: '', ending: '', obstacle: '', spent: [] });
-      if (word === 'report') addReport(room, reply.report);
-      if (word === 'closed') open.delete(name);
+  readReplies(trace).forEach(({ said, taken }, index) => {
+    if (said.reply === 'refused') {
+      refused.push(refusalText(said));
+    } else if (said.reply === 'opened') {
+      rooms.push({ ...readSpec(blocks[index]), moments: [], show: SIMULATION });
+      open.set(said.room, rooms.at(-1));
+    } else {
+      addMoments(open.get(said.room).moments, said, taken);
     }
   });
   return { rooms, refused };
 }
 
-
-// ---- a simulated room after a number of moments
+// ---- a simulated room after a number of moments: the words of its memory, and what follows from them
 
 const keyOf = (...numbers) => numbers.join(',');
 
-// A row of step numbers, of which each memory word may show some.
-const joined = (one, other) => (one ? one.map((entry, p) => (entry === '.' ? other[p] : entry)) : other);
-
-function emptyState(room) {
+function emptyState() {
   return {
-    counted: range(room.simulators).map(() => range(room.inputs.length).map(() => 0)),
-    crashed: range(room.simulators).map(() => false),
-    levels: new Map(), // of an agreement, by process and round: one level for each simulator
-    proposals: new Map(), // by simulator, process and round
+    words: new Map(), // of the memory, by kind and numbers of their place: what the last step on it left there, for each memory word
+    agreements: new Map(), // by process and round: which proposal is chosen for good, and since which moment
     read: new Map(), // by simulator, process and round: the moment at which the snapshot takes effect if it is chosen
-    blind: new Set(), // simulator, process and round, if the simulator is inside and has looked before any proposal stood
-    chosen: new Map(), // of an agreement that is fixed: which simulator's proposal, and since which moment
-    values: new Map(), // by simulator, process and round
-    decided: new Map(), // by process
+    events: [], // those that took effect for certain
+    crashed: new Set(), // simulators
+    stopped: new Set(), // simulators that have crashed or ended their last turn
     spent: new Set(), // processes that are out of rounds once the agreement of their last round is resolved
-    stopped: range(room.simulators).map(() => false), // simulators that have crashed or ended their last turn
-    events: [], // those that are known by now
   };
 }
 
-const levelsOf = (state, room, key) => state.levels.get(key) || range(room.simulators).map(() => 0);
+const keyOfPlace = ({ kind, simulator, process, round }) => keyOf(kind, simulator, process, round);
+const wordsAt = (state, place) => Object.values(state.words.get(keyOfPlace(place)) ?? {});
 
-// An agreement is fixed once a simulator is at level 2 and none inside has looked before one was: whoever looks now withdraws. Then the least
-// simulator at level 2 has its proposal chosen for good.
-function fix(state, key, levels, at) {
-  const mayCome = levels.some((level, i) => level === 1 && state.blind.has(keyOf(i, key)));
-  if (!state.chosen.has(key) && levels.includes(2) && !mayCome) state.chosen.set(key, { simulator: levels.indexOf(2), at });
+function store(state, { place, after }) {
+  const key = keyOfPlace(place);
+  state.words.set(key, { ...state.words.get(key), [place.word ?? 0]: after });
 }
 
-// An agreement is resolved, so that its result can be read, once a simulator is at level 2 and none is at level 1.
-const isResolved = levels => levels.includes(2) && !levels.includes(1);
-
-function raise(state, room, step, change, at) {
-  const key = keyOf(step.process, step.round);
-  const levels = [...levelsOf(state, room, key)];
-  levels[step.simulator] += change;
-  state.levels.set(key, levels);
-  fix(state, key, levels, at);
+// The agreement that a step is on, with its levels or a proposal: the first time that a proposal is chosen for good is kept.
+function noteAgreement(state, { access: { place: { kind, process, round } }, agreement }, at) {
+  if (kind !== 'levels' && kind !== 'view') return;
+  const key = keyOf(process, round);
+  const known = state.agreements.get(key) ?? { process, round, chosen: null };
+  const isChosen = known.chosen === null && agreement !== null && agreement.chosen !== null;
+  state.agreements.set(key, isChosen ? { ...known, chosen: { simulator: agreement.chosen, at } } : known);
 }
 
-// A simulator inside an agreement looks at its levels.
-function look(state, room, { simulator, process, round }) {
-  const levels = levelsOf(state, room, keyOf(process, round));
-  if (levels[simulator] === 1 && !levels.includes(2)) state.blind.add(keyOf(simulator, process, round));
+function noteEffect(state, { simulator, process, round, effect }, at) {
+  if (effect?.event === 'snap') state.read.set(keyOf(simulator, process, round), at);
+  else if (effect) state.events.push({ at, known: at, process: effect.process, text: `${effect.event} ${effect.value}`, isReported: true });
 }
 
 // The state after one more moment, whose number is `at`.
 function apply(state, room, moment, at) {
   moment.spent.forEach(process => state.spent.add(process));
-  if (moment.crash || (moment.turn === room.turns && moment.ending)) state.stopped[moment.simulator] = true;
+  if (moment.crash || (moment.turn === room.turns && moment.end)) state.stopped.add(moment.simulator);
   if (moment.crash) {
-    state.crashed[moment.simulator] = true;
+    state.crashed.add(moment.simulator);
     return;
   }
-  const own = keyOf(moment.simulator, moment.process, moment.round);
-  const effect = /^here: process (\d+) (writes|decides) (\d+)$/.exec(moment.here);
-  switch (moment.letter) {
-    case 'W': state.values.set(own, /store (\d+)/.exec(moment.operation)[1]); break;
-    case '+': state.counted[moment.simulator][moment.process]++; break;
-    case 'V': state.proposals.set(own, joined(moment.word > 0 ? state.proposals.get(own) : null, moment.sight.split(' '))); break;
-    case '1': case '2': raise(state, room, moment, 1, at); break;
-    case '0': raise(state, room, moment, -1, at); break;
-    case '?': look(state, room, moment); break;
-    case 'D': state.decided.set(moment.process, /decides (\d+)/.exec(moment.sight)[1]); break;
-  }
-  if (moment.here.startsWith('here, if')) state.read.set(own, at);
-  if (effect) state.events.push({ at, known: at, process: +effect[1], text: effect[2].replace(/s$/, '') + ' ' + effect[3], isReported: true });
+  store(state, moment.access);
+  noteAgreement(state, moment, at);
+  noteEffect(state, moment, at);
 }
 
 function stateAt(room, count) {
-  const state = emptyState(room);
+  const state = emptyState();
   room.moments.slice(0, count).forEach((moment, at) => apply(state, room, moment, at));
   return state;
 }
 
-// The value that a process wrote in a round. All simulators that wrote for it wrote the same.
-function valueOf(state, room, process, round) {
-  return range(room.simulators).map(i => state.values.get(keyOf(i, process, round))).find(value => value !== undefined);
+// How many writes of a process a simulator has counted. If a memory takes several words, one of them has this number, and the others have 0.
+const countedBy = (state, simulator, process) => Math.max(0, ...wordsAt(state, { kind: 'steps' }).map(rows => rows[simulator][process]));
+
+const levelsOf = (state, room, { process, round }) => wordsAt(state, { kind: 'levels', process, round })[0] ?? range(room.simulators).map(() => 0);
+
+// An agreement is resolved, so that its result can be read, once a simulator is at level 2 and none is at level 1.
+const isResolved = levels => levels.includes(2) && !levels.includes(1);
+
+// What a simulator proposes: of each process the number of its writes, or null.
+function proposalOf(state, room, simulator, { process, round }) {
+  const rows = wordsAt(state, { kind: 'view', simulator, process, round }).flat();
+  return rows.length === 0 ? null : range(room.inputs.length).map(p => Math.max(...rows.map(row => row[p])));
 }
 
+// The word that some simulator has at a place. All that have it have the same.
+const wordOfAny = (state, room, place) => range(room.simulators).flatMap(simulator => wordsAt(state, { ...place, simulator }))[0];
+const valueOf = (state, room, process, round) => wordOfAny(state, room, { kind: 'value', process, round });
+const decisionOf = (state, room, process) => wordOfAny(state, room, { kind: 'out', process });
+
 // A report has the snapshot of an agreement once that is resolved, or something rests on it: a later write of the process, or its decision.
-function isReported(state, room, process, round) {
-  const writes = Math.max(...state.counted.map(row => row[process]));
-  return isResolved(levelsOf(state, room, keyOf(process, round))) || round < writes || state.decided.has(process);
+function isReported(state, room, { process, round }) {
+  const writes = Math.max(...range(room.simulators).map(simulator => countedBy(state, simulator, process)));
+  return isResolved(levelsOf(state, room, { process, round })) || round < writes || decisionOf(state, room, process) !== undefined;
 }
 
 // The snapshots that are agreed on, each at the moment at which the chosen proposal was read.
 function snapshotsOf(state, room) {
-  return [...state.chosen].map(([key, { simulator, at }]) => {
-    const [process, round] = key.split(',').map(Number);
-    const row = state.proposals.get(keyOf(simulator, process, round)) || [];
-    const shown = row.map((entry, p) => (entry === '.' ? '.' : valueOf(state, room, p, +entry)));
-    return { at: state.read.get(keyOf(simulator, process, round)), known: at, process, text: 'snap ' + shown.join(' '), isReported: isReported(state, room, process, round) };
+  return [...state.agreements.values()].filter(({ chosen }) => chosen !== null).map(agreement => {
+    const { process, round, chosen: { simulator, at } } = agreement;
+    const shown = proposalOf(state, room, simulator, agreement).map((number, p) => (number === 0 ? '.' : valueOf(state, room, p, number)));
+    return { at: state.read.get(keyOf(simulator, process, round)), known: at, process, text: 'snap ' + shown.join(' '), isReported: isReported(state, room, agreement) };
   });
 }
 
@@ -343,7 +290,7 @@ const eventsOf = (state, room) => [...state.events, ...snapshotsOf(state, room)]
 const LEVELS = ['level 0: outside', 'level 1: in the unsafe section', 'level 2: its proposal counts'];
 
 // A row of step numbers in words: how many writes of each process it has.
-const writesIn = row => listed(row.map((number, p) => `${number === '.' ? 'no write' : many(Number(number), 'write')} of process ${p}`));
+const writesIn = row => listed(row.map((number, p) => `${number === 0 ? 'no write' : many(number, 'write')} of process ${p}`));
 
 const agreementHint = (process, round) => `agreement (${process},${round}): on the snapshot of process ${process} in round ${round}`;
 
@@ -396,7 +343,7 @@ const textAt = (x, y, text, more = '') => `<text x="${x}" y="${y}" ${more}>${esc
 function drawSquare(moment, x, y, isDone) {
   const hue = hueOf(moment.process);
   const filled = '120D'.includes(moment.letter);
-  const title = `<title>${escaped(moment.name + ': ' + moment.operation + ': ' + moment.sight)}</title>`;
+  const title = `<title>${escaped(`${moment.name}: ${moment.operation}: ${moment.shows}`)}</title>`;
   return `<g opacity="${isDone ? 1 : 0.4}">${title}<rect x="${x + 1}" y="${y}" width="${SQUARE - 2}" height="24" rx="4" fill="${filled ? hue : 'var(--paper)'}" stroke="${hue}" stroke-width="1.5"/>`
     + textAt(x + SQUARE / 2, y + 17, moment.letter, `text-anchor="middle" font-weight="700" fill="${filled ? 'var(--paper)' : 'var(--ink)'}"`) + '</g>';
 }
@@ -498,16 +445,19 @@ const simulatorHead = i => headCell('simulator ' + i, `level and proposal of sim
 function stepNumbers(room, state, moment) {
   const touched = (i, p) => moment && (moment.letter === 'S' || (moment.letter === '+' && moment.simulator === i && moment.process === p));
   const head = [corner, ...range(room.inputs.length).map(processHead)];
-  const rows = range(room.simulators).map(i => [headCell(`simulator ${i}${state.crashed[i] ? ' \u2715' : ''}`, `how many writes of each process simulator ${i} has counted${state.crashed[i] ? '; it has crashed' : ''}`),
-    ...range(room.inputs.length).map(p => cell(state.counted[i][p], countHint(i, p, state.counted[i][p]), touched(i, p) && 'now'))]);
+  const rows = range(room.simulators).map(i => {
+    const hasCrashed = state.crashed.has(i);
+    const counts = range(room.inputs.length).map(p => countedBy(state, i, p));
+    return [headCell(`simulator ${i}${hasCrashed ? ' \u2715' : ''}`, `how many writes of each process simulator ${i} has counted${hasCrashed ? '; it has crashed' : ''}`),
+      ...counts.map((number, p) => cell(number, countHint(i, p, number), touched(i, p) && 'now'))];
+  });
   return section('numbers', 'Step numbers', table([head, ...rows]));
 }
 
 // The state of an agreement: open, fixed, resolved, or blocked for ever.
-function resultOf(state, key, levels) {
-  const chosen = state.chosen.get(key);
+function resultOf(state, chosen, levels) {
   const inside = range(levels.length).filter(i => levels[i] === 1);
-  const blockers = inside.filter(i => state.crashed[i]);
+  const blockers = inside.filter(i => state.crashed.has(i));
   const are = inside.length === 1 ? 'is' : 'are';
   if (isResolved(levels)) return `resolved: the proposal of simulator ${chosen.simulator}`;
   if (blockers.length > 0) return `blocked for ever by ${named(blockers)}`;
@@ -515,44 +465,44 @@ function resultOf(state, key, levels) {
   return inside.length > 0 ? `open: ${named(inside)} ${are} inside` : 'no proposal stands';
 }
 
-function agreementRow(room, state, moment, key) {
-  const [process, round] = key.split(',').map(Number);
-  const levels = levelsOf(state, room, key);
-  const chosen = state.chosen.get(key);
+function agreementRow(room, state, moment, agreement) {
+  const { process, round, chosen } = agreement;
+  const levels = levelsOf(state, room, agreement);
   const here = moment && moment.process === process && moment.round === round;
   const cells = range(room.simulators).map(i => {
-    const row = state.proposals.get(keyOf(i, process, round));
+    const row = proposalOf(state, room, i, agreement);
     const touched = here && ((moment.simulator === i && 'V120'.includes(moment.letter)) || '?A'.includes(moment.letter));
-    const proposal = row ? ` <span class="row ${chosen && chosen.simulator !== i ? 'lost' : ''}">\u27e8${row.join(' ')}\u27e9</span>` : '';
+    const proposal = row ? ` <span class="row ${chosen && chosen.simulator !== i ? 'lost' : ''}">\u27e8${row.map(number => number || '.').join(' ')}\u27e9</span>` : '';
     const fate = !chosen ? '' : chosen.simulator === i ? '; it is chosen' : '; another one is chosen';
     return cell(`${levels[i]}${proposal}`, levelHint(i, process, round, levels[i], row, fate), 'level' + levels[i], chosen && chosen.simulator === i && 'chosen', touched && 'now');
   });
-  const result = resultOf(state, key, levels);
+  const result = resultOf(state, chosen, levels);
   return [headCell(`p${process} r${round}`, agreementHint(process, round)), ...cells, cell(result, resultHint(result), 'text')];
 }
 
 function agreements(room, state, moment) {
-  const keys = new Set([...state.levels.keys(), ...[...state.proposals.keys()].map(key => key.split(',').slice(1).join(','))]);
-  const ordered = [...keys].map(key => key.split(',').map(Number)).sort((one, other) => one[1] - other[1] || one[0] - other[0]).map(numbers => keyOf(...numbers));
+  const ordered = [...state.agreements.values()].sort((one, other) => one.round - other.round || one.process - other.process);
   const head = [corner, ...range(room.simulators).map(simulatorHead), headCell('result', 'whether a proposal is chosen, and may be read')];
-  return section('agreements', 'Agreements: level and proposal of each simulator', table([head, ...ordered.map(key => agreementRow(room, state, moment, key))]));
+  return section('agreements', 'Agreements: level and proposal of each simulator', table([head, ...ordered.map(agreement => agreementRow(room, state, moment, agreement))]));
 }
 
 // What has become of a process by now, as a report says it, with all simulators that hold it.
 function standingOf(room, state, process) {
-  if (state.decided.has(process)) return 'decided ' + state.decided.get(process);
-  if (state.spent.has(process) && isResolved(levelsOf(state, room, keyOf(process, room.rounds)))) return 'spent';
-  const keys = [...state.levels.keys()].filter(key => key.startsWith(process + ','));
-  const holders = range(room.simulators).filter(i => state.crashed[i] && keys.some(key => levelsOf(state, room, key)[i] === 1));
+  const decision = decisionOf(state, room, process);
+  if (decision !== undefined) return `decided ${decision}`;
+  if (state.spent.has(process) && isResolved(levelsOf(state, room, { process, round: room.rounds }))) return 'spent';
+  const own = [...state.agreements.values()].filter(agreement => agreement.process === process);
+  const holders = range(room.simulators).filter(i => state.crashed.has(i) && own.some(agreement => levelsOf(state, room, agreement)[i] === 1));
   if (holders.length > 0) return `held by ${named(holders)}`;
-  return state.stopped.every(Boolean) ? 'no simulator left' : 'may still go on';
+  return state.stopped.size === room.simulators ? 'no simulator left' : 'may still go on';
 }
 
 // The values that processes wrote, by round.
 function values(room, state, moment) {
   const valued = range(room.inputs.length).map(p => range(room.rounds).map(index => valueOf(state, room, p, index + 1)));
   const rounds = Math.max(0, ...valued.map(row => row.findLastIndex(value => value !== undefined) + 1));
-  const touched = (p, round) => moment && 'Wr'.includes(moment.letter) && new RegExp(`value\\(\\d+,${p},${round}\\)`).test(moment.operation);
+  const place = moment?.access?.place;
+  const touched = (p, round) => place?.kind === 'value' && place.process === p && place.round === round;
   const head = [corner, ...range(rounds).map(index => headCell('r' + (index + 1), 'round ' + (index + 1)))];
   const rows = valued.map((row, p) => [processHead(p), ...range(rounds).map(index => cell(row[index] ?? '', valueHint(p, index + 1, row[index]), touched(p, index + 1) && 'now'))]);
   return section('values', 'Values', table([head, ...rows]));
@@ -576,8 +526,9 @@ const SIMULATION = {
     const moment = room.moments[count - 1];
     if (!moment) return 'Nobody has taken a step.';
     if (moment.crash) return `<b>simulator ${moment.simulator}</b> crashes`;
-    const more = [moment.here, moment.ending, moment.obstacle].filter(Boolean).map(text => `<small>${escaped(text)}</small>`).join('');
-    return `<b>${escaped(moment.name)}</b>: ${escaped(moment.operation)} \u2192 <b>${escaped(moment.sight)}</b>${more}`;
+    const { effect, end, obstacle } = moment.notes;
+    const more = [effect, end, obstacle].filter(Boolean).map(text => `<small>${escaped(text)}</small>`).join('');
+    return `<b>${escaped(moment.name)}</b>: ${escaped(moment.operation)} \u2192 <b>${escaped(moment.shows)}</b>${more}`;
   },
   lanes: drawLanes,
   tables(room, count) {

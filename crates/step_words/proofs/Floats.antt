@@ -7,6 +7,7 @@ use Rattle.serde_json.specs.Written.{has_float}
 use Rattle.json_lines.specs.Values.{number_data, text_data}
 use Rattle.json_lines.proofs.CallerLemmas.{both, items_are, numbers_are, text_is}
 use Rattle.level_cells.specs.Fields.{levels_of}
+use Rattle.safe_agreement.specs.Levels.{resolved_of}
 use Rattle.room_spec.specs.Rooms.{RoomSpec, processes}
 use Rattle.view_table.specs.declared.place.Place.{Place}
 use Rattle.view_table.specs.declared.place.Place.TheVariants.{Memory, Levels, View, Value, Out}
@@ -17,7 +18,8 @@ use Rattle.ws_history.specs.declared.effects.Effect.{Effect}
 use Rattle.ws_history.specs.declared.effects.Effect.TheVariants.{Write as WriteEffect, Snapshot, Decision}
 use Rattle.ws_history.specs.declared.unreadable.Unreadable.{Unreadable}
 use Rattle.step_words.specs.Data.{own_step_data, own_steps_data, access_data, place_data, steps_data, word_data}
-use Rattle.step_words.specs.Json.{effect_data, end_data, quiet_data, shows_data, simulator_data, step_data, unresolved_data}
+use Rattle.step_words.specs.Json.{agreement_data, agreement_of, effect_data, effect_note, end_data, end_note, notes_data, obstacle_note, quiet_data, shows_data, simulator_data, simulators_data, step_data, unresolved_data}
+use Rattle.step_words.specs.Lines.{effect_text, outcome_text, unreadable_text}
 use Rattle.step_words.specs.declared.step.Consequence.{Consequence}
 use Rattle.step_words.specs.Names.{operation_text}
 use Rattle.step_words.specs.Sights.{memory_with, sight_text}
@@ -32,11 +34,44 @@ simulator_is : (simulator : Option ℕ) → has_float (simulator_data simulator)
 simulator_is None = refl
 simulator_is (Some simulator) = refl
 
-unresolved_is : (round : ℕ) (blocker chosen inside : Option ℕ) → has_float (unresolved_data round blocker chosen inside) ≡ false
-unresolved_is round blocker chosen inside =
+simulators_are : (blocker chosen inside : Option ℕ) → has_float (simulators_data blocker chosen inside) ≡ false
+simulators_are blocker chosen inside =
     let one = has_float (simulator_data chosen) in
     let other = has_float (simulator_data inside) in
     both (has_float (simulator_data blocker)) (one || (other || false)) (simulator_is blocker) (both one (other || false) (simulator_is chosen) (both other false (simulator_is inside) refl))
+
+unresolved_is : (round : ℕ) (blocker chosen inside : Option ℕ) → has_float (unresolved_data round blocker chosen inside) ≡ false
+unresolved_is round blocker chosen inside = simulators_are blocker chosen inside
+
+agreement_of_is : (agreement : Option Unreadable) (levels : List ℕ) → has_float (agreement_of agreement levels) ≡ false
+agreement_of_is None levels = simulators_are None (resolved_of levels) None
+agreement_of_is (Some agreement) levels = simulators_are agreement.blocker agreement.chosen (Some agreement.inside)
+
+agreement_is : (place : Place) (spec : RoomSpec) (word : ℕ) (agreement : Option Unreadable) → has_float (agreement_data place spec word agreement) ≡ false
+agreement_is (Memory at) spec word agreement = refl
+agreement_is (Levels process round) spec word agreement = agreement_of_is agreement (levels_of word spec.simulators)
+agreement_is (View simulator process round at) spec word agreement = refl
+agreement_is (Value simulator process round) spec word agreement = refl
+agreement_is (Out simulator process) spec word agreement = refl
+
+effect_note_is : (effect : Option Effect) → has_float (effect_note effect) ≡ false
+effect_note_is None = refl
+effect_note_is (Some effect) = text_is (effect_text effect)
+
+end_note_is : (process : ℕ) (end : Option Goal) → has_float (end_note process end) ≡ false
+end_note_is process None = refl
+end_note_is process (Some goal) = text_is (outcome_text process goal)
+
+obstacle_note_is : (unreadable : Option Unreadable) → has_float (obstacle_note unreadable) ≡ false
+obstacle_note_is None = refl
+obstacle_note_is (Some agreement) = text_is (unreadable_text agreement)
+
+notes_are : (process : ℕ) (end : Option Goal) (consequence : Consequence) → has_float (notes_data process end consequence) ≡ false
+notes_are process end consequence =
+    let one = has_float (end_note process end) in
+    let other = has_float (obstacle_note consequence.unreadable) in
+    both (has_float (effect_note consequence.effect)) (one || (other || false)) (effect_note_is consequence.effect)
+    (both one (other || false) (end_note_is process end) (both other false (obstacle_note_is consequence.unreadable) refl))
 
 quiet_is : (round : ℕ) (unreadable : Option Unreadable) → has_float (quiet_data round unreadable) ≡ false
 quiet_is round None = unresolved_is round None None None
@@ -85,10 +120,19 @@ pub step_is : (spec : RoomSpec) (n : ℕ) (step : AtomicStep) (consequence : Con
 step_is spec n step consequence =
     let shows = has_float (shows_data spec step) in
     let operation = has_float (text_data (operation_text spec step)) in
+    let notes = has_float (notes_data step.process step.end consequence) in
     let end = has_float (end_data step.end consequence.unreadable) in
     let what = has_float (effect_data consequence.effect) in
+    let agreement = has_float (agreement_data step.place spec step.after consequence.agreement) in
+    let after_operation = shows || false in
+    let after_notes = operation || after_operation in
+    let after_end = notes || after_notes in
+    let after_what = end || after_end in
+    let after_agreement = what || after_what in
     let from_shows = both shows false (text_is (drop 1 (sight_text spec step))) refl in
-    let from_operation = both operation (shows || false) (text_is (operation_text spec step)) from_shows in
-    let from_end = both end (operation || (shows || false)) (end_is step.end consequence.unreadable) from_operation in
-    let from_effect = both what (end || (operation || (shows || false))) (effect_is consequence.effect) from_end in
-    both (has_float (access_data spec step)) (what || (end || (operation || (shows || false)))) (access_is spec step) from_effect
+    let from_operation = both operation after_operation (text_is (operation_text spec step)) from_shows in
+    let from_notes = both notes after_notes (notes_are step.process step.end consequence) from_operation in
+    let from_end = both end after_end (end_is step.end consequence.unreadable) from_notes in
+    let from_effect = both what after_what (effect_is consequence.effect) from_end in
+    let from_agreement = both agreement after_agreement (agreement_is step.place spec step.after consequence.agreement) from_effect in
+    both (has_float (access_data spec step)) (agreement || after_agreement) (access_is spec step) from_agreement

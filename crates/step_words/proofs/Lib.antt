@@ -1,4 +1,5 @@
 mod Behind
 mod Floats
 mod Numbers
+mod Objects
 mod Within

@@ -72,11 +72,14 @@ obstacle_text chosen (Some blocker) inside = behind (codes "blocked for ever by 
 obstacle_text None None inside = between (codes "open: simulator") inside (codes " is inside")
 obstacle_text (Some simulator) None inside = between (codes "not readable while simulator") inside (codes " is inside")
 
--- a line for an agreement that no simulator can read
+-- of an agreement that no simulator can read, the choice and why
+abbrev pub unreadable_text : Unreadable → List ℕ
+unreadable_text agreement = choice_text agreement.chosen ++ obstacle_text agreement.chosen agreement.blocker agreement.inside
+
+-- a line for it
 abbrev pub unreadable_line : Option Unreadable → List ℕ
 unreadable_line None = []
-unreadable_line (Some agreement) =
-    codes "         " ++ (choice_text agreement.chosen ++ (obstacle_text agreement.chosen agreement.blocker agreement.inside ++ codes "\n"))
+unreadable_line (Some agreement) = codes "         " ++ (unreadable_text agreement ++ codes "\n")
 
 -- The step's number, its turn where that begins, its operation, and what there is to see; what takes effect; the end of the turn; and, if that
 -- was quiet, why the agreement can't be read.

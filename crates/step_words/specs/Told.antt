@@ -13,6 +13,8 @@ use Rattle.room_steps.specs.declared.step.AtomicStep.{AtomicStep}
 use Rattle.ws_history.specs.Effects.{IsEffectOf}
 use Rattle.ws_history.specs.Unreadable.{unreadable_of}
 use Rattle.ws_history.specs.declared.unreadable.Unreadable.{Unreadable}
+use Rattle.view_table.specs.declared.place.Place.{Place}
+use Rattle.view_table.specs.declared.place.Place.TheVariants.{Memory, Levels, View, Value, Out}
 use Rattle.step_words.specs.Json.{step_data}
 use Rattle.step_words.specs.Lines.{step_lines}
 use Rattle.step_words.specs.declared.step.Consequence.{Consequence}
@@ -61,8 +63,21 @@ asked_of spec fields process (Some (Write round value)) = None
 asked_of spec fields process (Some Done) = None
 asked_of spec fields process (Some Spent) = None
 
--- A step that simulator i took in a room was described, with what takes effect at it and, if its turn ended quiet, why the agreement can't be
--- read, unless an allocation failed by then.
+-- what keeps the agreement from being read whose levels are at a place, if the place has levels
+abbrev pub agreement_at : RoomSpec → Fields → Place → Option Unreadable
+agreement_at spec fields (Memory word) = None
+agreement_at spec fields (Levels process round) = unreadable_of spec fields process round
+agreement_at spec fields (View simulator process round word) = None
+agreement_at spec fields (Value simulator process round) = None
+agreement_at spec fields (Out simulator process) = None
+
+-- only JSON says it
+abbrev pub agreement_for : Bool → RoomSpec → Fields → Place → Option Unreadable
+agreement_for false spec fields place = None
+agreement_for true spec fields place = agreement_at spec fields place
+
+-- A step that simulator i took in a room was described, with what takes effect at it, with why the agreement can't be read if its turn ended quiet,
+-- and in JSON with the state of the agreement whose levels it is on, unless an allocation failed by then.
 pub record IsTold (old : Telling) (room : RoomState) (i : ℕ) (new : Telling) : Type 0 where
   pub step : AtomicStep
   pub is : IsStepOf room i step
@@ -71,6 +86,7 @@ pub record IsTold (old : Telling) (room : RoomState) (i : ℕ) (new : Telling) :
   pub effect : (one : IsOneInterleaving (configuration_of room)) → IsEffectOf room.spec one.schedule i consequence.effect
   -- whatever fields the room has after the step
   pub unreadable : (fields : Fields) → AreFieldsOf (room_after_step room i) fields → consequence.unreadable ≡ asked_of room.spec fields step.process step.end
+  pub agreement : (fields : Fields) → AreFieldsOf (room_after_step room i) fields → consequence.agreement ≡ agreement_for old.json room.spec fields step.place
   pub number : ℕ
   -- one more than there are steps in it
   pub numbered : (one : IsOneInterleaving (configuration_of room)) → number ≡ suc (steps_in one.schedule)

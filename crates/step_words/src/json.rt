@@ -3,11 +3,13 @@ ghost use Rattle.std.specs.Prelude.{◌≡◌, ◌++◌, IfOk, OnOk, drop};
 ghost use Rattle.serde_json.specs.View.{view};
 ghost use Rattle.json_lines.specs.Lines.{json_line};
 ghost use Rattle.json_lines.specs.Values.{text_data};
-ghost use Rattle.step_words.specs.Json.{effect_data, end_data, quiet_data, shows_data, simulator_data, step_data, unresolved_data};
+ghost use Rattle.level_cells.specs.Fields.{levels_of};
+ghost use Rattle.step_words.specs.Json.{ArePartsOf, agreement_data, agreement_of, effect_data, end_data, object_of, quiet_data, shows_data, simulator_data, simulators_data, step_data, unresolved_data};
 ghost use Rattle.step_words.specs.Lines.{IsStepIn};
 ghost use Rattle.step_words.specs.Names.{operation_text};
 
 use crate::data::access_value;
+use crate::notes::notes_value;
 use crate::operation::write_operation;
 use crate::sight::write_sight;
 use crate::step::Consequence;
@@ -15,9 +17,11 @@ use io_text::Text;
 use json_lines::{text_value, write_line};
 use room_spec::Spec;
 use room_steps::AtomicStep;
+use safe_agreement::resolved_in;
 use serde_json::{Value, json};
 use simulator::Goal;
 use std::alloc::{AllocError, Global};
+use view_table::Place;
 use ws_history::{Effect, Unreadable};
 
 /// Writes the step of this number as an object, on a line of its own.
@@ -46,18 +50,71 @@ fn step_value(
     requires { IsStepIn spec.now step.now }
     ensures { IfOk result (λ value. view value ≡ step_data spec.now number step.now consequence) }
 {
-    let access = access_value(alloc, spec, step)?;
-    let effect = effect_value(alloc, consequence.effect)?;
-    let end = end_value(alloc, step.end, consequence.unreadable)?;
-    let operation = operation_value(alloc, spec, step)?;
-    let shows = shows_value(alloc, spec, step)?;
+    let parts = parts_of(alloc, spec, step, consequence)?;
+    let value = object_of(alloc, spec, number, step, parts)?;
+    Ok(value)
+}
+
+/// What is said of a step that is more than a number or a name.
+#[derive(Drop)]
+struct Parts {
+    access: Value,
+    agreement: Value,
+    effect: Value,
+    end: Value,
+    notes: Value,
+    operation: Value,
+    shows: Value,
+}
+
+fn parts_of(
+    alloc: Global,
+    spec: &Spec,
+    step: &AtomicStep,
+    consequence: Consequence,
+) -> Result<Parts, AllocError>
+    requires { IsStepIn spec.now step.now }
+    ensures { IfOk result (ArePartsOf spec.now step.now consequence) }
+{
+    Ok(Parts {
+        access: access_value(alloc, spec, step)?,
+        agreement: agreement_value(alloc, spec, step, consequence.agreement)?,
+        effect: effect_value(alloc, consequence.effect)?,
+        end: end_value(alloc, step.end, consequence.unreadable)?,
+        notes: notes_value(alloc, step.process, step.end, consequence)?,
+        operation: operation_value(alloc, spec, step)?,
+        shows: shows_value(alloc, spec, step)?,
+    })
+}
+
+/// The object of a step of which this is said.
+fn object_of(
+    alloc: Global,
+    spec: &Spec,
+    number: u64,
+    step: &AtomicStep,
+    parts: Parts,
+) -> Result<Value, AllocError>
+    ensures { IfOk result (λ value. view value ≡ object_of spec.now number step.now parts) }
+{
+    let Parts {
+        access,
+        agreement,
+        effect,
+        end,
+        notes,
+        operation,
+        shows,
+    } = parts;
     let room = spec.name().as_str();
     let (simulator, process) = (step.simulator, step.process);
     let (turn, round) = (step.turn, step.round);
     json!(in alloc; {
         "access": access,
+        "agreement": agreement,
         "effect": effect,
         "end": end,
+        "notes": notes,
         "operation": operation,
         "process": process,
         "room": room,
@@ -67,6 +124,59 @@ fn step_value(
         "step": number,
         "turn": turn
     })
+}
+
+/// The agreement whose levels the step is on, if it is on levels.
+fn agreement_value(
+    alloc: Global,
+    spec: &Spec,
+    step: &AtomicStep,
+    agreement: Option<Unreadable>,
+) -> Result<Value, AllocError>
+    ensures { IfOk result (λ value. view value ≡ agreement_data step.now.place spec.now step.now.after agreement) }
+{
+    match step.place {
+        Place::Levels { .. } => agreement_of(alloc, spec, step.after, agreement),
+        Place::Memory { .. } | Place::View { .. } | Place::Value { .. } | Place::Out { .. } => {
+            Ok(Value::Null)
+        }
+    }
+}
+
+/// An agreement by what keeps it from being read, if something does, and else by its levels.
+fn agreement_of(
+    alloc: Global,
+    spec: &Spec,
+    word: u64,
+    agreement: Option<Unreadable>,
+) -> Result<Value, AllocError>
+    ensures { IfOk result (λ value. view value ≡ agreement_of agreement (levels_of word spec.now.simulators)) }
+{
+    match agreement {
+        None => simulators_value(alloc, None, resolved_in(word, spec.m()), None),
+        Some(agreement) => {
+            let Unreadable {
+                inside,
+                chosen,
+                blocker,
+            } = agreement;
+            simulators_value(alloc, blocker, chosen, Some(inside))
+        }
+    }
+}
+
+fn simulators_value(
+    alloc: Global,
+    blocker: Option<usize>,
+    chosen: Option<usize>,
+    inside: Option<usize>,
+) -> Result<Value, AllocError>
+    ensures { IfOk result (λ value. view value ≡ simulators_data blocker chosen inside) }
+{
+    let blocker = simulator_value(alloc, blocker)?;
+    let chosen = simulator_value(alloc, chosen)?;
+    let inside = simulator_value(alloc, inside)?;
+    json!(in alloc; {"blocked_by": blocker, "chosen": chosen, "inside": inside})
 }
 
 /// What takes effect at the step, if something does.

@@ -3,6 +3,7 @@
 
 mod data;
 mod json;
+mod notes;
 mod number;
 mod operation;
 mod pieces;

@@ -1,6 +1,6 @@
 //! The lines of an atomic step.
 ghost use Rattle.std.specs.Prelude.{◌≡◌, ◌++◌, OnOk, codes, decimal};
-ghost use Rattle.step_words.specs.Lines.{IsStepIn, choice_text, effect_line, effect_text, end_text, here_text, number_width, obstacle_text, operation_width, outcome_text, step_lines, turn_name, turn_text, turn_width, unreadable_line};
+ghost use Rattle.step_words.specs.Lines.{IsStepIn, choice_text, effect_line, effect_text, end_text, here_text, number_width, obstacle_text, operation_width, outcome_text, step_lines, turn_name, turn_text, turn_width, unreadable_line, unreadable_text};
 ghost use Rattle.step_words.specs.Names.{operation_text};
 ghost use Rattle.step_words.specs.Pieces.{behind, between, padded};
 
@@ -21,6 +21,8 @@ pub struct Consequence {
     pub effect: Option<Effect>,
     /// What keeps the agreement from being read that the step's turn asked about, if the step ended it quiet.
     pub unreadable: Option<Unreadable>,
+    /// What keeps the agreement from being read whose levels the step is on, if it is on levels. Only JSON says it.
+    pub agreement: Option<Unreadable>,
 }
 
 /// The width of the column with the number of a step.
@@ -86,7 +88,7 @@ fn write_effect(output: &mut Text, effect: Option<Effect>) -> Result<(), AllocEr
     output.put(b"\n")
 }
 
-fn write_effect_words(output: &mut Text, effect: Effect) -> Result<(), AllocError>
+pub(crate) fn write_effect_words(output: &mut Text, effect: Effect) -> Result<(), AllocError>
     ensures { OnOk result (output.new ≡ output.old ++ effect_text effect) }
 {
     match effect {
@@ -165,7 +167,7 @@ fn write_end(output: &mut Text, process: usize, end: Option<Goal>) -> Result<(),
     output.put(b"\n")
 }
 
-fn write_outcome(output: &mut Text, process: u64, goal: Goal) -> Result<(), AllocError>
+pub(crate) fn write_outcome(output: &mut Text, process: u64, goal: Goal) -> Result<(), AllocError>
     ensures { OnOk result (output.new ≡ output.old ++ outcome_text process goal) }
 {
     match goal {
@@ -199,9 +201,18 @@ fn write_unreadable(output: &mut Text, unreadable: Option<Unreadable>) -> Result
         return Ok(());
     };
     output.put(b"         ")?;
-    write_choice(output, agreement.chosen)?;
-    write_obstacle(output, agreement)?;
+    write_unreadable_words(output, agreement)?;
     output.put(b"\n")
+}
+
+pub(crate) fn write_unreadable_words(
+    output: &mut Text,
+    agreement: Unreadable,
+) -> Result<(), AllocError>
+    ensures { OnOk result (output.new ≡ output.old ++ unreadable_text agreement) }
+{
+    write_choice(output, agreement.chosen)?;
+    write_obstacle(output, agreement)
 }
 
 /// Writes whose proposal is chosen for good, if one is.

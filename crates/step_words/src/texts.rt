@@ -3,7 +3,7 @@ ghost use Rattle.std.specs.Prelude.{◌≡◌, ◌≢◌, false, true, IfOk, IfE
 ghost use Rattle.step_words.specs.Lines.{IsStepIn};
 ghost use Rattle.room_core.specs.Fields.{Fields};
 ghost use Rattle.room_core.specs.Reading.{AreFieldsOf};
-ghost use Rattle.step_words.specs.Told.{asked_of, is_turn, nothing_told, with_step};
+ghost use Rattle.step_words.specs.Told.{agreement_at, agreement_for, asked_of, is_turn, nothing_told, with_step};
 
 use crate::json::write_step_object;
 use crate::number::next_number;
@@ -15,6 +15,7 @@ use room_steps::{AtomicStep, take_step};
 use simulator::Goal;
 use std::alloc::{AllocError, Global};
 use std::marker::Model;
+use view_table::Place;
 use ws_history::{StepStart, Unreadable, unreadable_agreement};
 
 /// An observer of the steps of a room, which writes the lines of each, or an object of JSON on a line, with what takes effect at it. Steps are
@@ -122,6 +123,7 @@ impl Observer for StepTexts {
             let consequence = Consequence {
                 effect: start.effect(room, i),
                 unreadable: asked_of(room, &step),
+                agreement: agreement_for(self.json, room, step.place),
             };
             self.note(room.spec(), number, &step, consequence);
         }
@@ -136,5 +138,25 @@ fn asked_of(room: &RoomCore, step: &AtomicStep) -> Option<Unreadable>
     match step.end {
         Some(Goal::Ask { round }) => unreadable_agreement(room, step.process, usize::from(round)),
         Some(Goal::Write { .. } | Goal::Done | Goal::Spent) | None => None,
+    }
+}
+
+/// What keeps the agreement from being read whose levels are at a place, for JSON.
+fn agreement_for(json: bool, room: &RoomCore, place: Place) -> Option<Unreadable>
+    ensures { (fields : Fields) → AreFieldsOf room.now fields → result ≡ agreement_for json room.now.spec fields place }
+{
+    if json {
+        agreement_at(room, place)
+    } else {
+        None
+    }
+}
+
+fn agreement_at(room: &RoomCore, place: Place) -> Option<Unreadable>
+    ensures { (fields : Fields) → AreFieldsOf room.now fields → result ≡ agreement_at room.now.spec fields place }
+{
+    match place {
+        Place::Levels { process, round } => unreadable_agreement(room, process, round),
+        Place::Memory { .. } | Place::View { .. } | Place::Value { .. } | Place::Out { .. } => None,
     }
 }

@@ -10,13 +10,14 @@ use Rattle.room_spec.specs.Rooms.{RoomSpec}
 use Rattle.room_files.specs.BlockLists.{IsBlockAt}
 use Rattle.run_search.specs.declared.judging.Judgement.{Judgement}
 use Rattle.run_search.specs.Judging.{AreTooManyKept, HasNodes, IsJudged}
+use Rattle.run_search.specs.Limits.{AreTooMany}
 use Rattle.view_outcomes.specs.declared.search.Asked.{Asked}
 use Rattle.view_outcomes.specs.declared.search.Search.{Search}
 use Rattle.view_outcomes.specs.declared.listing.AllOutcomes.{AllOutcomes}
 use Rattle.view_outcomes.specs.Listing.{AreAllListed, IsTaskOfRuns}
 use Rattle.view_outcomes.specs.Judgements.{IsTaskText, is_kept}
 use Rattle.view_outcomes.specs.Rooms.{AddsOutcomes, AreRoomAnswers, IsListText, IsRoomAnswer, IsTextFor, crashes_for}
-use Rattle.view_outcomes.specs.Texts.{found_text, head_line, judgement_text, taskless_line, unjudged_text}
+use Rattle.view_outcomes.specs.Shown.{found_shown, head_in, judgement_in, taskless_in, unfinished_in, unjudged_in}
 
 and_right : (b : Bool) → b ≡ (b && true)
 and_right true = refl
@@ -64,34 +65,57 @@ none_is (Some value) false is = refl
 -- what was written of a room that was searched to the end
 pub found_told : (search : Search) (spec : RoomSpec) (block name : List ℕ) (crashes : ℕ) (all : AllOutcomes) (well : Bool) (before head after : List ℕ) → name ≡ spec.name → crashes ≡ crashes_for spec search.crashes
     → AreAllListed spec crashes search.brief all.listed.items → HasNodes spec search.nodes all.nodes → IsTaskOfRuns spec (option_map (λ events. events.items) all.breaking) → well ≡ is_none all.breaking
-    → head ≡ before ++ head_line name crashes → after ≡ head ++ found_text spec block all → (text : List ℕ) × IsListText search spec block well text × (after ≡ before ++ text)
+    → head ≡ before ++ head_in search.form name crashes → after ≡ head ++ found_shown search spec block crashes all → (text : List ℕ) × IsListText search spec block well text × (after ≡ before ++ text)
 found_told search spec block name crashes all well before head after named stopped outcomes nodes task well_is head_is after_is =
-    let rest = found_text spec block all in
-    let first : head_line name crashes ≡ head_line spec.name (crashes_for spec search.crashes) = ap (λ (n : List ℕ). head_line n crashes) named ∙ ap (head_line spec.name) stopped in
-    let answer : IsListText search spec block well (head_line spec.name (crashes_for spec search.crashes) ++ rest) = record {
+    let rest = found_shown search spec block crashes all in
+    let first : head_in search.form name crashes ≡ head_in search.form spec.name (crashes_for spec search.crashes) = ap (λ (n : List ℕ). head_in search.form n crashes) named ∙ ap (head_in search.form spec.name) stopped in
+    let answer : IsListText search spec block well (head_in search.form spec.name (crashes_for spec search.crashes) ++ rest) = record {
       rest = rest;
-      rest_is = inl (record { all = all; outcomes = subst (λ (n : ℕ). AreAllListed spec n search.brief all.listed.items) stopped outcomes; nodes = nodes; task = task; well_is = well_is; text_is = refl });
+      rest_is =
+          inl
+          (record {
+            all = all;
+            outcomes = subst (λ (n : ℕ). AreAllListed spec n search.brief all.listed.items) stopped outcomes;
+            nodes = nodes;
+            task = task;
+            well_is = well_is;
+            text_is = ap (λ (n : ℕ). found_shown search spec block n all) stopped;
+          });
       text_is = refl;
     } in (
-      head_line spec.name (crashes_for spec search.crashes) ++ rest,
+      head_in search.form spec.name (crashes_for spec search.crashes) ++ rest,
       answer,
-      after_is ∙ ap (λ (t : List ℕ). t ++ rest) head_is ∙ append_assoc before (head_line name crashes) rest ∙ ap (λ (t : List ℕ). before ++ (t ++ rest)) first,
+      after_is ∙ ap (λ (t : List ℕ). t ++ rest) head_is ∙ append_assoc before (head_in search.form name crashes) rest ∙ ap (λ (t : List ℕ). before ++ (t ++ rest)) first,
+    )
+
+-- and of one with more nodes than the limit
+pub unfinished_told : (search : Search) (spec : RoomSpec) (block name : List ℕ) (crashes : ℕ) (before head after : List ℕ) → name ≡ spec.name → crashes ≡ crashes_for spec search.crashes → AreTooMany spec search.nodes
+    → head ≡ before ++ head_in search.form name crashes → after ≡ head ++ unfinished_in search.form spec crashes search.nodes → (text : List ℕ) × IsListText search spec block false text × (after ≡ before ++ text)
+unfinished_told search spec block name crashes before head after named stopped many head_is after_is =
+    let rest = unfinished_in search.form spec crashes search.nodes in
+    let first : head_in search.form name crashes ≡ head_in search.form spec.name (crashes_for spec search.crashes) = ap (λ (n : List ℕ). head_in search.form n crashes) named ∙ ap (head_in search.form spec.name) stopped in
+    let answer : IsListText search spec block false (head_in search.form spec.name (crashes_for spec search.crashes) ++ rest) = record {
+      rest = rest;
+      rest_is = inr (record { many = many; text_is = ap (λ (n : ℕ). unfinished_in search.form spec n search.nodes) stopped; well_is = refl });
+      text_is = refl;
+    } in (
+      head_in search.form spec.name (crashes_for spec search.crashes) ++ rest,
+      answer,
+      after_is ∙ ap (λ (t : List ℕ). t ++ rest) head_is ∙ append_assoc before (head_in search.form name crashes) rest ∙ ap (λ (t : List ℕ). before ++ (t ++ rest)) first,
     )
 
 -- ---- the task alone
 
-pub taskless_told : (limit : ℕ) (spec : RoomSpec) (block name before after : List ℕ) → name ≡ spec.name → None ≡ spec.task → after ≡ before ++ taskless_line name → (text : List ℕ) × IsTaskText limit spec block true text × (after ≡ before ++ text)
-taskless_told limit spec block name before after named none is =
-    (taskless_line spec.name, inl (record { none = sym none; text_is = refl; well_is = refl }), is ∙ ap (λ (n : List ℕ). before ++ taskless_line n) named)
+pub taskless_told : (search : Search) (spec : RoomSpec) (block before after : List ℕ) → None ≡ spec.task → after ≡ before ++ taskless_in search.form spec search.nodes → (text : List ℕ) × IsTaskText search spec block true text × (after ≡ before ++ text)
+taskless_told search spec block before after none is = (taskless_in search.form spec search.nodes, inl (record { none = sym none; text_is = refl; well_is = refl }), is)
 
-pub judged_told : (limit : ℕ) (spec : RoomSpec) (block name : List ℕ) (judgement : Judgement) (well : Bool) (before after : List ℕ) → name ≡ spec.name → IsJudged spec limit judgement → well ≡ is_kept judgement → after ≡ before ++ judgement_text name block judgement
-    → (text : List ℕ) × IsTaskText limit spec block well text × (after ≡ before ++ text)
-judged_told limit spec block name judgement well before after named judged well_is is =
-    (judgement_text spec.name block judgement, inr (inl (record { judgement = judgement; judged = judged; text_is = refl; well_is = well_is })), is ∙ ap (λ (n : List ℕ). before ++ judgement_text n block judgement) named)
+pub judged_told : (search : Search) (spec : RoomSpec) (block : List ℕ) (judgement : Judgement) (well : Bool) (before after : List ℕ) → IsJudged spec search.nodes judgement → well ≡ is_kept judgement → after ≡ before ++ judgement_in search.form spec block search.nodes judgement
+    → (text : List ℕ) × IsTaskText search spec block well text × (after ≡ before ++ text)
+judged_told search spec block judgement well before after judged well_is is =
+    (judgement_in search.form spec block search.nodes judgement, inr (inl (record { judgement = judgement; judged = judged; text_is = refl; well_is = well_is })), is)
 
-pub unjudged_told : (limit : ℕ) (spec : RoomSpec) (block name before after : List ℕ) → name ≡ spec.name → AreTooManyKept spec limit → after ≡ before ++ unjudged_text name limit → (text : List ℕ) × IsTaskText limit spec block false text × (after ≡ before ++ text)
-unjudged_told limit spec block name before after named kept is =
-    (unjudged_text spec.name limit, inr (inr (record { kept = kept; text_is = refl; well_is = refl })), is ∙ ap (λ (n : List ℕ). before ++ unjudged_text n limit) named)
+pub unjudged_told : (search : Search) (spec : RoomSpec) (block before after : List ℕ) → AreTooManyKept spec search.nodes → after ≡ before ++ unjudged_in search.form spec search.nodes → (text : List ℕ) × IsTaskText search spec block false text × (after ≡ before ++ text)
+unjudged_told search spec block before after kept is = (unjudged_in search.form spec search.nodes, inr (inr (record { kept = kept; text_is = refl; well_is = refl })), is)
 
 -- ---- what is asked for
 

@@ -11,9 +11,8 @@ use Rattle.run_search.specs.Judging.{AreTooManyKept, IsJudged}
 use Rattle.view_outcomes.specs.declared.search.Search.{Search}
 use Rattle.view_outcomes.specs.AllInputs.{AddsVectors, AreVectorTexts, IsInputsText, IsVectorText, one_if}
 use Rattle.view_outcomes.specs.Judgements.{is_kept}
-use Rattle.view_outcomes.specs.Texts.{taskless_line}
+use Rattle.view_outcomes.specs.Shown.{taskless_in, too_many_in, vector_in, vector_unjudged_in, vectors_in}
 use Rattle.view_outcomes.specs.Vectors.{block_with, most_vectors, vector_count, vectors, with_inputs}
-use Rattle.view_outcomes.specs.VectorTexts.{too_many_line, vector_text, vector_unjudged_line, vectors_line}
 
 -- ---- one vector more
 
@@ -54,40 +53,39 @@ all_judged search spec block all i kept before after past adds = subst (λ (vect
 
 -- ---- one vector
 
-pub judged_vector : (search : Search) (spec with : RoomSpec) (block name inputs other : List ℕ) (judgement : Judgement) (kept : Bool) (before after : List ℕ) → name ≡ spec.name → with ≡ with_inputs spec inputs → other ≡ block_with block inputs
-    → IsJudged with search.nodes judgement → kept ≡ is_kept judgement → after ≡ before ++ vector_text search.brief name inputs other judgement → (text : List ℕ) × IsVectorText search spec block inputs kept text × (after ≡ before ++ text)
-judged_vector search spec with block name inputs other judgement kept before after named room said judged kept_is is = (
-  vector_text search.brief spec.name inputs (block_with block inputs) judgement,
+pub judged_vector : (search : Search) (spec with : RoomSpec) (block inputs other : List ℕ) (judgement : Judgement) (kept : Bool) (before after : List ℕ) → with ≡ with_inputs spec inputs → other ≡ block_with block inputs
+    → IsJudged with search.nodes judgement → kept ≡ is_kept judgement → after ≡ before ++ vector_in search.form search.brief with other inputs search.nodes judgement → (text : List ℕ) × IsVectorText search spec block inputs kept text × (after ≡ before ++ text)
+judged_vector search spec with block inputs other judgement kept before after room said judged kept_is is = (
+  vector_in search.form search.brief (with_inputs spec inputs) (block_with block inputs) inputs search.nodes judgement,
   inl (record { judgement = judgement; judged = subst (λ (r : RoomSpec). IsJudged r search.nodes judgement) room judged; text_is = refl; kept_is = kept_is }),
-  is ∙ ap (λ (n : List ℕ). before ++ vector_text search.brief n inputs other judgement) named ∙ ap (λ (b : List ℕ). before ++ vector_text search.brief spec.name inputs b judgement) said,
+  is ∙ ap (λ (r : RoomSpec). before ++ vector_in search.form search.brief r other inputs search.nodes judgement) room
+      ∙ ap (λ (b : List ℕ). before ++ vector_in search.form search.brief (with_inputs spec inputs) b inputs search.nodes judgement) said,
 )
 
-pub unjudged_vector : (search : Search) (spec with : RoomSpec) (block name inputs before after : List ℕ) → name ≡ spec.name → with ≡ with_inputs spec inputs → AreTooManyKept with search.nodes
-    → after ≡ before ++ vector_unjudged_line name inputs search.nodes → (text : List ℕ) × IsVectorText search spec block inputs false text × (after ≡ before ++ text)
-unjudged_vector search spec with block name inputs before after named room many is = (
-  vector_unjudged_line spec.name inputs search.nodes,
+pub unjudged_vector : (search : Search) (spec with : RoomSpec) (block inputs before after : List ℕ) → with ≡ with_inputs spec inputs → AreTooManyKept with search.nodes
+    → after ≡ before ++ vector_unjudged_in search.form with inputs search.nodes → (text : List ℕ) × IsVectorText search spec block inputs false text × (after ≡ before ++ text)
+unjudged_vector search spec with block inputs before after room many is = (
+  vector_unjudged_in search.form (with_inputs spec inputs) inputs search.nodes,
   inr (record { so_far = subst (λ (r : RoomSpec). AreTooManyKept r search.nodes) room many; text_is = refl; kept_is = refl }),
-  is ∙ ap (λ (n : List ℕ). before ++ vector_unjudged_line n inputs search.nodes) named,
+  is ∙ ap (λ (r : RoomSpec). before ++ vector_unjudged_in search.form r inputs search.nodes) room,
 )
 
 -- ---- a room
 
-pub taskless_room : (search : Search) (values : List ℕ) (spec : RoomSpec) (block name before after : List ℕ) → name ≡ spec.name → None ≡ spec.task → after ≡ before ++ taskless_line name
+pub taskless_room : (search : Search) (values : List ℕ) (spec : RoomSpec) (block before after : List ℕ) → None ≡ spec.task → after ≡ before ++ taskless_in search.form spec search.nodes
     → (text : List ℕ) × IsInputsText search values spec block true text × (after ≡ before ++ text)
-taskless_room search values spec block name before after named none is =
-    (taskless_line spec.name, inl (record { none = sym none; text_is = refl; well_is = refl }), is ∙ ap (λ (n : List ℕ). before ++ taskless_line n) named)
+taskless_room search values spec block before after none is = (taskless_in search.form spec search.nodes, inl (record { none = sym none; text_is = refl; well_is = refl }), is)
 
-pub crowded_room : (search : Search) (values : List ℕ) (spec : RoomSpec) (block name before after : List ℕ) → name ≡ spec.name → most_vectors < vector_count values (processes spec) → after ≡ before ++ too_many_line name (length values)
+pub crowded_room : (search : Search) (values : List ℕ) (spec : RoomSpec) (block before after : List ℕ) → most_vectors < vector_count values (processes spec) → after ≡ before ++ too_many_in search.form spec search.nodes values
     → (text : List ℕ) × IsInputsText search values spec block false text × (after ≡ before ++ text)
-crowded_room search values spec block name before after named many is =
-    (too_many_line spec.name (length values), inr (inr (record { many = many; text_is = refl; well_is = refl })), is ∙ ap (λ (n : List ℕ). before ++ too_many_line n (length values)) named)
+crowded_room search values spec block before after many is = (too_many_in search.form spec search.nodes values, inr (inr (record { many = many; text_is = refl; well_is = refl })), is)
 
-pub judged_room : (search : Search) (values : List ℕ) (spec : RoomSpec) (block name : List ℕ) (kept count : ℕ) (well : Bool) (before middle after : List ℕ) → name ≡ spec.name → count ≡ vector_count values (processes spec) → vector_count values (processes spec) ≤ most_vectors
-    → AddsVectors search spec block (vectors values (processes spec)) kept before middle → after ≡ middle ++ vectors_line name kept count → well ≡ (kept == count)
+pub judged_room : (search : Search) (values : List ℕ) (spec : RoomSpec) (block : List ℕ) (kept count : ℕ) (well : Bool) (before middle after : List ℕ) → count ≡ vector_count values (processes spec) → vector_count values (processes spec) ≤ most_vectors
+    → AddsVectors search spec block (vectors values (processes spec)) kept before middle → after ≡ middle ++ vectors_in search.form spec search.nodes values kept count → well ≡ (kept == count)
     → (text : List ℕ) × IsInputsText search values spec block well text × (after ≡ before ++ text)
-judged_room search values spec block name kept count well before middle after named counted few adds is well_is =
-    let last : vectors_line name kept count ≡ vectors_line spec.name kept (vector_count values (processes spec)) = ap (λ (n : List ℕ). vectors_line n kept count) named ∙ ap (vectors_line spec.name kept) counted in (
-      concat adds.texts ++ vectors_line spec.name kept (vector_count values (processes spec)),
+judged_room search values spec block kept count well before middle after counted few adds is well_is =
+    let line = vectors_in search.form spec search.nodes values kept in (
+      concat adds.texts ++ line (vector_count values (processes spec)),
       inr (inl (record { few = few; kept = kept; texts = adds.texts; each = adds.each; text_is = refl; well_is = well_is ∙ ap (λ (n : ℕ). kept == n) counted })),
-      is ∙ ap (λ (t : List ℕ). t ++ vectors_line name kept count) adds.after_is ∙ append_assoc before (concat adds.texts) (vectors_line name kept count) ∙ ap (λ (t : List ℕ). before ++ (concat adds.texts ++ t)) last,
+      is ∙ ap (λ (t : List ℕ). t ++ line count) adds.after_is ∙ append_assoc before (concat adds.texts) (line count) ∙ ap (λ (n : ℕ). before ++ (concat adds.texts ++ line n)) counted,
     )

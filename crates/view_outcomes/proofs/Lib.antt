@@ -2,9 +2,11 @@ mod AllListed
 mod AllVectors
 mod Answering
 mod Counting
+mod Floats
 mod JudgingVectors
 mod OtherInputs
 mod ReadingBlocks
 mod ReadingValues
+mod Spending
 mod WorkedVectors
 mod Both

@@ -1,25 +1,25 @@
 -- What is written of a room whose task is judged with all vectors of some values in place of its inputs.
-use Rattle.std.specs.Prelude.{◌≡◌, ◌⊎◌, ◌<◌, ◌≤◌, ℕ, ◌+◌, ◌==◌, Bool, false, List, [], ◌∷◌, ◌++◌, length, if◌then◌else◌}
+use Rattle.std.specs.Prelude.{◌≡◌, ◌⊎◌, ◌<◌, ◌≤◌, ℕ, ◌+◌, ◌==◌, Bool, false, List, [], ◌∷◌, ◌++◌, if◌then◌else◌}
 use Rattle.std.specs.List.{concat}
 use Rattle.room_spec.specs.Rooms.{RoomSpec, processes}
 use Rattle.run_search.specs.declared.judging.Judgement.{Judgement}
 use Rattle.run_search.specs.Judging.{AreTooManyKept, IsJudged}
 use Rattle.view_outcomes.specs.declared.search.Search.{Search}
 use Rattle.view_outcomes.specs.Judgements.{IsTasklessText, is_kept}
+use Rattle.view_outcomes.specs.Shown.{too_many_in, vector_in, vector_unjudged_in, vectors_in}
 use Rattle.view_outcomes.specs.Vectors.{block_with, most_vectors, vector_count, vectors, with_inputs}
-use Rattle.view_outcomes.specs.VectorTexts.{too_many_line, vector_text, vector_unjudged_line, vectors_line}
 
 -- The text says that each run of the room with these inputs keeps its task, and search many nodes stand for the states of all runs; or that one breaks it.
 pub record IsVectorJudged (search : Search) (spec : RoomSpec) (block : List ℕ) (inputs : List ℕ) (kept : Bool) (text : List ℕ) : Type 0 where
   pub judgement : Judgement
   pub judged : IsJudged (with_inputs spec inputs) search.nodes judgement
-  pub text_is : text ≡ vector_text search.brief spec.name inputs (block_with block inputs) judgement
+  pub text_is : text ≡ vector_in search.form search.brief (with_inputs spec inputs) (block_with block inputs) inputs search.nodes judgement
   pub kept_is : kept ≡ is_kept judgement
 
 -- the text says that the room with these inputs has more nodes than the limit, and that no run to the states of those that were found breaks the task, and so it is
 pub record IsVectorUnjudged (search : Search) (spec : RoomSpec) (inputs : List ℕ) (kept : Bool) (text : List ℕ) : Type 0 where
   pub so_far : AreTooManyKept (with_inputs spec inputs) search.nodes
-  pub text_is : text ≡ vector_unjudged_line spec.name inputs search.nodes
+  pub text_is : text ≡ vector_unjudged_in search.form (with_inputs spec inputs) inputs search.nodes
   pub kept_is : kept ≡ false
 
 -- what is written of a vector, and whether each run keeps the task with it
@@ -49,15 +49,15 @@ pub record IsVectorsText (search : Search) (values : List ℕ) (spec : RoomSpec)
   pub kept : ℕ
   pub texts : List (List ℕ)
   pub each : AreVectorTexts search spec block (vectors values (processes spec)) kept texts
-  pub text_is : text ≡ concat texts ++ vectors_line spec.name kept (vector_count values (processes spec))
+  pub text_is : text ≡ concat texts ++ vectors_in search.form spec search.nodes values kept (vector_count values (processes spec))
   pub well_is : well ≡ (kept == vector_count values (processes spec))
 
 -- the text says that there are more vectors than are judged, and so it is
-pub record IsTooManyText (values : List ℕ) (spec : RoomSpec) (well : Bool) (text : List ℕ) : Type 0 where
+pub record IsTooManyText (search : Search) (values : List ℕ) (spec : RoomSpec) (well : Bool) (text : List ℕ) : Type 0 where
   pub many : most_vectors < vector_count values (processes spec)
-  pub text_is : text ≡ too_many_line spec.name (length values)
+  pub text_is : text ≡ too_many_in search.form spec search.nodes values
   pub well_is : well ≡ false
 
 -- what is written of a room whose task is judged with all vectors of these values; of a room without a task what is written if it is judged with its own inputs
 abbrev pub IsInputsText : Search → List ℕ → RoomSpec → List ℕ → Bool → List ℕ → Type 0
-IsInputsText search values spec block well text = IsTasklessText spec well text ⊎ (IsVectorsText search values spec block well text ⊎ IsTooManyText values spec well text)
+IsInputsText search values spec block well text = IsTasklessText search spec well text ⊎ (IsVectorsText search values spec block well text ⊎ IsTooManyText search values spec well text)

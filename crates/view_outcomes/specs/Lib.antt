@@ -2,10 +2,14 @@ pub mod AllInputs
 pub mod Asked
 pub mod Blocks
 pub mod Counts
+pub mod Forms
+pub mod Json
 pub mod Judgements
 pub mod Keeping
+pub mod KeptTexts
 pub mod Listing
 pub mod Rooms
+pub mod Shown
 pub mod Texts
 pub mod Values
 pub mod Vectors

@@ -13,7 +13,7 @@ use Rattle.view_outcomes.specs.AllInputs.{IsInputsText}
 use Rattle.view_outcomes.specs.Judgements.{IsTaskText}
 use Rattle.view_outcomes.specs.Keeping.{IsKeepingText}
 use Rattle.view_outcomes.specs.Listing.{AreAllListed, IsTaskOfRuns}
-use Rattle.view_outcomes.specs.Texts.{advice, found_text, head_line, unfinished_line}
+use Rattle.view_outcomes.specs.Shown.{found_shown, head_in, unfinished_in}
 
 -- all processes but one may stop, if the number is not said
 abbrev pub crashes_for : RoomSpec → Option ℕ → ℕ
@@ -27,28 +27,28 @@ pub record IsFoundText (search : Search) (spec : RoomSpec) (block : List ℕ) (w
   pub nodes : HasNodes spec search.nodes all.nodes
   pub task : IsTaskOfRuns spec (option_map (λ events. events.items) all.breaking)
   pub well_is : well ≡ is_none all.breaking
-  pub text_is : text ≡ found_text spec block all
+  pub text_is : text ≡ found_shown search spec block (crashes_for spec search.crashes) all
 
 -- the text says that there are more nodes than the limit, and so it is
 pub record IsUnfinishedText (search : Search) (spec : RoomSpec) (well : Bool) (text : List ℕ) : Type 0 where
   pub many : AreTooMany spec search.nodes
-  pub text_is : text ≡ unfinished_line search.nodes advice
+  pub text_is : text ≡ unfinished_in search.form spec (crashes_for spec search.crashes) search.nodes
   pub well_is : well ≡ false
 
 -- what is written of a room whose outcomes are listed
 pub record IsListText (search : Search) (spec : RoomSpec) (block : List ℕ) (well : Bool) (text : List ℕ) : Type 0 where
   pub rest : List ℕ
   pub rest_is : IsFoundText search spec block well rest ⊎ IsUnfinishedText search spec well rest
-  pub text_is : text ≡ head_line spec.name (crashes_for spec search.crashes) ++ rest
+  pub text_is : text ≡ head_in search.form spec.name (crashes_for spec search.crashes) ++ rest
 
 -- ---- rooms
 
 -- what is asked for: all outcomes, whether each run keeps the task, with which inputs each does, or whether each keeps a task of one's own
 abbrev pub IsTextFor : Asked → Search → RoomSpec → List ℕ → Bool → List ℕ → Type 0
 IsTextFor Outcomes search spec block well text = IsListText search spec block well text
-IsTextFor Task search spec block well text = IsTaskText search.nodes spec block well text
+IsTextFor Task search spec block well text = IsTaskText search spec block well text
 IsTextFor (Inputs values) search spec block well text = IsInputsText search values.now spec block well text
-IsTextFor (Keeps task) search spec block well text = IsKeepingText task.now search.nodes spec block well text
+IsTextFor (Keeps task) search spec block well text = IsKeepingText task.now search spec block well text
 
 -- what is written of a room, with a block that says the room
 pub record IsRoomAnswer (search : Search) (spec : RoomSpec) (well : Bool) (text : List ℕ) : Type 0 where

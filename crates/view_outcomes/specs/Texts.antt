@@ -1,6 +1,6 @@
 -- What is written of all outcomes of a room.
-use Rattle.std.specs.Prelude.{ℕ, ◌+◌, ◌-◌, ◌==◌, List, [], ◌∷◌, ◌++◌, length, map, Option, None, Some, if◌then◌else◌, codes, decimal, option_map, slice_index_or}
-use Rattle.std.specs.List.{concat, flat_map, list_any, range_with_len}
+use Rattle.std.specs.Prelude.{ℕ, List, [], ◌∷◌, ◌++◌, length, map, Option, None, Some, if◌then◌else◌, codes, decimal, option_map, slice_index_or}
+use Rattle.std.specs.List.{concat, list_any, range_with_len}
 use Rattle.std.specs.Global.{Vec}
 use Rattle.room_spec.specs.Rooms.{RoomSpec, processes}
 use Rattle.room_files.specs.BlockLists.{whole_block}
@@ -12,7 +12,7 @@ use Rattle.run_search.specs.declared.judging.Judgement.{Judgement}
 use Rattle.run_search.specs.declared.judging.Judgement.TheVariants.{Kept, Broken}
 use Rattle.view_outcomes.specs.declared.listing.AllOutcomes.{AllOutcomes}
 use Rattle.view_outcomes.specs.declared.listing.Listed.{Listed}
-use Rattle.view_outcomes.specs.Counts.{can_be_spent, has_spent, most_values, values_in}
+use Rattle.view_outcomes.specs.Counts.{can_be_spent, has_spent, most_values}
 
 -- ---- one outcome
 
@@ -38,19 +38,6 @@ transcript_if name block (Some events) = transcript_text name block events.items
 
 abbrev pub outcome_text : List ℕ → List ℕ → Listed → List ℕ
 outcome_text name block one = codes "\n" ++ (end_lines name one.ends.items ++ transcript_if name block one.events)
-
--- ---- all outcomes
-
-abbrev pub text_if : List ℕ → List ℕ → ℕ → Listed → List ℕ
-text_if name block values one = if values_in one.ends.items == values then outcome_text name block one else []
-
--- those with this number of decided values
-abbrev pub outcomes_with : List ℕ → List ℕ → List Listed → ℕ → List ℕ
-outcomes_with name block all values = flat_map (text_if name block values) all
-
--- those with most decided values first
-abbrev pub outcomes_text : List ℕ → List ℕ → List Listed → List ℕ
-outcomes_text name block all = concat (map (λ fewer. outcomes_with name block all (most_values all - fewer)) (range_with_len 0 (most_values all + 1)))
 
 -- ---- what they have in common
 
@@ -96,12 +83,12 @@ unfinished_line limit advice = codes "more than" ++ ((32 ∷ decimal limit) ++ a
 abbrev pub advice : List ℕ
 advice = codes " nodes: not searched to the end; try a greater --nodes, fewer rounds, or sample\n"
 
-abbrev pub found_text : RoomSpec → List ℕ → AllOutcomes → List ℕ
-found_text spec block all =
-    outcomes_text spec.name block all.listed.items
-    ++ (most_line spec.name all.listed.items
+-- what is said after the outcomes
+abbrev pub common_text : RoomSpec → List ℕ → AllOutcomes → List ℕ
+common_text spec block all =
+    most_line spec.name all.listed.items
     ++ ((spent_lines spec.name (processes spec) all.listed.items ++ none_spent_if spec.name all.listed.items)
-    ++ (task_text spec.name block spec.task (option_map (λ events. events.items) all.breaking) ++ complete_line all)))
+    ++ (task_text spec.name block spec.task (option_map (λ events. events.items) all.breaking) ++ complete_line all))
 
 -- ---- the task alone
 

@@ -8,8 +8,7 @@ ghost use Rattle.view_outcomes.specs.Vectors.{vectors};
 use crate::block::room_with;
 use crate::judging::is_kept;
 use crate::search::Search;
-use crate::text::write_taskless;
-use crate::vector_text::{write_too_many, write_vector, write_vector_unjudged, write_vectors_line};
+use crate::shown::{show_taskless, show_too_many, show_vector, show_vector_unjudged, show_vectors};
 use crate::vectors::{all_vectors, count_if_few};
 use io_text::Text;
 use room_spec::Spec;
@@ -30,17 +29,17 @@ pub fn judge_all<P: Progress>(
     requires { IsBlock block.now spec.now (length block.now) }
     ensures { IfOk result (λ well. (text : List ℕ) × IsInputsText search.now values.now spec.now block.now well text × (output.new ≡ output.old ++ text)) }
 {
-    let name = spec.name().as_str().as_bytes();
+    let (form, limit) = (search.form, search.nodes);
     let Some(_task) = spec.task() else {
-        write_taskless(output, name)?;
+        show_taskless(alloc, output, form, spec, limit)?;
         return Ok(true);
     };
     let Some(count) = count_if_few(values.len(), spec.n()) else {
-        write_too_many(output, name, values.len())?;
+        show_too_many(alloc, output, form, spec, limit, values)?;
         return Ok(false);
     };
     let kept = judge_vectors(alloc, spec, block, search, values, output, progress)?;
-    write_vectors_line(output, name, kept, count)?;
+    show_vectors(alloc, output, search, spec, values, kept, count)?;
     Ok(kept == count)
 }
 
@@ -83,22 +82,15 @@ fn judge_vector<P: Progress>(
     requires inputs { length inputs.now ≡ processes spec.now }
     ensures { IfOk result (λ kept. (text : List ℕ) × IsVectorText search.now spec.now block.now inputs.now kept text × (output.new ≡ output.old ++ text)) }
 {
-    let name = spec.name().as_str().as_bytes();
     let (room, with) = room_with(alloc, spec, block, inputs)?;
     match judge_task(alloc, &room, search.nodes, progress) {
         Ok(judgement) => {
-            write_vector(
-                output,
-                name,
-                inputs,
-                with.as_bytes(),
-                search.brief,
-                &judgement,
-            )?;
+            let block = with.as_bytes();
+            show_vector(alloc, output, search, &room, block, inputs, &judgement)?;
             Ok(is_kept(&judgement))
         }
         Err(SearchFault::TooManyNodes) => {
-            write_vector_unjudged(output, name, inputs, search.nodes)?;
+            show_vector_unjudged(alloc, output, search.form, &room, inputs, search.nodes)?;
             Ok(false)
         }
         Err(SearchFault::OutOfMemory) => Err(AllocError),

@@ -2,7 +2,8 @@
 ghost use Rattle.std.specs.Prelude.{◌≡◌, ◌++◌, IfOk, ℕ, List};
 ghost use Rattle.view_outcomes.specs.Judgements.{IsTaskText, is_kept};
 
-use crate::text::{write_judgement, write_taskless, write_unjudged};
+use crate::search::Search;
+use crate::shown::{show_judgement, show_taskless, show_unjudged};
 use io_text::Text;
 use room_spec::Spec;
 use run_search::{Judgement, Progress, SearchFault, judge_task};
@@ -13,24 +14,24 @@ pub fn judge<P: Progress>(
     alloc: Global,
     spec: &Spec,
     block: &[u8],
-    limit: u32,
+    search: &Search<'_>,
     output: &mut Text,
     progress: &mut P,
 ) -> Result<bool, AllocError>
-    ensures { IfOk result (λ well. (text : List ℕ) × IsTaskText limit spec.now block.now well text × (output.new ≡ output.old ++ text)) }
+    ensures { IfOk result (λ well. (text : List ℕ) × IsTaskText search.now spec.now block.now well text × (output.new ≡ output.old ++ text)) }
 {
-    let name = spec.name().as_str().as_bytes();
+    let (form, limit) = (search.form, search.nodes);
     let Some(_task) = spec.task() else {
-        write_taskless(output, name)?;
+        show_taskless(alloc, output, form, spec, limit)?;
         return Ok(true);
     };
     match judge_task(alloc, spec, limit, progress) {
         Ok(judgement) => {
-            write_judgement(output, name, block, &judgement)?;
+            show_judgement(alloc, output, form, spec, block, limit, &judgement)?;
             Ok(is_kept(&judgement))
         }
         Err(SearchFault::TooManyNodes) => {
-            write_unjudged(output, name, limit)?;
+            show_unjudged(alloc, output, form, spec, limit)?;
             Ok(false)
         }
         Err(SearchFault::OutOfMemory) => Err(AllocError),

@@ -1,16 +1,19 @@
-//! All outcomes of the rooms of a file, as text: each with a transcript that leads to it. Or whether the rooms' tasks are kept, with their own inputs or with all of some values, or a task of one's own.
+//! All outcomes of the rooms of a file, as text or as JSON: each with a run that leads to it. Or whether the rooms' tasks are kept, with their own inputs or with all of some values, or a task of one's own.
 #![tactic(auto)]
 
 mod block;
 mod blocks;
 mod counts;
 mod inputs;
+mod json;
 mod judging;
 mod keeping;
+mod kept_text;
 pub mod laws;
 mod listing;
 mod rooms;
 mod search;
+mod shown;
 mod text;
 mod values;
 mod vector_text;
@@ -18,5 +21,5 @@ mod vectors;
 
 pub use blocks::search_blocks;
 pub use listing::{AllOutcomes, Listed, find_all};
-pub use search::{Asked, Search};
+pub use search::{Asked, Form, Search};
 pub use values::{MAX_VALUES, Values, ValuesFault, read_values};

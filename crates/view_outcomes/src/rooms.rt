@@ -11,7 +11,7 @@ use crate::judging::judge;
 use crate::keeping::judge_both;
 use crate::listing::find_all;
 use crate::search::{Asked, Search};
-use crate::text::{write_found, write_head, write_unfinished};
+use crate::shown::{show_found, show_head, show_unfinished};
 use io_text::Text;
 use room_files::BlockList;
 use room_spec::{Spec, read_block};
@@ -79,11 +79,9 @@ fn answer<P: Progress>(
 {
     match search.asked {
         Asked::Outcomes => list(alloc, spec, block, search, output, progress),
-        Asked::Task => judge(alloc, spec, block, search.nodes, output, progress),
+        Asked::Task => judge(alloc, spec, block, search, output, progress),
         Asked::Inputs(values) => judge_all(alloc, spec, block, search, values, output, progress),
-        Asked::Keeps(task) => {
-            judge_both(alloc, spec, block, task, search.nodes, output, progress)
-        }
+        Asked::Keeps(task) => judge_both(alloc, spec, block, task, search, output, progress),
     }
 }
 
@@ -99,14 +97,19 @@ fn list<P: Progress>(
     ensures { IfOk result (λ well. (text : List ℕ) × IsListText search.now spec.now block.now well text × (output.new ≡ output.old ++ text)) }
 {
     let crashes = crashes_for(spec, search.crashes);
-    write_head(output, spec.name().as_str().as_bytes(), crashes)?;
+    show_head(
+        output,
+        search.form,
+        spec.name().as_str().as_bytes(),
+        crashes,
+    )?;
     match find_all(alloc, spec, crashes, search.nodes, search.brief, progress) {
         Ok(all) => {
-            write_found(output, spec, block, &all)?;
+            show_found(alloc, output, search, spec, block, crashes, &all)?;
             Ok(all.breaking.is_none())
         }
         Err(SearchFault::TooManyNodes) => {
-            write_unfinished(output, search.nodes)?;
+            show_unfinished(alloc, output, search.form, spec, crashes, search.nodes)?;
             Ok(false)
         }
         Err(SearchFault::OutOfMemory) => Err(AllocError),

@@ -1,4 +1,6 @@
 //! What is asked of the rooms of a file.
+ghost use Rattle.std.specs.Prelude.{◌≡◌};
+ghost use Rattle.view_outcomes.specs.Forms.{form_if};
 
 use decision_tasks::DecisionTask;
 
@@ -15,6 +17,24 @@ pub enum Asked<'a> {
     Keeps(&'a DecisionTask),
 }
 
+/// How answers are written.
+#[derive(Clone, Copy)]
+pub enum Form {
+    /// As text for people, with transcripts.
+    Text,
+    /// As JSON, an object a line.
+    Json,
+}
+
+impl Form {
+    /// JSON if that is asked for, and else text.
+    pub fn of(json: bool) -> Form
+        ensures { result ≡ form_if json }
+    {
+        if json { Form::Json } else { Form::Text }
+    }
+}
+
 /// How rooms are searched, and what is written of them.
 #[derive(Clone, Copy)]
 pub struct Search<'a> {
@@ -22,7 +42,8 @@ pub struct Search<'a> {
     pub crashes: Option<u32>,
     /// How many nodes of a room are searched at most.
     pub nodes: u32,
-    /// Whether transcripts are left out.
+    /// Whether transcripts are left out, in JSON the events of runs.
     pub brief: bool,
+    pub form: Form,
     pub asked: Asked<'a>,
 }

@@ -1,9 +1,8 @@
 //! All outcomes of a room, as text.
-ghost use Rattle.std.specs.Prelude.{◌≡◌, ◌+◌, ◌-◌, ◌∷◌, ◌++◌, OnOk, codes, decimal, option_map};
-ghost use Rattle.std.specs.List.{flat_map, range_with_len};
-ghost use Rattle.view_outcomes.specs.Texts.{advice, all_runs_line, breaking_text, complete_line, end_line, end_lines, end_words, found_text, head_line, judgement_text, most_line, none_spent_if, outcome_text, outcomes_text, outcomes_with, spent_line, spent_line_if, spent_lines, task_text, taskless_line, text_if, transcript_text, unfinished_line, unjudged_text};
+ghost use Rattle.std.specs.Prelude.{◌≡◌, ◌∷◌, ◌++◌, OnOk, codes, decimal, option_map};
+ghost use Rattle.view_outcomes.specs.Texts.{advice, all_runs_line, breaking_text, common_text, complete_line, end_line, end_lines, end_words, head_line, judgement_text, most_line, none_spent_if, outcome_text, spent_line, spent_line_if, spent_lines, task_text, taskless_line, transcript_text, unfinished_line, unjudged_text};
 
-use crate::counts::{can_be_spent, is_any_spent, most_values, values_in};
+use crate::counts::{can_be_spent, is_any_spent, most_values};
 use crate::listing::{AllOutcomes, Listed};
 use io_text::Text;
 use report_text::write_events;
@@ -40,75 +39,25 @@ pub fn write_unfinished(output: &mut Text, limit: u32) -> Result<(), AllocError>
     write_unfinished_line(output, limit, advice)
 }
 
-/// Writes all outcomes of the room that this block says, those with most decided values first, each with its transcript, if there is one;
-/// then what they have in common, and whether each run keeps the room's task.
-pub fn write_found(
+/// Writes what all outcomes of the room that this block says have in common, and whether each run keeps the room's task.
+pub fn write_common(
     output: &mut Text,
     spec: &Spec,
     block: &[u8],
     all: &AllOutcomes,
 ) -> Result<(), AllocError>
-    ensures { OnOk result (output.new ≡ output.old ++ found_text spec.now block.now all.now) }
+    ensures { OnOk result (output.new ≡ output.old ++ common_text spec.now block.now all.now) }
 {
     let name = spec.name().as_str().as_bytes();
     let listed = all.listed.as_slice();
-    write_outcomes(output, name, block, listed)?;
     write_most(output, name, listed)?;
     write_spent(output, name, spec.n(), listed)?;
     write_task(output, name, block, spec.task(), &all.breaking)?;
     write_complete(output, all)
 }
 
-/// Writes the outcomes, those with most decided values first.
-fn write_outcomes(
-    output: &mut Text,
-    name: &[u8],
-    block: &[u8],
-    all: &[Listed],
-) -> Result<(), AllocError>
-    ensures { OnOk result (output.new ≡ output.old ++ outcomes_text name.now block.now all.now) }
-{
-    let most = most_values(all);
-    for fewer in 0..=most {
-        write_outcomes_with(output, name, block, most - fewer, all)?;
-    }
-    Ok(())
-}
-
-/// Writes the outcomes with this number of decided values.
-fn write_outcomes_with(
-    output: &mut Text,
-    name: &[u8],
-    block: &[u8],
-    values: usize,
-    all: &[Listed],
-) -> Result<(), AllocError>
-    ensures { OnOk result (output.new ≡ output.old ++ outcomes_with name.now block.now all.now values) }
-{
-    for one in all {
-        write_if(output, name, block, values, one)?;
-    }
-    Ok(())
-}
-
-/// Writes an outcome if it has this number of decided values.
-fn write_if(
-    output: &mut Text,
-    name: &[u8],
-    block: &[u8],
-    values: usize,
-    one: &Listed,
-) -> Result<(), AllocError>
-    ensures { OnOk result (output.new ≡ output.old ++ text_if name.now block.now values one.now) }
-{
-    if values_in(one.ends.as_slice()) != values {
-        return Ok(());
-    }
-    write_outcome(output, name, block, one)
-}
-
 /// Writes how each process ends, and a transcript of a run that ends so, if there is one.
-fn write_outcome(
+pub fn write_outcome(
     output: &mut Text,
     name: &[u8],
     block: &[u8],

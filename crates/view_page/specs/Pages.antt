@@ -16,7 +16,7 @@ use Rattle.file_faults.specs.declared.kinds.Kind.TheVariants as kinds
 use Rattle.step_page.specs.Pages.{file_text, page_text}
 use Rattle.step_page.specs.declared.page.FileKind.{FileKind}
 use Rattle.step_page.specs.declared.page.FileKind.TheVariants.{Script, Transcript}
-use Rattle.view_trace.specs.Trace.{IsTraceFor}
+use Rattle.view_trace.specs.Trace.{IsJsonTraceFor}
 use Rattle.view_why.specs.Why.{IsExplanationFor}
 
 abbrev pub answered_as : Kind → FileKind
@@ -30,9 +30,9 @@ kind_of file = answered_as (read_as file)
 
 -- ---- one file
 
--- what `trace` answers to a script, and `why` to a transcript
+-- what `trace --json` answers to a script, and `why` to a transcript
 abbrev pub IsFileAnswer : FileKind → List ℕ → Result Outcome AllocError → List ℕ → Type 0
-IsFileAnswer Script file ending answer = IsTraceFor file ending answer
+IsFileAnswer Script file ending answer = IsJsonTraceFor file ending answer
 IsFileAnswer Transcript file ending answer = (outcome : Outcome) × (ending ≡ Ok outcome) × IsExplanationFor file outcome answer
 
 -- a file of a page, with the answer to it

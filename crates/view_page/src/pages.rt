@@ -10,7 +10,7 @@ use room_files::{InputFault, Outcome};
 use script_play::PlayText;
 use std::alloc::{AllocError, Global};
 use step_page::{FileKind, begin_page, end_page, put_file};
-use view_trace::trace;
+use view_trace::trace_json;
 use view_why::explain;
 
 /// What a file is answered as: rooms alone are no transcript.
@@ -73,14 +73,14 @@ fn write_said_in(output: &mut Text, name: &str, said: &[u8]) -> Result<(), Alloc
     output.put_two(b":\n", said)
 }
 
-/// What `trace` answers to a script, and `why` to a transcript.
+/// What `trace --json` answers to a script, and `why` to a transcript.
 fn answer_to(alloc: Global, file: &[u8]) -> Result<PlayText, InputFault>
     requires { length file.now ≤ most_bytes }
     ensures answer { IfOk result (λ answer. IsFileAnswer (kind_of file.now) file.now answer.ending answer.output) }
     ensures err { IfErr result (IsFaultOf (first_fault (kind_of file.now) file.now)) }
 {
     match kind_of(file) {
-        FileKind::Script => trace(alloc, file),
+        FileKind::Script => trace_json(alloc, file),
         FileKind::Transcript => {
             let answer = explain(alloc, file)?;
             Ok(PlayText {
@@ -91,7 +91,7 @@ fn answer_to(alloc: Global, file: &[u8]) -> Result<PlayText, InputFault>
     }
 }
 
-/// The page that steps through a script or a transcript: the file, and what `trace` or `why` answers to it.
+/// The page that steps through a script or a transcript: the file, and what `trace --json` or `why` answers to it.
 ///
 /// # Errors
 ///

@@ -1,7 +1,8 @@
-use Rattle.std.proofs.Common.{Bool, ◌&&◌, ap, ◌∙◌, subst}
+use Rattle.std.proofs.Common.{Bool, ◌&&◌, List, ℕ, ap, ◌∙◌, subst}
 use Rattle.room_files.specs.Blocks.{Setup}
 use Rattle.room_files.specs.Verdicts.{outcome_if}
 use Rattle.view_outcomes.specs.Blocks.{AreOutcomesWritten}
+use Rattle.view_outcomes.specs.Rooms.{AddsOutcomes}
 use Rattle.view_outcomes.proofs.blocks.search_blocks.Goals as goal
 
 pub returns : goal.returns
@@ -10,6 +11,7 @@ returns g c =
     subst (λ (setup : Setup). AreOutcomesWritten c.args.search.now setup c.outcome_if-outcome.result c.write_rooms.new.output) same
     (record {
       well = c.in_ok-is_well.is_well;
-      rooms = c.in_ok-is_well.ensures;
+      rooms =
+          subst (λ (start : List ℕ). AddsOutcomes c.args.search.now c.rooms.inside.rooms.rooms c.in_ok-is_well.is_well start c.write_rooms.new.output) c.refused_in-output.ensures c.in_ok-is_well.ensures;
       outcome_is = c.outcome_if-outcome.ensures ∙ ap (λ (accepted : Bool). outcome_if (accepted && c.in_ok-is_well.is_well)) c.is_empty-is_accepted.ensures;
     })

@@ -6,7 +6,7 @@ use Rattle.room_core.specs.Reading.{AreFieldsOf}
 use Rattle.room_core.specs.declared.reply.StepReply.TheVariants.{Stepped}
 use Rattle.room_steps.specs.Steps.{IsStepOf}
 use Rattle.room_steps.specs.declared.step.AtomicStep.{AtomicStep}
-use Rattle.step_words.specs.Told.{asked_of, with_step}
+use Rattle.step_words.specs.Told.{Telling, agreement_for, asked_of, with_step}
 use Rattle.step_words.proofs.Within.{told_within}
 use Rattle.step_words.proofs.texts.StepTextsObserver.step.Goals as goal
 
@@ -26,12 +26,16 @@ returns-in-Some-clause-seen c = λ stepped.
     record {
       step = c.in-Some.step;
       is = was.1;
-      consequence = record { effect = c.effect.result; unreadable = c.asked_of.result };
+      consequence = record { effect = c.effect.result; unreadable = c.asked_of.result; agreement = c.agreement_for.result };
       effect = λ one. c.effect.ensures room one c.of-start.ensures was.0 c.take_step-reply.ensures.room;
       unreadable = λ fields are.
           subst (λ (spec : RoomSpec). c.asked_of.result ≡ asked_of spec fields c.in-Some.step.process c.in-Some.step.end) (sym c.spec-in-Some.ensures.value ∙ same)
           (c.asked_of.ensures fields (subst (λ (after : RoomState). AreFieldsOf after fields) (sym c.take_step-reply.ensures.room) are));
+      agreement = λ fields are.
+          subst (λ (spec : RoomSpec). c.agreement_for.result ≡ agreement_for c.args.self.now.json spec fields c.in-Some.step.place) (sym c.spec-in-Some.ensures.value ∙ same)
+          (subst (λ (self : Telling). c.agreement_for.result ≡ agreement_for self.json c.take_step-reply.new.room.spec fields c.in-Some.step.place) c.self.view_is
+          (c.agreement_for.ensures fields (subst (λ (after : RoomState). AreFieldsOf after fields) (sym c.take_step-reply.ensures.room) are)));
       number = c.next_number-number.result;
       numbered = c.next_number-number.ensures;
-      told = subst (λ (spec : RoomSpec). c.note.new.self.lacks ≡ false → c.note.new.self ≡ with_step c.args.self.now spec c.next_number-number.result c.in-Some.step (record { effect = c.effect.result; unreadable = c.asked_of.result })) same c.note.ensures;
+      told = subst (λ (spec : RoomSpec). c.note.new.self.lacks ≡ false → c.note.new.self ≡ with_step c.args.self.now spec c.next_number-number.result c.in-Some.step (record { effect = c.effect.result; unreadable = c.asked_of.result; agreement = c.agreement_for.result })) same c.note.ensures;
     }

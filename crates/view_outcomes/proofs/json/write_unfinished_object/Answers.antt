@@ -1,0 +1,7 @@
+use Rattle.std.proofs.Common.{◌∙◌, ap}
+use Rattle.serde_json.specs.Written.{has_float}
+use Rattle.view_outcomes.proofs.Floats.{unfinished_is}
+use Rattle.view_outcomes.proofs.json.write_unfinished_object.Goals as goal
+
+pub write_line-requires : goal.write_line-requires
+write_line-requires c = ap has_float c.in_ok-value.ensures ∙ unfinished_is c.args.spec.now c.args.crashes c.args.limit

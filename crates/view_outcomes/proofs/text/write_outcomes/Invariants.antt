@@ -1,8 +1,0 @@
-use Rattle.std.proofs.Common.{◌≡◌, ◌-◌, ◌++◌, map}
-use Rattle.std.specs.List.{concat, range_with_len}
-use Rattle.view_outcomes.specs.Counts.{most_values}
-use Rattle.view_outcomes.specs.Texts.{outcomes_with}
-use Rattle.view_outcomes.proofs.text.write_outcomes.Given as goal
-
-abbrev pub invariant-loop-fewer : goal.invariant-loop-fewer
-invariant-loop-fewer l = l.output ≡ l.initial.output ++ concat (map (λ fewer. outcomes_with l.name l.block l.all (most_values l.all - fewer)) (range_with_len 0 l.fewer))
