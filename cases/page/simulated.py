@@ -157,11 +157,11 @@ def letter(moment):
     return next(shown for part, shown in ((" in value(", "W"), (" in out(", "D"), (" in view(", "V")) if part in operation)
 
 
-EMPTY = {"crashed": [], "counted": {}, "levels": {}, "blind": [], "proposals": {}, "chosen": {}, "values": {}, "events": [], "read": {}, "decided": {}}
+EMPTY = {"crashed": [], "counted": {}, "levels": {}, "blind": [], "proposals": {}, "chosen": {}, "values": {}, "events": [], "read": {}, "decided": {}, "own": {}}
 
 
 def situations(room):
-    """After each moment: who has crashed, the step numbers, levels, proposals, choices, values and events of the room."""
+    """After each moment: who has crashed, the step numbers, levels, proposals, choices, values, events and decisions of the room."""
     now = EMPTY
     yield now
     for at, moment in enumerate(room["moments"]):
@@ -186,6 +186,7 @@ def store(now, moment):
         now["proposals"][own] = [old[p] if old and entry == "." else entry for p, entry in enumerate(sight.split(" "))]
     if " in out(" in operation:
         now["decided"][moment["p"]] = re.search(r"decides (\d+)", sight)[1]
+        now["own"].setdefault(moment["i"], now["decided"][moment["p"]])
     if operation.startswith("add 1 to step"):
         now["counted"][moment["i"], moment["p"]] = int(sight.split(" ")[2])
     if letter(moment) == "?" and "no proposal stands" in sight:
@@ -225,9 +226,10 @@ def compare_simulated(room, panels, columns):
         holds(f"{where}: the sentence", panel["sentence"], room["sentences"][count])
         if count:
             compare_obstacle(where, room["moments"][count - 1], now)
+            compare_decision(where, room["moments"][count - 1], all_now[count - 1], now)
         compare_words(where, panel, now)
         compare_agreements(where, panel, now)
-        compare_frames(where, panel, room["moments"][count - 1]["operation"] if count else "")
+        compare_frames(where, panel, room["moments"][count - 1]["operation"] if count else "", set(now["own"]) - set(all_now[count - 1]["own"] if count else []))
         compare_processes(where, room, panel, now, count)
         compare_hints(where, panel, now)
         compare_lanes(where, room, panel, panel["drawn"], now, all_now[-1], count, columns)
@@ -253,10 +255,16 @@ def compare_obstacle(where, moment, now):
     holds(f"{where}: what is said of the agreement {key}", said, [choice + why])
 
 
+def compare_decision(where, moment, before, now):
+    """A simulator decides what it first stores as the decision of a process."""
+    said = [note for note in moment["notes"] if note.startswith("simulator")]
+    holds(f"{where}: what the simulator decides", said, [f"simulator {i} decides {value}" for i, value in now["own"].items() if i not in before["own"]])
+
+
 def compare_words(where, panel, now):
     numbers, _, values, _ = panel["tables"]
     for i, row in enumerate(numbers):
-        holds(f"{where}: the step numbers of simulator {i}", row, [f"simulator {i}" + (f" {CROSS}" if i in now["crashed"] else ""), *(str(now["counted"].get((i, p), 0)) for p in range(len(row) - 1))])
+        holds(f"{where}: the step numbers of simulator {i}", row, [f"simulator {i}" + (f" {CROSS}" if i in now["crashed"] else ""), *(str(now["counted"].get((i, p), 0)) for p in range(len(row) - 2)), now["own"].get(i, "")])
     for p, row in enumerate(values):
         holds(f"{where}: the values of process {p}", [(r, value) for r, value in enumerate(row[1:], 1) if value], [(r, value) for (q, r), value in sorted(now["values"].items()) if q == p])
 
@@ -299,10 +307,10 @@ def touches(operation, kind, *numbers):
     return bool(field) and all(wanted in (None, number) for wanted, number in zip(numbers, map(int, field[1].split(","))))
 
 
-def compare_frames(where, panel, operation):
-    """The red frames: around the fields that the operation is on. Who reads a proposal doesn't touch it."""
+def compare_frames(where, panel, operation, deciding):
+    """The red frames: around the fields that the operation is on, and the decision of a simulator that decides. Who reads a proposal doesn't touch it."""
     numbers, agreements, values, _ = [[["now" in classes.split() for classes in row[1:]] for row in table] for table in panel["classes"]]
-    holds(f"{where}: the frames of step numbers", numbers, [[operation.startswith("load the step numbers") or touches(operation, "step", i, p) for p in range(len(row))] for i, row in enumerate(numbers)])
+    holds(f"{where}: the frames of step numbers", numbers, [[*(operation.startswith("load the step numbers") or touches(operation, "step", i, p) for p in range(len(row) - 1)), i in deciding] for i, row in enumerate(numbers)])
     holds(f"{where}: the frames of values", values, [[touches(operation, "value", None, p, r) for r in range(1, len(row) + 1)] for p, row in enumerate(values)])
     for row, frames in zip(panel["tables"][1], agreements):
         key = tuple(map(int, re.match(r"p(\d+) r(\d+)", row[0]).groups()))
@@ -355,10 +363,11 @@ def compare_processes(where, room, panel, now, count):
 
 
 def compare_hints(where, panel, now):
-    """The hints that have numbers in them: of step numbers, values and agreements."""
+    """The hints that have numbers in them: of step numbers, decisions, values and agreements."""
     numbers, agreements, values, _ = panel["hints"]
     for i, row in enumerate(numbers):
-        for p, hint in enumerate(row[1:]):
+        holds(f"{where}: the hint of a decision", row[-1], f"simulator {i} has {'decided ' + now['own'][i] if i in now['own'] else 'not decided'}")
+        for p, hint in enumerate(row[1:-1]):
             count = now["counted"].get((i, p), 0)
             holds(f"{where}: a hint of step numbers", hint, f"step({i},{p}): simulator {i} has counted {count} write{'' if count == 1 else 's'} of process {p}")
     for p, row in enumerate(values):

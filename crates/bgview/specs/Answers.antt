@@ -13,7 +13,7 @@ use Rattle.view_grade.specs.Goals.{goal_in}
 use Rattle.view_grade.specs.Grades.{IsGraded}
 use Rattle.view_grade.specs.declared.goal.Claim.{Claim}
 use Rattle.view_grade.specs.declared.goal.GoalFault.{GoalFault}
-use Rattle.file_faults.specs.Lint.{IsLintFor}
+use Rattle.file_faults.specs.Lint.{IsLintIn}
 use Rattle.view_outcomes.specs.Asked.{AreInputsAsked, IsTaskAsked}
 use Rattle.view_outcomes.specs.Blocks.{IsOutcomesFor}
 use Rattle.decision_tasks.specs.Tasks.{task_in}
@@ -98,7 +98,7 @@ IsShownIn Transcript request input ending output = IsTranscribed input ending ou
 IsShownIn Grade request input ending output = IsGradeFor request.grading input ending output
 IsShownIn Sample request input ending output = IsSampleFor request.plan input ending output
 IsShownIn Outcomes request input ending output = IsSearchShown request.search input ending output
-IsShownIn Lint request input ending output = IsWhole (IsLintFor input) ending output
+IsShownIn Lint request input ending output = IsWhole (IsLintIn request.json input) ending output
 IsShownIn Live request input ending output = ⊥
 
 abbrev pub IsShown : Request → List ℕ → Result Outcome AllocError → List ℕ → Type 0

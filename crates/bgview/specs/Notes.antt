@@ -77,6 +77,11 @@ AreGradeNotes input (Err (Device fault)) notes = AreSaid {A = ⊤} (λ (said : L
 AreGradeNotes input (Err Incomplete) notes = notes ≡ script_faults input
 AreGradeNotes input (Err (BadInput line fault)) notes = notes ≡ script_faults input
 
+-- what `lint` warns of, which is a part of its answer as JSON
+abbrev pub AreLintNotes : {A : Type 0} → Bool → List ℕ → Result A ViewFault → List ℕ → List ℕ → Type 0
+AreLintNotes false input result old new = AreWarnings input result new
+AreLintNotes true input result old new = new ≡ old
+
 -- what each mode says on standard error: of an input's faults; `lint`, which says these as its answer, what it warns of; and `live`, which says
 -- them in place, nothing
 abbrev pub AreNotesIn : {A : Type 0} → Mode → Bool → List ℕ → Result A ViewFault → List ℕ → List ℕ → Type 0
@@ -89,5 +94,5 @@ AreNotesIn Transcript json input result old new = AreScriptNotes input result ne
 AreNotesIn Grade json input result old new = AreGradeNotes input result new
 AreNotesIn Sample json input result old new = AreRoomNotes input result new
 AreNotesIn Outcomes json input result old new = AreRoomNotes input result new
-AreNotesIn Lint json input result old new = AreWarnings input result new
+AreNotesIn Lint json input result old new = AreLintNotes json input result old new
 AreNotesIn Live json input result old new = new ≡ old

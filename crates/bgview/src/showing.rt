@@ -1,6 +1,7 @@
 //! From a request and an input to what is shown: one call for each mode.
 ghost use Rattle.std.specs.Prelude.{◌≡◌, ◌≢◌, ◌≤◌, Ok, None, IfErr, IfOk, IsOk, false, if◌then◌else◌, length};
 ghost use Rattle.io_text.specs.Reading.{most_bytes};
+ghost use Rattle.file_faults.specs.Lint.{IsLintIn};
 ghost use Rattle.room_files.specs.Blocks.{IsFaultOr};
 ghost use Rattle.room_files.specs.Inputs.{input_says};
 ghost use Rattle.view_grade.specs.Goals.{goal_in};
@@ -16,13 +17,13 @@ ghost use Rattle.view_trace.specs.Trace.{IsTraceIn};
 ghost use Rattle.view_why.specs.Why.{IsExplanationIn};
 ghost use Rattle.bgview.specs.Answers.{Ends, EndsRequest, IsGradeFor, IsSearchFor, IsSearchShown, IsShown, IsWhole, goal_fault_in, goal_text, keeps_fault_in, keeps_text, search_fault, values_fault_in, values_text};
 ghost use Rattle.bgview_command_line.specs.declared.words.Mode.TheVariants.{Live};
-ghost use Rattle.bgview.specs.Notes.{AreGoalNotes, AreGradeNotes, AreNotes, AreNotesIn, AreRoomNotes, AreSaidOfFile, AreWhyNotes};
+ghost use Rattle.bgview.specs.Notes.{AreGoalNotes, AreGradeNotes, AreLintNotes, AreNotes, AreNotesIn, AreRoomNotes, AreSaidOfFile, AreWhyNotes};
 
 use crate::fault::{OptionFault, ViewFault};
 use crate::request::{Grading, Request, Searching};
 use bgview_command_line::Mode;
 use decision_tasks::DecisionTask;
-use file_faults::{lint, room_faults, script_faults, transcript_faults, warnings_of};
+use file_faults::{lint, lint_json, room_faults, script_faults, transcript_faults, warnings_of};
 use io_text::{DeviceFault, Text};
 use room_files::{Answer, InputFault};
 use room_sample::Threaded;
@@ -78,10 +79,7 @@ pub fn show<H: Threads + Sync, P: Progress>(
             Ok(sample_blocks(&Threaded::new(rt), alloc, input, &request.plan, progress)?)
         }
         Mode::Outcomes => search_or_fail(alloc, &request.search, input, notes, progress),
-        Mode::Lint => {
-            *notes = warnings_of(alloc, input)?;
-            Ok(whole(lint(alloc, input)?))
-        }
+        Mode::Lint => linted(alloc, request.json, input, notes),
         Mode::Live => unreachable!(), // it doesn't wait for its whole input
     }
 }
@@ -95,6 +93,20 @@ fn whole(answer: Answer) -> PlayText
         output: answer.output,
         ending: Ok(answer.outcome),
     }
+}
+
+/// What a file is read as, and its faults, as text or as JSON. What is warned of becomes `notes`, unless the answer has it.
+fn linted(alloc: Global, json: bool, input: &[u8], notes: &mut Text) -> Result<PlayText, ViewFault>
+    requires { length input.now ≤ most_bytes }
+    ensures shown { IfOk result (λ shown. IsWhole (IsLintIn json input.now) shown.ending shown.output) }
+    ensures err { IfErr result (Ends None None) }
+    ensures notes { AreLintNotes json input.now result notes.old notes.new }
+{
+    if json {
+        return Ok(whole(lint_json(alloc, input)?));
+    }
+    *notes = warnings_of(alloc, input)?;
+    Ok(whole(lint(alloc, input)?))
 }
 
 /// What is said of a file of which a page is made: its faults, or that it is empty.

@@ -137,7 +137,7 @@ abbrev pub bgview_app : App
 bgview_app =
     let showing = with_subcommand (with_subcommand (with_subcommand (with_subcommand plain_app (telling_app (codes "why")).top) (telling_app (codes "trace")).top) draw_app.top) page_app.top in
     let finding = with_subcommand (with_subcommand (with_subcommand (with_subcommand showing (file_app (codes "transcript")).top) fault_app.top) sample_app.top) outcomes_app.top in
-    with_subcommand (with_subcommand (with_subcommand finding (file_app (codes "lint")).top) grade_app.top) (file_app (codes "live")).top
+    with_subcommand (with_subcommand (with_subcommand finding (telling_app (codes "lint")).top) grade_app.top) (file_app (codes "live")).top
 
 -- the mode of a word, which is that of a subcommand
 abbrev pub mode_of : List ℕ → Mode

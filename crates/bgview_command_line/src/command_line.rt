@@ -393,14 +393,14 @@ fn keeps_option<'a>(alloc: Global) -> Arg<'a>
 
 /// The subcommand `lint`.
 fn lint_command<'a>(alloc: Global) -> Result<Command<'a>, AllocError>
-    ensures app { IfOk result (λ command. app_of command ≡ file_app (codes "lint")) }
+    ensures app { IfOk result (λ command. app_of command ≡ telling_app (codes "lint")) }
     ensures local { IfOk result (λ command. (out-Command command).has_globals ≡ false) }
 {
-    file_command(
+    telling_command(
         alloc,
         "lint",
         "Explains all faults of a file of rooms, a script or a transcript",
-        "bgview lint [FILE]",
+        "bgview lint [--json] [FILE]",
         "The file; without it, standard input is read",
     )
 }

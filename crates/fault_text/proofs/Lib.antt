@@ -1,2 +1,4 @@
 mod Near
 mod Passing
+mod Spotted
+pub mod CallerLemmas

@@ -6,4 +6,5 @@ pub mod Hints
 pub mod Choices
 pub mod Blocks
 pub mod Refusals
+pub mod Spots
 pub mod Strangers

@@ -168,7 +168,7 @@ fn is_like_end(line: &[u8]) -> bool
 }
 
 /// The line of a block that has this fault, which is not one of its protocol's text.
-fn line_of(fault: SpecFault) -> usize
+pub(crate) fn line_of(fault: SpecFault) -> usize
     ensures { result ≡ line_of fault }
 {
     match fault {
@@ -255,7 +255,7 @@ pub fn later_line(first: u64, count: u64) -> u64
 }
 
 /// The form of a block's line of this number, up to 6.
-fn first_form(line: usize) -> &'static [u8]
+pub(crate) fn first_form(line: usize) -> &'static [u8]
     ensures { result.now ≡ first_form line }
 {
     match line {
@@ -269,7 +269,7 @@ fn first_form(line: usize) -> &'static [u8]
 }
 
 /// The forms of a block's line of this number, from 7 on. With this text the block begins.
-fn later_forms(text: &[u8], line: usize) -> &'static [&'static [u8]]
+pub(crate) fn later_forms(text: &[u8], line: usize) -> &'static [&'static [u8]]
     ensures { map (λ form. form.now) result.now ≡ later_forms text.now line }
 {
     if line == 7 && is_second(line_at(text, 1)) {
@@ -321,7 +321,7 @@ pub fn program_of(text: &[u8]) -> (u64, &[u8])
 
 /// Writes the sentence about a place of a block's protocol, which has these bytes before it and after it. The block's first line has the number
 /// `first`, and this many of its lines come before the protocol's text.
-pub fn write_program_place(
+fn write_program_place(
     alloc: Global,
     output: &mut Text,
     first: u64,
@@ -362,7 +362,7 @@ fn write_program_fault(
 }
 
 /// How many line ends a text has.
-fn line_ends(text: &[u8]) -> u64
+pub fn line_ends(text: &[u8]) -> u64
     ensures value { result ≡ line_ends text.now }
     ensures within { result ≤ length text.now }
 {

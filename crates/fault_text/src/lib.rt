@@ -10,14 +10,16 @@ mod lines;
 mod phrases;
 mod places;
 mod refusals;
+mod spots;
 mod strangers;
 
 pub use blocks::{
-    HEAD_LINES, later_line, program_of, write_block_fault, write_name_taken, write_program_place,
+    HEAD_LINES, later_line, line_ends, program_of, write_block_fault, write_name_taken,
 };
 pub use hints::{NO_COMMAND, NO_EVENT, write_advice};
-pub use lines::{line_at, write_indented};
+pub use lines::{behind_lines, line_at, write_indented};
 pub use phrases::{COMMANDS, EVENTS, fits_one, write_form_fault};
-pub use places::{write_heading, write_place};
-pub use refusals::{ENOUGH, MOST_EXPLAINED, Refusals, RefusedBlock};
+pub use places::{last_line, write_heading, write_place};
+pub use refusals::{ENOUGH, MOST_EXPLAINED, Refusals, RefusedBlock, go_behind, write_noted};
+pub use spots::Spot;
 pub use strangers::{Strangers, has_room_line, write_near_room};

@@ -24,7 +24,7 @@ pub fn line_at(text: &[u8], number: u64) -> &[u8]
 }
 
 /// What comes after this many lines of a text.
-pub(crate) fn behind_lines(text: &[u8], lines: u64) -> &[u8]
+pub fn behind_lines(text: &[u8], lines: u64) -> &[u8]
     ensures { result.now ≡ behind_lines lines text.now }
 {
     let mut rest = text;

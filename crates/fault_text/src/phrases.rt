@@ -75,7 +75,7 @@ fn write_form_notes(
 
 /// The place of a line that has one of these forms, or should: its first value if it has one, or else where it leaves the one that it
 /// follows furthest.
-fn place_in(line: &[u8], forms: &[&[u8]]) -> usize
+pub(crate) fn place_in(line: &[u8], forms: &[&[u8]]) -> usize
     ensures at { result ≡ place_in line.now (map (λ form. form.now) forms.now) }
     ensures within { result ≤ length line.now }
 {

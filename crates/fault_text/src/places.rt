@@ -156,7 +156,7 @@ fn write_blanks_below(output: &mut Text, shown: &[u8]) -> Result<(), AllocError>
 }
 
 /// The last line of a text.
-pub(crate) fn last_line(text: &[u8]) -> &[u8]
+pub fn last_line(text: &[u8]) -> &[u8]
     ensures { result.now ≡ last_line text.now }
 {
     let mut rest = text;

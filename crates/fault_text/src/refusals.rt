@@ -73,6 +73,14 @@ impl Refusals {
         self.all.is_empty()
     }
 
+    /// Those that are explained, and the others.
+    pub fn parts(&self) -> (&[RefusedBlock], &[RefusedBlock])
+        ensures explained { result.0.now ≡ take MOST_EXPLAINED self.now }
+        ensures others { result.1.now ≡ drop MOST_EXPLAINED self.now }
+    {
+        first_of(&self.all, MOST_EXPLAINED)
+    }
+
     /// Writes for each the line that says that the block is refused, and after it what is said of the block, unless enough were explained
     /// before it.
     #[tactic(auto, unfolding(crate::specs::Refusals::said_refusals))]
@@ -251,7 +259,7 @@ fn write_enough_if(output: &mut Text, refusals: &[RefusedBlock]) -> Result<(), A
 }
 
 /// Writes the notes on the refused block at the front of this text, as lines for people alone.
-fn write_noted(
+pub fn write_noted(
     alloc: Global,
     output: &mut Text,
     text: &[u8],
@@ -276,7 +284,7 @@ impl Refuses for Refusals {
 
 /// What comes after this many lines of an input, if `rest` comes after the first `passed`. These are not gone through again
 /// unless they are more.
-fn go_behind<'a>(input: &'a [u8], rest: &'a [u8], passed: u64, lines: u64) -> &'a [u8]
+pub fn go_behind<'a>(input: &'a [u8], rest: &'a [u8], passed: u64, lines: u64) -> &'a [u8]
     requires { rest.now ≡ behind_lines passed input.now }
     ensures { result.now ≡ behind_lines lines input.now }
 {

@@ -3,3 +3,5 @@ mod Walking
 mod LintedRooms
 mod LintedScripts
 mod LintedEvents
+mod Floats
+mod Headed

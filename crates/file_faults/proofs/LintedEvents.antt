@@ -35,7 +35,7 @@ use Rattle.file_faults.specs.declared.events.TheConstants.{BLOCK_LINES, BLOCKS_B
 use Rattle.file_faults.specs.declared.files.TheConstants.{NO_EVENTS}
 use Rattle.file_faults.specs.Walks.{said_from}
 use Rattle.file_faults.proofs.LintedRooms.{nothing_left, refused_said}
-use Rattle.file_faults.proofs.LintedScripts.{nothing_said, said_nothing}
+use Rattle.file_faults.proofs.LintedScripts.{enough_said, nothing_said, said_nothing}
 
 -- ---- a text's lines
 
@@ -116,8 +116,8 @@ went (Ok event) is = record { event = event; is = refl }
 went (Err fault) is = absurd cc
 
 record SaysNone (opened : OpenedParts) (most left number place : ℕ) (fed : List FedEvent) (text : List ℕ) : Type 0 where
-  read_if : said_from (event_lines opened) most left none_met number text ≡ [] → IsOk (fed_from opened.rooms fed place (text_lines text))
-  said_if : IsOk (fed_from opened.rooms fed place (text_lines text)) → said_from (event_lines opened) most left none_met number text ≡ []
+  read_if : said_from (event_lines false opened) most left none_met number text ≡ [] → IsOk (fed_from opened.rooms fed place (text_lines text))
+  said_if : IsOk (fed_from opened.rooms fed place (text_lines text)) → said_from (event_lines false opened) most left none_met number text ≡ []
 
 first_fine : (later : List FedEvent → Result (List FedEvent) FaultAt) (fed : List FedEvent) (one : Result FedEvent FaultAt) → IsOk (then_fed later fed one) → IsOk one
 first_fine later fed (Ok event) is = refl
@@ -125,10 +125,10 @@ first_fine later fed (Err fault) is = absurd cc
 
 -- what comes after a line that is fine
 same_rest : (opened : OpenedParts) (most left number place : ℕ) (text : List ℕ) → IsOk (of_known_room opened.rooms place (line_in (first_line text)))
-    → said_from (event_lines opened) most left (strangers_after opened none_met text) number (events_after text) ≡ said_from (event_lines opened) most left none_met number (later_lines text)
+    → said_from (event_lines false opened) most left (strangers_after opened none_met text) number (events_after text) ≡ said_from (event_lines false opened) most left none_met number (later_lines text)
 same_rest opened most left number place text fine =
-    ap (λ (known : MetNames). said_from (event_lines opened) most left known number (events_after text)) (none_new opened place (line_in (first_line text)) fine)
-    ∙ ap (λ (late : Bool). said_from (event_lines opened) most left none_met number (cond late (drop (block_extent (later_lines text)) (later_lines text)) (later_lines text)))
+    ap (λ (known : MetNames). said_from (event_lines false opened) most left known number (events_after text)) (none_new opened place (line_in (first_line text)) fine)
+    ∙ ap (λ (late : Bool). said_from (event_lines false opened) most left none_met number (cond late (drop (block_extent (later_lines text)) (later_lines text)) (later_lines text)))
     (no_block opened place (fits_one (first_line text) (codes "bgsim B" ∷ [])) (line_in (first_line text)) fine)
 
 one_fed : (opened : OpenedParts) (place : ℕ) (fed : List FedEvent) (byte : ℕ) (bytes : List ℕ) (event : FedEvent) → of_known_room opened.rooms place (line_in (first_line (byte ∷ bytes))) ≡ Ok event
@@ -159,7 +159,7 @@ agrees opened (suc most) left number place fed (byte ∷ bytes) within =
     λ event. agrees opened most left next (place + 1) (fed ++ event ∷ []) (later_lines text) (fewer byte bytes most within) in
     record {
       read_if = λ none.
-          let said = said_nothing (event_lines opened) most left number none_met byte bytes none in
+          let said = said_nothing (event_lines false opened) most left number none_met byte bytes enough_said none in
           let fine = fine_line opened number place line (line_in line) said.0 in
           let one = went (of_known_room opened.rooms place (line_in line)) fine in
           subst (λ (r : Result (List FedEvent) FaultAt). IsOk r) (sym (one_fed opened place fed byte bytes one.event one.is))
@@ -167,7 +167,7 @@ agrees opened (suc most) left number place fed (byte ∷ bytes) within =
       said_if = λ fine.
           let first = fed_first opened place fed byte bytes fine in
           let one = went (of_known_room opened.rooms place (line_in line)) first in
-          nothing_said (event_lines opened) most left number none_met byte bytes (line_fine opened number place line (line_in line) first)
+          nothing_said (event_lines false opened) most left number none_met byte bytes (line_fine opened number place line (line_in line) first)
           (same_rest opened most left next place text first ∙ (rest one.event).said_if (subst (λ (r : Result (List FedEvent) FaultAt). IsOk r) (one_fed opened place fed byte bytes one.event one.is) fine));
     }
 

@@ -1,6 +1,7 @@
 -- Nothing is said of a script exactly if, played without a want of memory, none of its entries is refused.
-use Rattle.std.proofs.Common.{◌≡◌, ◌↔◌, ℕ, zero, suc, ◌+◌, Bool, true, false, cond, ◌||◌, not, List, [], ◌∷◌, ◌++◌, length, drop, Option, Some, None, refl, sym, ap, ◌∙◌, subst, arith}
+use Rattle.std.proofs.Common.{◌≡◌, ◌↔◌, ℕ, zero, suc, ◌+◌, ◌<◌, Bool, true, false, cond, ◌||◌, not, List, [], ◌∷◌, ◌++◌, length, drop, Option, Some, None, refl, sym, ap, ◌∙◌, subst, arith}
 use Rattle.std.proofs.lemmas.Bool.{or_parts}
+use Rattle.std.proofs.lemmas.List.{length-append}
 use Rattle.std.proofs.lemmas.Slice.Eq.{bytes_eq-Decides}
 use Rattle.std.specs.Prelude.{Result, Ok, Err, IsOk, is_some}
 use Rattle.std.specs.List.{list_any}
@@ -29,32 +30,37 @@ use Rattle.script_play.specs.Script.{Ask, Entry, Open, and_then, asked, block_be
 use Rattle.fault_text.specs.Blocks.{later_line, line_fault}
 use Rattle.fault_text.specs.Phrases.{form_fault}
 use Rattle.fault_text.specs.Strangers.{MetNames, more_note}
+use Rattle.file_faults.specs.Json.{enough_in}
 use Rattle.file_faults.specs.OpenRooms.{refusal_of, rooms_after, rooms_begun, simulators_in, simulators_of}
-use Rattle.file_faults.specs.Scripts.{KnownRooms, absent_said, bad_command, block_in_front, block_said, entries, entry_said, explained_at_most, known_after, known_after_command, line_said, met_if_absent, none_known, read_said, refused_said, rooms_after_read, script_faults}
+use Rattle.file_faults.specs.Scripts.{KnownRooms, absent_said, bad_command, block_in_front, block_said, entries, entry_said, explained_at_most, known_after, known_after_command, line_said, met_if_absent, none_known, read_said, refused_said, rooms_after_read, script_said, script_faults}
 use Rattle.file_faults.specs.declared.scripts.TheConstants.{MORE_COMMANDS}
 use Rattle.file_faults.specs.Walks.{Parts, go_on, left_after, said_from, said_if_left}
 use Rattle.file_faults.proofs.Refusing as rooms
 
 -- ---- a walk that says nothing
 
-said_part : {Known : Type 0} (parts : Parts Known) (most left number : ℕ) (known : Known) (byte : ℕ) (bytes said : List ℕ) → parts.said known number (byte ∷ bytes) ≡ said
-    → said_if_left left said ++ go_on (λ fewer. said_from parts most fewer (parts.known known number (byte ∷ bytes)) (parts.next number (byte ∷ bytes)) (parts.later (byte ∷ bytes))) (left_after left said) ≡ []
-    → (said ≡ []) × (said_from parts most left (parts.known known number (byte ∷ bytes)) (parts.next number (byte ∷ bytes)) (parts.later (byte ∷ bytes)) ≡ [])
-said_part parts most left number known byte bytes [] said_is is = (refl, is)
-said_part parts most zero number known byte bytes (one ∷ said) said_is is = absurd (omega (arith, ap length is))
-said_part parts most (suc left) number known byte bytes (one ∷ said) said_is is = absurd (omega (arith, ap length is))
+-- that enough is explained is a text
+pub enough_said : 0 < length (enough_in false)
+enough_said = omega arith
 
-pub said_nothing : {Known : Type 0} (parts : Parts Known) (most left number : ℕ) (known : Known) (byte : ℕ) (bytes : List ℕ) → said_from parts (suc most) left known number (byte ∷ bytes) ≡ []
+said_part : {Known : Type 0} (parts : Parts Known) (most left number : ℕ) (known : Known) (byte : ℕ) (bytes said : List ℕ) → 0 < length parts.enough → parts.said known number (byte ∷ bytes) ≡ said
+    → said_if_left parts.enough left said ++ go_on (λ fewer. said_from parts most fewer (parts.known known number (byte ∷ bytes)) (parts.next number (byte ∷ bytes)) (parts.later (byte ∷ bytes))) (left_after left said) ≡ []
+    → (said ≡ []) × (said_from parts most left (parts.known known number (byte ∷ bytes)) (parts.next number (byte ∷ bytes)) (parts.later (byte ∷ bytes)) ≡ [])
+said_part parts most left number known byte bytes [] some said_is is = (refl, is)
+said_part parts most zero number known byte bytes (one ∷ said) some said_is is = absurd (omega (arith, ap length is, length-append parts.enough [], some))
+said_part parts most (suc left) number known byte bytes (one ∷ said) some said_is is = absurd (omega (arith, ap length is))
+
+pub said_nothing : {Known : Type 0} (parts : Parts Known) (most left number : ℕ) (known : Known) (byte : ℕ) (bytes : List ℕ) → 0 < length parts.enough → said_from parts (suc most) left known number (byte ∷ bytes) ≡ []
     → (parts.said known number (byte ∷ bytes) ≡ []) × (said_from parts most left (parts.known known number (byte ∷ bytes)) (parts.next number (byte ∷ bytes)) (parts.later (byte ∷ bytes)) ≡ [])
 unfolding said_from
-said_nothing parts most left number known byte bytes is = said_part parts most left number known byte bytes (parts.said known number (byte ∷ bytes)) refl is
+said_nothing parts most left number known byte bytes some is = said_part parts most left number known byte bytes (parts.said known number (byte ∷ bytes)) some refl is
 
 pub nothing_said : {Known : Type 0} (parts : Parts Known) (most left number : ℕ) (known : Known) (byte : ℕ) (bytes : List ℕ) → parts.said known number (byte ∷ bytes) ≡ []
     → said_from parts most left (parts.known known number (byte ∷ bytes)) (parts.next number (byte ∷ bytes)) (parts.later (byte ∷ bytes)) ≡ []
     → said_from parts (suc most) left known number (byte ∷ bytes) ≡ []
 unfolding said_from
 nothing_said parts most left number known byte bytes none rest =
-    ap (λ (said : List ℕ). said_if_left left said ++ go_on (λ fewer. said_from parts most fewer (parts.known known number (byte ∷ bytes)) (parts.next number (byte ∷ bytes)) (parts.later (byte ∷ bytes))) (left_after left said)) none
+    ap (λ (said : List ℕ). said_if_left parts.enough left said ++ go_on (λ fewer. said_from parts most fewer (parts.known known number (byte ∷ bytes)) (parts.next number (byte ∷ bytes)) (parts.later (byte ∷ bytes))) (left_after left said)) none
     ∙ rest
 
 -- ---- what is said where something is refused
@@ -354,8 +360,8 @@ ends_with_none : (known : KnownRooms) (state : Rooms) → Knows known state → 
 ends_with_none known state knows = ap (more_note MORE_COMMANDS.now) knows.none
 
 record SaysNone (script : List ℕ) (most left number : ℕ) (known : KnownRooms) (text : List ℕ) (all : List Done) : Type 0 where
-  said_if : list_any is_refused all ≡ false → said_from (entries script) most left known number text ≡ []
-  done_if : said_from (entries script) most left known number text ≡ [] → list_any is_refused all ≡ false
+  said_if : list_any is_refused all ≡ false → said_from (entries false script) most left known number text ≡ []
+  done_if : said_from (entries false script) most left known number text ≡ [] → list_any is_refused all ≡ false
 
 abbrev entries_of : Result (List Entry) FaultAt → List Entry
 entries_of (Ok wanted) = wanted
@@ -363,7 +369,7 @@ entries_of (Err fault) = []
 
 -- nothing came of no entries
 none_done : (script : List ℕ) (most left number : ℕ) (known : KnownRooms) (state : Rooms) (text : List ℕ) (wanted : List Entry) (all : List Done) → wanted ≡ [] → AreDone wanted all → Knows known state
-    → said_from (entries script) most left known number text ≡ more_note MORE_COMMANDS.now known.strangers → SaysNone script most left number known text all
+    → said_from (entries false script) most left known number text ≡ more_note MORE_COMMANDS.now known.strangers → SaysNone script most left number known text all
 none_done script most left number known state text [] [] none are knows is = record { said_if = λ fine. is ∙ ends_with_none known state knows; done_if = λ said. refl }
 none_done script most left number known state text [] (done ∷ all) none are knows is = absurd are
 none_done script most left number known state text (entry ∷ wanted) all none are knows is = absurd (omega (arith, ap length none))
@@ -382,15 +388,15 @@ one_more script most left number place known state byte bytes entry wanted (done
     let text = byte ∷ bytes in
     let both = or_parts (is_lacking done) (list_any is_lacking more) enough in
     let one = entry_agrees script known state number place text entry done more at are.0 both.0 knows owns in
-    let next : is_refused done ≡ false → SaysNone script most left ((entries script).next number text) (known_after known text) (text_behind (first_line text) (later_lines text)) more =
-    λ fine. again ((entries script).next number text) (place + 1 + length (text_lines (block_behind (first_line text) (later_lines text)))) (known_after known text) (after_done state done)
+    let next : is_refused done ≡ false → SaysNone script most left ((entries false script).next number text) (known_after known text) (text_behind (first_line text) (later_lines text)) more =
+    λ fine. again ((entries false script).next number text) (place + 1 + length (text_lines (block_behind (first_line text) (later_lines text)))) (known_after known text) (after_done state done)
     (text_behind (first_line text) (later_lines text)) wanted more rest are.1 both.1 (one.knows fine) one.owns in
     record {
       said_if = λ fine.
           let parts = or_parts (is_refused done) (list_any is_refused more) fine in
-          nothing_said (entries script) most left number known byte bytes (one.said_if parts.0) ((next parts.0).said_if parts.1);
+          nothing_said (entries false script) most left number known byte bytes (one.said_if parts.0) ((next parts.0).said_if parts.1);
       done_if = λ none.
-          let said = said_nothing (entries script) most left number known byte bytes none in
+          let said = said_nothing (entries false script) most left number known byte bytes enough_said none in
           let well = one.done_if said.0 in
           ap (λ (b : Bool). b || list_any is_refused more) well ∙ (next well).done_if said.1;
     }
@@ -460,7 +466,7 @@ none_known_yet = record { none = refl; same = λ name. refl }
 
 -- All is well of a script exactly if nothing is said of it.
 pub played_well : (script output : List ℕ) (outcome : Outcome) → IsPlayFor script (Ok outcome) output → (outcome ≡ AllWell) ↔ (script_faults script ≡ [])
-unfolding script_faults
+unfolding script_said
 played_well script output outcome played =
     let text = played.2 in
     let end = enough_for (list_any is_lacking text.all) (list_any is_refused text.all) outcome text.ending_is in
@@ -488,19 +494,19 @@ both_there (Err fault) rest is are = absurd cc
 both_there (Ok entry) (Err fault) is are = absurd cc
 both_there (Ok entry) (Ok later) is are = refl
 
-readable : (script : List ℕ) (most left number place : ℕ) (known : KnownRooms) (text : List ℕ) → said_from (entries script) most left known number text ≡ [] → IsOk (script_from most place text)
+readable : (script : List ℕ) (most left number place : ℕ) (known : KnownRooms) (text : List ℕ) → said_from (entries false script) most left known number text ≡ [] → IsOk (script_from most place text)
 unfolding script_from
 readable script zero left number place known text none = refl
 readable script (suc most) left number place known [] none = refl
 readable script (suc most) left number place known (byte ∷ bytes) none =
     let text = byte ∷ bytes in
-    let said = said_nothing (entries script) most left number known byte bytes none in
+    let said = said_nothing (entries false script) most left number known byte bytes enough_said none in
     both_there (entry_at place (first_line text) (block_behind (first_line text) (later_lines text)))
     (script_from most (place + 1 + length (text_lines (block_behind (first_line text) (later_lines text)))) (text_behind (first_line text) (later_lines text)))
     (entry_there script known number place text said.0)
-    (readable script most left ((entries script).next number text) (place + 1 + length (text_lines (block_behind (first_line text) (later_lines text)))) (known_after known text) (text_behind (first_line text) (later_lines text)) said.1)
+    (readable script most left ((entries false script).next number text) (place + 1 + length (text_lines (block_behind (first_line text) (later_lines text)))) (known_after known text) (text_behind (first_line text) (later_lines text)) said.1)
 
 -- A script of which nothing is said has no malformed line.
 pub well_formed : (script : List ℕ) → script_faults script ≡ [] → IsOk (script_says script)
-unfolding script_faults
+unfolding script_said
 well_formed script none = readable script (length script) (explained_at_most script) 1 1 none_known script none

@@ -16,14 +16,14 @@ none_left is_empty (byte ∷ bytes) is so = let other = eqb-suc-zero (length byt
 -- one part more
 pub walk_step : {Known : Type 0} (parts : Parts Known) (most left number after : ℕ) (known grown : Known) (text later output whole next : List ℕ) (fewer : ℕ) → length text ≤ most → 0 < length text → length later < length text
     → after ≡ parts.next number text → later ≡ parts.later text → grown ≡ parts.known known number text
-    → output ++ said_from parts most left known number text ≡ whole → Some fewer ≡ left_after left (parts.said known number text) → next ≡ output ++ said_if_left left (parts.said known number text)
+    → output ++ said_from parts most left known number text ≡ whole → Some fewer ≡ left_after left (parts.said known number text) → next ≡ output ++ said_if_left parts.enough left (parts.said known number text)
     → (less : ℕ) × (length later ≤ less) × (next ++ said_from parts less fewer grown after later ≡ whole)
 unfolding said_from
 walk_step parts most left number after known grown [] later output whole next fewer within some shorter after_is later_is grown_is is left_is next_is = absurd (omega (arith, some))
 walk_step parts zero left number after known grown (byte ∷ bytes) later output whole next fewer within some shorter after_is later_is grown_is is left_is next_is = absurd (omega (arith, within))
 walk_step {Known} parts (suc less) left number after known grown (byte ∷ bytes) later output whole next fewer within some shorter after_is later_is grown_is is left_is next_is =
     let text = byte ∷ bytes in
-    let part = said_if_left left (parts.said known number text) in
+    let part = said_if_left parts.enough left (parts.said known number text) in
     let rest = λ (count : ℕ). said_from parts less count (parts.known known number text) (parts.next number text) (parts.later text) in (
       less,
       omega (arith, shorter, within),
@@ -34,13 +34,13 @@ walk_step {Known} parts (suc less) left number after known grown (byte ∷ bytes
 
 -- the walk ends before the text does
 pub walk_stops : {Known : Type 0} (parts : Parts Known) (most left number : ℕ) (known : Known) (text output whole next : List ℕ) → length text ≤ most → 0 < length text
-    → output ++ said_from parts most left known number text ≡ whole → None ≡ left_after left (parts.said known number text) → next ≡ output ++ said_if_left left (parts.said known number text) → next ≡ whole
+    → output ++ said_from parts most left known number text ≡ whole → None ≡ left_after left (parts.said known number text) → next ≡ output ++ said_if_left parts.enough left (parts.said known number text) → next ≡ whole
 unfolding said_from
 walk_stops parts most left number known [] output whole next within some is left_is next_is = absurd (omega (arith, some))
 walk_stops parts zero left number known (byte ∷ bytes) output whole next within some is left_is next_is = absurd (omega (arith, within))
 walk_stops parts (suc less) left number known (byte ∷ bytes) output whole next within some is left_is next_is =
     let text = byte ∷ bytes in
-    let part = said_if_left left (parts.said known number text) in
+    let part = said_if_left parts.enough left (parts.said known number text) in
     let rest = λ (count : ℕ). said_from parts less count (parts.known known number text) (parts.next number text) (parts.later text) in
     next_is ∙ ap (λ t. output ++ t) (sym (append-nil part)) ∙ ap (λ (count : Option ℕ). output ++ (part ++ go_on rest count)) left_is ∙ is
 

@@ -1,5 +1,5 @@
 -- What is said of all faults of a transcript's event lines.
-use Rattle.std.specs.Prelude.{ℕ, Bool, List, [], ◌∷◌, ◌++◌, codes, drop, length, map, Result, Ok, Err, ◌&&◌, if◌then◌else◌}
+use Rattle.std.specs.Prelude.{ℕ, Bool, false, List, [], ◌∷◌, ◌++◌, codes, drop, length, map, Some, Result, Ok, Err, ◌&&◌, ◌||◌, if◌then◌else◌}
 use Rattle.std.specs.Result.{is_err}
 use Rattle.room_spec.specs.Rooms.{RoomSpec}
 use Rattle.room_files.specs.Blocks.{block_extent}
@@ -16,10 +16,12 @@ use Rattle.fault_text.specs.Lines.{indented, indented_all}
 use Rattle.fault_text.specs.Phrases.{fits_one, form_fault}
 use Rattle.fault_text.specs.Places.{place_notes}
 use Rattle.fault_text.specs.Refusals.{named_refusals}
+use Rattle.fault_text.specs.Spots.{SpotParts, form_spot}
 use Rattle.fault_text.specs.Strangers.{MetNames, is_met, met, more_note, near_room}
 use Rattle.fault_text.specs.declared.refusals.RefusedBlock.{RefusedBlock}
 use Rattle.fault_text.specs.declared.hints.TheConstants.{NO_EVENT}
 use Rattle.fault_text.specs.declared.phrases.TheConstants.{EVENTS}
+use Rattle.file_faults.specs.Json.{enough_in, fault_in, more_in}
 use Rattle.file_faults.specs.Scripts.{block_in_front}
 use Rattle.file_faults.specs.Walks.{Parts, said_from}
 use Rattle.file_faults.specs.declared.events.TheConstants.{BLOCK_LINES, BLOCKS_BEFORE, EVENTS_ALONE, MORE_LINES, REPORT_LINES}
@@ -81,14 +83,35 @@ next_event number text = if begins_late_block text then later_line number (lengt
 abbrev pub events_behind : List ℕ → List ℕ
 events_behind text = if begins_late_block text then drop (block_extent (later_lines text)) (later_lines text) else later_lines text
 
-abbrev pub event_lines : OpenedParts → Parts MetNames
-event_lines opened = record {
-  said = event_said opened;
+-- the place of what is said of a line
+abbrev pub bad_line_spot : ℕ → List ℕ → LineFault → SpotParts
+bad_line_spot number line fault =
+    if fits_one line (map (λ form. form.now) BLOCK_LINES) || fits_one line (map (λ form. form.now) REPORT_LINES) then record { line = number; place = Some 1; what = sentence_of fault }
+    else form_spot number (sentence_of fault) line (map (λ form. form.now) EVENTS)
+
+abbrev pub line_spot : ℕ → List ℕ → Result (List ℕ × Event) LineFault → SpotParts
+line_spot number line (Ok read) = record { line = number; place = Some 1; what = no_room_sentence }
+line_spot number line (Err fault) = bad_line_spot number line fault
+
+abbrev pub event_spot : ℕ → List ℕ → SpotParts
+event_spot number text = line_spot number (first_line text) (line_in (first_line text))
+
+-- what is said of a line, as text or as JSON
+abbrev pub event_in : Bool → OpenedParts → MetNames → ℕ → List ℕ → List ℕ
+event_in json opened strangers number text = fault_in json false (event_spot number text) (event_said opened strangers number text)
+
+abbrev pub event_lines : Bool → OpenedParts → Parts MetNames
+event_lines json opened = record {
+  said = event_in json opened;
   known = λ strangers number text. strangers_after opened strangers text;
   next = next_event;
   later = events_behind;
-  ends = more_note MORE_LINES.now;
+  ends = λ strangers. more_in json (more_note MORE_LINES.now strangers);
+  enough = enough_in json;
 }
 
+abbrev pub events_said : Bool → OpenedParts → ℕ → List ℕ → List ℕ
+events_said json opened first transcript = said_from (event_lines json opened) (length transcript) MOST_EXPLAINED (record { names = []; more = 0 }) first transcript
+
 abbrev pub event_faults : OpenedParts → ℕ → List ℕ → List ℕ
-event_faults opened first transcript = said_from (event_lines opened) (length transcript) MOST_EXPLAINED (record { names = []; more = 0 }) first transcript
+event_faults opened first transcript = events_said false opened first transcript

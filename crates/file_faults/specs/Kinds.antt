@@ -1,12 +1,12 @@
 -- What a file is read as, and what is said of its faults.
-use Rattle.std.specs.Prelude.{◌≡◌, ℕ, ◌||◌, Bool, List, codes, is_some, if◌then◌else◌}
+use Rattle.std.specs.Prelude.{◌≡◌, ℕ, ◌||◌, Bool, true, List, codes, is_some, if◌then◌else◌}
 use Rattle.std.specs.List.{list_any}
 use Rattle.std.specs.Str.{bytes_eq}
 use Rattle.room_spec.specs.Texts.{first_line}
 use Rattle.room_files.specs.Lines.{text_lines}
 use Rattle.script_play.specs.Script.{command_in}
-use Rattle.file_faults.specs.Files.{AreRoomFaults, AreTranscriptFaults}
-use Rattle.file_faults.specs.Scripts.{script_faults}
+use Rattle.file_faults.specs.Files.{AreRoomFaults, AreRoomObjects, AreTranscriptFaults, AreTranscriptObjects}
+use Rattle.file_faults.specs.Scripts.{script_faults, script_said}
 use Rattle.file_faults.specs.declared.kinds.Kind.{Kind}
 use Rattle.file_faults.specs.declared.kinds.Kind.TheVariants.{Rooms, Script, Transcript}
 
@@ -30,3 +30,9 @@ abbrev pub AreFaultsOf : Kind → List ℕ → List ℕ → Type 0
 AreFaultsOf Rooms input said = AreRoomFaults input said
 AreFaultsOf Script input said = said ≡ script_faults input
 AreFaultsOf Transcript input said = AreTranscriptFaults input said
+
+-- the same as JSON
+abbrev pub AreObjectsOf : Kind → List ℕ → List ℕ → Type 0
+AreObjectsOf Rooms input said = AreRoomObjects input said
+AreObjectsOf Script input said = said ≡ script_said true input
+AreObjectsOf Transcript input said = AreTranscriptObjects input said

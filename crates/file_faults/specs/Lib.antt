@@ -1,3 +1,4 @@
+pub mod Json
 pub mod Walks
 pub mod OpenRooms
 pub mod Scripts

@@ -1,6 +1,7 @@
 -- What is said of all faults of a script.
-use Rattle.std.specs.Prelude.{ℕ, ◌+◌, ◌==◌, ◌||◌, Bool, List, [], ◌∷◌, ◌++◌, length, take, map, Option, Some, None, Result, Ok, Err, is_some, nat_eq, codes, decimal, if◌then◌else◌}
+use Rattle.std.specs.Prelude.{ℕ, ◌+◌, ◌==◌, ◌||◌, ◌&&◌, Bool, false, List, [], ◌∷◌, ◌++◌, length, take, map, Option, Some, None, Result, Ok, Err, is_some, nat_eq, codes, decimal, if◌then◌else◌}
 use Rattle.std.specs.List.{list_any, starts_with}
+use Rattle.std.specs.Result.{is_err}
 use Rattle.room_spec.specs.Blocks.{block_in}
 use Rattle.room_spec.specs.Rooms.{RoomSpec}
 use Rattle.room_spec.specs.Texts.{first_line, later_lines}
@@ -20,9 +21,11 @@ use Rattle.fault_text.specs.Hints.{advice, hint}
 use Rattle.fault_text.specs.Lines.{indented, indented_all}
 use Rattle.fault_text.specs.Phrases.{form_fault}
 use Rattle.fault_text.specs.Places.{place_notes}
+use Rattle.fault_text.specs.Spots.{SpotParts, block_spot, form_spot, refusal_spot}
 use Rattle.fault_text.specs.Strangers.{MetNames, has_room_line, is_met, met, more_note, near_room}
 use Rattle.fault_text.specs.declared.hints.TheConstants.{NO_COMMAND}
 use Rattle.fault_text.specs.declared.phrases.TheConstants.{COMMANDS}
+use Rattle.file_faults.specs.Json.{enough_in, fault_in, more_in}
 use Rattle.file_faults.specs.OpenRooms.{RoomsByName, refusal_of, rooms_after, rooms_begun, simulators_of}
 use Rattle.file_faults.specs.Walks.{Parts, said_from}
 use Rattle.file_faults.specs.declared.scripts.TheConstants.{COUNTED, MORE_COMMANDS, NOT_OPEN}
@@ -118,13 +121,42 @@ known_after known text =
 abbrev pub next_number : ℕ → List ℕ → List ℕ → ℕ
 next_number number line later = later_line number (1 + length (text_lines (block_behind line later)))
 
-abbrev pub entries : List ℕ → Parts KnownRooms
-entries script = record {
-  said = entry_said script;
+-- the block after a line `open` is refused
+abbrev pub is_block_refused : List ℕ → Bool
+is_block_refused text = is_open (first_line text) && is_err (block_in (block_in_front (later_lines text)))
+
+-- the place of a block's first fault, or of its name, which is taken
+abbrev pub read_spot : ℕ → List ℕ → Result (RoomSpec × ℕ) SpecFault → SpotParts
+read_spot number block (Err fault) = block_spot number block fault
+read_spot number block (Ok read) = refusal_spot number block NameTaken
+
+-- the place of the first byte of a line whose command is refused
+abbrev pub refused_spot : ℕ → Option Refusal → SpotParts
+refused_spot number None = record { line = number; place = Some 1; what = [] }
+refused_spot number (Some refusal) = record { line = number; place = Some 1; what = refusal_sentence refusal }
+
+abbrev pub line_spot : KnownRooms → ℕ → List ℕ → Option Command → SpotParts
+line_spot known number line None = form_spot number (text_sentence NoCommand) line (map (λ form. form.now) COMMANDS)
+line_spot known number line (Some command) = refused_spot number (refusal_of known.rooms command)
+
+-- the place of what is said of an entry
+abbrev pub entry_spot : KnownRooms → ℕ → List ℕ → SpotParts
+entry_spot known number text =
+    if is_open (first_line text) then read_spot (later_line number 1) (block_in_front (later_lines text)) (block_in (block_in_front (later_lines text)))
+    else line_spot known number (first_line text) (command_in (first_line text))
+
+-- what is said of an entry, as text or as JSON
+abbrev pub entry_in : Bool → List ℕ → KnownRooms → ℕ → List ℕ → List ℕ
+entry_in json script known number text = fault_in json (is_block_refused text) (entry_spot known number text) (entry_said script known number text)
+
+abbrev pub entries : Bool → List ℕ → Parts KnownRooms
+entries json script = record {
+  said = entry_in json script;
   known = λ known number text. known_after known text;
   next = λ number text. next_number number (first_line text) (later_lines text);
   later = λ text. text_behind (first_line text) (later_lines text);
-  ends = λ known. more_note MORE_COMMANDS.now known.strangers;
+  ends = λ known. more_in json (more_note MORE_COMMANDS.now known.strangers);
+  enough = enough_in json;
 }
 
 abbrev pub none_known : KnownRooms
@@ -141,5 +173,8 @@ ends_as_elsewhere script = list_any (λ byte. byte == 13) (first_line script)
 abbrev pub explained_at_most : List ℕ → ℕ
 explained_at_most script = if begins_with_block script || ends_as_elsewhere script then 1 else MOST_EXPLAINED
 
-unfoldable pub script_faults : List ℕ → List ℕ
-script_faults script = said_from (entries script) (length script) (explained_at_most script) none_known 1 script
+unfoldable pub script_said : Bool → List ℕ → List ℕ
+script_said json script = said_from (entries json script) (length script) (explained_at_most script) none_known 1 script
+
+abbrev pub script_faults : List ℕ → List ℕ
+script_faults script = script_said false script

@@ -1,17 +1,20 @@
 //! All faults of a transcript's event lines.
-ghost use Rattle.std.specs.Prelude.{◌≡◌, ◌<◌, ◌++◌, IfOk, OnOk, length};
+ghost use Rattle.std.specs.Prelude.{◌≡◌, ◌<◌, ◌++◌, IfOk, OnOk, Some, length};
 ghost use Rattle.history_checker.specs.Verdicts.{has_room};
 ghost use Rattle.transcript.specs.Lines.{line_in};
 ghost use Rattle.fault_text.specs.Refusals.{named_refusals};
-ghost use Rattle.fault_text.specs.Strangers.{met, near_room};
-ghost use Rattle.file_faults.specs.Events.{bad_line_said, begins_late_block, event_faults, event_said, events_behind, met_unless, misplaced_said, next_event, no_room_said, stranger_said, strangers_after};
+ghost use Rattle.fault_text.specs.Strangers.{met, more_note, near_room};
+ghost use Rattle.file_faults.specs.Events.{bad_line_said, bad_line_spot, begins_late_block, event_in, event_said, event_spot, events_behind, events_said, met_unless, misplaced_said, next_event, no_room_said, stranger_said, strangers_after};
+ghost use Rattle.file_faults.specs.Json.{enough_in, more_in};
+ghost use Rattle.file_faults.specs.declared.events.TheConstants.{MORE_LINES};
 ghost use Rattle.file_faults.specs.Walks.{left_after, said_if_left};
 
+use crate::json::{write_fault, write_more_in};
 use crate::scripts::{block_extent, block_in_front};
 use crate::walk::write_part;
 use fault_text::{
-    EVENTS, MOST_EXPLAINED, NO_EVENT, Refusals, Strangers, fits_one, later_line, write_advice,
-    write_form_fault, write_indented, write_near_room, write_place,
+    EVENTS, MOST_EXPLAINED, NO_EVENT, Refusals, Spot, Strangers, fits_one, later_line,
+    write_advice, write_form_fault, write_indented, write_near_room, write_place,
 };
 use history_checker::NoRoom;
 use io_text::Text;
@@ -121,18 +124,28 @@ impl<'a> Opened<'a> {
 pub(crate) fn write_event_faults(
     alloc: Global,
     output: &mut Text,
+    json: bool,
     opened: &Opened<'_>,
     first: u64,
     transcript: &[u8],
 ) -> Result<(), AllocError>
-    ensures { OnOk result (output.new ≡ output.old ++ event_faults opened.now first transcript.now) }
+    ensures { OnOk result (output.new ≡ output.old ++ events_said json opened.now first transcript.now) }
 {
     let mut rest = transcript;
     let mut number = first;
     let mut left = MOST_EXPLAINED;
     let mut strangers = Strangers::new(alloc);
     'walk: while !rest.is_empty() {
-        let Some(fewer) = write_event(alloc, output, left, opened, &mut strangers, number, rest)?
+        let Some(fewer) = write_event(
+            alloc,
+            output,
+            json,
+            left,
+            opened,
+            &mut strangers,
+            number,
+            rest,
+        )?
         else {
             return Ok(());
         };
@@ -140,26 +153,100 @@ pub(crate) fn write_event_faults(
         number = next_event(number, rest);
         rest = events_behind(rest);
     }
-    strangers.write_more(output, MORE_LINES)
+    write_end(alloc, output, json, &strangers)
+}
+
+/// Writes how many lines had a name of no room that an earlier one had, if some did.
+fn write_end(
+    alloc: Global,
+    output: &mut Text,
+    json: bool,
+    strangers: &Strangers,
+) -> Result<(), AllocError>
+    ensures { OnOk result (output.new ≡ output.old ++ more_in json (more_note MORE_LINES.now strangers.now)) }
+{
+    let mut said = Text::new(alloc);
+    strangers.write_more(&mut said, MORE_LINES)?;
+    write_more_in(alloc, output, json, said.as_bytes())
 }
 
 /// Writes what is said of the line with which a text begins, which has this number. Gives how many may still be explained.
 fn write_event(
     alloc: Global,
     output: &mut Text,
+    json: bool,
     left: usize,
     opened: &Opened<'_>,
     strangers: &mut Strangers,
     number: u64,
     text: &[u8],
 ) -> Result<Option<usize>, AllocError>
-    ensures left { IfOk result (λ fewer. fewer ≡ left_after left (event_said opened.now strangers.old number text.now)) }
-    ensures text { OnOk result (output.new ≡ output.old ++ said_if_left left (event_said opened.now strangers.old number text.now)) }
+    ensures left { IfOk result (λ fewer. fewer ≡ left_after left (event_in json opened.now strangers.old number text.now)) }
+    ensures text { OnOk result (output.new ≡ output.old ++ said_if_left (enough_in json) left (event_in json opened.now strangers.old number text.now)) }
     ensures strangers { OnOk result (strangers.new ≡ strangers_after opened.now strangers.old text.now) }
 {
+    let mut shown = Text::new(alloc);
+    write_event_in(alloc, &mut shown, json, opened, strangers, number, text)?;
+    write_part(alloc, output, json, left, shown.as_bytes())
+}
+
+/// Writes what is said of the line with which a text begins, as text or as JSON.
+fn write_event_in(
+    alloc: Global,
+    output: &mut Text,
+    json: bool,
+    opened: &Opened<'_>,
+    strangers: &mut Strangers,
+    number: u64,
+    text: &[u8],
+) -> Result<(), AllocError>
+    ensures text { OnOk result (output.new ≡ output.old ++ event_in json opened.now strangers.old number text.now) }
+    ensures strangers { OnOk result (strangers.new ≡ strangers_after opened.now strangers.old text.now) }
+{
+    if !json {
+        return write_event_said(alloc, output, opened, strangers, number, text);
+    }
     let mut said = Text::new(alloc);
     write_event_said(alloc, &mut said, opened, strangers, number, text)?;
-    write_part(output, left, said.as_bytes())
+    write_fault(
+        alloc,
+        output,
+        false,
+        &event_spot(number, text),
+        said.as_bytes(),
+    )
+}
+
+/// The place of what is said of the line with which a text begins.
+fn event_spot(number: u64, text: &[u8]) -> Spot
+    ensures { result ≡ event_spot number text.now }
+{
+    let (line, _) = split_line(text);
+    match read_line(line) {
+        Ok(_) => first_byte(number, NoRoom.sentence()),
+        Err(fault) => bad_line_spot(number, line, fault),
+    }
+}
+
+/// The place in a line which is no event line.
+fn bad_line_spot(number: u64, line: &[u8], fault: LineFault) -> Spot
+    ensures { result ≡ bad_line_spot number line.now fault }
+{
+    if fits_one(line, &BLOCK_LINES) || fits_one(line, &REPORT_LINES) {
+        return first_byte(number, fault.sentence());
+    }
+    Spot::of_form(number, fault.sentence(), line, &EVENTS)
+}
+
+/// The first byte of a line.
+fn first_byte(number: u64, what: &'static str) -> Spot
+    ensures { result ≡ record { line = number; place = Some 1; what = what.now } }
+{
+    Spot {
+        line: number,
+        place: Some(1),
+        what,
+    }
 }
 
 fn write_event_said(

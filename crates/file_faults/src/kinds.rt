@@ -2,10 +2,10 @@
 ghost use Rattle.std.specs.Prelude.{◌≡◌, ◌≤◌, IfOk, is_some, length};
 ghost use Rattle.io_text.specs.Reading.{most_bytes};
 ghost use Rattle.script_play.specs.Script.{command_in};
-ghost use Rattle.file_faults.specs.Kinds.{AreFaultsOf, begins_with_command, has_line, is_either, kind_of};
+ghost use Rattle.file_faults.specs.Kinds.{AreFaultsOf, AreObjectsOf, begins_with_command, has_line, is_either, kind_of};
 
-use crate::files::{room_faults, transcript_faults};
-use crate::scripts::script_faults;
+use crate::files::{room_faults, room_objects, transcript_faults, transcript_objects};
+use crate::scripts::{script_faults, script_said};
 use io_text::Text;
 use room_files::{next_line, split_line};
 use script_play::read_command;
@@ -47,6 +47,18 @@ pub fn faults_of(alloc: Global, kind: Kind, input: &[u8]) -> Result<Text, AllocE
         Kind::Rooms => room_faults(alloc, input),
         Kind::Script => script_faults(alloc, input),
         Kind::Transcript => transcript_faults(alloc, input),
+    }
+}
+
+/// The same as JSON.
+pub(crate) fn objects_of(alloc: Global, kind: Kind, input: &[u8]) -> Result<Text, AllocError>
+    requires { length input.now ≤ most_bytes }
+    ensures { IfOk result (AreObjectsOf kind input.now) }
+{
+    match kind {
+        Kind::Rooms => room_objects(alloc, input),
+        Kind::Script => script_said(alloc, true, input),
+        Kind::Transcript => transcript_objects(alloc, input),
     }
 }
 

@@ -1,5 +1,5 @@
 //! What the faults of a file say of the modes that read such files. Each law is what its function ensures.
-ghost use Rattle.std.specs.Prelude.{◌≡◌, ◌↔◌, List, [], ℕ, Option, Ok, IsOk, false, is_some, option_map};
+ghost use Rattle.std.specs.Prelude.{◌≡◌, ◌↔◌, List, [], ℕ, Option, Ok, IsOk, false, true, is_some, option_map};
 ghost use Rattle.std.specs.Str.{bytes_eq};
 ghost use Rattle.room_spec.specs.Rooms.{RoomSpec};
 ghost use Rattle.room_files.specs.Inputs.{all_blocks, input_says};
@@ -10,8 +10,15 @@ ghost use Rattle.script_play.specs.Script.{script_says};
 ghost use Rattle.service_core.specs.Replies.{OpenRoom, name_in, reply_to, room_after};
 ghost use Rattle.service_core.specs.declared.command.Command.{Command};
 ghost use Rattle.service_core.specs.declared.command.Command.TheVariants.{Begin};
-ghost use Rattle.file_faults.specs.Files.{AreRoomFaults, AreTranscriptFaults, IsWhole};
-ghost use Rattle.file_faults.specs.Scripts.{script_faults};
+ghost use Rattle.room_files.specs.declared.fault.TextFault.{TextFault};
+ghost use Rattle.fault_text.specs.Refusals.{noted_refusal};
+ghost use Rattle.fault_text.specs.Spots.{refusal_spot};
+ghost use Rattle.fault_text.specs.Strangers.{MetNames};
+ghost use Rattle.fault_text.specs.declared.refusals.RefusedBlock.{RefusedBlock};
+ghost use Rattle.file_faults.specs.Events.{OpenedParts, event_said, event_spot};
+ghost use Rattle.file_faults.specs.Files.{AreRoomFaults, AreTranscriptFaults, IsWhole, unread_said, unread_spot};
+ghost use Rattle.file_faults.specs.Json.{IsHeaded};
+ghost use Rattle.file_faults.specs.Scripts.{KnownRooms, entry_said, entry_spot, is_block_refused, script_faults};
 ghost use Rattle.file_faults.specs.OpenRooms.{RoomsByName, refusal_of, rooms_after, rooms_begun, simulators_in, simulators_of};
 
 /// If the rooms that are known from a script's lines are those of a service, a command of a line is refused exactly if the service refuses it, for the
@@ -51,4 +58,13 @@ pub fn rooms_without_faults()
 /// event of one of its rooms.
 pub fn transcripts_without_faults()
     ensures { (input said : List ℕ) → AreTranscriptFaults input said → (said ≡ []) ↔ IsWhole (input_says input) }
+{}
+
+/// The line, the place and the sentence of an object are those of the text, which begins with them: after the line that a block is refused, if one is, with the
+/// sentence after the number of the line, and with a caret below the place.
+pub fn objects_say_what_the_text_says()
+    ensures entries { (script : List ℕ) (known : KnownRooms) (number : ℕ) (text : List ℕ) → IsHeaded (is_block_refused text) (entry_spot known number text) (entry_said script known number text) }
+    ensures events { (opened : OpenedParts) (strangers : MetNames) (number : ℕ) (text : List ℕ) → IsHeaded false (event_spot number text) (event_said opened strangers number text) }
+    ensures refusals { (text : List ℕ) (refusal : RefusedBlock) → IsHeaded true (refusal_spot refusal.line text refusal.fault) (noted_refusal text refusal) }
+    ensures unread { (line : ℕ) (fault : TextFault) → IsHeaded false (unread_spot line fault) (unread_said line fault) }
 {}

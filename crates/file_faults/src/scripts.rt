@@ -3,22 +3,24 @@ ghost use Rattle.std.specs.Prelude.{◌≡◌, ◌++◌, ◌≤◌, IfOk, OnOk, 
 ghost use Rattle.room_spec.specs.Blocks.{block_in};
 ghost use Rattle.room_files.specs.Blocks.{block_extent};
 ghost use Rattle.script_play.specs.Script.{command_in, is_open, text_behind};
-ghost use Rattle.file_faults.specs.Scripts.{absent_said, bad_command, begins_with_block, block_in_front, block_said, count_note, ends_as_elsewhere, entry_said, explained_at_most, fault_said, known_after, known_after_command, line_said, meant, met_if_absent, next_number, none_known, refused_said, rooms_after_read, script_faults, simulators_note, taken_said};
+ghost use Rattle.file_faults.specs.Scripts.{absent_said, bad_command, begins_with_block, block_in_front, block_said, count_note, ends_as_elsewhere, entry_in, entry_said, entry_spot, explained_at_most, fault_said, is_block_refused, known_after, known_after_command, line_said, line_spot, meant, met_if_absent, next_number, none_known, refused_said, refused_spot, rooms_after_read, script_faults, script_said, simulators_note, taken_said};
+ghost use Rattle.file_faults.specs.Json.{enough_in, more_in};
 ghost use Rattle.file_faults.specs.OpenRooms.{rooms_begun, simulators_of};
 ghost use Rattle.fault_text.specs.Strangers.{met, more_note};
 ghost use Rattle.file_faults.specs.declared.scripts.TheConstants.{MORE_COMMANDS};
 ghost use Rattle.service_core.specs.declared.reply.Refusal.TheVariants.{NoRoom};
 ghost use Rattle.file_faults.specs.Walks.{left_after, said_if_left};
 
+use crate::json::{write_fault, write_more_in};
 use crate::rooms::OpenRooms;
 use crate::walk::write_part;
 use fault_text::{
-    COMMANDS, MOST_EXPLAINED, NO_COMMAND, Strangers, has_room_line, later_line, write_advice,
+    COMMANDS, MOST_EXPLAINED, NO_COMMAND, Spot, Strangers, has_room_line, later_line, write_advice,
     write_block_fault, write_form_fault, write_indented, write_name_taken, write_near_room,
     write_place,
 };
 use io_text::Text;
-use room_files::{TextFault, count_lines, read_room, split_line, write_refused};
+use room_files::{BlockFault, TextFault, count_lines, read_room, split_line, write_refused};
 use room_spec::{Name, Spec, SpecFault, block_len};
 use script_play::read_command;
 use service_core::Refusal;
@@ -61,20 +63,39 @@ impl Known {
         }
     }
 
-    /// Writes how many commands had a name of no open room that an earlier one had, if some did.
-    fn write_end(&self, output: &mut Text) -> Result<(), AllocError>
-        ensures { OnOk result (output.new ≡ output.old ++ more_note MORE_COMMANDS.now self.now.strangers) }
+    /// The place of what is said of the line of this number.
+    fn line_spot(&self, number: u64, line: &[u8]) -> Spot
+        ensures { result ≡ line_spot self.now number line.now (command_in line.now) }
     {
-        self.strangers.write_more(output, MORE_COMMANDS)
+        match read_command(line) {
+            Some(command) => refused_spot(number, self.rooms.refusal_of(&command)),
+            None => Spot::of_form(number, TextFault::NoCommand.sentence(), line, &COMMANDS),
+        }
+    }
+
+    /// Writes how many commands had a name of no open room that an earlier one had, if some did.
+    fn write_end(&self, alloc: Global, output: &mut Text, json: bool) -> Result<(), AllocError>
+        ensures { OnOk result (output.new ≡ output.old ++ more_in json (more_note MORE_COMMANDS.now self.now.strangers)) }
+    {
+        let mut said = Text::new(alloc);
+        self.strangers.write_more(&mut said, MORE_COMMANDS)?;
+        write_more_in(alloc, output, json, said.as_bytes())
     }
 }
 
 /// What is said of all faults of a script: of its blocks, of lines that are no commands, and of commands to rooms or simulators that there are not.
 /// If it begins with a block, it is no script, and if its first line has a carriage return, no line is one of a script: then only the first
 /// fault is explained.
-#[tactic(auto, unfolding(crate::specs::Scripts::script_faults))]
 pub fn script_faults(alloc: Global, script: &[u8]) -> Result<Text, AllocError>
     ensures { IfOk result (λ text. text ≡ script_faults script.now) }
+{
+    script_said(alloc, false, script)
+}
+
+/// The same as text, or as JSON.
+#[tactic(auto, unfolding(crate::specs::Scripts::script_said))]
+pub(crate) fn script_said(alloc: Global, json: bool, script: &[u8]) -> Result<Text, AllocError>
+    ensures { IfOk result (λ text. text ≡ script_said json script.now) }
 {
     let mut output = Text::new(alloc);
     let mut rest = script;
@@ -82,7 +103,16 @@ pub fn script_faults(alloc: Global, script: &[u8]) -> Result<Text, AllocError>
     let mut left = explained_at_most(script);
     let mut known = Known::new(alloc);
     'walk: while !rest.is_empty() {
-        let Some(fewer) = write_entry(alloc, &mut output, left, &mut known, script, number, rest)?
+        let Some(fewer) = write_entry(
+            alloc,
+            &mut output,
+            json,
+            left,
+            &mut known,
+            script,
+            number,
+            rest,
+        )?
         else {
             return Ok(output);
         };
@@ -91,7 +121,7 @@ pub fn script_faults(alloc: Global, script: &[u8]) -> Result<Text, AllocError>
         number = next_number(number, line, later);
         rest = text_behind(line, later);
     }
-    known.write_end(&mut output)?;
+    known.write_end(alloc, &mut output, json)?;
     Ok(output)
 }
 
@@ -124,19 +154,64 @@ fn ends_as_elsewhere(script: &[u8]) -> bool
 fn write_entry(
     alloc: Global,
     output: &mut Text,
+    json: bool,
     left: usize,
     known: &mut Known,
     script: &[u8],
     number: u64,
     text: &[u8],
 ) -> Result<Option<usize>, AllocError>
-    ensures left { IfOk result (λ fewer. fewer ≡ left_after left (entry_said script.now known.old number text.now)) }
-    ensures text { OnOk result (output.new ≡ output.old ++ said_if_left left (entry_said script.now known.old number text.now)) }
+    ensures left { IfOk result (λ fewer. fewer ≡ left_after left (entry_in json script.now known.old number text.now)) }
+    ensures text { OnOk result (output.new ≡ output.old ++ said_if_left (enough_in json) left (entry_in json script.now known.old number text.now)) }
     ensures known { OnOk result (known.new ≡ known_after known.old text.now) }
 {
+    let mut shown = Text::new(alloc);
+    write_entry_in(alloc, &mut shown, json, known, script, number, text)?;
+    write_part(alloc, output, json, left, shown.as_bytes())
+}
+
+/// Writes what is said of the entry with which a text begins, as text or as JSON.
+fn write_entry_in(
+    alloc: Global,
+    output: &mut Text,
+    json: bool,
+    known: &mut Known,
+    script: &[u8],
+    number: u64,
+    text: &[u8],
+) -> Result<(), AllocError>
+    ensures text { OnOk result (output.new ≡ output.old ++ entry_in json script.now known.old number text.now) }
+    ensures known { OnOk result (known.new ≡ known_after known.old text.now) }
+{
+    if !json {
+        return write_entry_said(alloc, output, known, script, number, text);
+    }
+    let (refused, spot) = entry_spot(alloc, known, number, text)?;
     let mut said = Text::new(alloc);
     write_entry_said(alloc, &mut said, known, script, number, text)?;
-    write_part(output, left, said.as_bytes())
+    write_fault(alloc, output, refused, &spot, said.as_bytes())
+}
+
+/// Whether the block after a line `open` is refused, and the place of what is said of an entry.
+fn entry_spot(
+    alloc: Global,
+    known: &Known,
+    number: u64,
+    text: &[u8],
+) -> Result<(bool, Spot), AllocError>
+    ensures refused { IfOk result (λ found. found.0 ≡ is_block_refused text.now) }
+    ensures spot { IfOk result (λ found. found.1 ≡ entry_spot known.now number text.now) }
+{
+    let (line, later) = split_line(text);
+    if !is_open(line) {
+        return Ok((false, known.line_spot(number, line)));
+    }
+    let block = block_in_front(later);
+    let first = later_line(number, 1);
+    match read_room(alloc, block)? {
+        Ok(_) => Ok((false, Spot::of_refusal(first, block, BlockFault::NameTaken))),
+        Err(fault) => Ok((true, Spot::of_block(first, block, fault))),
+    }
 }
 
 fn write_entry_said(
@@ -162,6 +237,21 @@ fn write_entry_said(
         )
     } else {
         write_line_said(alloc, output, known, script, number, line)
+    }
+}
+
+/// The place of the first byte of a line whose command is refused, if it is.
+fn refused_spot(number: u64, refusal: Option<Refusal>) -> Spot
+    ensures { result ≡ refused_spot number refusal }
+{
+    let what = match refusal {
+        Some(refusal) => refusal.sentence(),
+        None => "",
+    };
+    Spot {
+        line: number,
+        place: Some(1),
+        what,
     }
 }
 

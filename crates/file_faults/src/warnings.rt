@@ -1,31 +1,45 @@
 //! What is warned of in the rooms of a file.
-ghost use Rattle.std.specs.Prelude.{◌≡◌, ◌<◌, ◌++◌, IfOk, OnOk, length};
+ghost use Rattle.std.specs.Prelude.{◌≡◌, ◌<◌, ◌++◌, IfOk, None, OnOk, length};
+ghost use Rattle.serde_json.specs.View.{view};
+ghost use Rattle.json_lines.specs.Lines.{json_line};
+ghost use Rattle.room_warnings.specs.Json.{warning_data};
+ghost use Rattle.file_faults.specs.Json.{enough_in};
 ghost use Rattle.file_faults.specs.Walks.{left_after, said_if_left};
-ghost use Rattle.file_faults.specs.Warnings.{block_warnings, empty_warning, file_warnings, next_part, part_behind, part_warnings};
+ghost use Rattle.file_faults.specs.declared.warnings.TheConstants.{EMPTY_FILE};
+ghost use Rattle.file_faults.specs.Warnings.{block_warnings, empty_warning, file_warnings, next_part, part_behind, part_warnings, warnings_said};
 
 use crate::scripts::{begins_with_block, block_extent, block_in_front};
 use crate::walk::write_part;
 use fault_text::{MOST_EXPLAINED, later_line, write_indented};
 use io_text::Text;
+use json_lines::{text_value, write_line};
 use room_files::{count_lines, read_room, split_line};
 use room_warnings::write_warnings;
+use serde_json::{Value, json};
 use std::alloc::{AllocError, Global};
 
 /// What is warned of if a file has nothing in it.
 const EMPTY_FILE: &[u8] = b"warning: the file is empty";
 
 /// What is warned of in a file, which may be rooms, a script or a transcript: in its valid blocks, or that it is empty.
-#[tactic(auto, unfolding(crate::specs::Warnings::file_warnings))]
 pub fn warnings_of(alloc: Global, input: &[u8]) -> Result<Text, AllocError>
     ensures { IfOk result (λ text. text ≡ file_warnings input.now) }
 {
+    warnings_said(alloc, false, input)
+}
+
+/// The same as text, or as JSON.
+#[tactic(auto, unfolding(crate::specs::Warnings::warnings_said))]
+pub(crate) fn warnings_said(alloc: Global, json: bool, input: &[u8]) -> Result<Text, AllocError>
+    ensures { IfOk result (λ text. text ≡ warnings_said json input.now) }
+{
     let mut output = Text::new(alloc);
-    write_empty_warning(&mut output, input)?;
+    write_empty_warning(alloc, &mut output, json, input)?;
     let mut rest = input;
     let mut number = 1;
     let mut left = MOST_EXPLAINED;
     'walk: while !rest.is_empty() {
-        let Some(fewer) = write_first(alloc, &mut output, left, number, rest)? else {
+        let Some(fewer) = write_first(alloc, &mut output, json, left, number, rest)? else {
             return Ok(output);
         };
         left = fewer;
@@ -36,13 +50,34 @@ pub fn warnings_of(alloc: Global, input: &[u8]) -> Result<Text, AllocError>
 }
 
 /// Writes that a file is empty, if it is.
-fn write_empty_warning(output: &mut Text, input: &[u8]) -> Result<(), AllocError>
-    ensures { OnOk result (output.new ≡ output.old ++ empty_warning input.now) }
+fn write_empty_warning(
+    alloc: Global,
+    output: &mut Text,
+    json: bool,
+    input: &[u8],
+) -> Result<(), AllocError>
+    ensures { OnOk result (output.new ≡ output.old ++ empty_warning json input.now) }
 {
     match input {
+        [] if json => write_empty_line(alloc, output),
         [] => write_indented(output, EMPTY_FILE),
         _ => Ok(()),
     }
+}
+
+#[tactic(auto, using(crate::proofs::Floats::empty_is))]
+fn write_empty_line(alloc: Global, output: &mut Text) -> Result<(), AllocError>
+    ensures { OnOk result (output.new ≡ output.old ++ json_line (warning_data None None EMPTY_FILE.now)) }
+{
+    let value = empty_value(alloc)?;
+    write_line(alloc, output, &value)
+}
+
+fn empty_value(alloc: Global) -> Result<Value, AllocError>
+    ensures { IfOk result (λ value. view value ≡ warning_data None None EMPTY_FILE.now) }
+{
+    let what = text_value(alloc, EMPTY_FILE)?;
+    json!(in alloc; {"kind": "warning", "line": null, "place": null, "what": what})
 }
 
 /// Writes what is warned of in the block with which a text begins, if it does, whose first line has this number. Gives how many may still be
@@ -50,42 +85,45 @@ fn write_empty_warning(output: &mut Text, input: &[u8]) -> Result<(), AllocError
 fn write_first(
     alloc: Global,
     output: &mut Text,
+    json: bool,
     left: usize,
     number: u64,
     text: &[u8],
 ) -> Result<Option<usize>, AllocError>
-    ensures left { IfOk result (λ fewer. fewer ≡ left_after left (part_warnings number text.now)) }
-    ensures text { OnOk result (output.new ≡ output.old ++ said_if_left left (part_warnings number text.now)) }
+    ensures left { IfOk result (λ fewer. fewer ≡ left_after left (part_warnings json number text.now)) }
+    ensures text { OnOk result (output.new ≡ output.old ++ said_if_left (enough_in json) left (part_warnings json number text.now)) }
 {
     let mut said = Text::new(alloc);
-    write_part_warnings(alloc, &mut said, number, text)?;
-    write_part(output, left, said.as_bytes())
+    write_part_warnings(alloc, &mut said, json, number, text)?;
+    write_part(alloc, output, json, left, said.as_bytes())
 }
 
 fn write_part_warnings(
     alloc: Global,
     output: &mut Text,
+    json: bool,
     number: u64,
     text: &[u8],
 ) -> Result<(), AllocError>
-    ensures { OnOk result (output.new ≡ output.old ++ part_warnings number text.now) }
+    ensures { OnOk result (output.new ≡ output.old ++ part_warnings json number text.now) }
 {
     if !begins_with_block(text) {
         return Ok(());
     }
-    write_block_warnings(alloc, output, number, block_in_front(text))
+    write_block_warnings(alloc, output, json, number, block_in_front(text))
 }
 
 fn write_block_warnings(
     alloc: Global,
     output: &mut Text,
+    json: bool,
     number: u64,
     block: &[u8],
 ) -> Result<(), AllocError>
-    ensures { OnOk result (output.new ≡ output.old ++ block_warnings number block.now) }
+    ensures { OnOk result (output.new ≡ output.old ++ block_warnings json number block.now) }
 {
     match read_room(alloc, block)? {
-        Ok((spec, _)) => write_warnings(alloc, output, number, block, &spec),
+        Ok((spec, _)) => write_warnings(alloc, output, json, number, block, &spec),
         Err(_) => Ok(()),
     }
 }

@@ -2,6 +2,8 @@
 -- its functions. All others are its own.
 pub use Rattle.room_core.proofs.settling.Alone.{steps_within}
 pub use Rattle.room_core.proofs.settling.Certified.{never_spent}
+pub use Rattle.room_core.proofs.settling.Counted.{no_more_pass}
+pub use Rattle.room_core.proofs.settling.Decisions.{process_decided}
 pub use Rattle.room_core.proofs.fields.Decoding.{agrees}
 pub use Rattle.room_core.proofs.fields.FieldCalls.{calls_in_fields, fields_stand, opening_in_fields, step_in_fields}
 pub use Rattle.room_core.proofs.values.Knowing.{fields_known}

@@ -6,6 +6,7 @@ pub mod Fixing
 pub mod FixedTests
 pub mod Staying
 pub mod Deciding
+pub mod OwnDecisions
 pub mod Exact
 pub mod Agreed
 pub mod Promises

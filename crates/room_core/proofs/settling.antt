@@ -2,6 +2,7 @@ pub mod Settling
 pub mod SpecKept
 pub mod Alone
 pub mod Marks
+pub mod Counted
 pub mod Blocking
 pub mod Finishing
 pub mod Quieted
@@ -9,6 +10,9 @@ pub mod Idling
 pub mod InOrder
 pub mod Ending
 pub mod Certified
+pub mod FewSpent
+pub mod Decisions
+pub mod EachDecides
 pub mod Unbounded
 pub mod Observed
 pub mod Following

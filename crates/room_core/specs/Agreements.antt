@@ -13,7 +13,7 @@ use Rattle.sim_memory.specs.Steps.{IsRowAtMost, merged_of, row_of}
 use Rattle.simulator.specs.declared.line.Line.{Line}
 use Rattle.simulator.specs.declared.line.Line.TheVariants.{Look, Leave}
 use Rattle.simulator.specs.Minds.{current_round}
-use Rattle.room_core.specs.Fields.{Fields, StepMap, levels_at}
+use Rattle.room_core.specs.Fields.{Fields, StepMap, decision_in, levels_at}
 
 -- ---- what the simulators have done for a process
 
@@ -34,6 +34,12 @@ has_out spec fields j = list_any is_out (outs_at spec fields j)
 -- the decision of process j, if one was stored
 abbrev pub decided_in : RoomSpec → Fields → ℕ → Option ℕ
 decided_in spec fields j = option_map (λ out. out - 1) (find is_out (outs_at spec fields j))
+
+-- What simulator i has decided is a decision that it has stored of one of the room's processes; if it hasn't decided, it has stored
+-- none.
+abbrev pub IsDecisionOf : RoomSpec → Fields → ℕ → Option ℕ → Type 0
+IsDecisionOf spec fields i (Some decision) = (j : ℕ) × (j < processes spec) × (fields.out i j ≡ decision + 1)
+IsDecisionOf spec fields i None = (j : ℕ) → j < processes spec → fields.out i j ≡ 0
 
 -- ---- the agreement on process j's snapshot in round k
 
@@ -121,7 +127,7 @@ pub record IsInsideTurn (fields : Fields) (i j k : ℕ) : Type 0 where
 
 -- ---- what stays of them
 
--- From one moment to a later one: what has been agreed on and what has been decided stays. So of an agreement that has been passed all
+-- From one moment to a later one: what has been agreed on and what has been decided, by a process or by a simulator, stays. So of an agreement that has been passed all
 -- readings show the same view, at whatever moments they are made.
 pub record AgreementsStay (spec : RoomSpec) (before after : Fields) : Type 0 where
   pub passed_is_fixed : (j k : ℕ) → j < processes spec → 1 ≤ k → is_passed spec before j k ≡ true → IsFixedAt spec before j k
@@ -129,6 +135,7 @@ pub record AgreementsStay (spec : RoomSpec) (before after : Fields) : Type 0 whe
   pub same_view : (j k : ℕ) → 1 ≤ k → IsFixedAt spec before j k → view_at spec after j k ≡ view_at spec before j k
   pub same_action : (j k : ℕ) → 1 ≤ k → IsFixedAt spec before j k → asks spec after j k ≡ asks spec before j k
   pub decided : (j decision : ℕ) → j < processes spec → decided_in spec before j ≡ Some decision → decided_in spec after j ≡ Some decision
+  pub simulators : (i decision : ℕ) → decision_in before i ≡ Some decision → decision_in after i ≡ Some decision
 
 -- ---- what a room promises of them
 

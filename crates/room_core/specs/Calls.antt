@@ -1,5 +1,5 @@
 -- A room with its quiet counts, and what one call makes of it and answers.
-use Rattle.std.specs.Prelude.{ℕ, zero, suc, ◌*◌, ◌<◌, Bool, true, false, not, List, [], ◌∷◌, map, replicate, slice_index_or, slice_set, nat_le, if◌then◌else◌}
+use Rattle.std.specs.Prelude.{ℕ, zero, suc, ◌*◌, ◌<◌, Bool, true, false, not, List, [], ◌∷◌, map, Option, replicate, slice_index_or, slice_set, nat_le, if◌then◌else◌}
 use Rattle.std.specs.List.{range_with_len}
 use Rattle.room_spec.specs.Rooms.{RoomSpec}
 use Rattle.room_spec.specs.Sizes.{sizes_in}
@@ -43,6 +43,14 @@ has_crashed room i = slice_index_or room.crashed i false
 
 abbrev pub with_sweep : RoomState → ℕ → SweepState → RoomState
 with_sweep room i sweep = record room { sweeps = slice_set room.sweeps i sweep }
+
+-- what simulator i has decided, if it has
+abbrev pub decision_at : RoomState → ℕ → Option ℕ
+decision_at room i = (sweep_at room i).mind.decision
+
+-- what each simulator has decided, by their numbers
+abbrev pub decisions_of : RoomState → List (Option ℕ)
+decisions_of room = map (decision_at room) (range_with_len 0 room.spec.simulators)
 
 -- ---- what the type of a room keeps
 

@@ -40,6 +40,10 @@ pub record Fields : Type 0 where
   pub quiet : ℕ → ℕ
   pub crashed : ℕ → Bool
 
+-- what simulator i has decided, if it has
+abbrev pub decision_in : Fields → ℕ → Option ℕ
+decision_in fields i = (fields.mind i).decision
+
 -- ---- maps with one entry changed
 
 abbrev pub changed : {A : Type 0} → (ℕ → A) → ℕ → A → ℕ → A
@@ -147,7 +151,7 @@ line_on (Leave saw_two) spec fields i j k mind = with_taken (record fields { lev
 line_on Ask spec fields i j k mind = with_taken fields i (asked (chosen_at spec fields j k) mind)
 line_on (GetView chosen) spec fields i j k mind = with_taken fields i (got_view (entry_of_steps spec (with_loaded spec (fields.view chosen j k) mind).snapshot) spec chosen (with_loaded spec (fields.view chosen j k) mind))
 line_on Values spec fields i j k mind = with_taken fields i (got_value (entry_of_steps spec mind.snapshot) spec (shown_value spec fields mind.snapshot (length mind.entries)) mind)
-line_on (Out decision) spec fields i j k mind = with_taken (record fields { out = changed_pair fields.out i j (decision + 1) }) i (decided mind)
+line_on (Out decision) spec fields i j k mind = with_taken (record fields { out = changed_pair fields.out i j (decision + 1) }) i (decided decision mind)
 
 -- the fields after the line at which simulator i is
 abbrev pub line : RoomSpec → Fields → ℕ → Fields

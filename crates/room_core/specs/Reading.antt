@@ -34,6 +34,7 @@ worded sizes mind = record {
   before = memory_of sizes mind.before;
   snapshot = memory_of sizes mind.snapshot;
   entries = mind.entries;
+  decision = mind.decision;
 }
 
 pub record IsMindOf (sizes : Sizes) (mind : MindState) (field : MindOf StepMap) : Type 0 where
@@ -85,6 +86,7 @@ unworded sizes mind = record {
   before = step_in sizes mind.before;
   snapshot = step_in sizes mind.snapshot;
   entries = mind.entries;
+  decision = mind.decision;
 }
 
 -- the words at the places of all memory words

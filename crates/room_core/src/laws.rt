@@ -3,7 +3,7 @@ ghost use Rattle.std.specs.Prelude.{length, slice_index, false, ℕ, ◌≡◌, 
 ghost use Rattle.room_spec.specs.Rooms.{IsCertified, RoomSpec, IsWithinLimits, processes};
 ghost use Rattle.safe_agreement.specs.Levels.{IsClean, least_two};
 ghost use Rattle.room_core.specs.Contents.{IsDue};
-ghost use Rattle.room_core.specs.Agreements.{AgreementsStay, DoCompare, HasAgreed, IsFixedAt, IsInsideTurn, asks, greatest_step, has_out, is_clean, is_fixed, is_passed, row_at, shown_of, view_at};
+ghost use Rattle.room_core.specs.Agreements.{AgreementsStay, DoCompare, HasAgreed, IsDecisionOf, IsFixedAt, IsInsideTurn, asks, decided_in, greatest_step, has_out, is_clean, is_fixed, is_passed, row_at, shown_of, view_at};
 ghost use Rattle.protocol_lang.specs.Numbers.{greatest};
 ghost use Rattle.protocol_lang.specs.declared.meaning.Action.TheVariants.{Decide, Write};
 ghost use Rattle.simulator.specs.Minds.{goal_at};
@@ -17,11 +17,11 @@ ghost use Rattle.room_core.specs.RealTime.{HasBegun, HasEnded, IsOperation, Prec
 ghost use Rattle.room_core.specs.Timelines.{IsTimeline, timeline_of};
 ghost use Rattle.simulator.specs.Minds.{current_round};
 ghost use Rattle.simulator.specs.declared.line.Line.TheVariants.{Rest, Show};
-ghost use Rattle.room_core.specs.Settled.{HasTurnLeft, IsDecidedOrHeld, IsSettledFor};
+ghost use Rattle.room_core.specs.Settled.{HasTurnLeft, IsDecidedOrHeld, IsSettledFor, IsSettledInMind, crashed_in, is_out_of_rounds, out_of_rounds_in, unfinished_for};
 ghost use Rattle.room_core.specs.Settling.{steps_while};
 ghost use Rattle.simulator.specs.Sweeps.{is_resting};
-ghost use Rattle.room_core.specs.Calls.{Call, RoomState, configuration_of, has_crashed, marked, step_bound, moved, opening_state, replies_to, room_after_calls, room_after_settle, room_after_step, room_after_steps, room_kind, step_reply, sweep_at, with_sweep, woken};
-ghost use Rattle.room_core.specs.Fields.{Fields, HasLineIn, IsLegalIn, levels_at, line, entry_of_steps, fields_after_call, fields_after_calls, fields_after_settle, opening_fields, replay_fields, replies_in, row_of_steps, with_crash};
+ghost use Rattle.room_core.specs.Calls.{Call, RoomState, configuration_of, decision_at, has_crashed, marked, step_bound, moved, opening_state, replies_to, room_after_calls, room_after_settle, room_after_step, room_after_steps, room_kind, step_reply, sweep_at, with_sweep, woken};
+ghost use Rattle.room_core.specs.Fields.{Fields, HasLineIn, IsLegalIn, decision_in, levels_at, line, entry_of_steps, fields_after_call, fields_after_calls, fields_after_settle, opening_fields, replay_fields, replies_in, row_of_steps, with_crash};
 ghost use Rattle.room_spec.specs.Sizes.{sizes_in};
 ghost use Rattle.room_core.specs.Reading.{AgreeIn, AreFieldsOf, Reads, fields_in};
 ghost use Rattle.room_core.specs.Rooms.{HasLine, IsAlive, IsLegal, IsOneInterleaving, IsShaped, Configuration, ScheduleEvent, crashed_by, crashes, mind_at, opening, stepped, steps, times};
@@ -142,6 +142,24 @@ pub fn all_before_are_passed()
         IsWithinLimits room.spec → AreFieldsOf room fields → (j k r : ℕ) → j < processes room.spec → 1 ≤ k → k < r →
         is_passed room.spec fields j r ≡ true →
         is_passed room.spec fields j k ≡ true }
+{}
+
+/// What a simulator has decided is a decision of a process that it has stored, and one that has stored none hasn't decided.
+pub fn simulators_decide()
+    ensures stored { (room : RoomState) (fields : Fields) →
+        IsWithinLimits room.spec → AreFieldsOf room fields → (i : ℕ) → i < room.spec.simulators →
+        (decision_at room i ≡ decision_in fields i) × IsDecisionOf room.spec fields i (decision_in fields i) }
+    // A process has decided the same.
+    ensures process { (room : RoomState) (fields : Fields) →
+        IsWithinLimits room.spec → AreFieldsOf room fields → (i decision : ℕ) → i < room.spec.simulators → decision_in fields i ≡ Some decision →
+        (j : ℕ) × (j < processes room.spec) × (decided_in room.spec fields j ≡ Some decision) }
+    ensures range { (room : RoomState) (fields : Fields) →
+        IsWithinLimits room.spec → AreFieldsOf room fields → (i decision : ℕ) → i < room.spec.simulators → decision_in fields i ≡ Some decision →
+        decision ≤ greatest }
+    // Whatever is called, a decision stays.
+    ensures stays { (room : RoomState) (calls : List Call) (i decision : ℕ) →
+        IsWithinLimits room.spec → IsOneInterleaving (configuration_of room) → i < room.spec.simulators → decision_at room i ≡ Some decision →
+        decision_at (room_after_calls room calls) i ≡ Some decision }
 {}
 
 /// Over every call what has been agreed on, and what has been decided, stays.
@@ -420,4 +438,34 @@ pub fn certified_rooms_decide()
         IsWithinLimits room.spec → AreFieldsOf room fields → (f : ℕ) → IsCertified room.spec f → (j : ℕ) → 2 ≤ room.spec.rounds →
         j < processes room.spec → IsSettledFor room.spec fields j →
         IsDecidedOrHeld room.spec fields j }
+{}
+
+/// In a room of a protocol by which each process waits for all but f, more than f processes aren't out of rounds, at any moment. A
+/// process that is spent in some simulator's mind is out of rounds.
+pub fn few_are_spent()
+    ensures few { (room : RoomState) (fields : Fields) →
+        IsWithinLimits room.spec → AreFieldsOf room fields → (f : ℕ) → IsCertified room.spec f →
+        length (out_of_rounds_in room.spec fields) + f < processes room.spec }
+    ensures minds { (room : RoomState) (fields : Fields) →
+        IsWithinLimits room.spec → AreFieldsOf room fields → (i j : ℕ) → i < room.spec.simulators → j < processes room.spec →
+        goal_at (fields.mind i).goals j ≡ Spent →
+        is_out_of_rounds room.spec fields j ≡ true }
+{}
+
+/// After settling, for each simulator that hasn't crashed and has a turn left: as it knows each process, that has decided or is out of
+/// rounds, or it waits for a snapshot of it inside whose agreement another has crashed; and it waits for at most as many as have crashed.
+/// So, by a protocol by which each process waits for all but f, it has decided if at most f have crashed.
+pub fn each_is_settled_for()
+    ensures each { (room : RoomState) (fields : Fields) →
+        IsWithinLimits room.spec → AreFieldsOf room fields → (left : HasTurnLeft room.spec (fields_after_settle room.spec fields)) → (j : ℕ) →
+        j < processes room.spec →
+        IsSettledInMind room.spec (fields_after_settle room.spec fields) left.simulator j }
+    ensures few { (room : RoomState) (fields : Fields) →
+        IsWithinLimits room.spec → AreFieldsOf room fields → (left : HasTurnLeft room.spec (fields_after_settle room.spec fields)) →
+        length (unfinished_for room.spec (fields_after_settle room.spec fields) left.simulator) ≤
+        length (crashed_in room.spec (fields_after_settle room.spec fields)) }
+    ensures decides { (room : RoomState) (fields : Fields) →
+        IsWithinLimits room.spec → AreFieldsOf room fields → (left : HasTurnLeft room.spec (fields_after_settle room.spec fields)) → (f : ℕ) →
+        IsCertified room.spec f → length (crashed_in room.spec (fields_after_settle room.spec fields)) ≤ f →
+        (decision : ℕ) × (decision_in (fields_after_settle room.spec fields) left.simulator ≡ Some decision) }
 {}

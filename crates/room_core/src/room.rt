@@ -1,5 +1,5 @@
 //! A room.
-ghost use Rattle.std.specs.Prelude.{ℕ, ◌≡◌, ◌≢◌, ◌<◌, ◌≤◌, false, length, map, replicate, slice_index, IfErr, IfOk};
+ghost use Rattle.std.specs.Prelude.{List, Some, ℕ, ◌≡◌, ◌≢◌, ◌<◌, ◌≤◌, false, length, map, replicate, slice_index, IfErr, IfOk};
 ghost use Rattle.std.specs.List.{range_with_len};
 ghost use Rattle.std.specs.Allocator.{alloc_error};
 ghost use Rattle.room_spec.specs.Sizes.{sizes_in};
@@ -15,11 +15,11 @@ ghost use Rattle.simulator.specs.declared.sweep.Ready.TheVariants as answers;
 ghost use Rattle.simulator.specs.declared.turn.Turn.{Turn};
 ghost use Rattle.room_core.specs.declared.reply.StepReply.TheVariants as replies;
 ghost use Rattle.room_core.specs.Rooms.{IsAlive, IsOneInterleaving, IsRoom, IsShaped, mind_at, times};
-ghost use Rattle.room_core.specs.Fields.{Fields, IsLegalIn, crash_reply_in, fields_after_crash, fields_after_step, fields_after_steps, opening_fields, step_reply_in};
-ghost use Rattle.room_core.specs.Agreements.{AgreementsStay};
+ghost use Rattle.room_core.specs.Fields.{Fields, IsLegalIn, crash_reply_in, decision_in, fields_after_crash, fields_after_step, fields_after_steps, opening_fields, step_reply_in};
+ghost use Rattle.room_core.specs.Agreements.{AgreementsStay, IsDecisionOf};
 ghost use Rattle.room_core.specs.Moments.{IsScan};
 ghost use Rattle.room_core.specs.Reading.{AreFieldsOf, Reads};
-ghost use Rattle.room_core.specs.Calls.{CountsQuietTurns, crash_reply, configuration_of, has_crashed, marked, opening_state, ready_at, room_after_crash, room_after_step, room_after_steps, step_reply, sweep_at, with_sweep, woken};
+ghost use Rattle.room_core.specs.Calls.{Call, CountsQuietTurns, crash_reply, configuration_of, decision_at, decisions_of, has_crashed, marked, opening_state, ready_at, room_after_calls, room_after_crash, room_after_step, room_after_steps, step_reply, sweep_at, with_sweep, woken};
 
 use crate::reply::{CrashReply, StepReply};
 use crate::room_words::RoomWords;
@@ -158,6 +158,33 @@ impl RoomCore {
             (fields.mind i).before (fields.mind i).snapshot (fields.mind i).collects }
     {
         self.sweeps[i].mind()
+    }
+
+    /// What simulator `i` has decided: the first decision of a process that it has stored. `None` if it has stored none, or if the room
+    /// has no such simulator. A decision is final: it stays whatever the simulator stores later, and if it crashes.
+    pub fn decision(&self, i: usize) -> Option<u32>
+        ensures value { result ≡ decision_at self.now i }
+        // It is the decision of a process that it has stored; without one it has stored none.
+        ensures stored { (fields : Fields) → AreFieldsOf self.now fields → i < self.now.spec.simulators → (result ≡ decision_in fields i) × IsDecisionOf self.now.spec fields i result }
+        // Whatever is called later, it stays.
+        ensures stays { (calls : List Call) (decision : ℕ) → result ≡ Some decision → decision_at (room_after_calls self.now calls) i ≡ Some decision }
+    {
+        let _ = &self.spec; // for the proof: what the type of a room says
+        if i >= self.spec.m() {
+            return None;
+        }
+        self.mind(i).decision()
+    }
+
+    /// What each simulator has decided, by their numbers.
+    pub fn decisions(&self) -> ArrayVec<Option<u32>, MAX_SIMULATORS>
+        ensures { result.items ≡ decisions_of self.now }
+    {
+        let mut decisions = ArrayVec::new();
+        for i in 0..self.spec.m() {
+            decisions.push(self.decision(i));
+        }
+        decisions
     }
 
     /// Whether simulator `i` has crashed.

@@ -1,13 +1,13 @@
 //! Settling: what becomes of the simulators that are left, each by itself.
-ghost use Rattle.std.specs.Prelude.{ℕ, ◌≡◌, ◌<◌, ◌≤◌};
+ghost use Rattle.std.specs.Prelude.{ℕ, ◌≡◌, ◌<◌, ◌≤◌, Some, length};
 ghost use Rattle.room_spec.specs.Rooms.{IsCertified, processes};
 ghost use Rattle.room_core.specs.Rooms.{IsRoom};
-ghost use Rattle.room_core.specs.Fields.{Fields, fields_after_settle};
+ghost use Rattle.room_core.specs.Fields.{Fields, decision_in, fields_after_settle};
 ghost use Rattle.room_core.specs.Agreements.{AgreementsStay};
 ghost use Rattle.room_core.specs.Reading.{AreFieldsOf};
 ghost use Rattle.room_core.specs.Calls.{configuration_of, room_after_settle, room_kind};
 ghost use Rattle.room_core.specs.Observing.{AreSeen, IsObserved, steps_of_settling, traced_kind};
-ghost use Rattle.room_core.specs.Settled.{HasTurnLeft, IsDecidedOrHeld, IsSettledFor};
+ghost use Rattle.room_core.specs.Settled.{HasTurnLeft, IsDecidedOrHeld, IsSettledFor, crashed_in};
 ghost use Rattle.room_core.specs.Settles.{Settles};
 ghost use Rattle.room_core.specs.Settling.{each_in_order, ran_alone, turn_ended};
 
@@ -37,6 +37,13 @@ impl RoomCore {
             AreFieldsOf self.old fields → (f : ℕ) → IsCertified self.old.spec f → 2 ≤ self.old.spec.rounds →
             HasTurnLeft self.old.spec (fields_after_settle self.old.spec fields) → (j : ℕ) → j < processes self.old.spec →
             IsDecidedOrHeld self.old.spec (fields_after_settle self.old.spec fields) j }
+        // If at most f have crashed, each simulator that hasn't and has a turn left has decided: of the processes, fewer than all but f are out
+        // of rounds, and it waits for at most f.
+        ensures decides { (fields : Fields) →
+            AreFieldsOf self.old fields → (f : ℕ) → IsCertified self.old.spec f →
+            length (crashed_in self.old.spec (fields_after_settle self.old.spec fields)) ≤ f →
+            (left : HasTurnLeft self.old.spec (fields_after_settle self.old.spec fields)) →
+            (decision : ℕ) × (decision_in (fields_after_settle self.old.spec fields) left.simulator ≡ Some decision) }
     {
         let _ = &self.spec; // for the proof: what the type of a room says
         self.settle_observed(&mut Unobserved);

@@ -9,11 +9,11 @@ use Rattle.transcript.specs.Runs.{IsRun}
 use Rattle.room_core.specs.Calls.{RoomState}
 use Rattle.room_core.specs.Fields.{Fields}
 use Rattle.room_core.specs.Reading.{AreFieldsOf}
-use Rattle.room_core.specs.Settled.{IsSettledFor}
+use Rattle.room_core.specs.Settled.{IsSettledFor, crashed_in}
 use Rattle.room_core.proofs.CallerLemmas.{rooms_agree}
 use Rattle.ws_history.specs.declared.states.ProcessState.{ProcessState}
 use Rattle.ws_history.specs.declared.states.ProcessState.TheVariants as states
-use Rattle.ws_history.specs.Reports.{crashed_in, is_over, state_of, states_of}
+use Rattle.ws_history.specs.Reports.{is_over, state_of, states_of}
 use Rattle.ws_history.specs.Sources.{history_of}
 use Rattle.ws_history.proofs.CallerLemmas.{decided_there, fields_run, most_are_over, spent_there}
 use Rattle.run_search.specs.declared.ended.Ended.{Ended}

@@ -11,10 +11,10 @@ use Rattle.simulator.specs.declared.operation.Move.{Move}
 use Rattle.simulator.specs.declared.operation.Move.TheVariants.{Load, Store, Add, Sub, Finished, OutOfTurns}
 use Rattle.simulator.specs.declared.sweep.Ready.{Ready}
 use Rattle.simulator.specs.declared.sweep.Ready.TheVariants as ready
-use Rattle.room_core.specs.Calls.{RoomState, Step, has_crashed, ready_at, reply_when, room_after_step, room_when, step_reply}
+use Rattle.room_core.specs.Calls.{RoomState, Step, decision_at, has_crashed, ready_at, reply_when, room_after_step, room_when, step_reply}
 use Rattle.room_core.specs.declared.reply.StepReply.TheVariants.{Stepped, Crashed, NoSimulator}
 use Rattle.room_core.proofs.CallerLemmasOnSpecs.{same_spec}
-use Rattle.room_steps.specs.Steps.{IsNextStep, IsStepOf, end_in, index_of_move, mind_in}
+use Rattle.room_steps.specs.Steps.{IsNextStep, IsStepOf, end_in, index_of_move, mind_in, new_decision}
 use Rattle.room_steps.specs.declared.step.AtomicStep.{AtomicStep}
 
 -- a place of the room is one of the room after it
@@ -22,9 +22,10 @@ pub place_after : (room after : RoomState) (i : ℕ) (place : Place) → after �
 place_after room after i place to is = subst (λ (spec : RoomSpec). IsPlace (sizes_in spec) place) (sym (ap (λ (r : RoomState). r.spec) to ∙ same_spec room (Step i))) is
 
 -- a step that is taken next, with what it left
-pub step_left : (room after : RoomState) (i : ℕ) (next : AtomicStep) (word : ℕ) (end : Option Goal) → after ≡ room_after_step room i → IsNextStep room i next
-    → word ≡ slice_index after.words (index_of (sizes_in after.spec) next.place) → end ≡ end_in (mind_in after i) next.process → IsStepOf room i (record next { after = word; end = end })
-step_left room after i next word end to is read ended =
+pub step_left : (room after : RoomState) (i : ℕ) (next : AtomicStep) (word : ℕ) (end : Option Goal) (decision : Option ℕ) → after ≡ room_after_step room i → IsNextStep room i next
+    → word ≡ slice_index after.words (index_of (sizes_in after.spec) next.place) → end ≡ end_in (mind_in after i) next.process → decision ≡ new_decision (decision_at room i) (decision_at after i)
+    → IsStepOf room i (record next { after = word; end = end; decision = decision })
+step_left room after i next word end decision to is read ended decided =
     let same : after.spec ≡ room.spec = ap (λ (r : RoomState). r.spec) to ∙ same_spec room (Step i) in
     let at : index_of (sizes_in after.spec) next.place ≡ index_of_move next.operation = ap (λ (spec : RoomSpec). index_of (sizes_in spec) next.place) same ∙ is.place.index in
     record {
@@ -41,6 +42,7 @@ step_left room after i next word end to is read ended =
       };
       after = read ∙ ap (λ (k : ℕ). slice_index after.words k) at ∙ ap (λ (r : RoomState). slice_index r.words (index_of_move next.operation)) to;
       ended = ended ∙ ap (λ (r : RoomState). end_in (mind_in r i) next.process) to;
+      decision = decided ∙ ap (λ (r : RoomState). new_decision (decision_at room i) (decision_at r i)) to;
     }
 
 -- a word that is set to what it is stays

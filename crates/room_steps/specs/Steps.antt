@@ -11,7 +11,7 @@ use Rattle.simulator.specs.declared.operation.Move.{Move}
 use Rattle.simulator.specs.declared.operation.Move.TheVariants.{Load, Store, Add, Sub, Finished, OutOfTurns}
 use Rattle.simulator.specs.declared.turn.Turn.{Turn}
 use Rattle.simulator.specs.declared.turn.Turn.TheVariants.{Still, Useful, Quiet}
-use Rattle.room_core.specs.Calls.{RoomState, room_after_step, sweep_at}
+use Rattle.room_core.specs.Calls.{RoomState, decision_at, room_after_step, sweep_at}
 use Rattle.room_steps.specs.declared.step.AtomicStep.{AtomicStep}
 
 -- what a simulator of a room has in mind
@@ -35,6 +35,11 @@ turn_number mind = if is_resting mind.line then mind.turns + 1 else mind.turns
 abbrev pub end_in : MindState → ℕ → Option Goal
 end_in mind process = if is_resting mind.line then Some (goal_at mind.goals process) else None
 
+-- what a simulator has decided after a step, if it had decided nothing before
+abbrev pub new_decision : Option ℕ → Option ℕ → Option ℕ
+new_decision None after = after
+new_decision (Some decision) after = None
+
 -- How a step ended its turn, by what it left to do for the process: the turn goes on; or it was quiet, and the process still asks for its
 -- snapshot; or it was useful.
 abbrev pub turn_of : Option Goal → Turn
@@ -56,8 +61,10 @@ pub record IsNextStep (room : RoomState) (i : ℕ) (step : AtomicStep) : Type 0 
   pub place : IsPlaceAt (sizes_in room.spec) step.place (index_of_move step.operation)
   pub word : step.word ≡ slice_index room.words (index_of_move step.operation)
 
--- And what it left: what the word is in the room after it; and where the step ended its turn, what is left to do for the process.
+-- And what it left: what the word is in the room after it; where the step ended its turn, what is left to do for the process; and what
+-- the simulator decided by it, if it had decided nothing before.
 pub record IsStepOf (room : RoomState) (i : ℕ) (step : AtomicStep) : Type 0 where
   pub next : IsNextStep room i step
   pub after : step.after ≡ slice_index (room_after_step room i).words (index_of_move step.operation)
   pub ended : step.end ≡ end_in (mind_in (room_after_step room i) i) step.process
+  pub decision : step.decision ≡ new_decision (decision_at room i) (decision_at (room_after_step room i) i)

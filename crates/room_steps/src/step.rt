@@ -6,7 +6,7 @@ ghost use Rattle.simulator.specs.Ranges.{IsMind};
 ghost use Rattle.view_table.specs.Places.{IsPlace, index_of};
 ghost use Rattle.room_core.specs.Calls.{room_after_step, step_reply};
 ghost use Rattle.room_core.specs.declared.reply.StepReply.TheVariants.{Stepped};
-ghost use Rattle.room_steps.specs.Steps.{IsNextStep, IsStepOf, end_in, index_of_move, mind_in, turn_number};
+ghost use Rattle.room_steps.specs.Steps.{IsNextStep, IsStepOf, end_in, index_of_move, mind_in, new_decision, turn_number};
 
 use room_core::{RoomCore, StepReply};
 use simulator::{Goal, Line, Mind, Move};
@@ -35,6 +35,8 @@ pub struct AtomicStep {
     pub after: u64,
     /// If the step ended the turn, what is left to do for the process.
     pub end: Option<Goal>,
+    /// What the simulator decided by it, if it stored its first decision of a process.
+    pub decision: Option<u32>,
 }
 
 /// Lets simulator `i` of a room take one atomic step, if it has one to take, as [`RoomCore::step`] does. Gives the
@@ -46,6 +48,7 @@ pub fn take_step(room: &mut RoomCore, i: usize) -> (StepReply, Option<AtomicStep
     ensures step { MatchOption result.1 (step_reply room.old i ≢ Stepped) (λ step. (step_reply room.old i ≡ Stepped) × IsStepOf room.old i step) }
 {
     let next = next_step(room, i);
+    let before = room.decision(i);
     let reply = room.step(i);
     if reply != StepReply::Stepped {
         return (reply, None);
@@ -55,7 +58,14 @@ pub fn take_step(room: &mut RoomCore, i: usize) -> (StepReply, Option<AtomicStep
     };
     let end = end_of(room.mind(i), step.process);
     let after = word_at(room, step.place);
-    (reply, Some(AtomicStep { after, end, ..step }))
+    let decision = new_decision(before, room.decision(i));
+    let taken = AtomicStep {
+        after,
+        end,
+        decision,
+        ..step
+    };
+    (reply, Some(taken))
 }
 
 /// The step that a simulator takes if it takes one. `None` if it has none to take.
@@ -82,7 +92,18 @@ fn next_step(room: &RoomCore, i: usize) -> Option<AtomicStep>
         word: room.word(index),
         after: 0,
         end: None,
+        decision: None,
     })
+}
+
+/// The decision after a step, if there was none before it.
+fn new_decision(before: Option<u32>, after: Option<u32>) -> Option<u32>
+    ensures { result ≡ new_decision before after }
+{
+    match before {
+        None => after,
+        Some(_) => None,
+    }
 }
 
 /// What the word at a place of the room is.

@@ -1,1 +1,2 @@
 mod Certain
+mod Floats

@@ -1,10 +1,11 @@
 -- What is warned of in a room that is valid.
-use Rattle.std.specs.Prelude.{ℕ, ◌-◌, ◌*◌, ◌==◌, ◌&&◌, Bool, not, List, [], ◌∷◌, ◌++◌, length, take, nat_lt, codes, if◌then◌else◌}
+use Rattle.std.specs.Prelude.{ℕ, ◌+◌, ◌-◌, ◌*◌, ◌==◌, ◌&&◌, Bool, not, List, [], ◌∷◌, ◌++◌, length, take, nat_lt, codes, if◌then◌else◌}
 use Rattle.room_spec.specs.Rooms.{RoomSpec, processes}
-use Rattle.fault_text.specs.Blocks.{later_line, program_of, program_place}
-use Rattle.fault_text.specs.Lines.{indented_all, line_at}
-use Rattle.fault_text.specs.Places.{place_notes}
+use Rattle.room_spec.specs.Texts.{first_line}
+use Rattle.fault_text.specs.Blocks.{later_line, line_ends, program_of}
+use Rattle.fault_text.specs.Lines.{last_line, line_at}
 use Rattle.room_warnings.specs.Calls.{calls_none}
+use Rattle.room_warnings.specs.Json.{warning_in}
 use Rattle.room_warnings.specs.Rules.{holds_always}
 use Rattle.room_warnings.specs.Words.{has_word}
 use Rattle.room_warnings.specs.declared.warnings.TheConstants.{ALWAYS, NO_DECISION, NO_PROCESS, ONE_PROCESS, TOO_FEW, TOO_FEW_UNDECIDED}
@@ -12,8 +13,8 @@ use Rattle.room_warnings.specs.declared.warnings.TheConstants.{ALWAYS, NO_DECISI
 -- ---- inputs
 
 -- each value of the line `inputs` is the input of a process of its own, so one value says that there is one process
-abbrev pub inputs_warning : ℕ → List ℕ → RoomSpec → List ℕ
-inputs_warning first block spec = if processes spec == 1 then indented_all (place_notes (later_line first 2) ONE_PROCESS.now [] (line_at 3 block)) else []
+abbrev pub inputs_warning : Bool → ℕ → List ℕ → RoomSpec → List ℕ
+inputs_warning json first block spec = if processes spec == 1 then warning_in json (later_line first 2) ONE_PROCESS.now [] (line_at 3 block) else []
 
 -- ---- turns
 
@@ -25,42 +26,46 @@ turns_sentence decides spec =
     else if not decides && nat_lt spec.turns (processes spec * spec.rounds) then TOO_FEW_UNDECIDED.now
     else []
 
-abbrev pub turns_warning : ℕ → List ℕ → List ℕ → List ℕ
-turns_warning first block sentence = if length sentence == 0 then [] else indented_all (place_notes (later_line first 5) sentence [] (line_at 6 block))
+abbrev pub turns_warning : Bool → ℕ → List ℕ → List ℕ → List ℕ
+turns_warning json first block sentence = if length sentence == 0 then [] else warning_in json (later_line first 5) sentence [] (line_at 6 block)
 
 -- ---- numbers
 
 -- of a room whose protocol has `decide` or not
-unfoldable pub number_warnings : ℕ → List ℕ → Bool → RoomSpec → List ℕ
-number_warnings first block decides spec = inputs_warning first block spec ++ turns_warning first block (turns_sentence decides spec)
+unfoldable pub number_warnings : Bool → ℕ → List ℕ → Bool → RoomSpec → List ℕ
+number_warnings json first block decides spec = inputs_warning json first block spec ++ turns_warning json first block (turns_sentence decides spec)
 
 -- ---- protocols
 
-abbrev pub decide_warning : ℕ → ℕ → Bool → List ℕ
-decide_warning first lines decides = if decides then [] else indented_all (place_notes (later_line first (lines - 1)) NO_DECISION.now [] (codes "protocol"))
+abbrev pub decide_warning : Bool → ℕ → ℕ → Bool → List ℕ
+decide_warning json first lines decides = if decides then [] else warning_in json (later_line first (lines - 1)) NO_DECISION.now [] (codes "protocol")
 
 -- at the place where a protocol's text has these bytes
 abbrev pub place_sentence : ℕ → List ℕ → List ℕ
 place_sentence n rest = if calls_none n rest then NO_PROCESS.now else if holds_always rest then ALWAYS.now else []
 
-abbrev pub sentence_if : ℕ → ℕ → List ℕ → List ℕ → List ℕ → List ℕ
-sentence_if first lines program rest sentence = if length sentence == 0 then [] else program_place first lines sentence (take (length program - length rest) program) rest
+-- a place of a protocol's text, which has these bytes before it and after it; before the text there are this many lines of the block
+abbrev pub program_warning : Bool → ℕ → ℕ → List ℕ → List ℕ → List ℕ → List ℕ
+program_warning json first lines sentence before behind = warning_in json (later_line first (lines + line_ends before)) sentence (last_line before) (first_line behind)
 
-abbrev pub at_place : ℕ → ℕ → ℕ → List ℕ → List ℕ → List ℕ
-at_place n first lines program rest = sentence_if first lines program rest (place_sentence n rest)
+abbrev pub sentence_if : Bool → ℕ → ℕ → List ℕ → List ℕ → List ℕ → List ℕ
+sentence_if json first lines program rest sentence = if length sentence == 0 then [] else program_warning json first lines sentence (take (length program - length rest) program) rest
+
+abbrev pub at_place : Bool → ℕ → ℕ → ℕ → List ℕ → List ℕ → List ℕ
+at_place json n first lines program rest = sentence_if json first lines program rest (place_sentence n rest)
 
 -- from that place on
-unfoldable pub from_place : ℕ → ℕ → ℕ → List ℕ → List ℕ → List ℕ
-from_place n first lines program [] = []
-from_place n first lines program (byte ∷ rest) = at_place n first lines program (byte ∷ rest) ++ from_place n first lines program rest
+unfoldable pub from_place : Bool → ℕ → ℕ → ℕ → List ℕ → List ℕ → List ℕ
+from_place json n first lines program [] = []
+from_place json n first lines program (byte ∷ rest) = at_place json n first lines program (byte ∷ rest) ++ from_place json n first lines program rest
 
 -- ---- rooms
 
-abbrev pub warnings_in : ℕ → List ℕ → RoomSpec → ℕ → List ℕ → List ℕ
-warnings_in first block spec lines program =
-    number_warnings first block (has_word (codes "decide") program) spec
-    ++ (decide_warning first lines (has_word (codes "decide") program) ++ from_place (processes spec) first lines program program)
+abbrev pub warnings_in : Bool → ℕ → List ℕ → RoomSpec → ℕ → List ℕ → List ℕ
+warnings_in json first block spec lines program =
+    number_warnings json first block (has_word (codes "decide") program) spec
+    ++ (decide_warning json first lines (has_word (codes "decide") program) ++ from_place json (processes spec) first lines program program)
 
--- what is warned of in the room of this block, whose first line has this number
-abbrev pub room_warnings : ℕ → List ℕ → RoomSpec → List ℕ
-room_warnings first block spec = warnings_in first block spec (program_of block).0 (program_of block).1
+-- what is warned of in the room of this block, whose first line has this number, as text or as JSON
+abbrev pub room_warnings : Bool → ℕ → List ℕ → RoomSpec → List ℕ
+room_warnings json first block spec = warnings_in json first block spec (program_of block).0 (program_of block).1

@@ -3,6 +3,7 @@
 #![tactic(auto)]
 
 mod calls;
+mod json;
 pub mod laws;
 mod rules;
 mod warnings;

@@ -1,15 +1,15 @@
 //! The warnings of a room, in words.
 ghost use Rattle.std.specs.Prelude.{◌≡◌, ◌-◌, ◌*◌, ◌≤◌, ◌++◌, IfOk, OnOk, length, take};
-ghost use Rattle.fault_text.specs.Lines.{indented_all};
-ghost use Rattle.fault_text.specs.Places.{place_notes};
 ghost use Rattle.fault_text.specs.declared.blocks.TheConstants.{HEAD_LINES};
 ghost use Rattle.room_warnings.specs.Warnings.{at_place, decide_warning, from_place, inputs_warning, number_warnings, place_sentence, room_warnings, sentence_if, turns_sentence, turns_warning};
 
 use crate::calls::calls_none;
+use crate::json::write_warning;
 use crate::rules::holds_always;
 use crate::words::has_word;
-use fault_text::{HEAD_LINES, later_line, line_at, program_of, write_place, write_program_place};
+use fault_text::{HEAD_LINES, last_line, later_line, line_at, line_ends, program_of};
 use io_text::Text;
+use room_files::split_line;
 use room_spec::Spec;
 use std::alloc::{AllocError, Global};
 
@@ -34,21 +34,31 @@ const TOO_FEW: &[u8] =
 const TOO_FEW_UNDECIDED: &[u8] =
     b"warning: too few turns for a simulator to finish alone: it needs one for each round of each process";
 
-/// Writes what may be warned of in a room, whose block this is. The block's first line has this number.
+/// Writes what may be warned of in a room, whose block this is, as text or as JSON. The block's first line has this number.
 pub fn write_warnings(
     alloc: Global,
     output: &mut Text,
+    json: bool,
     first: u64,
     block: &[u8],
     spec: &Spec,
 ) -> Result<(), AllocError>
-    ensures { OnOk result (output.new ≡ output.old ++ room_warnings first block.now spec.now) }
+    ensures { OnOk result (output.new ≡ output.old ++ room_warnings json first block.now spec.now) }
 {
     let (lines, program) = program_of(block);
     let decides = has_word(b"decide", program);
-    write_number_warnings(alloc, output, first, block, decides, spec)?;
-    write_decide_warning(alloc, output, first, lines, decides)?;
-    write_from(alloc, output, spec.n(), first, lines, program, program)
+    write_number_warnings(alloc, output, json, first, block, decides, spec)?;
+    write_decide_warning(alloc, output, json, first, lines, decides)?;
+    write_from(
+        alloc,
+        output,
+        json,
+        spec.n(),
+        first,
+        lines,
+        program,
+        program,
+    )
 }
 
 /// Writes what may be warned of in the numbers of a room: of its inputs, and of its turns, if a rule of its protocol decides or not.
@@ -56,33 +66,43 @@ pub fn write_warnings(
 fn write_number_warnings(
     alloc: Global,
     output: &mut Text,
+    json: bool,
     first: u64,
     block: &[u8],
     decides: bool,
     spec: &Spec,
 ) -> Result<(), AllocError>
-    ensures { OnOk result (output.new ≡ output.old ++ number_warnings first block.now decides spec.now) }
+    ensures { OnOk result (output.new ≡ output.old ++ number_warnings json first block.now decides spec.now) }
 {
     let sentence = turns_sentence(decides, spec);
-    write_inputs_warning(alloc, output, first, block, spec)?;
-    write_turns_warning(alloc, output, first, block, sentence)
+    write_inputs_warning(alloc, output, json, first, block, spec)?;
+    write_turns_warning(alloc, output, json, first, block, sentence)
 }
 
 /// Writes that a room has one process alone, if it has, about the line of its inputs.
 fn write_inputs_warning(
     alloc: Global,
     output: &mut Text,
+    json: bool,
     first: u64,
     block: &[u8],
     spec: &Spec,
 ) -> Result<(), AllocError>
-    ensures { OnOk result (output.new ≡ output.old ++ inputs_warning first block.now spec.now) }
+    ensures { OnOk result (output.new ≡ output.old ++ inputs_warning json first block.now spec.now) }
 {
     if spec.n() != 1 {
         return Ok(());
     }
     let number = later_line(first, 2);
-    write_place(alloc, output, number, ONE_PROCESS, &[], line_at(block, 3))
+    write_warning(
+        alloc,
+        output,
+        json,
+        number,
+        ONE_PROCESS,
+        &[],
+        line_at(block, 3),
+    )
 }
 
 /// What is wrong with a room's turns, or nothing: they are fewer than a simulator needs that brings all processes to their ends alone.
@@ -103,34 +123,44 @@ fn turns_sentence(decides: bool, spec: &Spec) -> &'static [u8]
 fn write_turns_warning(
     alloc: Global,
     output: &mut Text,
+    json: bool,
     first: u64,
     block: &[u8],
     sentence: &[u8],
 ) -> Result<(), AllocError>
-    ensures { OnOk result (output.new ≡ output.old ++ turns_warning first block.now sentence.now) }
+    ensures { OnOk result (output.new ≡ output.old ++ turns_warning json first block.now sentence.now) }
 {
     if sentence.is_empty() {
         return Ok(());
     }
     let number = later_line(first, 5);
-    write_place(alloc, output, number, sentence, &[], line_at(block, 6))
+    write_warning(
+        alloc,
+        output,
+        json,
+        number,
+        sentence,
+        &[],
+        line_at(block, 6),
+    )
 }
 
 /// Writes, unless a rule decides, that no process does. The protocol's text comes after this many lines of its block.
 fn write_decide_warning(
     alloc: Global,
     output: &mut Text,
+    json: bool,
     first: u64,
     lines: u64,
     decides: bool,
 ) -> Result<(), AllocError>
-    ensures { OnOk result (output.new ≡ output.old ++ decide_warning first lines decides) }
+    ensures { OnOk result (output.new ≡ output.old ++ decide_warning json first lines decides) }
 {
     if decides {
         return Ok(());
     }
     let number = later_line(first, lines.saturating_sub(1));
-    write_place(alloc, output, number, NO_DECISION, &[], b"protocol")
+    write_warning(alloc, output, json, number, NO_DECISION, &[], b"protocol")
 }
 
 /// Writes what may be warned of from a place of a protocol's text on, which has these bytes there.
@@ -138,6 +168,7 @@ fn write_decide_warning(
 fn write_from(
     alloc: Global,
     output: &mut Text,
+    json: bool,
     n: usize,
     first: u64,
     lines: u64,
@@ -145,19 +176,20 @@ fn write_from(
     rest: &[u8],
 ) -> Result<(), AllocError>
     requires { lines ≤ HEAD_LINES }
-    ensures { OnOk result (output.new ≡ output.old ++ from_place n first lines program.now rest.now) }
+    ensures { OnOk result (output.new ≡ output.old ++ from_place json n first lines program.now rest.now) }
 {
     let [_, later @ ..] = rest else {
         return Ok(());
     };
-    write_at(alloc, output, n, first, lines, program, rest)?;
-    write_from(alloc, output, n, first, lines, program, later)
+    write_at(alloc, output, json, n, first, lines, program, rest)?;
+    write_from(alloc, output, json, n, first, lines, program, later)
 }
 
 /// Writes what may be warned of at a place of a protocol's text.
 fn write_at(
     alloc: Global,
     output: &mut Text,
+    json: bool,
     n: usize,
     first: u64,
     lines: u64,
@@ -165,14 +197,24 @@ fn write_at(
     rest: &[u8],
 ) -> Result<(), AllocError>
     requires { lines ≤ HEAD_LINES }
-    ensures { OnOk result (output.new ≡ output.old ++ at_place n first lines program.now rest.now) }
+    ensures { OnOk result (output.new ≡ output.old ++ at_place json n first lines program.now rest.now) }
 {
     let sentence = place_sentence(alloc, n, rest)?;
     if sentence.is_empty() {
         return Ok(());
     }
     let before = before(program, rest);
-    write_program_place(alloc, output, first, lines, sentence, before, rest)
+    let number = later_line(first, lines + line_ends(before));
+    let (back, _) = split_line(rest);
+    write_warning(
+        alloc,
+        output,
+        json,
+        number,
+        sentence,
+        last_line(before),
+        back,
+    )
 }
 
 /// What is to be said of the place where a protocol's text has these bytes, or nothing.

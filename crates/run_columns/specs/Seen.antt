@@ -63,4 +63,5 @@ step_mark words step = record {
   stored = stored_by step.operation;
   deed = deed_of step.line step.operation;
   end = turn_of step.end;
+  decision = step.decision;
 }

@@ -50,6 +50,8 @@ pub struct Step {
     pub deed: Deed,
     /// Whether it ends the turn, and how.
     pub end: Turn,
+    /// What the simulator decides by it, if it does.
+    pub decision: Option<u32>,
 }
 
 /// Something that happens in a room.

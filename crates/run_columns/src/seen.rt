@@ -22,6 +22,7 @@ impl Step {
             stored: stored_by(step.operation),
             deed: deed_of(step.line, step.operation),
             end: end_of(step.end),
+            decision: step.decision,
         }
     }
 }

@@ -23,7 +23,7 @@ use Rattle.simulator.specs.Minds.{MindOf, MindState, is_unfinished, goal_at, cur
 use Rattle.simulator.specs.Moves.{entry_in, chosen_in, is_again, loaded, taken_at, taken}
 use Rattle.simulator.specs.Ranges.{IsGoal, IsOpenAt, IsMind}
 use Rattle.simulator.specs.Sweeps.{SweepState, is_resting, ready_of, quiet_after}
-use Rattle.simulator.specs.Turns.{TakenOf, counted, begun, goes_on, ended, asked, after_write, acted, most_collects, on_word, padded, gathered_all, gathered, opened_at, opened, scanned, words_in}
+use Rattle.simulator.specs.Turns.{TakenOf, counted, begun, goes_on, ended, asked, after_write, acted, most_collects, on_word, padded, gathered_all, gathered, opened_at, opened, scanned, with_decision, words_in}
 use Rattle.simulator.proofs.Keeping.{kept}
 use Rattle.simulator.proofs.Processes.{next_is_left, none_next}
 use Rattle.simulator.proofs.Ranging.{round_range}
@@ -224,7 +224,7 @@ at_line Values spec mind answer quiet is at busy = on_gathered (entry_in spec mi
 at_line (Out decision) spec mind answer quiet is at busy =
     let turn = turning spec mind is at in
     let was = left_open spec.rounds (current_goal mind) turn.left in
-    useful (processes spec) spec.rounds goals.Done (counted mind) quiet turn (omega (arith, was, turn.last))
+    useful (processes spec) spec.rounds goals.Done (with_decision decision (counted mind)) quiet (record { few = turn.few; place = turn.place; left = turn.left; last = turn.last }) (omega (arith, was, turn.last))
 
 pub busy_by : (spec : RoomSpec) (mind : MindState) (quiet : ℕ) → ready_of spec mind quiet ≡ ready.Step → is_resting mind.line ≡ true → quiet < unfinished_in mind.goals
 busy_by spec mind quiet is rests = leb-false _ _ (enough_by (is_resting mind.line) (leb (unfinished_in mind.goals) quiet) (ltb mind.turns spec.turns) rests is)

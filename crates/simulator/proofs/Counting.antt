@@ -19,7 +19,7 @@ use Rattle.simulator.specs.Moves.{entry_in, chosen_in, is_again, loaded, taken_a
 use Rattle.simulator.specs.Quiet.{HasNoWrite, IsQuietCount, unfinished_from, AreAsksAtTheEnd}
 use Rattle.simulator.specs.Ranges.{IsOpenAt, IsMind}
 use Rattle.simulator.specs.Sweeps.{is_resting, ready_of, quiet_after}
-use Rattle.simulator.specs.Turns.{TakenOf, counted, begun, goes_on, ended, asked, acted, after_write, most_collects, on_word, padded, gathered_all, gathered, opened_at, opened, scanned, words_in}
+use Rattle.simulator.specs.Turns.{TakenOf, counted, begun, goes_on, ended, asked, acted, after_write, most_collects, on_word, padded, gathered_all, gathered, opened_at, opened, scanned, with_decision, words_in}
 use Rattle.simulator.proofs.Asking.{sets_out, no_asks, quiet_ends, all_asked}
 use Rattle.simulator.proofs.Processes.{next_is_left}
 
@@ -87,7 +87,7 @@ at_line (GetView chosen) spec mind answer quiet place at counts =
     let got = loaded answer (counted mind) in
     on_word_line spec (GetView chosen) got _ quiet counts (on_gathered (entry_in spec got.snapshot) spec [] (record got { word = 0 }) quiet counts)
 at_line Values spec mind answer quiet place at counts = on_gathered (entry_in spec mind.snapshot) spec (mind.entries ++ Some (min answer greatest) ∷ []) (counted mind) quiet counts
-at_line (Out decision) spec mind answer quiet place at counts = useful goals.Done (counted mind) quiet
+at_line (Out decision) spec mind answer quiet place at counts = useful goals.Done (with_decision decision (counted mind)) quiet
 
 pub counts_on : (spec : RoomSpec) (mind : MindState) (quiet answer : ℕ) → IsMind spec mind → IsQuietCount mind quiet → IsQuietCount (taken spec mind answer).mind (quiet_after (taken spec mind answer).turn quiet)
 counts_on spec mind quiet answer is counts = at_line mind.line spec mind answer quiet (omega (arith, is.process, is.goals)) is.at counts

@@ -24,13 +24,13 @@ use Rattle.simulator.specs.declared.turn.Turn.{Turn}
 use Rattle.simulator.specs.declared.turn.Turn.TheVariants.{Useful, Quiet}
 use Rattle.simulator.specs.declared.operation.Move.{Move}
 use Rattle.simulator.specs.declared.operation.Move.TheVariants.{OutOfTurns}
-use Rattle.simulator.specs.Minds.{MindState, is_unfinished, goal_at, current_goal, current_round, next_process, first_goal, opening_mind}
+use Rattle.simulator.specs.Minds.{MindState, is_unfinished, goal_at, current_goal, current_round, next_process, first_goal, opening_mind, or_else}
 use Rattle.simulator.specs.Moves.{entry_in, chosen_in, is_again, loaded, first_move_at, first_move, move_at, move_of, IsOperation, taken_at, taken}
-use Rattle.simulator.specs.Turns.{TakenOf, collected, counted, begun, goes_on, ended, asked, after_write, acted, most_collects, padded, gathered, opened_at, opened, scanned, words_in}
+use Rattle.simulator.specs.Turns.{TakenOf, collected, counted, begun, goes_on, ended, asked, after_write, acted, most_collects, padded, gathered, opened_at, opened, scanned, with_decision, words_in}
 use Rattle.simulator.specs.Firsts.{IsVisited, AreVisitedLast}
 use Rattle.simulator.specs.Quiet.{unfinished_from}
 use Rattle.simulator.proofs.Visiting.{visited_begun, visited_ended, visited_first}
-use Rattle.simulator.specs.Ranges.{IsCollectCount, IsGoal, greatest_limit, most_steps, charged_steps, scan_steps, turn_limit, words_at, IsOpenAt, IsMind}
+use Rattle.simulator.specs.Ranges.{HasDecision, IsCollectCount, IsGoal, greatest_limit, most_steps, charged_steps, scan_steps, turn_limit, words_at, IsOpenAt, IsMind}
 use Rattle.simulator.proofs.Processes.{next_is_left}
 use Rattle.simulator.proofs.Gathering.{padded_is}
 use Rattle.simulator.proofs.Ranging.{round_range, chosen_below}
@@ -61,6 +61,7 @@ pub record IsBusy (spec : RoomSpec) (mind : MindState) : Type 0 where
   pub counted : mind.steps + greatest_limit ≤ greatest_limit * mind.turns + mind.turn_steps
   pub unfinished : is_unfinished (current_goal mind) ≡ true
   pub order : AreVisitedLast (unfinished_from mind.goals mind.process)
+  pub decision : HasDecision mind.goals mind.decision
 
 busy_at : (spec : RoomSpec) (mind : MindState) → IsMind spec mind → is_unfinished (current_goal mind) ≡ true → mind.steps + greatest_limit ≤ greatest_limit * mind.turns + mind.turn_steps → IsBusy spec (counted mind)
 busy_at spec mind is unfinished charged = record {
@@ -76,6 +77,7 @@ busy_at spec mind is unfinished charged = record {
   counted = omega arith;
   unfinished = unfinished;
   order = is.order;
+  decision = is.decision;
 }
 
 busy_begun : (spec : RoomSpec) (mind : MindState) (process : ℕ) → next_process mind.goals mind.process ≡ Some process → IsMind spec mind → mind.steps ≤ greatest_limit * mind.turns + mind.turn_steps → mind.turns < spec.turns → process < processes spec → is_unfinished (goal_at mind.goals process) ≡ true → IsBusy spec (begun process (counted mind))
@@ -92,6 +94,7 @@ busy_begun spec mind process found is charged left below unfinished = record {
   counted = omega arith;
   unfinished = unfinished;
   order = visited_begun mind.goals mind.process process found is.order;
+  decision = is.decision;
 }
 
 -- ---- the turn goes on
@@ -113,9 +116,28 @@ goes spec mind line is word collects few charged at = record {
   counted = omega (arith, is.counted);
   at = at;
   order = is.order;
+  decision = is.decision;
 }
 
 -- ---- the turn ends
+
+-- a goal in place of an unfinished one: if it isn't `Done`, the simulator has a decision exactly if it had one
+same_decision : (all : List Goal) (sweep : ℕ) (goal : Goal) (decision : Option ℕ) → sweep < length all → is_unfinished (goal_at all sweep) ≡ true → goal ≢ goals.Done → HasDecision all decision → HasDecision (set all sweep goal) decision
+same_decision all sweep goal (Some decision) below left other has =
+    let apart : has.0 ≢ sweep = λ e. absurd (let wrong : true ≡ false = sym left ∙ ap is_unfinished (ap (goal_at all) (sym e) ∙ has.2) in cc) in
+    (has.0, omega (arith, has.1, length-set all sweep goal), get_or-set_other all sweep has.0 goal goals.Done apart ∙ has.2)
+same_decision all sweep goal None below left other none = λ process within done.
+    dite (ℕ_discrete process sweep)
+    (λ (e : process ≡ sweep). other (sym (ap (λ (p : ℕ). get_or (set all sweep goal) p goals.Done) e ∙ get_or-set_same all sweep goal goals.Done below) ∙ done))
+    (λ (n : process ≢ sweep). none process (omega (arith, within, length-set all sweep goal)) (sym (get_or-set_other all sweep process goal goals.Done n) ∙ done))
+
+-- and with `Done` it has one
+first_decision : (all : List Goal) (sweep decision : ℕ) (own : Option ℕ) → sweep < length all → HasDecision (set all sweep goals.Done) (or_else own (Some decision))
+first_decision all sweep decision (Some own) below = (sweep, omega (arith, below, length-set all sweep goals.Done), get_or-set_same all sweep goals.Done goals.Done below)
+first_decision all sweep decision None below = (sweep, omega (arith, below, length-set all sweep goals.Done), get_or-set_same all sweep goals.Done goals.Done below)
+
+decides_first : (spec : RoomSpec) (mind : MindState) (decision : ℕ) → IsBusy spec mind → HasDecision (set mind.goals mind.process goals.Done) (with_decision decision mind).decision
+decides_first spec mind decision is = first_decision mind.goals mind.process decision mind.decision (omega (arith, is.goals, is.process))
 
 set_goal : (all : List Goal) (sweep process rounds : ℕ) (goal : Goal) → process < length all → IsGoal rounds goal → IsGoal rounds (goal_at all process) → IsGoal rounds (goal_at (set all sweep goal) process)
 set_goal all sweep process rounds goal below range was =
@@ -123,8 +145,9 @@ set_goal all sweep process rounds goal below range was =
     (λ (e : process ≡ sweep). subst (λ g. IsGoal rounds g) (sym (ap (λ (p : ℕ). get_or (set all sweep goal) p goals.Done) e ∙ get_or-set_same all sweep goal goals.Done (omega arith))) range)
     (λ (n : process ≢ sweep). subst (λ g. IsGoal rounds g) (sym (get_or-set_other all sweep process goal goals.Done n)) was)
 
-ends : (spec : RoomSpec) (mind : MindState) (turn : Turn) (goal : Goal) → IsBusy spec mind → IsGoal spec.rounds goal → IsVisited goal → mind.word < 1 → mind.turn_steps ≤ turn_limit spec → IsMind spec (ended turn goal mind).mind
-ends spec mind turn goal is range visited word few = record {
+ends : (spec : RoomSpec) (mind : MindState) (own : Option ℕ) (turn : Turn) (goal : Goal) → IsBusy spec mind → IsGoal spec.rounds goal → IsVisited goal → HasDecision (set mind.goals mind.process goal) own → mind.word < 1 → mind.turn_steps ≤ turn_limit spec
+    → IsMind spec (ended turn goal (record mind { decision = own })).mind
+ends spec mind own turn goal is range visited decision word few = record {
   limits = is.limits;
   number = is.number;
   goals = length-set mind.goals mind.process goal ∙ is.goals;
@@ -140,7 +163,13 @@ ends spec mind turn goal is range visited word few = record {
   counted = omega (arith, is.counted, limit_most spec is.limits);
   at = tt;
   order = visited_ended mind.goals mind.process goal (omega (arith, is.goals, is.process)) is.unfinished visited is.order;
+  decision = decision;
 }
+
+-- with a goal that isn't `Done` it has decided what it had
+ends_so : (spec : RoomSpec) (mind : MindState) (turn : Turn) (goal : Goal) → IsBusy spec mind → IsGoal spec.rounds goal → IsVisited goal → goal ≢ goals.Done → mind.word < 1 → mind.turn_steps ≤ turn_limit spec → IsMind spec (ended turn goal mind).mind
+ends_so spec mind turn goal is range visited other word few =
+    ends spec mind mind.decision turn goal is range visited (same_decision mind.goals mind.process goal mind.decision (omega (arith, is.goals, is.process)) is.unfinished other is.decision) word few
 
 -- ---- the lines at which a turn may end
 
@@ -148,7 +177,7 @@ busy_round : (spec : RoomSpec) (mind : MindState) → IsBusy spec mind → (1 �
 busy_round spec mind is = round_range spec.rounds (current_goal mind) (is.rounds mind.process is.process) is.unfinished
 
 asks : (spec : RoomSpec) (mind : MindState) (word : ℕ) (chosen : Option ℕ) → chosen_in spec word ≡ chosen → IsBusy spec mind → mind.word < 1 → mind.collects ≤ most_collects spec → mind.turn_steps ≤ 6 + scan_steps spec + words_in spec → IsMind spec (asked chosen mind).mind
-asks spec mind word None found is at collects few = ends spec mind Quiet (goals.Ask (current_round mind)) is (busy_round spec mind is) tt at (limit_over spec mind.turn_steps 0 (omega arith) (omega (arith, few)))
+asks spec mind word None found is at collects few = ends_so spec mind Quiet (goals.Ask (current_round mind)) is (busy_round spec mind is) tt (λ e. cc) at (limit_over spec mind.turn_steps 0 (omega arith) (omega (arith, few)))
 asks spec mind word (Some chosen) found is at collects few = goes spec mind (GetView chosen) is (omega (arith, at, (words_some spec is.limits).0)) collects (omega (arith, few)) (omega arith) (is.unfinished, chosen_below spec word chosen found)
 
 write_range : (b : Bool) (rounds round value : ℕ) → ltb round rounds ≡ b → IsGoal rounds (cond b (goals.Write (round + 1) value) goals.Spent)
@@ -159,9 +188,13 @@ write_visited : (b : Bool) (round value : ℕ) → 1 ≤ round → IsVisited (co
 write_visited true round value first = omega arith
 write_visited false round value first = tt
 
+write_other : (b : Bool) (round value : ℕ) → cond b (goals.Write round value) goals.Spent ≢ goals.Done
+write_other true round value is = cc
+write_other false round value is = cc
+
 acts : (spec : RoomSpec) (mind : MindState) (action : Action) → IsBusy spec mind → mind.word < 1 → mind.collects ≤ most_collects spec → mind.turn_steps ≤ 6 + scan_steps spec + 2 * words_in spec + length mind.entries → IsMind spec (acted spec action mind).mind
 acts spec mind (actions.Write value) is at collects few =
-    ends spec mind Useful (after_write spec.rounds (current_round mind) value) is (write_range _ spec.rounds (current_round mind) value refl) (write_visited (ltb (current_round mind) spec.rounds) (current_round mind) value (busy_round spec mind is).0) at (limit_over spec mind.turn_steps (length mind.entries) is.entries (omega (arith, few)))
+    ends_so spec mind Useful (after_write spec.rounds (current_round mind) value) is (write_range _ spec.rounds (current_round mind) value refl) (write_visited (ltb (current_round mind) spec.rounds) (current_round mind) value (busy_round spec mind is).0) (write_other (ltb (current_round mind) spec.rounds) (current_round mind + 1) value) at (limit_over spec mind.turn_steps (length mind.entries) is.entries (omega (arith, few)))
 acts spec mind (actions.Decide decision) is at collects few = goes spec mind (Out decision) is at collects few (omega arith) is.unfinished
 
 gathers_all : (spec : RoomSpec) (mind : MindState) (b : Bool) → ltb (length mind.entries) (processes spec) ≡ b → IsBusy spec mind → mind.word < 1 → mind.collects ≤ most_collects spec → mind.turn_steps ≤ 6 + scan_steps spec + 2 * words_in spec + length mind.entries → (length mind.entries < processes spec → 1 ≤ entry_in spec mind.snapshot (length mind.entries)) → IsMind spec (cond b (goes_on Values mind) (acted spec (next_action spec.protocol (get_or spec.inputs mind.process 0) mind.process (current_round mind) mind.entries) mind)).mind
@@ -186,6 +219,7 @@ gathers spec mind entries is at collects within few =
       counted = is.counted;
       unfinished = is.unfinished;
       order = is.order;
+      decision = is.decision;
     } in
     gathers_all spec (record mind { entries = after }) _ refl busy at collects (omega (arith, padding.long)) (λ less. padding.shown (omega arith))
 
@@ -204,6 +238,7 @@ loads spec mind answer is = record {
   counted = is.counted;
   unfinished = is.unfinished;
   order = is.order;
+  decision = is.decision;
 }
 
 -- another word, count of collects or collect before
@@ -221,6 +256,7 @@ moves_on spec mind word collects before long is = record {
   counted = is.counted;
   unfinished = is.unfinished;
   order = is.order;
+  decision = is.decision;
 }
 
 -- the line goes on with the next word, or is through
@@ -319,7 +355,8 @@ kept_at Values spec mind answer is word collects few charged at operation =
     let long : length (mind.entries ++ Some (min answer greatest) ∷ []) ≡ length mind.entries + 1 = length-append mind.entries (Some (min answer greatest) ∷ []) in
     gathers spec (counted mind) (mind.entries ++ Some (min answer greatest) ∷ []) (busy_at spec mind is at.0 charged) word collects (omega (arith, at.1)) (omega (arith, few, long))
 kept_at (Out decision) spec mind answer is word collects few charged at operation =
-    ends spec (counted mind) Useful goals.Done (busy_at spec mind is at charged) tt tt word (limit_over spec (mind.turn_steps + 1) (length mind.entries) is.entries (omega (arith, few)))
+    let busy = busy_at spec mind is at charged in
+    ends spec (counted mind) (with_decision decision mind).decision Useful goals.Done busy tt tt (decides_first spec (counted mind) decision busy) word (limit_over spec (mind.turn_steps + 1) (length mind.entries) is.entries (omega (arith, few)))
 
 pub kept : (spec : RoomSpec) (mind : MindState) (answer : ℕ) → IsMind spec mind → IsOperation (move_of spec mind) → IsMind spec (taken spec mind answer).mind
 kept spec mind answer is operation = kept_at mind.line spec mind answer is is.word is.collects is.few is.counted is.at operation
@@ -349,6 +386,10 @@ opens spec i limits below =
       counted = omega arith;
       at = tt;
       order = visited_first spec (i % processes spec);
+      decision = λ process within done.
+          let below : process < processes spec = omega (arith, within, length-map-range_with_len (first_goal spec) 0 (processes spec)) in
+          let wrong : first_goal spec process ≡ goals.Done = sym (get_or-map-range_with_len (first_goal spec) 0 (processes spec) process process goals.Done below (omega arith)) ∙ done in
+          cc;
     }
 
 pub opens_of : (spec : RoomSpec) (i : ℕ) (mind : MindState) → mind ≡ opening_mind spec i → IsWithinLimits spec → i < spec.simulators → IsMind spec mind

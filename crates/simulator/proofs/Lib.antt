@@ -5,6 +5,7 @@ mod Ranging
 mod Visiting
 mod Keeping
 mod Stepping
+mod Deciding
 mod Asking
 mod Counting
 mod Bounding

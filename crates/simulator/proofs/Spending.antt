@@ -23,7 +23,7 @@ use Rattle.simulator.specs.Minds.{MindState, goal_at, current_round, next_proces
 use Rattle.simulator.specs.Moves.{entry_in, chosen_in, is_again, loaded, taken_at, taken}
 use Rattle.simulator.specs.Ranges.{IsMind, turn_limit}
 use Rattle.simulator.specs.Sweeps.{SweepState, is_resting, ready_of}
-use Rattle.simulator.specs.Turns.{TakenOf, counted, begun, goes_on, ended, asked, after_write, acted, most_collects, on_word, padded, gathered_all, gathered, opened_at, opened, scanned, words_in}
+use Rattle.simulator.specs.Turns.{TakenOf, counted, begun, goes_on, ended, asked, after_write, acted, most_collects, on_word, padded, gathered_all, gathered, opened_at, opened, scanned, with_decision, words_in}
 use Rattle.simulator.proofs.Bounding.{open_turns, falls_all, busy_by, open_most, turns_before}
 use Rattle.simulator.proofs.Keeping.{kept}
 use Rattle.simulator.proofs.Processes.{none_next}
@@ -94,7 +94,9 @@ in_turn (GetView chosen) spec mind answer still =
     let is = on_word_line spec (GetView chosen) got _ (let gathering = on_gathered (entry_in spec got.snapshot) spec [] (record got { word = 0 }) in record { turns = gathering.turns; stays = gathering.stays }) in
     record { turns = is.turns; stays = is.stays }
 in_turn Values spec mind answer still = on_gathered (entry_in spec mind.snapshot) spec (mind.entries ++ Some (min answer greatest) ∷ []) (counted mind)
-in_turn (Out decision) spec mind answer still = on_end Useful goals.Done (counted mind)
+in_turn (Out decision) spec mind answer still =
+    let is = on_end Useful goals.Done (with_decision decision (counted mind)) in
+    record { turns = is.turns; stays = is.stays }
 
 -- ---- the first step of a turn
 

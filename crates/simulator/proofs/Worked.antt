@@ -8,7 +8,7 @@ use Rattle.simulator.specs.declared.operation.Move.TheVariants.{Load, Store, Add
 use Rattle.simulator.specs.declared.sweep.Ready.TheVariants.{Step, Idle, OutOfTurns}
 use Rattle.simulator.specs.declared.turn.Turn.TheVariants.{Still, Useful, Quiet}
 use Rattle.simulator.specs.Minds.{no_words, MindState, next_process, unfinished_in}
-use Rattle.simulator.specs.Turns.{padded, after_write, ended, asked}
+use Rattle.simulator.specs.Turns.{padded, after_write, decided, ended, asked}
 use Rattle.simulator.specs.Moves.{words_after, answer_of}
 use Rattle.simulator.specs.Quiet.{IsQuietCount, unfinished_from}
 use Rattle.simulator.specs.Sweeps.{quiet_after, ready_of}
@@ -59,7 +59,7 @@ loaded = (refl, refl)
 
 -- the mind of simulator 2, which asks for process 2, and the same between two turns
 abbrev asking : MindState
-asking = record { number = 2; goals = goals; process = 2; turns = 3; steps = 20; turn_steps = 6; line = lines.Ask; word = 0; collects = 0; before = no_words; snapshot = no_words; entries = [] }
+asking = record { number = 2; goals = goals; process = 2; turns = 3; steps = 20; turn_steps = 6; line = lines.Ask; word = 0; collects = 0; before = no_words; snapshot = no_words; entries = []; decision = None }
 
 abbrev resting : MindState
 resting = record asking { line = lines.Rest }
@@ -69,6 +69,10 @@ quiet_turn = (refl, refl, refl, refl)
 
 useful_turn : ((ended Useful Done asking).mind.goals ≡ Write 1 7 ∷ Done ∷ Done ∷ Spent ∷ []) × (next_process (ended Useful Done asking).mind.goals 3 ≡ Some 0)
 useful_turn = (refl, refl)
+
+-- the first decision that it stores is its own, and the next one isn't
+two_decisions : ((decided 7 asking).mind.decision ≡ Some 7) × ((decided 3 (decided 7 asking).mind).mind.decision ≡ Some 7) × ((decided 7 asking).mind.goals ≡ Write 1 7 ∷ Done ∷ Done ∷ Spent ∷ [])
+two_decisions = (refl, refl, refl)
 
 ready_in_turn : (spec : RoomSpec) → ready_of spec asking 2 ≡ Step
 ready_in_turn spec = refl

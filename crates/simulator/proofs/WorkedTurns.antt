@@ -1,5 +1,5 @@
 -- Whole turns worked by hand: the moves of a simulator, each with its answer, and where it stands then.
-use Rattle.std.proofs.Common.{◌≡◌, ℕ, List, [], ◌∷◌, ◌++◌, None, take, drop, refl}
+use Rattle.std.proofs.Common.{◌≡◌, ℕ, List, [], ◌∷◌, ◌++◌, None, Some, take, drop, refl}
 use Rattle.std.specs.Prelude.{codes}
 use Rattle.protocol_lang.specs.Trees.{Expression, Number, Named}
 use Rattle.protocol_lang.specs.declared.tree.Kind.{Kind}
@@ -69,6 +69,11 @@ smallest_room = refl
 smallest_counts : (counts (mind_after one 0 []) ≡ 0 ∷ 0 ∷ 0 ∷ 1 ∷ []) × (counts (mind_after one 0 (take 10 one_answers)) ≡ 10 ∷ 1 ∷ 10 ∷ 1 ∷ []) × (counts (mind_after one 0 one_answers) ≡ 11 ∷ 1 ∷ 0 ∷ 0 ∷ [])
 unfolding memory_words
 smallest_counts = (refl, refl, refl)
+
+-- it decides with its last step
+smallest_decision : ((mind_after one 0 (take 10 one_answers)).decision ≡ None) × ((mind_after one 0 one_answers).decision ≡ Some 5)
+unfolding memory_words
+smallest_decision = (refl, refl)
 
 -- a process that asks for a write more than it has rounds is spent
 is_spent : moves (room_of (5 ∷ []) 1 10 Write (Number 6)) 0 (take 10 one_answers)

@@ -16,7 +16,8 @@ use Rattle.room_spec.specs.declared.spec.TheConstants.{MAX_MEMORY_WORDS}
 -- in all, and in its open turn. line: its next step in that turn. word: on which of the memory's words that step works; 0
 -- where it works on none. collects: how many whole collects the scan of its open turn has made, if the memory has more
 -- than one word. before: the last of them. snapshot: the collect that is being made, and then what it loaded of the simulated
--- memory last. entries: the values that it has gathered for the snapshot of its process.
+-- memory last. entries: the values that it has gathered for the snapshot of its process. decision: the first decision of a
+-- process that it has stored, which is its own too.
 pub record MindOf (S : Type 0) : Type 0 where
   pub number : ℕ
   pub goals : List Goal
@@ -30,6 +31,7 @@ pub record MindOf (S : Type 0) : Type 0 where
   pub before : S
   pub snapshot : S
   pub entries : List (Option ℕ)
+  pub decision : Option ℕ
 
 -- ---- goals
 
@@ -92,6 +94,7 @@ opening_mind_of blank spec i = record {
   before = blank;
   snapshot = blank;
   entries = [];
+  decision = None;
 }
 
 -- ---- minds whose snapshot is a list of memory words, as many as any room has

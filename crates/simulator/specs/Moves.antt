@@ -140,7 +140,7 @@ taken_at (Leave saw_two) spec mind answer = goes_on Ask mind
 taken_at Ask spec mind answer = asked (chosen_in spec answer) mind
 taken_at (GetView chosen) spec mind answer = got_view (entry_in spec (loaded answer mind).snapshot) spec chosen (loaded answer mind)
 taken_at Values spec mind answer = got_value (entry_in spec mind.snapshot) spec answer mind
-taken_at (Out decision) spec mind answer = decided mind
+taken_at (Out decision) spec mind answer = decided decision mind
 
 -- the mind after its move was answered, and what has become of its turn
 abbrev pub taken : RoomSpec → MindState → ℕ → TakenOf (List ℕ)

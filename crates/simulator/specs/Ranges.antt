@@ -1,5 +1,5 @@
 -- The ranges of a mind's numbers.
-use Rattle.std.specs.Prelude.{◌≡◌, ℕ, ◌+◌, ◌*◌, ◌<◌, ◌≤◌, true, length, ◌==◌, if◌then◌else◌, ⊤}
+use Rattle.std.specs.Prelude.{◌≡◌, ◌≢◌, ℕ, ◌+◌, ◌*◌, ◌<◌, ◌≤◌, true, List, length, Option, Some, None, ◌==◌, if◌then◌else◌, ⊤}
 use Rattle.room_spec.specs.Rooms.{RoomSpec, IsWithinLimits, processes}
 use Rattle.simulator.specs.declared.goal.Goal.{Goal}
 use Rattle.simulator.specs.declared.goal.Goal.TheVariants as goals
@@ -79,6 +79,11 @@ IsOpenAt (GetView chosen) spec mind = (is_unfinished (current_goal mind) ≡ tru
 IsOpenAt Values spec mind = (is_unfinished (current_goal mind) ≡ true) × (length mind.entries < processes spec) × (1 ≤ entry_in spec mind.snapshot (length mind.entries))
 IsOpenAt line spec mind = is_unfinished (current_goal mind) ≡ true
 
+-- A simulator has a decision exactly if it knows of some process that it has decided.
+abbrev pub HasDecision : List Goal → Option ℕ → Type 0
+HasDecision list (Some decision) = (process : ℕ) × (process < length list) × (goal_at list process ≡ goals.Done)
+HasDecision list None = (process : ℕ) → process < length list → goal_at list process ≢ goals.Done
+
 -- A mind of a simulator of the room, between any two of its steps and whatever it was answered.
 pub record IsMind (spec : RoomSpec) (mind : MindState) : Type 0 where
   pub limits : IsWithinLimits spec
@@ -97,6 +102,7 @@ pub record IsMind (spec : RoomSpec) (mind : MindState) : Type 0 where
   pub at : IsOpenAt mind.line spec mind
   -- the processes that its sweep hasn't reached yet are the next ones
   pub order : AreVisitedLast (unfinished_from mind.goals mind.process)
+  pub decision : HasDecision mind.goals mind.decision
 
 -- at some line of its own it is one of the room's; which line doesn't matter
 abbrev pub IsMindSomewhere : RoomSpec → MindState → Type 0

@@ -13,7 +13,7 @@ use Rattle.simulator.specs.declared.line.Line.{Line}
 use Rattle.simulator.specs.declared.line.Line.TheVariants.{Rest, Raise, Snap, Show, Enter, GetView, Values, Out}
 use Rattle.simulator.specs.declared.turn.Turn.{Turn}
 use Rattle.simulator.specs.declared.turn.Turn.TheVariants.{Still, Useful, Quiet}
-use Rattle.simulator.specs.Minds.{MindOf, goal_at, current_round}
+use Rattle.simulator.specs.Minds.{MindOf, goal_at, current_round, or_else}
 
 -- the mind after an atomic step, and what has become of its turn
 pub record TakenOf (S : Type 0) : Type 0 where
@@ -116,9 +116,13 @@ with_value row spec value mind = record mind { entries = padded row (processes s
 abbrev pub got_value : {S : Type 0} → (ℕ → ℕ) → RoomSpec → ℕ → MindOf S → TakenOf S
 got_value row spec value mind = gathered row spec (mind.entries ++ Some (min value greatest) ∷ []) mind
 
--- it has stored the decision
-abbrev pub decided : {S : Type 0} → MindOf S → TakenOf S
-decided mind = ended Useful goals.Done mind
+-- the first decision that a simulator stores is its own, and stays so
+abbrev pub with_decision : {S : Type 0} → ℕ → MindOf S → MindOf S
+with_decision decision mind = record mind { decision = or_else mind.decision (Some decision) }
+
+-- it has stored this decision of its process
+abbrev pub decided : {S : Type 0} → ℕ → MindOf S → TakenOf S
+decided decision mind = ended Useful goals.Done (with_decision decision mind)
 
 -- The first step of a turn: the store of a write, or an ask, of which the answer is given.
 abbrev pub opened_at : {S : Type 0} → Goal → Option ℕ → MindOf S → TakenOf S

@@ -3,10 +3,11 @@
 //!
 //! They speak of a mind as data, of the move that it wants, and of the mind that the move's answer
 //! makes.
-ghost use Rattle.std.specs.Prelude.{◌≡◌, ◌≢◌, ◌↔◌, ℕ, ◌+◌, ◌*◌, ◌<◌, ◌≤◌, true, false, List};
+ghost use Rattle.std.specs.Prelude.{◌≡◌, ◌≢◌, ◌↔◌, ℕ, ◌+◌, ◌*◌, ◌<◌, ◌≤◌, true, false, List, None, Some};
 ghost use Rattle.room_spec.specs.Rooms.{RoomSpec, IsWithinLimits, processes};
 ghost use Rattle.room_spec.specs.Sizes.{sizes_in};
 ghost use Rattle.view_table.specs.Places.{words_of};
+ghost use Rattle.simulator.specs.declared.line.Line.TheVariants.{Out};
 ghost use Rattle.simulator.specs.declared.operation.Move.TheVariants as moves;
 ghost use Rattle.simulator.specs.declared.sweep.Ready.TheVariants as answers;
 ghost use Rattle.simulator.specs.declared.turn.Turn.TheVariants.{Still};
@@ -15,7 +16,7 @@ ghost use Rattle.simulator.specs.Firsts.{IsVisited};
 ghost use Rattle.simulator.specs.Minds.{MindState, current_goal, goal_at, is_unfinished, opening_mind, unfinished_in};
 ghost use Rattle.simulator.specs.Moves.{IsOperation, IsWithin, move_of, taken};
 ghost use Rattle.simulator.specs.Quiet.{HasNoWrite, IsQuietCount};
-ghost use Rattle.simulator.specs.Ranges.{IsMind, turn_limit};
+ghost use Rattle.simulator.specs.Ranges.{HasDecision, IsMind, turn_limit};
 ghost use Rattle.simulator.specs.Turns.{most_collects, words_in};
 ghost use Rattle.simulator.specs.Sweeps.{SweepState, is_resting, opening_sweep, quiet_after, ready_of};
 
@@ -38,6 +39,21 @@ pub fn steps_are_counted()
     ensures in_turn { (spec : RoomSpec) (mind : MindState) (answer : ℕ) →
         is_resting (taken spec mind answer).mind.line ≡ false →
         (taken spec mind answer).mind.turn_steps ≡ mind.turn_steps + 1 }
+{}
+
+/// A simulator's decision never changes: it is the first decision of a process that it stores. It has one exactly if it knows of a
+/// process that it has decided.
+pub fn decisions_stay()
+    ensures stays { (spec : RoomSpec) (mind : MindState) (answer decision : ℕ) →
+        mind.decision ≡ Some decision →
+        (taken spec mind answer).mind.decision ≡ Some decision }
+    ensures first { (spec : RoomSpec) (mind : MindState) (answer decision : ℕ) →
+        mind.decision ≡ None → mind.line ≡ Out decision →
+        (taken spec mind answer).mind.decision ≡ Some decision }
+    ensures none { (spec : RoomSpec) (mind : MindState) (answer : ℕ) →
+        mind.decision ≡ None → ((decision : ℕ) → mind.line ≢ Out decision) →
+        (taken spec mind answer).mind.decision ≡ None }
+    ensures known { (spec : RoomSpec) (mind : MindState) → IsMind spec mind → HasDecision mind.goals mind.decision }
 {}
 
 /// An open turn has taken fewer atomic steps than its limit, and after its last none are counted.

@@ -33,6 +33,7 @@ pub struct Mind {
     pub(crate) before: [u64; MAX_MEMORY_WORDS],
     pub(crate) snapshot: Snapshot,
     pub(crate) entries: View,
+    pub(crate) decision: Option<u32>,
 }
 
 impl Model for Mind {
@@ -53,6 +54,7 @@ impl Model for Mind {
       before = m.before;
       snapshot = m.snapshot;
       entries = m.entries.items;
+      decision = m.decision;
     } };
 }
 
@@ -78,6 +80,7 @@ impl Mind {
             before: [0; MAX_MEMORY_WORDS],
             snapshot: Snapshot::nothing(),
             entries: View::new(),
+            decision: None,
         }
     }
 
@@ -150,6 +153,14 @@ impl Mind {
             Some(goal) => *goal,
             None => Goal::Done,
         }
+    }
+
+    /// What it has decided: the first decision of a process that it has stored. It stays so, whatever it stores later. `None` if
+    /// it has stored none.
+    pub fn decision(&self) -> Option<u32>
+        ensures { result ≡ self.now.decision }
+    {
+        self.decision
     }
 
     /// The process on which its next atomic step works: that of its open turn, or between two turns that of the

@@ -536,7 +536,7 @@ impl Mind {
         let store = self.out_move(spec, decision);
         memory.operate(context, store);
         self.count_step();
-        let turn = self.end(Turn::Useful, Goal::Done);
+        let turn = self.decide(decision);
         Run {
             count: 1,
             turn,

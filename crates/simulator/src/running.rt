@@ -190,9 +190,9 @@ impl Mind {
                 let turn = self.get_value(spec, &last, answer);
                 self.stands(answer, turn)
             }
-            Line::Out { .. } => {
+            Line::Out { decision } => {
                 let answer = self.asked_of(spec, line, context, memory);
-                let turn = self.end(Turn::Useful, Goal::Done);
+                let turn = self.decide(decision);
                 self.stands(answer, turn)
             }
         }

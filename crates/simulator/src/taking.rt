@@ -8,7 +8,7 @@ ghost use Rattle.room_spec.specs.Sizes.{sizes_in};
 ghost use Rattle.room_spec.specs.declared.spec.TheConstants.{MAX_MEMORY_WORDS};
 ghost use Rattle.simulator.specs.Moves.{entry_in, is_again, loaded};
 ghost use Rattle.simulator.specs.Notes.{AreLastWrites};
-ghost use Rattle.simulator.specs.Turns.{acted, after_write, asked, begun, collected, counted, counted_by, ended, gathered, gathered_all, goes_on, got_value, got_view, most_collects, padded, scanned, showed, snapped, with_value, words_in};
+ghost use Rattle.simulator.specs.Turns.{acted, after_write, asked, begun, collected, counted, counted_by, decided, ended, gathered, gathered_all, goes_on, got_value, got_view, most_collects, padded, scanned, showed, snapped, with_value, words_in};
 
 use crate::goal::Goal;
 use crate::line::Line;
@@ -75,6 +75,18 @@ impl Mind {
         self.collects = 0;
         self.line = Line::Rest;
         turn
+    }
+
+    /// Ends the turn after the store of this decision of its process. The first that it stores is its own too.
+    pub(crate) fn decide(&mut self, decision: u32) -> Turn
+        requires { self.old.process < length self.old.goals }
+        ensures mind { self.new ≡ (decided decision self.old).mind }
+        ensures turn { result ≡ (decided decision self.old).turn }
+    {
+        if self.decision.is_none() {
+            self.decision = Some(decision);
+        }
+        self.end(Turn::Useful, Goal::Done)
     }
 
     /// Puts a memory word that was loaded into its snapshot.

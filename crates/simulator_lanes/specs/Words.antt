@@ -32,9 +32,14 @@ deed_words step = actor_words step ++ (process_round step.process step.round ++ 
 abbrev pub stored_words : RoomSpec → StepMark → List ℕ
 stored_words spec step = if is_same step.deed Propose then codes ":" ++ counts_text spec (words_of step) else []
 
+-- what the simulator decides by a step, if it does
+unfoldable pub decision_words : Option ℕ → List ℕ
+decision_words None = []
+decision_words (Some decision) = codes "; the simulator decides " ++ decimal decision
+
 -- step 4: simulator 0 proposes its snapshot for process 0, round 1: 1 .
 unfoldable pub step_words : RoomSpec → ℕ → StepMark → List ℕ
-step_words spec number step = codes "step " ++ (decimal number ++ (deed_words step ++ stored_words spec step))
+step_words spec number step = codes "step " ++ (decimal number ++ (deed_words step ++ (stored_words spec step ++ decision_words step.decision)))
 
 -- as much of a text as there is space for
 unfoldable pub clipped : ℕ → List ℕ → List ℕ

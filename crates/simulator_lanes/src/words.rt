@@ -1,6 +1,6 @@
 //! What steps do, in words.
 ghost use Rattle.std.specs.Prelude.{◌≡◌, ◌++◌, ◌≤◌, IfOk, OnOk};
-ghost use Rattle.simulator_lanes.specs.Words.{actor_words, clipped, counted, deed_words, process_name, process_round, simulator_name, step_words, stored_words, word_words};
+ghost use Rattle.simulator_lanes.specs.Words.{actor_words, clipped, counted, decision_words, deed_words, process_name, process_round, simulator_name, step_words, stored_words, word_words};
 
 use io_text::Text;
 use picture_shapes::write_decimal;
@@ -93,6 +93,18 @@ fn write_stored(output: &mut Text, spec: &Spec, step: &Step) -> Result<(), Alloc
     write_counts(output, spec, &step.words())
 }
 
+/// Writes what the simulator decides by a step, if it does.
+#[tactic(auto, unfolding(crate::specs::Words::decision_words))]
+fn write_decision(output: &mut Text, decision: Option<u32>) -> Result<(), AllocError>
+    ensures { OnOk result (output.new ≡ output.old ++ decision_words decision) }
+{
+    let Some(decision) = decision else {
+        return Ok(());
+    };
+    output.put(b"; the simulator decides ")?;
+    write_decimal(output, u64::from(decision))
+}
+
 /// What the step of this number does.
 #[tactic(auto, unfolding(crate::specs::Words::step_words))]
 pub(crate) fn step_words(
@@ -108,6 +120,7 @@ pub(crate) fn step_words(
     write_decimal(&mut words, number)?;
     write_deed(&mut words, step)?;
     write_stored(&mut words, spec, step)?;
+    write_decision(&mut words, step.decision)?;
     Ok(words)
 }
 

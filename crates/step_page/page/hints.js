@@ -9,6 +9,9 @@ const agreementHint = (process, round) => `agreement (${process},${round}): on t
 
 const countHint = (simulator, process, number) => `step(${simulator},${process}): simulator ${simulator} has counted ${many(number, 'write')} of process ${process}`;
 
+const DECISION_HINT = 'what a simulator has decided: the first decision of a process that it stored';
+const decisionHint = (simulator, decision) => (decision === undefined ? `simulator ${simulator} has not decided` : `simulator ${simulator} has decided ${decision}`);
+
 const proposalHint = (simulator, row, fate) => (row ? `; it proposes a snapshot with ${writesIn(row)}${fate}` : `; simulator ${simulator} proposes nothing yet`);
 
 const levelHint = (simulator, process, round, level, row, fate) => `simulator ${simulator} in agreement (${process},${round}): ${LEVELS[level]}${proposalHint(simulator, row, fate)}`;

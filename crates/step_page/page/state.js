@@ -8,6 +8,7 @@ function emptyState() {
     agreements: new Map(), // by process and round: which proposal is chosen for good, and since which moment
     read: new Map(), // by simulator, process and round: the moment at which the snapshot takes effect if it is chosen
     events: [], // those that took effect for certain
+    decisions: new Map(), // by simulator: what it has decided
     crashed: new Set(), // simulators
     stopped: new Set(), // simulators that have crashed or ended their last turn
     spent: new Set(), // processes that are out of rounds once the agreement of their last round is resolved
@@ -45,6 +46,7 @@ function apply(state, room, moment, at) {
     return;
   }
   store(state, moment.access);
+  if (moment.access.decides !== null) state.decisions.set(moment.simulator, moment.access.decides);
   noteAgreement(state, moment, at);
   noteEffect(state, moment, at);
 }

@@ -5,14 +5,16 @@ const simulatorHead = i => headCell('simulator ' + i, `level and proposal of sim
 
 function stepNumbers(room, state, moment) {
   const touched = (i, p) => moment && (moment.letter === 'S' || (moment.letter === '+' && moment.simulator === i && moment.process === p));
-  const head = [corner, ...range(room.inputs.length).map(processHead)];
+  const decides = i => moment && moment.simulator === i && Number.isInteger(moment.access?.decides);
+  const head = [corner, ...range(room.inputs.length).map(processHead), headCell('decision', DECISION_HINT)];
   const rows = range(room.simulators).map(i => {
     const hasCrashed = state.crashed.has(i);
     const counts = range(room.inputs.length).map(p => countedBy(state, i, p));
     return [headCell(`simulator ${i}${hasCrashed ? ' \u2715' : ''}`, `how many writes of each process simulator ${i} has counted${hasCrashed ? '; it has crashed' : ''}`),
-      ...counts.map((number, p) => cell(number, countHint(i, p, number), touched(i, p) && 'now'))];
+      ...counts.map((number, p) => cell(number, countHint(i, p, number), touched(i, p) && 'now')),
+      cell(state.decisions.get(i) ?? '', decisionHint(i, state.decisions.get(i)), decides(i) && 'now')];
   });
-  return section('numbers', 'Step numbers', table([head, ...rows]));
+  return section('numbers', 'Simulators: step numbers and decision', table([head, ...rows]));
 }
 
 // The state of an agreement: open, fixed, resolved, or blocked for ever.
@@ -87,8 +89,8 @@ const SIMULATION = {
     const moment = room.moments[count - 1];
     if (!moment) return 'Nobody has taken a step.';
     if (moment.crash) return `<b>simulator ${moment.simulator}</b> crashes`;
-    const { effect, end, obstacle } = moment.notes;
-    const more = [effect, end, obstacle].filter(Boolean).map(text => `<small>${escaped(text)}</small>`).join('');
+    const { effect, decision, end, obstacle } = moment.notes;
+    const more = [effect, decision, end, obstacle].filter(Boolean).map(text => `<small>${escaped(text)}</small>`).join('');
     return `<b>${escaped(moment.name)}</b>: ${escaped(moment.operation)} \u2192 <b>${escaped(moment.shows)}</b>${more}`;
   },
   lanes: drawLanes,

@@ -201,6 +201,7 @@ function emptyState() {
     agreements: new Map(), // by process and round: which proposal is chosen for good, and since which moment
     read: new Map(), // by simulator, process and round: the moment at which the snapshot takes effect if it is chosen
     events: [], // those that took effect for certain
+    decisions: new Map(), // by simulator: what it has decided
     crashed: new Set(), // simulators
     stopped: new Set(), // simulators that have crashed or ended their last turn
     spent: new Set(), // processes that are out of rounds once the agreement of their last round is resolved
@@ -238,6 +239,7 @@ function apply(state, room, moment, at) {
     return;
   }
   store(state, moment.access);
+  if (moment.access.decides !== null) state.decisions.set(moment.simulator, moment.access.decides);
   noteAgreement(state, moment, at);
   noteEffect(state, moment, at);
 }
@@ -295,6 +297,9 @@ const writesIn = row => listed(row.map((number, p) => `${number === 0 ? 'no writ
 const agreementHint = (process, round) => `agreement (${process},${round}): on the snapshot of process ${process} in round ${round}`;
 
 const countHint = (simulator, process, number) => `step(${simulator},${process}): simulator ${simulator} has counted ${many(number, 'write')} of process ${process}`;
+
+const DECISION_HINT = 'what a simulator has decided: the first decision of a process that it stored';
+const decisionHint = (simulator, decision) => (decision === undefined ? `simulator ${simulator} has not decided` : `simulator ${simulator} has decided ${decision}`);
 
 const proposalHint = (simulator, row, fate) => (row ? `; it proposes a snapshot with ${writesIn(row)}${fate}` : `; simulator ${simulator} proposes nothing yet`);
 
@@ -444,14 +449,16 @@ const simulatorHead = i => headCell('simulator ' + i, `level and proposal of sim
 
 function stepNumbers(room, state, moment) {
   const touched = (i, p) => moment && (moment.letter === 'S' || (moment.letter === '+' && moment.simulator === i && moment.process === p));
-  const head = [corner, ...range(room.inputs.length).map(processHead)];
+  const decides = i => moment && moment.simulator === i && Number.isInteger(moment.access?.decides);
+  const head = [corner, ...range(room.inputs.length).map(processHead), headCell('decision', DECISION_HINT)];
   const rows = range(room.simulators).map(i => {
     const hasCrashed = state.crashed.has(i);
     const counts = range(room.inputs.length).map(p => countedBy(state, i, p));
     return [headCell(`simulator ${i}${hasCrashed ? ' \u2715' : ''}`, `how many writes of each process simulator ${i} has counted${hasCrashed ? '; it has crashed' : ''}`),
-      ...counts.map((number, p) => cell(number, countHint(i, p, number), touched(i, p) && 'now'))];
+      ...counts.map((number, p) => cell(number, countHint(i, p, number), touched(i, p) && 'now')),
+      cell(state.decisions.get(i) ?? '', decisionHint(i, state.decisions.get(i)), decides(i) && 'now')];
   });
-  return section('numbers', 'Step numbers', table([head, ...rows]));
+  return section('numbers', 'Simulators: step numbers and decision', table([head, ...rows]));
 }
 
 // The state of an agreement: open, fixed, resolved, or blocked for ever.
@@ -526,8 +533,8 @@ const SIMULATION = {
     const moment = room.moments[count - 1];
     if (!moment) return 'Nobody has taken a step.';
     if (moment.crash) return `<b>simulator ${moment.simulator}</b> crashes`;
-    const { effect, end, obstacle } = moment.notes;
-    const more = [effect, end, obstacle].filter(Boolean).map(text => `<small>${escaped(text)}</small>`).join('');
+    const { effect, decision, end, obstacle } = moment.notes;
+    const more = [effect, decision, end, obstacle].filter(Boolean).map(text => `<small>${escaped(text)}</small>`).join('');
     return `<b>${escaped(moment.name)}</b>: ${escaped(moment.operation)} \u2192 <b>${escaped(moment.shows)}</b>${more}`;
   },
   lanes: drawLanes,

@@ -17,9 +17,9 @@ use Rattle.room_steps.specs.declared.step.AtomicStep.{AtomicStep}
 use Rattle.ws_history.specs.declared.effects.Effect.{Effect}
 use Rattle.ws_history.specs.declared.effects.Effect.TheVariants.{Write as WriteEffect, Snapshot, Decision}
 use Rattle.ws_history.specs.declared.unreadable.Unreadable.{Unreadable}
-use Rattle.step_words.specs.Data.{own_step_data, own_steps_data, access_data, place_data, steps_data, word_data}
-use Rattle.step_words.specs.Json.{agreement_data, agreement_of, effect_data, effect_note, end_data, end_note, notes_data, obstacle_note, quiet_data, shows_data, simulator_data, simulators_data, step_data, unresolved_data}
-use Rattle.step_words.specs.Lines.{effect_text, outcome_text, unreadable_text}
+use Rattle.step_words.specs.Data.{decides_data, own_step_data, own_steps_data, access_data, place_data, steps_data, word_data}
+use Rattle.step_words.specs.Json.{agreement_data, agreement_of, decision_note, effect_data, effect_note, end_data, end_note, notes_data, obstacle_note, quiet_data, shows_data, simulator_data, simulators_data, step_data, unresolved_data}
+use Rattle.step_words.specs.Lines.{decision_text, effect_text, outcome_text, unreadable_text}
 use Rattle.step_words.specs.declared.step.Consequence.{Consequence}
 use Rattle.step_words.specs.Names.{operation_text}
 use Rattle.step_words.specs.Sights.{memory_with, sight_text}
@@ -58,6 +58,14 @@ effect_note_is : (effect : Option Effect) → has_float (effect_note effect) ≡
 effect_note_is None = refl
 effect_note_is (Some effect) = text_is (effect_text effect)
 
+decides_is : (decision : Option ℕ) → has_float (decides_data decision) ≡ false
+decides_is None = refl
+decides_is (Some decision) = refl
+
+decision_note_is : (simulator : ℕ) (decision : Option ℕ) → has_float (decision_note simulator decision) ≡ false
+decision_note_is simulator None = refl
+decision_note_is simulator (Some decision) = text_is (decision_text simulator decision)
+
 end_note_is : (process : ℕ) (end : Option Goal) → has_float (end_note process end) ≡ false
 end_note_is process None = refl
 end_note_is process (Some goal) = text_is (outcome_text process goal)
@@ -66,12 +74,14 @@ obstacle_note_is : (unreadable : Option Unreadable) → has_float (obstacle_note
 obstacle_note_is None = refl
 obstacle_note_is (Some agreement) = text_is (unreadable_text agreement)
 
-notes_are : (process : ℕ) (end : Option Goal) (consequence : Consequence) → has_float (notes_data process end consequence) ≡ false
-notes_are process end consequence =
-    let one = has_float (end_note process end) in
+notes_are : (step : AtomicStep) (consequence : Consequence) → has_float (notes_data step consequence) ≡ false
+notes_are step consequence =
+    let effect = has_float (effect_note consequence.effect) in
+    let one = has_float (end_note step.process step.end) in
     let other = has_float (obstacle_note consequence.unreadable) in
-    both (has_float (effect_note consequence.effect)) (one || (other || false)) (effect_note_is consequence.effect)
-    (both one (other || false) (end_note_is process end) (both other false (obstacle_note_is consequence.unreadable) refl))
+    both (has_float (decision_note step.simulator step.decision)) (effect || (one || (other || false))) (decision_note_is step.simulator step.decision)
+    (both effect (one || (other || false)) (effect_note_is consequence.effect)
+    (both one (other || false) (end_note_is step.process step.end) (both other false (obstacle_note_is consequence.unreadable) refl)))
 
 quiet_is : (round : ℕ) (unreadable : Option Unreadable) → has_float (quiet_data round unreadable) ≡ false
 quiet_is round None = unresolved_is round None None None
@@ -112,15 +122,16 @@ access_is : (spec : RoomSpec) (step : AtomicStep) → has_float (access_data spe
 unfolding access_data
 access_is spec step =
     let before = has_float (word_data step.place spec step.word) in
+    let decides = has_float (decides_data step.decision) in
     let place = has_float (place_data step.place) in
-    both (has_float (word_data step.place spec step.after)) (before || (place || false)) (word_is step.place spec step.after)
-    (both before (place || false) (word_is step.place spec step.word) (both place false (place_is step.place) refl))
+    both (has_float (word_data step.place spec step.after)) (before || (decides || (place || false))) (word_is step.place spec step.after)
+    (both before (decides || (place || false)) (word_is step.place spec step.word) (both decides (place || false) (decides_is step.decision) (both place false (place_is step.place) refl)))
 
 pub step_is : (spec : RoomSpec) (n : ℕ) (step : AtomicStep) (consequence : Consequence) → has_float (step_data spec n step consequence) ≡ false
 step_is spec n step consequence =
     let shows = has_float (shows_data spec step) in
     let operation = has_float (text_data (operation_text spec step)) in
-    let notes = has_float (notes_data step.process step.end consequence) in
+    let notes = has_float (notes_data step consequence) in
     let end = has_float (end_data step.end consequence.unreadable) in
     let what = has_float (effect_data consequence.effect) in
     let agreement = has_float (agreement_data step.place spec step.after consequence.agreement) in
@@ -131,7 +142,7 @@ step_is spec n step consequence =
     let after_agreement = what || after_what in
     let from_shows = both shows false (text_is (drop 1 (sight_text spec step))) refl in
     let from_operation = both operation after_operation (text_is (operation_text spec step)) from_shows in
-    let from_notes = both notes after_notes (notes_are step.process step.end consequence) from_operation in
+    let from_notes = both notes after_notes (notes_are step consequence) from_operation in
     let from_end = both end after_end (end_is step.end consequence.unreadable) from_notes in
     let from_effect = both what after_what (effect_is consequence.effect) from_end in
     let from_agreement = both agreement after_agreement (agreement_is step.place spec step.after consequence.agreement) from_effect in

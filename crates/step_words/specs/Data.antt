@@ -1,5 +1,5 @@
 -- An atomic step as data: the line of its turn, its place, and what the simulation reads in the word there.
-use Rattle.std.specs.Prelude.{ℕ, ◌-◌, ◌==◌, List, map, codes, if◌then◌else◌}
+use Rattle.std.specs.Prelude.{ℕ, ◌-◌, ◌==◌, List, map, Option, Some, None, codes, if◌then◌else◌}
 use Rattle.std.specs.List.{range_with_len}
 use Rattle.serde_json.specs.Data.{Data, array, member, no_members, null, number, object, string, unsigned}
 use Rattle.serde_json.specs.View.{items_of}
@@ -74,7 +74,13 @@ word_data (View simulator process round at) spec word = steps_data spec at word
 word_data (Value simulator process round) spec word = number_data word
 word_data (Out simulator process) spec word = decision_data word
 
--- what a step does: the line of its turn, the place of its word, and what the simulation reads there before and after the step
+-- what the step's simulator decides by it, if it does
+abbrev pub decides_data : Option ℕ → Data
+decides_data None = null
+decides_data (Some decision) = number_data decision
+
+-- what a step does: the line of its turn, the place of its word, what the simulation reads there before and after the step, and what its simulator decides
 unfoldable pub access_data : RoomSpec → AtomicStep → Data
 access_data spec step =
-    object (member (codes "after") (word_data step.place spec step.after) (member (codes "before") (word_data step.place spec step.word) (member (codes "line") (string (line_word step.line step.operation)) (member (codes "place") (place_data step.place) no_members))))
+    object (member (codes "after") (word_data step.place spec step.after) (member (codes "before") (word_data step.place spec step.word) (member (codes "decides") (decides_data step.decision)
+    (member (codes "line") (string (line_word step.line step.operation)) (member (codes "place") (place_data step.place) no_members)))))

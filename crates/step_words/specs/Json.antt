@@ -15,7 +15,7 @@ use Rattle.ws_history.specs.declared.effects.Effect.{Effect}
 use Rattle.ws_history.specs.declared.effects.Effect.TheVariants.{Write as WriteEffect, Snapshot, Decision}
 use Rattle.ws_history.specs.declared.unreadable.Unreadable.{Unreadable}
 use Rattle.step_words.specs.Data.{access_data}
-use Rattle.step_words.specs.Lines.{effect_text, outcome_text, unreadable_text}
+use Rattle.step_words.specs.Lines.{decision_text, effect_text, outcome_text, unreadable_text}
 use Rattle.step_words.specs.Names.{operation_text}
 use Rattle.step_words.specs.Sights.{sight_text}
 use Rattle.step_words.specs.declared.json.Parts.{Parts}
@@ -73,10 +73,14 @@ agreement_data (Out simulator process) spec word agreement = null
 
 -- ---- the lines under the step
 
--- what takes effect, how the turn ended, and why the agreement that it asked about can't be read
+-- what takes effect, what the simulator decides, how the turn ended, and why the agreement that it asked about can't be read
 abbrev pub effect_note : Option Effect → Data
 effect_note None = null
 effect_note (Some effect) = text_data (effect_text effect)
+
+abbrev pub decision_note : ℕ → Option ℕ → Data
+decision_note simulator None = null
+decision_note simulator (Some decision) = text_data (decision_text simulator decision)
 
 abbrev pub end_note : ℕ → Option Goal → Data
 end_note process None = null
@@ -86,9 +90,10 @@ abbrev pub obstacle_note : Option Unreadable → Data
 obstacle_note None = null
 obstacle_note (Some agreement) = text_data (unreadable_text agreement)
 
-abbrev pub notes_data : ℕ → Option Goal → Consequence → Data
-notes_data process end consequence =
-    object (member (codes "effect") (effect_note consequence.effect) (member (codes "end") (end_note process end) (member (codes "obstacle") (obstacle_note consequence.unreadable) no_members)))
+abbrev pub notes_data : AtomicStep → Consequence → Data
+notes_data step consequence =
+    object (member (codes "decision") (decision_note step.simulator step.decision) (member (codes "effect") (effect_note consequence.effect)
+    (member (codes "end") (end_note step.process step.end) (member (codes "obstacle") (obstacle_note consequence.unreadable) no_members))))
 
 -- what its word shows, without the space before it
 abbrev pub shows_data : RoomSpec → AtomicStep → Data
@@ -103,12 +108,12 @@ object_with spec n step access agreement effect end notes operation shows =
     (member (codes "process") (number (unsigned step.process)) (member (codes "room") (string spec.name) (member (codes "round") (number (unsigned step.round)) (member (codes "shows") shows
     (member (codes "simulator") (number (unsigned step.simulator)) (member (codes "step") (number (unsigned n)) (member (codes "turn") (number (unsigned step.turn)) no_members)))))))))))))
 
--- the step of a number: whose turn it is, and what that works on; what it does, as data; the agreement whose levels it is on; what takes effect; the end of the turn; the lines
--- under it; and the operation and what its word shows, in words
+-- the step of a number: whose turn it is, and what that works on; what it does, as data; the agreement whose levels it is on; what takes effect; the end of
+-- the turn; the lines under it; and the operation and what its word shows, in words
 abbrev pub step_data : RoomSpec → ℕ → AtomicStep → Consequence → Data
 step_data spec n step consequence =
-    object_with spec n step (access_data spec step) (agreement_data step.place spec step.after consequence.agreement) (effect_data consequence.effect) (end_data step.end consequence.unreadable)
-    (notes_data step.process step.end consequence) (text_data (operation_text spec step)) (shows_data spec step)
+    object_with spec n step (access_data spec step) (agreement_data step.place spec step.after consequence.agreement) (effect_data consequence.effect)
+    (end_data step.end consequence.unreadable) (notes_data step consequence) (text_data (operation_text spec step)) (shows_data spec step)
 
 -- what is said of a step, as values
 pub record ArePartsOf (spec : RoomSpec) (step : AtomicStep) (consequence : Consequence) (parts : Parts) : Type 0 where
@@ -116,7 +121,7 @@ pub record ArePartsOf (spec : RoomSpec) (step : AtomicStep) (consequence : Conse
   pub agreement_is : view parts.agreement ≡ agreement_data step.place spec step.after consequence.agreement
   pub effect_is : view parts.effect ≡ effect_data consequence.effect
   pub end_is : view parts.end ≡ end_data step.end consequence.unreadable
-  pub notes_are : view parts.notes ≡ notes_data step.process step.end consequence
+  pub notes_are : view parts.notes ≡ notes_data step consequence
   pub operation_is : view parts.operation ≡ text_data (operation_text spec step)
   pub shows_are : view parts.shows ≡ shows_data spec step
 

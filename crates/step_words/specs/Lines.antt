@@ -61,6 +61,15 @@ abbrev pub effect_line : Option Effect → List ℕ
 effect_line None = []
 effect_line (Some effect) = codes "         " ++ (effect_text effect ++ codes "\n")
 
+-- what a simulator decides by its first decision of a process
+abbrev pub decision_text : ℕ → ℕ → List ℕ
+decision_text simulator decision = behind (codes "simulator") simulator ++ behind (codes " decides") decision
+
+-- a line for it
+abbrev pub decision_line : ℕ → Option ℕ → List ℕ
+decision_line simulator None = []
+decision_line simulator (Some decision) = codes "         " ++ (decision_text simulator decision ++ codes "\n")
+
 -- whose proposal is chosen for good, if one is
 abbrev pub choice_text : Option ℕ → List ℕ
 choice_text None = []
@@ -81,14 +90,19 @@ abbrev pub unreadable_line : Option Unreadable → List ℕ
 unreadable_line None = []
 unreadable_line (Some agreement) = codes "         " ++ (unreadable_text agreement ++ codes "\n")
 
--- The step's number, its turn where that begins, its operation, and what there is to see; what takes effect; the end of the turn; and, if that
--- was quiet, why the agreement can't be read.
+-- the lines under a step
+abbrev pub notes_lines : AtomicStep → Consequence → List ℕ
+notes_lines step consequence =
+    effect_line consequence.effect ++ (decision_line step.simulator step.decision ++ (end_text step.process step.end ++ unreadable_line consequence.unreadable))
+
+-- The step's number, its turn where that begins, its operation, and what there is to see; what takes effect; what its simulator decides; the end of the
+-- turn; and, if that was quiet, why the agreement can't be read.
 abbrev pub step_lines : RoomSpec → ℕ → AtomicStep → Bool → Consequence → List ℕ
 step_lines spec number step same_turn consequence =
     codes "    "
     ++ (padded number_width (decimal number)
     ++ (padded turn_width (turn_text step same_turn)
-    ++ (padded operation_width (operation_text spec step) ++ (sight_text spec step ++ (codes "\n" ++ (effect_line consequence.effect ++ (end_text step.process step.end ++ unreadable_line consequence.unreadable)))))))
+    ++ (padded operation_width (operation_text spec step) ++ (sight_text spec step ++ (codes "\n" ++ notes_lines step consequence)))))
 
 -- its numbers are those of the room
 pub record IsStepIn (spec : RoomSpec) (step : AtomicStep) : Type 0 where

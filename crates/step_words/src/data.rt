@@ -3,7 +3,7 @@ ghost use Rattle.std.specs.Prelude.{◌≡◌, ◌<◌, ◌≤◌, IfOk, length}
 ghost use Rattle.serde_json.specs.View.{view};
 ghost use Rattle.room_spec.specs.Sizes.{memory_words, sizes_in};
 ghost use Rattle.view_table.specs.Places.{IsPlace};
-ghost use Rattle.step_words.specs.Data.{decision_data, first_word, line_word, own_steps_data, access_data, place_data, steps_data, word_data};
+ghost use Rattle.step_words.specs.Data.{decides_data, decision_data, first_word, line_word, own_steps_data, access_data, place_data, steps_data, word_data};
 ghost use Rattle.step_words.specs.Lines.{IsStepIn};
 
 use crate::sight::memory_with;
@@ -91,7 +91,8 @@ fn word_value(alloc: Global, spec: &Spec, place: Place, word: u64) -> Result<Val
     }
 }
 
-/// What a step does, as data: the line of its turn, the place of its word, and what the simulation reads there before and after the step.
+/// What a step does, as data: the line of its turn, the place of its word, what the simulation reads there before and after the step, and what its simulator
+/// decides by it.
 #[tactic(auto, unfolding(crate::specs::Data::access_data))]
 pub(crate) fn access_value(
     alloc: Global,
@@ -105,7 +106,18 @@ pub(crate) fn access_value(
     let before = word_value(alloc, spec, step.place, step.word)?;
     let line = line_word(step.line, step.operation);
     let place = place_value(alloc, step.place)?;
-    json!(in alloc; {"after": after, "before": before, "line": line, "place": place})
+    let decides = decides_value(step.decision);
+    json!(in alloc; {"after": after, "before": before, "decides": decides, "line": line, "place": place})
+}
+
+/// What a step's simulator decides by it, or `null`.
+fn decides_value(decision: Option<u32>) -> Value
+    ensures { view result ≡ decides_data decision }
+{
+    match decision {
+        None => Value::Null,
+        Some(decision) => Value::from(decision),
+    }
 }
 
 /// The decision that a word has, or `null` for none.

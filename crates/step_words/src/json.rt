@@ -81,7 +81,7 @@ fn parts_of(
         agreement: agreement_value(alloc, spec, step, consequence.agreement)?,
         effect: effect_value(alloc, consequence.effect)?,
         end: end_value(alloc, step.end, consequence.unreadable)?,
-        notes: notes_value(alloc, step.process, step.end, consequence)?,
+        notes: notes_value(alloc, step, consequence)?,
         operation: operation_value(alloc, spec, step)?,
         shows: shows_value(alloc, spec, step)?,
     })

@@ -1,29 +1,47 @@
 //! The lines under a step, as texts of JSON.
 ghost use Rattle.std.specs.Prelude.{◌≡◌, IfOk};
 ghost use Rattle.serde_json.specs.View.{view};
-ghost use Rattle.step_words.specs.Json.{effect_note, end_note, notes_data, obstacle_note};
+ghost use Rattle.step_words.specs.Json.{decision_note, effect_note, end_note, notes_data, obstacle_note};
 
-use crate::step::{Consequence, write_effect_words, write_outcome, write_unreadable_words};
+use crate::step::{
+    Consequence, write_decision_words, write_effect_words, write_outcome, write_unreadable_words,
+};
 use io_text::Text;
 use json_lines::text_value;
+use room_steps::AtomicStep;
 use serde_json::{Value, json};
 use simulator::Goal;
 use std::alloc::{AllocError, Global};
 use ws_history::{Effect, Unreadable};
 
-/// What takes effect, how the turn for this process ended, and why the agreement that it asked about can't be read.
+/// What takes effect, what the simulator decides, how the turn ended, and why the agreement that it asked about can't be read.
 pub(crate) fn notes_value(
     alloc: Global,
-    process: usize,
-    end: Option<Goal>,
+    step: &AtomicStep,
     consequence: Consequence,
 ) -> Result<Value, AllocError>
-    ensures { IfOk result (λ value. view value ≡ notes_data process end consequence) }
+    ensures { IfOk result (λ value. view value ≡ notes_data step.now consequence) }
 {
+    let decision = decision_note(alloc, step.simulator, step.decision)?;
     let effect = effect_note(alloc, consequence.effect)?;
-    let end = end_note(alloc, process, end)?;
+    let end = end_note(alloc, step.process, step.end)?;
     let obstacle = obstacle_note(alloc, consequence.unreadable)?;
-    json!(in alloc; {"effect": effect, "end": end, "obstacle": obstacle})
+    json!(in alloc; {"decision": decision, "effect": effect, "end": end, "obstacle": obstacle})
+}
+
+fn decision_note(
+    alloc: Global,
+    simulator: usize,
+    decision: Option<u32>,
+) -> Result<Value, AllocError>
+    ensures { IfOk result (λ value. view value ≡ decision_note simulator decision) }
+{
+    let Some(decision) = decision else {
+        return Ok(Value::Null);
+    };
+    let mut words = Text::new(alloc);
+    write_decision_words(&mut words, simulator, decision)?;
+    text_value(alloc, words.as_bytes())
 }
 
 fn effect_note(alloc: Global, effect: Option<Effect>) -> Result<Value, AllocError>

@@ -1,6 +1,6 @@
 //! The lines of an atomic step.
 ghost use Rattle.std.specs.Prelude.{◌≡◌, ◌++◌, OnOk, codes, decimal};
-ghost use Rattle.step_words.specs.Lines.{IsStepIn, choice_text, effect_line, effect_text, end_text, here_text, number_width, obstacle_text, operation_width, outcome_text, step_lines, turn_name, turn_text, turn_width, unreadable_line, unreadable_text};
+ghost use Rattle.step_words.specs.Lines.{IsStepIn, choice_text, decision_line, decision_text, effect_line, effect_text, end_text, here_text, notes_lines, number_width, obstacle_text, operation_width, outcome_text, step_lines, turn_name, turn_text, turn_width, unreadable_line, unreadable_text};
 ghost use Rattle.step_words.specs.Names.{operation_text};
 ghost use Rattle.step_words.specs.Pieces.{behind, between, padded};
 
@@ -36,8 +36,8 @@ const OPERATION_WIDTH: usize = 36;
 
 /// Writes the line of an atomic step of a room, after four spaces: its number, which the caller counts; its turn, if this
 /// is the first step of the turn that is described (`same_turn` is false); its operation; and what its word shows. A second line says
-/// what takes effect at the step, if something does; if the step ends its turn, the next one says how the turn ended, and after a quiet turn a last one
-/// says why the agreement can't be read.
+/// what takes effect at the step, if something does; if its simulator decides by it, the next one says so; if the step ends its turn, another one says
+/// how the turn ended, and after a quiet turn a last one says why the agreement can't be read.
 ///
 /// # Errors
 ///
@@ -62,16 +62,17 @@ pub fn write_step(
     write_notes(output, step, consequence)
 }
 
-/// Writes what takes effect at the step, if something does, how the turn ended, if it has ended, and why an agreement can't be read.
+/// Writes what takes effect at the step and what its simulator decides, if something does and it decides, how the turn ended, if it has ended, and why an
+/// agreement can't be read.
 fn write_notes(
     output: &mut Text,
     step: &AtomicStep,
     consequence: Consequence,
 ) -> Result<(), AllocError>
-    ensures { OnOk result (output.new ≡ output.old ++
-        (effect_line consequence.effect ++ (end_text step.now.process step.now.end ++ unreadable_line consequence.unreadable))) }
+    ensures { OnOk result (output.new ≡ output.old ++ notes_lines step.now consequence) }
 {
     write_effect(output, consequence.effect)?;
+    write_decision(output, step.simulator, step.decision)?;
     write_end(output, step.process, step.end)?;
     write_unreadable(output, consequence.unreadable)
 }
@@ -112,6 +113,33 @@ fn write_snapshot(output: &mut Text, process: usize) -> Result<(), AllocError>
 {
     output.put(b"here, if proposed and chosen:")?;
     write_number(output, b" the snapshot of process", process as u64)
+}
+
+/// Writes what the simulator decides by the step, if it does.
+fn write_decision(
+    output: &mut Text,
+    simulator: usize,
+    decision: Option<u32>,
+) -> Result<(), AllocError>
+    ensures { OnOk result (output.new ≡ output.old ++ decision_line simulator decision) }
+{
+    let Some(decision) = decision else {
+        return Ok(());
+    };
+    output.put(b"         ")?;
+    write_decision_words(output, simulator, decision)?;
+    output.put(b"\n")
+}
+
+pub(crate) fn write_decision_words(
+    output: &mut Text,
+    simulator: usize,
+    decision: u32,
+) -> Result<(), AllocError>
+    ensures { OnOk result (output.new ≡ output.old ++ decision_text simulator decision) }
+{
+    write_number(output, b"simulator", simulator as u64)?;
+    write_number(output, b" decides", u64::from(decision))
 }
 
 fn write_step_number(output: &mut Text, number: u64) -> Result<(), AllocError>

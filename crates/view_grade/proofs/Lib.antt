@@ -1,2 +1,3 @@
 mod Claims
+mod Following
 mod Texts

@@ -4,7 +4,7 @@ use Rattle.std.specs.Str.{bytes_eq}
 use Rattle.room_spec.specs.Texts.{fields_of}
 use Rattle.script_play.specs.Script.{number_within}
 use Rattle.view_grade.specs.declared.goal.Fact.{Fact}
-use Rattle.view_grade.specs.declared.goal.Fact.TheVariants.{Decided, Spent, Held, Going, Crashed, History}
+use Rattle.view_grade.specs.declared.goal.Fact.TheVariants.{Decided, Spent, Held, Going, Crashed, SimulatorDecided, History}
 use Rattle.view_grade.specs.declared.goal.Joint.{Joint}
 use Rattle.view_grade.specs.declared.goal.Joint.TheVariants.{And, Or}
 use Rattle.view_grade.specs.declared.goal.Claim.{Claim}
@@ -23,6 +23,7 @@ fact_words (Spent process) = codes "spent" ∷ decimal process ∷ []
 fact_words (Held process) = codes "held" ∷ decimal process ∷ []
 fact_words (Going process) = codes "going" ∷ decimal process ∷ []
 fact_words (Crashed simulator) = codes "crashed" ∷ decimal simulator ∷ []
+fact_words (SimulatorDecided simulator value) = codes "simulator" ∷ decimal simulator ∷ codes "decided" ∷ decimal value ∷ []
 fact_words (History events) = codes "history" ∷ decimal events ∷ []
 
 abbrev pub claim_words : Claim → List (List ℕ)
@@ -44,10 +45,22 @@ abbrev pub decided_fact : Option ℕ → List (List ℕ) → Option (Fact × Lis
 decided_fact process [] = None
 decided_fact process (value ∷ rest) = decided_value process (number_within 0 4294967295 value) rest
 
+abbrev pub simulator_value : Option ℕ → Option ℕ → List (List ℕ) → Option (Fact × List (List ℕ))
+simulator_value None value rest = None
+simulator_value (Some simulator) None rest = None
+simulator_value (Some simulator) (Some value) rest = Some (SimulatorDecided simulator value, rest)
+
+-- after `simulator` and its number comes `decided`
+abbrev pub simulator_fact : Option ℕ → List (List ℕ) → Option (Fact × List (List ℕ))
+simulator_fact simulator [] = None
+simulator_fact simulator (word ∷ []) = None
+simulator_fact simulator (word ∷ value ∷ rest) = if bytes_eq word (codes "decided") then simulator_value simulator (number_within 0 4294967295 value) rest else None
+
 -- the fact of this word and number, with the words after it
 abbrev pub fact_of : List ℕ → List ℕ → List (List ℕ) → Option (Fact × List (List ℕ))
 fact_of word number rest =
     if bytes_eq word (codes "decided") then decided_fact (number_within 0 255 number) rest
+    else if bytes_eq word (codes "simulator") then simulator_fact (number_within 0 255 number) rest
     else if bytes_eq word (codes "spent") then about Spent (number_within 0 255 number) rest
     else if bytes_eq word (codes "held") then about Held (number_within 0 255 number) rest
     else if bytes_eq word (codes "going") then about Going (number_within 0 255 number) rest
@@ -100,5 +113,5 @@ goal_in text = goal_from (suc (length text)) 1 Or (fields_of text)
 abbrev pub goal_forms : List ℕ
 goal_forms =
     codes "    a goal is, for example, `held 0 and not decided 1 3 or crashed 0`\n"
-    ++ (codes "    expected in a claim: `decided J V`, `spent J`, `held J`, `going J`, `crashed I` or `history E`, or one of these after `not`\n"
+    ++ (codes "    expected in a claim: `decided J V`, `spent J`, `held J`, `going J`, `crashed I`, `simulator I decided V` or `history E`, or one of these after `not`\n"
     ++ codes "    between two words is one space\n")

@@ -2,9 +2,11 @@
 use Rattle.std.specs.Prelude.{◌≡◌, ℕ, ◌+◌, ◌==◌, Bool, true, false, ◌&&◌, List, [], ◌∷◌, ◌++◌, length, Option, Some, None, Result, Ok, Err, if◌then◌else◌, codes, decimal, min, nat_le}
 use Rattle.std.specs.declared.alloc.AllocError.{AllocError}
 use Rattle.std.specs.List.{flat_map, fold, list_any}
-use Rattle.ws_history.specs.declared.states.Report.{Report as ReportData}
 use Rattle.ws_history.specs.declared.states.ProcessState.{ProcessState}
 use Rattle.ws_history.specs.declared.states.ProcessState.TheVariants as states
+use Rattle.room_core.specs.Calls.{RoomState, decisions_of}
+use Rattle.service_core.specs.Replies.{name_in}
+use Rattle.service_core.specs.Rooms.{Applies, Entries, room_at}
 use Rattle.service_core.specs.declared.command.Command.{Command}
 use Rattle.service_core.specs.declared.command.Command.TheVariants as commands
 use Rattle.service_core.specs.declared.reply.Reply.{Reply}
@@ -13,28 +15,40 @@ use Rattle.room_files.specs.Verdicts.{outcome_if}
 use Rattle.room_files.specs.declared.outcome.Outcome.{Outcome}
 use Rattle.script_play.specs.Play.{AreDone, AreReplies, Done, Faulty, Replied, Unread, commands_of, ending_of, replies_in}
 use Rattle.script_play.specs.Script.{Entry as Asked, script_says}
-use Rattle.view_grade.specs.Judging.{holds, satisfies, state_of}
+use Rattle.view_grade.specs.Judging.{ReportedParts, decision_of, holds, satisfies, state_of}
 use Rattle.view_grade.specs.declared.goal.Fact.{Fact}
-use Rattle.view_grade.specs.declared.goal.Fact.TheVariants.{Decided, Spent, Held, Going, Crashed, History}
+use Rattle.view_grade.specs.declared.goal.Fact.TheVariants.{Decided, Spent, Held, Going, Crashed, SimulatorDecided, History}
 use Rattle.view_grade.specs.declared.goal.Claim.{Claim}
 use Rattle.view_grade.specs.declared.goal.GoalFault.{GoalFault}
 use Rattle.view_grade.specs.declared.goal.GoalFault.TheVariants.{NoClaim, NoJoint}
 
--- ---- the final report, and the moves
+-- ---- the last report, and the moves
+
+-- what the simulators of a room have decided, if there is one
+abbrev pub decisions_at : Option RoomState → List (Option ℕ)
+decisions_at None = []
+decisions_at (Some room) = decisions_of room
 
 -- a report takes the place of those before it
-abbrev pub report_in : Option ReportData → Reply → Option ReportData
-report_in last (Report report) = Some report
-report_in last reply = last
+abbrev pub reported_in : List (Option ℕ) → Option ReportedParts → Reply → Option ReportedParts
+reported_in decisions last (Report report) = Some (record { report = report; decisions = decisions })
+reported_in decisions last reply = last
 
-abbrev pub report_with : Option ReportData → Done → Option ReportData
-report_with last (Replied command reply) = report_in last reply
-report_with last (Faulty line fault) = last
-report_with last (Unread line) = last
+-- with what the simulators of its room had decided then
+abbrev pub reported_with : Entries → Option ReportedParts → Done → Option ReportedParts
+reported_with rooms last (Replied command reply) = reported_in (decisions_at (room_at rooms (name_in command))) last reply
+reported_with rooms last (Faulty line fault) = last
+reported_with rooms last (Unread line) = last
 
--- the last report that was given
-abbrev pub last_report : List Done → Option ReportData
-last_report all = fold report_with None all
+abbrev pub IsDoneTo : Entries → Done → Entries → Type 0
+IsDoneTo rooms (Replied command reply) after = Applies rooms command reply after
+IsDoneTo rooms (Faulty line fault) after = after ≡ rooms
+IsDoneTo rooms (Unread line) after = after ≡ rooms
+
+-- All of this was done to these rooms, of which this was the last report. It led to those rooms, and to that report.
+abbrev pub LeadsTo : Entries → Option ReportedParts → List Done → Entries → Option ReportedParts → Type 0
+LeadsTo rooms last [] after end = (rooms ≡ after) × (last ≡ end)
+LeadsTo rooms last (done ∷ rest) after end = (next : Entries) × IsDoneTo rooms done next × LeadsTo next (reported_with rooms last done) rest after end
 
 -- a command `step` or `crash`
 abbrev pub is_move : Command → Bool
@@ -70,6 +84,7 @@ fact_text (Spent process) = and_number (codes "spent") process
 fact_text (Held process) = and_number (codes "held") process
 fact_text (Going process) = and_number (codes "going") process
 fact_text (Crashed simulator) = and_number (codes "crashed") simulator
+fact_text (SimulatorDecided simulator value) = and_number (codes "simulator") simulator ++ and_number (codes " decided") value
 fact_text (History events) = and_number (codes "history") events
 
 abbrev pub claim_text : Claim → List ℕ
@@ -92,22 +107,28 @@ crash_end crashed = if crashed then codes " has crashed" else codes " has not cr
 abbrev pub crash_text : ℕ → Bool → List ℕ
 crash_text simulator crashed = and_number (codes "simulator") simulator ++ crash_end crashed
 
--- what a report shows that decides a fact
-abbrev pub shown_text : ReportData → Fact → List ℕ
-shown_text report (Decided process value) = process_text process (state_of report process)
-shown_text report (Spent process) = process_text process (state_of report process)
-shown_text report (Held process) = process_text process (state_of report process)
-shown_text report (Going process) = process_text process (state_of report process)
-shown_text report (Crashed simulator) = crash_text simulator (list_any (λ crashed. crashed == simulator) report.crashed.items)
-shown_text report (History events) = and_number (codes "the number of events is") (length report.history)
+abbrev pub decision_shown : ℕ → Option (Option ℕ) → List ℕ
+decision_shown simulator None = and_number (codes "the room has no simulator") simulator
+decision_shown simulator (Some None) = and_number (codes "simulator") simulator ++ codes " has not decided"
+decision_shown simulator (Some (Some decision)) = and_number (codes "simulator") simulator ++ and_number (codes " has decided") decision
 
-abbrev pub claim_line : ReportData → Claim → List ℕ
-claim_line report claim = claim_text claim ++ (if holds report claim then codes ": yes\n" else codes ": no, " ++ (shown_text report claim.fact ++ codes "\n"))
+-- what a report shows that decides a fact
+abbrev pub shown_text : ReportedParts → Fact → List ℕ
+shown_text reported (Decided process value) = process_text process (state_of reported.report process)
+shown_text reported (Spent process) = process_text process (state_of reported.report process)
+shown_text reported (Held process) = process_text process (state_of reported.report process)
+shown_text reported (Going process) = process_text process (state_of reported.report process)
+shown_text reported (Crashed simulator) = crash_text simulator (list_any (λ crashed. crashed == simulator) reported.report.crashed.items)
+shown_text reported (SimulatorDecided simulator value) = decision_shown simulator (decision_of reported simulator)
+shown_text reported (History events) = and_number (codes "the number of events is") (length reported.report.history)
+
+abbrev pub claim_line : ReportedParts → Claim → List ℕ
+claim_line reported claim = claim_text claim ++ (if holds reported claim then codes ": yes\n" else codes ": no, " ++ (shown_text reported claim.fact ++ codes "\n"))
 
 -- whether each claim holds; there may be no report
-abbrev pub claim_lines : Option ReportData → List Claim → List ℕ
+abbrev pub claim_lines : Option ReportedParts → List Claim → List ℕ
 claim_lines None claims = codes "there is no report: a script is graded by its last `report NAME`\n"
-claim_lines (Some report) claims = flat_map (claim_line report) claims
+claim_lines (Some reported) claims = flat_map (claim_line reported) claims
 
 -- whether there are at most this many moves, if a number is given
 abbrev pub are_few : Option ℕ → ℕ → Bool
@@ -124,19 +145,19 @@ abbrev pub few_line : Option ℕ → ℕ → List ℕ
 few_line None moves = []
 few_line (Some most) moves = and_number (codes "commands") most ++ few_end most moves
 
-abbrev pub is_satisfied : Option ReportData → List Claim → Bool
+abbrev pub is_satisfied : Option ReportedParts → List Claim → Bool
 is_satisfied None claims = false
-is_satisfied (Some report) claims = satisfies report claims
+is_satisfied (Some reported) claims = satisfies reported claims
 
--- the final report satisfies the goal, and there are not too many moves
-abbrev pub is_reached : List Claim → Option ℕ → Option ReportData → ℕ → Bool
-is_reached claims most report moves = is_satisfied report claims && are_few most moves
+-- the last report satisfies the goal, and there are not too many moves
+abbrev pub is_reached : List Claim → Option ℕ → Option ReportedParts → ℕ → Bool
+is_reached claims most last moves = is_satisfied last claims && are_few most moves
 
 abbrev pub end_line : Bool → List ℕ
 end_line reached = if reached then codes "reached\n" else codes "not reached\n"
 
-abbrev pub grade_text : List Claim → Option ℕ → Option ReportData → ℕ → List ℕ
-grade_text claims most report moves = claim_lines report claims ++ (few_line most moves ++ end_line (is_reached claims most report moves))
+abbrev pub grade_text : List Claim → Option ℕ → Option ReportedParts → ℕ → List ℕ
+grade_text claims most last moves = claim_lines last claims ++ (few_line most moves ++ end_line (is_reached claims most last moves))
 
 -- ---- a whole script
 
@@ -145,15 +166,19 @@ abbrev pub graded_ending : Result Outcome AllocError → Bool → Result Outcome
 graded_ending (Ok outcome) reached = Ok (outcome_if reached)
 graded_ending (Err failed) reached = Err failed
 
--- What is said of a script: the replies to its commands are those of `bgsim play`, and the last report among them is judged.
+-- What is said of a script: the replies to its commands are those of `bgsim play`, and the last report among them is judged, with what the simulators
+-- of its room had decided then.
 pub record IsGraded (claims : List Claim) (most : Option ℕ) (input : List ℕ) (ending : Result Outcome AllocError) (output : List ℕ) : Type 0 where
   pub entries : List Asked
   pub asked : script_says input ≡ Ok entries
   pub all : List Done
   pub each_entry : AreDone entries all
   pub replies : AreReplies (commands_of all) (replies_in all)
-  pub output_is : output ≡ grade_text claims most (last_report all) (moves_in all)
-  pub ending_is : ending ≡ graded_ending (ending_of all) (is_reached claims most (last_report all) (moves_in all))
+  pub rooms : Entries
+  pub last : Option ReportedParts
+  pub leads : LeadsTo [] None all rooms last
+  pub output_is : output ≡ grade_text claims most last (moves_in all)
+  pub ending_is : ending ≡ graded_ending (ending_of all) (is_reached claims most last (moves_in all))
 
 -- ---- a goal that is not valid
 
@@ -163,7 +188,7 @@ fault_text (NoJoint number) = codes "claim " ++ (decimal number ++ codes " of th
 
 -- ---- inside the crate
 
--- the last report of all that was done, and the moves among it
-pub record HasKept (report : Option ReportData) (moves : ℕ) (all : List Done) : Type 0 where
-  pub report_is : report ≡ last_report all
+-- the rooms and the last report to which all that was done leads, and the moves among it
+pub record HasKept (rooms : Entries) (last : Option ReportedParts) (moves : ℕ) (all : List Done) : Type 0 where
+  pub leads : LeadsTo [] None all rooms last
   pub moves_are : moves ≡ moves_in all

@@ -1,14 +1,19 @@
 -- Whether a report satisfies a goal.
-use Rattle.std.specs.Prelude.{ℕ, ◌==◌, Bool, true, false, not, ◌&&◌, ◌||◌, List, length, Option, Some, if◌then◌else◌, slice_get}
+use Rattle.std.specs.Prelude.{ℕ, ◌==◌, Bool, true, false, not, ◌&&◌, ◌||◌, List, length, Option, Some, None, if◌then◌else◌, slice_get}
 use Rattle.std.specs.List.{fold, list_any}
 use Rattle.ws_history.specs.declared.states.Report.{Report}
 use Rattle.ws_history.specs.declared.states.ProcessState.{ProcessState}
 use Rattle.ws_history.specs.declared.states.ProcessState.TheVariants as states
 use Rattle.view_grade.specs.declared.goal.Fact.{Fact}
-use Rattle.view_grade.specs.declared.goal.Fact.TheVariants.{Decided, Spent, Held, Going, Crashed, History}
+use Rattle.view_grade.specs.declared.goal.Fact.TheVariants.{Decided, Spent, Held, Going, Crashed, SimulatorDecided, History}
 use Rattle.view_grade.specs.declared.goal.Joint.{Joint}
 use Rattle.view_grade.specs.declared.goal.Joint.TheVariants.{And, Or}
 use Rattle.view_grade.specs.declared.goal.Claim.{Claim}
+
+-- a report, and what each simulator of its room had decided when it was made, by their numbers
+pub record ReportedParts : Type 0 where
+  pub report : Report
+  pub decisions : List (Option ℕ)
 
 abbrev pub state_of : Report → ℕ → Option ProcessState
 state_of report process = slice_get report.states.items process
@@ -29,16 +34,26 @@ abbrev pub is_going : Option ProcessState → Bool
 is_going (Some states.Going) = true
 is_going state = false
 
-abbrev pub is_fact : Report → Fact → Bool
-is_fact report (Decided process value) = has_decided value (state_of report process)
-is_fact report (Spent process) = is_spent (state_of report process)
-is_fact report (Held process) = is_held (state_of report process)
-is_fact report (Going process) = is_going (state_of report process)
-is_fact report (Crashed simulator) = list_any (λ crashed. crashed == simulator) report.crashed.items
-is_fact report (History events) = length report.history == events
+-- what a simulator had decided, if there is such a simulator
+abbrev pub decision_of : ReportedParts → ℕ → Option (Option ℕ)
+decision_of reported simulator = slice_get reported.decisions simulator
 
-abbrev pub holds : Report → Claim → Bool
-holds report claim = if claim.negated then not (is_fact report claim.fact) else is_fact report claim.fact
+abbrev pub is_decision : ℕ → Option (Option ℕ) → Bool
+is_decision value (Some (Some decision)) = decision == value
+is_decision value (Some None) = false
+is_decision value None = false
+
+abbrev pub is_fact : ReportedParts → Fact → Bool
+is_fact reported (Decided process value) = has_decided value (state_of reported.report process)
+is_fact reported (Spent process) = is_spent (state_of reported.report process)
+is_fact reported (Held process) = is_held (state_of reported.report process)
+is_fact reported (Going process) = is_going (state_of reported.report process)
+is_fact reported (Crashed simulator) = list_any (λ crashed. crashed == simulator) reported.report.crashed.items
+is_fact reported (SimulatorDecided simulator value) = is_decision value (decision_of reported simulator)
+is_fact reported (History events) = length reported.report.history == events
+
+abbrev pub holds : ReportedParts → Claim → Bool
+holds reported claim = if claim.negated then not (is_fact reported claim.fact) else is_fact reported claim.fact
 
 -- ---- claims joined by `and` and `or`, of which `and` binds more strongly
 
@@ -51,12 +66,12 @@ abbrev pub joined_by : Joint → Joined → Bool → Joined
 joined_by And joined claim = record { earlier = joined.earlier; last = joined.last && claim }
 joined_by Or joined claim = record { earlier = joined.earlier || joined.last; last = claim }
 
-abbrev pub joined_with : Report → Joined → Claim → Joined
-joined_with report joined claim = joined_by claim.joint joined (holds report claim)
+abbrev pub joined_with : ReportedParts → Joined → Claim → Joined
+joined_with reported joined claim = joined_by claim.joint joined (holds reported claim)
 
-abbrev pub joined : Report → List Claim → Joined
-joined report claims = fold (joined_with report) (record { earlier = false; last = false }) claims
+abbrev pub joined : ReportedParts → List Claim → Joined
+joined reported claims = fold (joined_with reported) (record { earlier = false; last = false }) claims
 
 -- all claims of some alternative hold
-abbrev pub satisfies : Report → List Claim → Bool
-satisfies report claims = (joined report claims).earlier || (joined report claims).last
+abbrev pub satisfies : ReportedParts → List Claim → Bool
+satisfies reported claims = (joined reported claims).earlier || (joined reported claims).last

@@ -19,6 +19,8 @@ pub enum Fact {
     Going(u8),
     /// `crashed I`: simulator I has crashed.
     Crashed(u8),
+    /// `simulator I decided V`: simulator I has decided V.
+    SimulatorDecided { simulator: u8, value: u32 },
     /// `history E`: the history has E events.
     History(u32),
 }

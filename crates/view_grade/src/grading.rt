@@ -8,12 +8,12 @@ ghost use Rattle.view_grade.specs.Grades.{IsGraded, are_few, grade_text, graded_
 use crate::goal::Goal;
 use crate::grader::Grader;
 use crate::judging::satisfies;
+use crate::reported::Reported;
 use crate::text::{write_claims, write_end, write_few};
 use io_text::Text;
 use room_files::{InputFault, Outcome, outcome_if};
 use script_play::{PlayText, Played, play_script};
 use std::alloc::{AllocError, Global};
-use ws_history::Report;
 
 /// Plays a script, and says of each claim of a goal whether the script's last report satisfies it, and whether the script has at most
 /// `most` commands `step` and `crash`, if a number is given. All is well if the goal is reached.
@@ -33,9 +33,9 @@ pub fn grade(
     ensures err { IfErr result (IsFaultOr (IsOk (script_says script.now)) (script_says script.now)) }
 {
     let Played { performer, ending } = play_script(alloc, Grader::new(alloc), script)?;
-    let Grader { report, moves, .. } = performer;
-    let output = text_of(alloc, goal, most, &report, moves)?;
-    let ending = graded_ending(ending, is_reached(goal, most, &report, moves));
+    let Grader { last, moves, .. } = performer;
+    let output = text_of(alloc, goal, most, &last, moves)?;
+    let ending = graded_ending(ending, is_reached(goal, most, &last, moves));
     Ok(PlayText { output, ending })
 }
 
@@ -44,30 +44,30 @@ fn text_of(
     alloc: Global,
     goal: &Goal,
     most: Option<u32>,
-    report: &Option<Report>,
+    last: &Option<Reported>,
     moves: u64,
 ) -> Result<Text, AllocError>
-    ensures { IfOk result (λ text. text ≡ grade_text goal.now most report.now moves) }
+    ensures { IfOk result (λ text. text ≡ grade_text goal.now most last.now moves) }
 {
     let mut output = Text::new(alloc);
-    write_claims(&mut output, report, goal.claims())?;
+    write_claims(&mut output, last, goal.claims())?;
     write_few(&mut output, most, moves)?;
-    write_end(&mut output, is_reached(goal, most, report, moves))?;
+    write_end(&mut output, is_reached(goal, most, last, moves))?;
     Ok(output)
 }
 
 /// Whether the report satisfies the goal, and there are not too many moves.
-fn is_reached(goal: &Goal, most: Option<u32>, report: &Option<Report>, moves: u64) -> bool
-    ensures { result ≡ is_reached goal.now most report.now moves }
+fn is_reached(goal: &Goal, most: Option<u32>, last: &Option<Reported>, moves: u64) -> bool
+    ensures { result ≡ is_reached goal.now most last.now moves }
 {
-    is_satisfied(goal, report) && are_few(most, moves)
+    is_satisfied(goal, last) && are_few(most, moves)
 }
 
-fn is_satisfied(goal: &Goal, report: &Option<Report>) -> bool
-    ensures { result ≡ is_satisfied report.now goal.now }
+fn is_satisfied(goal: &Goal, last: &Option<Reported>) -> bool
+    ensures { result ≡ is_satisfied last.now goal.now }
 {
-    match report {
-        Some(report) => satisfies(report, goal.claims()),
+    match last {
+        Some(reported) => satisfies(reported, goal.claims()),
         None => false,
     }
 }

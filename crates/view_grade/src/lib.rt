@@ -7,6 +7,7 @@ mod grader;
 mod grading;
 mod judging;
 mod reading;
+mod reported;
 mod text;
 
 pub use forms::goal_forms;

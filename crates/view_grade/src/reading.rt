@@ -4,7 +4,7 @@ ghost use Rattle.std.specs.Option.{option_copied};
 ghost use Rattle.std.specs.Str.{bytes_eq};
 ghost use Rattle.room_spec.specs.Texts.{fields_of, is_space, pieces_of};
 ghost use Rattle.script_play.specs.Script.{number_within};
-ghost use Rattle.view_grade.specs.Goals.{claim_in, claim_with, decided_fact, fact_in, fact_of, goal_in, joint_of};
+ghost use Rattle.view_grade.specs.Goals.{claim_in, claim_with, decided_fact, fact_in, fact_of, goal_in, joint_of, simulator_fact};
 
 use crate::goal::{Claim, Fact, Goal, GoalFault, Joint};
 use protocol_lang::read_number;
@@ -84,6 +84,9 @@ fn read_fact(text: &[u8]) -> Option<(Fact, Option<&[u8]>)>
     if word == b"decided".as_slice() {
         return decided_fact(number, later?);
     }
+    if word == b"simulator".as_slice() {
+        return simulator_fact(number, later?);
+    }
     let fact = fact_of(word, number)?;
     Some((fact, later))
 }
@@ -99,9 +102,24 @@ fn decided_fact<'a>(process: &[u8], text: &'a [u8]) -> Option<(Fact, Option<&'a 
     Some((Fact::Decided { process, value }, rest))
 }
 
+/// The fact that the simulator of this number has decided the value with which a text begins after the word `decided`, and the text after the next space.
+fn simulator_fact<'a>(simulator: &[u8], text: &'a [u8]) -> Option<(Fact, Option<&'a [u8]>)>
+    ensures fact { option_map (λ read. (read.0, pieces_of is_space (option_copied read.1))) result ≡ simulator_fact (number_within 0 255 simulator.now) (fields_of text.now) }
+    ensures shorter { IfSome result (λ read. IfSome read.1 (λ rest. length rest.now < length text.now)) }
+{
+    let (word, rest) = cut(text, b' ');
+    if word != b"decided".as_slice() {
+        return None;
+    }
+    let (value, later) = cut(rest?, b' ');
+    let simulator = read_within(255, simulator)? as u8;
+    let value = read_within(u32::MAX, value)?;
+    Some((Fact::SimulatorDecided { simulator, value }, later))
+}
+
 /// The fact of this word about one number.
 fn fact_of(word: &[u8], number: &[u8]) -> Option<Fact>
-    ensures { (rest : List (List ℕ)) → bytes_eq word.now (codes "decided") ≡ false → option_map (λ fact. (fact, rest)) result ≡ fact_of word.now number.now rest }
+    ensures { (rest : List (List ℕ)) → bytes_eq word.now (codes "decided") ≡ false → bytes_eq word.now (codes "simulator") ≡ false → option_map (λ fact. (fact, rest)) result ≡ fact_of word.now number.now rest }
 {
     if word == b"spent".as_slice() {
         Some(Fact::Spent(read_within(255, number)? as u8))

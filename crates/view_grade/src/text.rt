@@ -1,48 +1,49 @@
 //! What is said of a report and a goal, line by line.
 ghost use Rattle.std.specs.Prelude.{◌≡◌, ◌++◌, OnOk};
 ghost use Rattle.std.specs.List.{flat_map};
-ghost use Rattle.view_grade.specs.Grades.{and_number, claim_line, claim_lines, claim_text, crash_end, crash_text, end_line, fact_text, few_end, few_line, many_text, process_text, shown_text, state_text};
+ghost use Rattle.view_grade.specs.Grades.{and_number, claim_line, claim_lines, claim_text, crash_end, crash_text, decision_shown, end_line, fact_text, few_end, few_line, many_text, process_text, shown_text, state_text};
 
 use crate::goal::{Claim, Fact};
-use crate::judging::{has_crashed, holds, state_of};
+use crate::judging::{decision_of, has_crashed, holds, state_of};
+use crate::reported::Reported;
 use io_text::Text;
 use std::alloc::AllocError;
-use ws_history::{ProcessState, Report};
+use ws_history::ProcessState;
 
 /// Writes a line for each claim: whether it holds, and if not, what the report shows.
 pub(crate) fn write_claims(
     output: &mut Text,
-    report: &Option<Report>,
+    last: &Option<Reported>,
     claims: &[Claim],
 ) -> Result<(), AllocError>
-    ensures { OnOk result (output.new ≡ output.old ++ claim_lines report.now claims.now) }
+    ensures { OnOk result (output.new ≡ output.old ++ claim_lines last.now claims.now) }
 {
-    match report {
+    match last {
         None => {
             output.put(b"there is no report: a script is graded by its last `report NAME`\n")
         }
-        Some(report) => write_each(output, report, claims),
+        Some(reported) => write_each(output, reported, claims),
     }
 }
 
-fn write_each(output: &mut Text, report: &Report, claims: &[Claim]) -> Result<(), AllocError>
-    ensures { OnOk result (output.new ≡ output.old ++ flat_map (claim_line report.now) claims.now) }
+fn write_each(output: &mut Text, reported: &Reported, claims: &[Claim]) -> Result<(), AllocError>
+    ensures { OnOk result (output.new ≡ output.old ++ flat_map (claim_line reported.now) claims.now) }
 {
     for claim in claims {
-        write_claim(output, report, *claim)?;
+        write_claim(output, reported, *claim)?;
     }
     Ok(())
 }
 
-fn write_claim(output: &mut Text, report: &Report, claim: Claim) -> Result<(), AllocError>
-    ensures { OnOk result (output.new ≡ output.old ++ claim_line report.now claim) }
+fn write_claim(output: &mut Text, reported: &Reported, claim: Claim) -> Result<(), AllocError>
+    ensures { OnOk result (output.new ≡ output.old ++ claim_line reported.now claim) }
 {
     write_words(output, claim)?;
-    if holds(report, claim) {
+    if holds(reported, claim) {
         return output.put(b": yes\n");
     }
     output.put(b": no, ")?;
-    write_shown(output, report, claim.fact)?;
+    write_shown(output, reported, claim.fact)?;
     output.put(b"\n")
 }
 
@@ -68,14 +69,19 @@ fn write_fact(output: &mut Text, fact: Fact) -> Result<(), AllocError>
         Fact::Held(process) => put_and(output, b"held", u64::from(process)),
         Fact::Going(process) => put_and(output, b"going", u64::from(process)),
         Fact::Crashed(simulator) => put_and(output, b"crashed", u64::from(simulator)),
+        Fact::SimulatorDecided { simulator, value } => {
+            put_and(output, b"simulator", u64::from(simulator))?;
+            put_and(output, b" decided", u64::from(value))
+        }
         Fact::History(events) => put_and(output, b"history", u64::from(events)),
     }
 }
 
 /// Writes what a report shows that decides a fact.
-fn write_shown(output: &mut Text, report: &Report, fact: Fact) -> Result<(), AllocError>
-    ensures { OnOk result (output.new ≡ output.old ++ shown_text report.now fact) }
+fn write_shown(output: &mut Text, reported: &Reported, fact: Fact) -> Result<(), AllocError>
+    ensures { OnOk result (output.new ≡ output.old ++ shown_text reported.now fact) }
 {
+    let report = &reported.report;
     match fact {
         Fact::Decided { process, .. } => {
             write_process(output, process, state_of(report, process))
@@ -85,6 +91,9 @@ fn write_shown(output: &mut Text, report: &Report, fact: Fact) -> Result<(), All
         }
         Fact::Crashed(simulator) => {
             write_crash(output, simulator, has_crashed(report, simulator))
+        }
+        Fact::SimulatorDecided { simulator, .. } => {
+            write_decision(output, simulator, decision_of(reported, simulator))
         }
         Fact::History(_) => put_and(
             output,
@@ -126,6 +135,24 @@ fn write_crash(output: &mut Text, simulator: u8, crashed: bool) -> Result<(), Al
 {
     put_and(output, b"simulator", u64::from(simulator))?;
     output.put(crash_end(crashed))
+}
+
+/// Writes what a simulator had decided.
+fn write_decision(
+    output: &mut Text,
+    simulator: u8,
+    decision: Option<Option<u32>>,
+) -> Result<(), AllocError>
+    ensures { OnOk result (output.new ≡ output.old ++ decision_shown simulator decision) }
+{
+    let Some(decision) = decision else {
+        return put_and(output, b"the room has no simulator", u64::from(simulator));
+    };
+    put_and(output, b"simulator", u64::from(simulator))?;
+    match decision {
+        Some(value) => put_and(output, b" has decided", u64::from(value)),
+        None => output.put(b" has not decided"),
+    }
 }
 
 fn crash_end(crashed: bool) -> &'static [u8]

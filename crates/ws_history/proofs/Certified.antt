@@ -9,11 +9,11 @@ use Rattle.room_core.specs.Agreements.{asks, decided_in, is_clean}
 use Rattle.room_core.specs.Calls.{RoomState}
 use Rattle.room_core.specs.Fields.{Fields}
 use Rattle.room_core.specs.Reading.{AreFieldsOf}
-use Rattle.room_core.specs.Settled.{IsSettledFor}
+use Rattle.room_core.specs.Settled.{IsSettledFor, crashed_in, is_write}
 use Rattle.room_core.proofs.CallerLemmas.{never_spent}
 use Rattle.ws_history.specs.declared.states.ProcessState.{ProcessState}
 use Rattle.ws_history.specs.declared.states.ProcessState.TheVariants.{Spent}
-use Rattle.ws_history.specs.Reports.{crashed_in, held_by, is_decided, is_over, is_spent, is_write, state_by, state_of, states_of}
+use Rattle.ws_history.specs.Reports.{held_by, is_decided, is_over, is_spent, state_by, state_of, states_of}
 use Rattle.ws_history.proofs.Settled.{most_are_over}
 
 unspent_by : (b : Bool) (action : Action) → (b ≡ true → (v : ℕ) → action ≡ actions.Write v → ⊥) → (b && is_write action) ≡ false

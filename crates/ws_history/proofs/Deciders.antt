@@ -6,10 +6,10 @@ use Rattle.std.proofs.lemmas.List.FromFn.{length-map-range_with_len, get_or-map-
 use Rattle.room_spec.specs.Rooms.{RoomSpec, IsWithinLimits, processes}
 use Rattle.transcript.specs.declared.event.Event.TheVariants.{Decide}
 use Rattle.room_core.specs.Calls.{RoomState}
-use Rattle.room_core.specs.Fields.{Fields}
+use Rattle.room_core.specs.Fields.{Fields, decision_in}
 use Rattle.room_core.specs.Reading.{AreFieldsOf}
 use Rattle.room_core.specs.Agreements.{outs_at, is_out, has_out, greatest_step, decided_in, is_passed}
-use Rattle.room_core.proofs.CallerLemmas.{fields_known, rooms_agree}
+use Rattle.room_core.proofs.CallerLemmas.{fields_known, process_decided, rooms_agree}
 use Rattle.ws_history.specs.declared.states.ProcessState.TheVariants as states
 use Rattle.ws_history.specs.Histories.{Snapshot}
 use Rattle.ws_history.specs.Orders.{all_passed}
@@ -79,3 +79,10 @@ module _ (room : RoomState) (fields : Fields) (limits : IsWithinLimits room.spec
         λ is. both.1 (to_decided (decided_by (decided_in room.spec fields j) (is_spent room.spec fields j) (held_by room.spec fields j) v is)),
         λ has. ap (λ (out : Option ℕ). state_by out (is_spent room.spec fields j) (held_by room.spec fields j)) (from_decided (both.0 has)),
       )
+
+module _ (room : RoomState) (fields : Fields) (limits : IsWithinLimits room.spec) (are : AreFieldsOf room fields) where
+  -- what a simulator has decided the history says of some process
+  pub decided_by_process : (i v : ℕ) → i < room.spec.simulators → decision_in fields i ≡ Some v → (j : ℕ) × (j < processes room.spec) × Contains (history_of room.spec fields) (Decide j v)
+  decided_by_process i v below is =
+      let at = process_decided room fields limits are i v below is in
+      (at.0, at.1, (decided_there room fields limits are at.0 v at.1).0 (ap (λ (out : Option ℕ). state_by out (is_spent room.spec fields at.0) (held_by room.spec fields at.0)) at.2))

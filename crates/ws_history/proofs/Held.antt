@@ -1,14 +1,11 @@
 -- At most as many processes are held as simulators have crashed.
-use Rattle.std.proofs.Common.{◌≡◌, ◌≢◌, ℕ, zero, suc, ◌+◌, ◌-◌, ◌<◌, ◌≤◌, ◌&&◌, Bool, true, false, not, cond, eqb, is_some, map, List, [], ◌∷◌, length, Contains, Option, Some, None, inl, inr, refl, sym, ap, ◌∙◌, subst, arith}
+use Rattle.std.proofs.Common.{◌≡◌, ◌≢◌, ℕ, zero, suc, ◌+◌, ◌-◌, ◌<◌, ◌≤◌, ◌&&◌, Bool, true, false, not, cond, eqb, is_some, map, List, [], ◌∷◌, length, Contains, Option, Some, None, inl, inr, refl, sym, subst, arith}
 use Rattle.std.specs.Prelude.{◌||◌}
 use Rattle.std.specs.Option.{option_map}
-use Rattle.std.specs.List.{range_with_len, list_any, filter, find, count_by, IsDistinct, AllByRecursion}
-use Rattle.std.proofs.lemmas.Bool.{cases_Bool, and_parts, or_left, or_right, eq-eqb, eqb-true, ne_eqb}
-use Rattle.std.proofs.lemmas.Cmp.{nat_eq_equiv}
-use Rattle.std.proofs.lemmas.List.{length-map}
+use Rattle.std.specs.List.{range_with_len, list_any, filter, find, count_by}
+use Rattle.std.proofs.lemmas.Bool.{cases_Bool, and_parts, eqb-true}
 use Rattle.std.proofs.lemmas.List.Folds.{Any-from_list_any}
 use Rattle.std.proofs.lemmas.List.Sums.{sum_by-cons}
-use Rattle.std.proofs.lemmas.Map.Made.{length-le_from_is_member, is_member-filter}
 use mathlib.Core.Logic.{dite}
 use native.Mathlib.Decide.{ℕ_discrete}
 use Rattle.room_spec.specs.Rooms.{RoomSpec, IsWithinLimits, processes}
@@ -16,39 +13,13 @@ use Rattle.room_core.specs.Calls.{RoomState}
 use Rattle.room_core.specs.Fields.{Fields}
 use Rattle.room_core.specs.Reading.{AreFieldsOf}
 use Rattle.room_core.specs.Agreements.{decided_in, has_out, is_out, outs_at}
-use Rattle.room_core.proofs.CallerLemmas.{fields_stand, one_inside}
+use Rattle.room_core.proofs.CallerLemmas.{fields_stand, no_more_pass, one_inside}
 use Rattle.ws_history.specs.declared.states.ProcessState.TheVariants.{Held}
 use Rattle.ws_history.proofs.Order.{cons_first, cons_rest}
-use Rattle.ws_history.specs.Reports.{is_held, is_inside, is_spent, held_by, held_in, state_by, state_of, states_of, crashed_in}
+use Rattle.room_core.specs.Settled.{crashed_in}
+use Rattle.ws_history.specs.Reports.{is_held, is_inside, is_spent, held_by, held_in, state_by, state_of, states_of}
 
 -- ---- lists
-
-range_apart : (n a b : ℕ) → b < a → AllByRecursion (λ y. eqb b y ≡ false) (range_with_len a n)
-range_apart zero a b less = tt
-range_apart (suc n) a b less = (ne_eqb b a (λ e. omega arith), range_apart n (a + 1) b (omega arith))
-
-range_distinct : (n a : ℕ) → IsDistinct eqb (range_with_len a n)
-unfolding IsDistinct
-range_distinct zero a = tt
-range_distinct (suc n) a = (range_apart n (a + 1) a (omega arith), range_distinct n (a + 1))
-
-apart_kept : (b : Bool) (x y : ℕ) (rest : List ℕ) → eqb x y ≡ false → AllByRecursion (λ z. eqb x z ≡ false) rest → AllByRecursion (λ z. eqb x z ≡ false) (cond b (y ∷ rest) rest)
-apart_kept true x y rest one more = (one, more)
-apart_kept false x y rest one more = more
-
-apart_filter : (p : ℕ → Bool) (x : ℕ) (xs : List ℕ) → AllByRecursion (λ z. eqb x z ≡ false) xs → AllByRecursion (λ z. eqb x z ≡ false) (filter p xs)
-apart_filter p x [] all = tt
-apart_filter p x (y ∷ ys) all = apart_kept (p y) x y (filter p ys) all.0 (apart_filter p x ys all.1)
-
-distinct_kept : (b : Bool) (x : ℕ) (rest : List ℕ) → AllByRecursion (λ z. eqb x z ≡ false) rest → IsDistinct eqb rest → IsDistinct eqb (cond b (x ∷ rest) rest)
-unfolding IsDistinct
-distinct_kept true x rest one more = (one, more)
-distinct_kept false x rest one more = more
-
-distinct_filter : (p : ℕ → Bool) (xs : List ℕ) → IsDistinct eqb xs → IsDistinct eqb (filter p xs)
-unfolding IsDistinct
-distinct_filter p [] all = tt
-distinct_filter p (x ∷ xs) all = distinct_kept (p x) x (filter p xs) (apart_filter p x xs all.0) (distinct_filter p xs all.1)
 
 found_in_range : (p : ℕ → Bool) (a n i : ℕ) → find p (range_with_len a n) ≡ Some i → (a ≤ i) × (i < a + n) × (p i ≡ true)
 found_in_range p a zero i is = absurd cc
@@ -63,21 +34,6 @@ found_in_range p a (suc n) i is = elim (cases_Bool (p a)) [
       let high = more.1 in
       (omega arith, omega arith, more.2)
 ]
-
-kept_or_not : (b : Bool) (q x : ℕ) (f : ℕ → ℕ) (rest : List ℕ) → list_any (eqb q) (map f rest) ≡ true → list_any (eqb q) (map f (cond b (x ∷ rest) rest)) ≡ true
-kept_or_not true q x f rest has = or_right (eqb q (f x)) (list_any (eqb q) (map f rest)) has
-kept_or_not false q x f rest has = has
-
-kept_here : (b : Bool) (q x : ℕ) (f : ℕ → ℕ) (rest : List ℕ) → b ≡ true → eqb q (f x) ≡ true → list_any (eqb q) (map f (cond b (x ∷ rest) rest)) ≡ true
-kept_here true q x f rest yes_it is = or_left (eqb q (f x)) (list_any (eqb q) (map f rest)) is
-kept_here false q x f rest yes_it is = absurd cc
-
--- the image of a number of the range that passes
-image_has : (p : ℕ → Bool) (f : ℕ → ℕ) (a n i q : ℕ) → a ≤ i → i < a + n → p i ≡ true → eqb q (f i) ≡ true → list_any (eqb q) (map f (filter p (range_with_len a n))) ≡ true
-image_has p f a zero i q low high passes is = absurd (omega arith)
-image_has p f a (suc n) i q low high passes is = dite (ℕ_discrete i a)
-    (λ (e : i ≡ a). kept_here (p a) q a f (filter p (range_with_len (a + 1) n)) (subst (λ (x : ℕ). p x ≡ true) e passes) (subst (λ (x : ℕ). eqb q (f x) ≡ true) e is))
-    (λ other. kept_or_not (p a) q a f (filter p (range_with_len (a + 1) n)) (image_has p f (a + 1) n i q (omega (arith, other)) (omega arith) passes is))
 
 length_of_kept : (b : Bool) (x : ℕ) (rest : List ℕ) → length (cond b (x ∷ rest) rest) ≡ cond b 1 0 + length rest
 length_of_kept true x rest = omega arith
@@ -146,26 +102,19 @@ module _ (room : RoomState) (fields : Fields) (limits : IsWithinLimits room.spec
   sweep_of i = (fields.mind i).process
 
   -- whoever has crashed inside an agreement of a process works on it
-  held_at : (j i : ℕ) → held_by room.spec fields j ≡ Some i → list_any (eqb j) (map sweep_of (crashed_in room.spec fields)) ≡ true
+  held_at : (j i : ℕ) → held_by room.spec fields j ≡ Some i → (i < room.spec.simulators) × (fields.crashed i ≡ true) × (sweep_of i ≡ j)
   held_at j i is =
       let at = found_in_range (λ a. fields.crashed a && is_inside room.spec fields a j) 0 room.spec.simulators i is in
       let parts = and_parts (fields.crashed i) (is_inside room.spec fields i j) at.2 in
       let some = Any-from_list_any (λ k. eqb (fields.level i j k) 1) (range_with_len 1 room.spec.rounds) parts.1 in
       let one : fields.level i j some.1 ≡ 1 = eqb-true _ _ some.4 in
-      let turn = one_inside room.spec fields (fields_stand room fields limits are).tracks i j some.1 one in
-      image_has fields.crashed sweep_of 0 room.spec.simulators i j (omega arith) at.1 parts.0 (eq-eqb j (sweep_of i) (sym turn.process))
+      let low = at.1 in
+      (omega (arith, low), parts.0, (one_inside room.spec fields (fields_stand room fields limits are).tracks i j some.1 one).process)
 
   -- processes on each of which one that has crashed works
   few : (p : ℕ → Bool) → ((j : ℕ) → p j ≡ true → (i : ℕ) × (held_by room.spec fields j ≡ Some i)) → length (filter p (range_with_len 0 (processes room.spec))) ≤ length (crashed_in room.spec fields)
-  few p each =
-      let all = range_with_len 0 (processes room.spec) in
-      let most : length (filter p all) ≤ length (map sweep_of (crashed_in room.spec fields)) = length-le_from_is_member nat_eq_equiv (filter p all) (map sweep_of (crashed_in room.spec fields)) (distinct_filter p all (range_distinct (processes room.spec) 0))
-      (λ j has.
-      let both = sym (is_member-filter nat_eq_equiv p j (λ x is. ap p (eqb-true j x is)) all) ∙ has in
-      let holder = each j (and_parts _ _ both).1 in
-      held_at j holder.0 holder.1) in
-      let long = length-map (crashed_in room.spec fields) sweep_of in
-      omega (arith, most, long)
+  few p each = no_more_pass p fields.crashed sweep_of (processes room.spec) room.spec.simulators
+      (λ j low is. let holder = each j is in let at = held_at j holder.0 holder.1 in (holder.0, at.0, at.1, at.2))
 
   pub held_at_most : count_by is_held (states_of room.spec fields) ≤ length (crashed_in room.spec fields)
   held_at_most =

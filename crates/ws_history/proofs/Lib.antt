@@ -37,6 +37,7 @@ mod SameReports
 mod RoomFields
 mod Held
 mod Deciders
+mod SimulatorDecisions
 mod Settled
 mod Certified
 mod Spending

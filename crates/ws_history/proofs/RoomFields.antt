@@ -19,7 +19,8 @@ use Rattle.ws_history.specs.Unreadable.{unreadable_of}
 use Rattle.ws_history.proofs.Agreeing.{same_passed, same_row}
 use Rattle.ws_history.proofs.PassedSources.{apart}
 use Rattle.ws_history.proofs.Ranges.{row_low}
-use Rattle.ws_history.specs.Reports.{crashed_in, states_of}
+use Rattle.room_core.specs.Settled.{crashed_in}
+use Rattle.ws_history.specs.Reports.{states_of}
 use Rattle.ws_history.proofs.SameHistories.{same_all_passed, same_history}
 use Rattle.ws_history.proofs.Sorting.{AreApart, from_passed}
 use Rattle.ws_history.proofs.SourceIs.{is_of_passed}

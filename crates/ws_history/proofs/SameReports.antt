@@ -8,7 +8,8 @@ use Rattle.room_spec.specs.Sizes.{sizes_in}
 use Rattle.room_core.specs.Agreements.{asks, decided_in, is_clean, row_at}
 use Rattle.room_core.specs.Fields.{Fields}
 use Rattle.room_core.specs.Reading.{AgreeIn}
-use Rattle.ws_history.specs.Reports.{crashed_in, held_by, is_inside, is_spent, is_write, state_by, state_of, states_of}
+use Rattle.room_core.specs.Settled.{crashed_in, is_write}
+use Rattle.ws_history.specs.Reports.{held_by, is_inside, is_spent, state_by, state_of, states_of}
 use Rattle.ws_history.proofs.Agreeing.{same_asks, same_clean, same_decided}
 use Rattle.ws_history.proofs.Walking.{map_same}
 

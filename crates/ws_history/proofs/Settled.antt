@@ -12,9 +12,9 @@ use Rattle.room_core.specs.Calls.{RoomState}
 use Rattle.room_core.specs.Fields.{Fields}
 use Rattle.room_core.specs.Reading.{AreFieldsOf}
 use Rattle.room_core.specs.Agreements.{decided_in, is_clean, is_out, outs_at}
-use Rattle.room_core.specs.Settled.{IsSettledFor, decided, spent, held}
+use Rattle.room_core.specs.Settled.{IsSettledFor, decided, spent, held, crashed_in, is_write}
 use Rattle.ws_history.specs.declared.states.ProcessState.{ProcessState}
-use Rattle.ws_history.specs.Reports.{crashed_in, held_by, is_held, is_inside, is_over, is_spent, is_write, state_by, state_of, states_of}
+use Rattle.ws_history.specs.Reports.{held_by, is_held, is_inside, is_over, is_spent, state_by, state_of, states_of}
 use Rattle.ws_history.proofs.Held.{held_at_most}
 
 pub any_found : (p : ℕ → Bool) (xs : List ℕ) → list_any p xs ≡ true → (x : ℕ) × (find p xs ≡ Some x)

@@ -18,7 +18,8 @@ use Rattle.room_core.proofs.CallerLemmas.{rooms_agree}
 use Rattle.ws_history.specs.declared.states.ProcessState.TheVariants as states
 use Rattle.ws_history.specs.Histories.{Source, IsSource, history_from, shown_row}
 use Rattle.ws_history.specs.Orders.{all_passed}
-use Rattle.ws_history.specs.Reports.{held_by, is_spent, is_write, state_by, state_of}
+use Rattle.room_core.specs.Settled.{is_write}
+use Rattle.ws_history.specs.Reports.{held_by, is_spent, state_by, state_of}
 use Rattle.ws_history.specs.Sources.{history_of, source_of}
 use Rattle.ws_history.proofs.Alternation.{history_stands}
 use Rattle.ws_history.proofs.Order.{last_is, last_round, round_most, round_there, snapshot_at}

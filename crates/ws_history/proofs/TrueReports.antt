@@ -9,7 +9,7 @@ use Rattle.room_core.proofs.CallerLemmas.{rooms_agree}
 use Rattle.ws_history.specs.declared.states.ProcessState.TheVariants.{Going}
 use Rattle.ws_history.specs.Readings.{read_of}
 use Rattle.ws_history.specs.Reports.{IsReportIn, IsTrueReport, report_of, state_of, states_of}
-use Rattle.ws_history.proofs.Deciders.{decided_there}
+use Rattle.ws_history.proofs.Deciders.{decided_by_process, decided_there}
 use Rattle.ws_history.proofs.Held.{held_at_most, inside_at_most}
 use Rattle.ws_history.proofs.RoomFields.{crashed_are, history_in, states_in}
 use Rattle.ws_history.proofs.SourceIs.{fields_run}
@@ -23,6 +23,7 @@ true_report room fields limits are =
       decided = λ j v low.
           let both = decided_there room fields limits are j v low in
           (λ is. both.0 (sym (there j low) ∙ is), λ has. there j low ∙ both.1 has);
+      simulators = λ i v below is. decided_by_process room fields limits are i v below is;
       held = held_at_most room fields limits are;
       inside = inside_at_most room fields limits are;
     }

@@ -1,25 +1,20 @@
 -- The report of a room: the state of each process, which simulators have crashed, and the history.
 use Rattle.std.specs.Prelude.{◌≡◌, ◌<◌, ◌≤◌, ◌↔◌, ℕ, Bool, true, false, not, List, Option, Some, None, is_some, length, map, slice_index_or, ◌==◌, ◌&&◌, if◌then◌else◌}
-use Rattle.std.specs.List.{Contains, count_by, filter, find, list_any, range_with_len}
-use Rattle.protocol_lang.specs.declared.meaning.Action.{Action}
-use Rattle.protocol_lang.specs.declared.meaning.Action.TheVariants as actions
+use Rattle.std.specs.List.{Contains, count_by, filter, filter_map, find, list_any, range_with_len}
 use Rattle.room_spec.specs.Rooms.{RoomSpec, processes}
 use Rattle.transcript.specs.Runs.{IsRun}
 use Rattle.transcript.specs.declared.event.Event.TheVariants.{Decide}
 use Rattle.room_core.specs.Calls.{RoomState}
-use Rattle.room_core.specs.Fields.{Fields}
+use Rattle.room_core.specs.Fields.{Fields, decision_in}
 use Rattle.room_core.specs.Reading.{AreFieldsOf}
 use Rattle.room_core.specs.Agreements.{asks, decided_in, has_out, is_clean}
+use Rattle.room_core.specs.Settled.{crashed_in, is_write}
 use Rattle.ws_history.specs.Sources.{history_of}
 use Rattle.ws_history.specs.Taking.{Keeps, TakesMore}
 use Rattle.ws_history.specs.declared.states.Report.{Report}
 use Rattle.ws_history.specs.declared.states.Standing.{Standing}
 use Rattle.ws_history.specs.declared.states.ProcessState.{ProcessState}
 use Rattle.ws_history.specs.declared.states.ProcessState.TheVariants.{Decided, Spent, Held, Going}
-
-abbrev pub is_write : Action → Bool
-is_write (actions.Write value) = true
-is_write (actions.Decide decision) = false
 
 -- the last snapshot of process j was agreed on, and asks for a write
 abbrev pub is_spent : RoomSpec → Fields → ℕ → Bool
@@ -66,9 +61,9 @@ state_of spec fields j = state_by (decided_in spec fields j) (is_spent spec fiel
 abbrev pub states_of : RoomSpec → Fields → List ProcessState
 states_of spec fields = map (state_of spec fields) (range_with_len 0 (processes spec))
 
--- the simulators that have crashed, in order
-abbrev pub crashed_in : RoomSpec → Fields → List ℕ
-crashed_in spec fields = filter fields.crashed (range_with_len 0 spec.simulators)
+-- what the simulators have decided, in order, without those that haven't
+abbrev pub decisions_in : RoomSpec → Fields → List ℕ
+decisions_in spec fields = filter_map (decision_in fields) (range_with_len 0 spec.simulators)
 
 -- the whole report
 abbrev pub report_of : RoomSpec → Fields → Report
@@ -78,12 +73,13 @@ report_of spec fields = record {
   history = history_of spec fields;
 }
 
--- What a report of a room with these fields says: its history is a run of the processes, with each process's decision and no other;
--- and no more processes are held than simulators have crashed, nor are they with all that have no decision and an agreement inside
+-- What a report of a room with these fields says: its history is a run of the processes, with each process's decision and no other, and
+-- so with what each simulator has decided; and no more processes are held than simulators have crashed, nor are they with all that have no decision and an agreement inside
 -- which a simulator has crashed.
 pub record IsTrueReport (spec : RoomSpec) (fields : Fields) (report : Report) : Type 0 where
   pub run : IsRun spec report.history
   pub decided : (j v : ℕ) → j < processes spec → (slice_index_or report.states.items j Going ≡ Decided v) ↔ Contains report.history (Decide j v)
+  pub simulators : (i v : ℕ) → i < spec.simulators → decision_in fields i ≡ Some v → (j : ℕ) × (j < processes spec) × Contains report.history (Decide j v)
   pub held : count_by is_held report.states.items ≤ length report.crashed.items
   pub inside : length (held_in spec fields) ≤ length report.crashed.items
 

@@ -1,15 +1,16 @@
 //! Laws of histories that are made from the snapshots that were agreed on.
-ghost use Rattle.std.specs.Prelude.{List, [], ◌∷◌, ◌++◌, ◌≢◌, ◌≡◌, ◌<◌, ◌≤◌, ◌↔◌, ◌+◌, ◌==◌, ℕ, Bool, length};
+ghost use Rattle.std.specs.Prelude.{List, Some, [], ◌∷◌, ◌++◌, ◌≢◌, ◌≡◌, ◌<◌, ◌≤◌, ◌↔◌, ◌+◌, ◌==◌, ℕ, Bool, length};
 ghost use Rattle.std.specs.List.{count_by, Contains};
 ghost use Rattle.room_spec.specs.Rooms.{IsCertified, RoomSpec, IsWithinLimits, processes};
 ghost use Rattle.transcript.specs.Runs.{IsOutOfRounds, IsRun, is_write_by, is_snap_by};
+ghost use Rattle.transcript.specs.Tasks.{KeepsTask, decided_in, different};
 ghost use Rattle.transcript.specs.declared.event.Event.TheVariants.{Decide};
 ghost use Rattle.room_core.specs.Calls.{RoomState};
-ghost use Rattle.room_core.specs.Fields.{Fields};
+ghost use Rattle.room_core.specs.Fields.{Fields, decision_in};
 ghost use Rattle.room_core.specs.Reading.{AreFieldsOf};
 ghost use Rattle.room_core.specs.Agreements.{HasAgreed};
-ghost use Rattle.room_core.specs.Settled.{IsSettledFor};
-ghost use Rattle.ws_history.specs.Reports.{crashed_in, held_in, is_decided, is_held, is_over, state_of, states_of};
+ghost use Rattle.room_core.specs.Settled.{IsSettledFor, crashed_in};
+ghost use Rattle.ws_history.specs.Reports.{decisions_in, held_in, is_decided, is_held, is_over, state_of, states_of};
 ghost use Rattle.ws_history.specs.declared.states.ProcessState.TheVariants.{Decided, Spent};
 ghost use Rattle.ws_history.specs.Sources.{history_of, source_of};
 ghost use Rattle.room_core.specs.Calls.{configuration_of, marked, room_after_settle, room_after_steps};
@@ -127,6 +128,26 @@ pub fn decided_in_history()
     ensures { (room : RoomState) (fields : Fields) →
         IsWithinLimits room.spec → AreFieldsOf room fields → (j v : ℕ) → j < processes room.spec →
         (state_of room.spec fields j ≡ Decided v) ↔ Contains (history_of room.spec fields) (Decide j v) }
+{}
+
+/// What a simulator has decided, a process of the history has. So a task that is kept by the processes' decisions is kept by the
+/// simulators': they decide at most as many different values, and each is an input.
+pub fn simulators_decide()
+    ensures history { (room : RoomState) (fields : Fields) →
+        IsWithinLimits room.spec → AreFieldsOf room fields → (i v : ℕ) → i < room.spec.simulators → decision_in fields i ≡ Some v →
+        (j : ℕ) × (j < processes room.spec) × Contains (history_of room.spec fields) (Decide j v) }
+    ensures few { (room : RoomState) (fields : Fields) →
+        IsWithinLimits room.spec → AreFieldsOf room fields →
+        length (different (decisions_in room.spec fields)) ≤ length (different (decided_in (history_of room.spec fields))) }
+    ensures task { (room : RoomState) (fields : Fields) →
+        IsWithinLimits room.spec → AreFieldsOf room fields → (most : ℕ) → KeepsTask room.spec most (history_of room.spec fields) →
+        (length (different (decisions_in room.spec fields)) ≤ most) ×
+        ((v : ℕ) → Contains (decisions_in room.spec fields) v → Contains room.spec.inputs v) }
+    // By a protocol that waits for all but f processes they decide at most f + 1 of the inputs.
+    ensures certified { (room : RoomState) (fields : Fields) →
+        IsWithinLimits room.spec → AreFieldsOf room fields → (f : ℕ) → IsCertified room.spec f →
+        (length (different (decisions_in room.spec fields)) ≤ f + 1) ×
+        ((v : ℕ) → Contains (decisions_in room.spec fields) v → Contains room.spec.inputs v) }
 {}
 
 /// A process is spent exactly if its history leaves it no round, and asks it for a write.

@@ -4,10 +4,10 @@ ghost use Rattle.std.specs.List.{Contains, count_by};
 ghost use Rattle.room_spec.specs.Rooms.{IsCertified, processes};
 ghost use Rattle.room_core.specs.Fields.{Fields};
 ghost use Rattle.room_core.specs.Reading.{AreFieldsOf};
-ghost use Rattle.room_core.specs.Settled.{IsSettledFor};
+ghost use Rattle.room_core.specs.Settled.{IsSettledFor, crashed_in};
 ghost use Rattle.ws_history.specs.declared.states.ProcessState.TheVariants.{Going, Held, Spent};
 ghost use Rattle.ws_history.specs.Readings.{read_of};
-ghost use Rattle.ws_history.specs.Reports.{IsReportTo, IsTrueReport, crashed_in, held_by, held_in, is_decided, is_inside, is_over, is_spent, report_of, state_of, states_of};
+ghost use Rattle.ws_history.specs.Reports.{IsReportTo, IsTrueReport, held_by, held_in, is_decided, is_inside, is_over, is_spent, report_of, state_of, states_of};
 
 use crate::agreements::{asks, is_clean};
 use crate::event_sink::EventSink;

@@ -90,6 +90,7 @@ agreements_stay room fields call limits are =
           let out = decided_out room.spec fields j decision is in
           let some : fields.out out.0 j ≢ 0 = λ none. omega (arith, none, out.2) in
           out_decided room.spec after out.0 j decision known out.1 low (stays.out out.0 j some ∙ out.2);
+      simulators = stays.decision;
     }
 
 -- over any list of calls
@@ -100,6 +101,7 @@ agreements_last room fields [] limits are = record {
   same_view = λ j k first at. refl;
   same_action = λ j k first at. refl;
   decided = λ j decision low is. is;
+  simulators = λ i decision is. is;
 }
 agreements_last room fields (call ∷ calls) limits are =
     let here = agreements_stay room fields call limits are in
@@ -112,4 +114,5 @@ agreements_last room fields (call ∷ calls) limits are =
       same_view = λ j k first at. rest.same_view j k first (here.fixed j k at) ∙ here.same_view j k first at;
       same_action = λ j k first at. rest.same_action j k first (here.fixed j k at) ∙ here.same_action j k first at;
       decided = λ j decision low is. rest.decided j decision low (here.decided j decision low is);
+      simulators = λ i decision is. rest.simulators i decision (here.simulators i decision is);
     }

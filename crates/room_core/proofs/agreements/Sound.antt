@@ -19,6 +19,7 @@ use Rattle.room_core.proofs.agreements.Stages.{Progress, Past, phase_of, later, 
 use Rattle.room_core.proofs.fields.Effects.{Own, own_of, IsLineOf, line_effect}
 use Rattle.room_core.proofs.agreements.PhaseSteps.{Advance, stays, steps_on, advances}
 use Rattle.room_core.proofs.agreements.Deciding.{HasDecided, own_outs}
+use Rattle.room_core.proofs.agreements.OwnDecisions.{HasStoredOwn, own_stored_kept}
 use Rattle.room_core.proofs.agreements.Resolving.{resolved_by, resolved_own, IsFound, own_resolves}
 use Rattle.room_core.proofs.fields.FieldCalls.{leads_of, with_quiet}
 
@@ -48,6 +49,7 @@ pub record IsSound (spec : RoomSpec) (fields : Fields) : Type 0 where
   pub beside : (p r : ℕ) → 1 ≤ r → HasTwoBeside spec.simulators (phases_in fields p r)
   pub resolved : (i p r : ℕ) → i < spec.simulators → 1 ≤ r → r ≤ resolved_own (own_of fields i) p → IsFixed spec.simulators (phases_in fields p r)
   pub outs : (i p : ℕ) → HasDecided (own_of fields i) p
+  pub own : (i : ℕ) → HasStoredOwn spec (own_of fields i)
 
 -- one line of simulator i
 module _ (spec : RoomSpec) (fields after : Fields) (i : ℕ) (tracks : KeepsTrack spec fields) (effect : IsLineOf spec fields after i) (sound : IsSound spec fields) where
@@ -69,11 +71,14 @@ module _ (spec : RoomSpec) (fields after : Fields) (i : ℕ) (tracks : KeepsTrac
     outs = λ a p. dite (ℕ_discrete a i)
         (λ (e : a ≡ i). subst (λ (b : ℕ). HasDecided (own_of after b) p) (sym e) (own_outs spec fields (own_of fields i) p (own_of after i) effect.own (sound.outs i p)))
         (λ (n : a ≢ i). subst (λ (own : Own). HasDecided own p) (sym (effect.others a n)) (sound.outs a p));
+    own = λ a. dite (ℕ_discrete a i)
+        (λ (e : a ≡ i). subst (λ (b : ℕ). HasStoredOwn spec (own_of after b)) (sym e) (own_stored_kept spec fields (own_of fields i) (own_of after i) effect.own (sound.outs i) (sound.own i)))
+        (λ (n : a ≢ i). subst (HasStoredOwn spec) (sym (effect.others a n)) (sound.own a));
   }
 
 -- a crash changes no mind and no row
 sound_crash : (spec : RoomSpec) (fields : Fields) (i : ℕ) → IsSound spec fields → IsSound spec (with_crash fields i)
-sound_crash spec fields i sound = record { beside = sound.beside; resolved = sound.resolved; outs = sound.outs }
+sound_crash spec fields i sound = record { beside = sound.beside; resolved = sound.resolved; outs = sound.outs; own = sound.own }
 
 abbrev pub SoundAfter : RoomSpec → List ScheduleEvent → Fields → Type 0
 SoundAfter spec schedule fields = IsSound spec fields
@@ -95,6 +100,7 @@ opening_sound spec = record {
       (λ a below. ap (λ (q : Progress). phase_of q 0) (later 0 r (eqb p (a % processes spec)) Past (omega arith))) (beside_before spec.simulators);
   resolved = λ i p r below first last. let none = none_resolved spec (range_with_len 0 (processes spec)) p in absurd (omega arith);
   outs = λ i p out. absurd (out refl);
+  own = λ i decision is. absurd cc;
 }
 
 -- ---- every room that is one interleaving
@@ -103,7 +109,7 @@ pub sound_run : (room : Configuration) → IsWithinLimits room.spec → (one : I
 sound_run room limits one = over_run SoundAfter sound_kept room limits one (opening_sound room.spec)
 
 sound_counts : (spec : RoomSpec) (fields : Fields) (quiet : ℕ → ℕ) → IsSound spec fields → IsSound spec (with_quiet fields quiet)
-sound_counts spec fields quiet sound = record { beside = sound.beside; resolved = sound.resolved; outs = sound.outs }
+sound_counts spec fields quiet sound = record { beside = sound.beside; resolved = sound.resolved; outs = sound.outs; own = sound.own }
 
 pub fields_sound : (room : RoomState) (fields : Fields) → IsWithinLimits room.spec → AreFieldsOf room fields → IsSound room.spec fields
 fields_sound room fields limits are =

@@ -70,6 +70,7 @@ pub record IsTurn (spec : RoomSpec) (own : Own) (line : Line) : Type 0 where
 -- a mind that asks, at line Ask or in the first line of a turn, after it has counted that step
 pub record IsAsking (spec : RoomSpec) (own : Own) (asking : MindOf StepMap) : Type 0 where
   pub goals : asking.goals ≡ own.mind.goals
+  pub decision : asking.decision ≡ own.mind.decision
   pub past : line_progress own.mind.line ≡ Past
   pub unread : is_reading own.mind.line ≡ false
   pub fresh : asking.word ≡ 0
@@ -156,7 +157,7 @@ pub data Effect (spec : RoomSpec) (fields : Fields) (own : Own) : Own → Type 0
   will_decide : (reading : MindOf StepMap) (decision : ℕ) → IsReading spec fields own reading → processes spec ≤ length reading.entries → action_of spec reading ≡ actions.Decide decision
       → Effect spec fields own (record own { mind = (goes_on (Out decision) reading).mind })
   decides : (decision : ℕ) → IsTurn spec own (Out decision) → own.step (process_on own) ≡ round_on own
-      → Effect spec fields own (record own { mind = (decided (counted own.mind)).mind; out = changed own.out (process_on own) (decision + 1) })
+      → Effect spec fields own (record own { mind = (decided decision (counted own.mind)).mind; out = changed own.out (process_on own) (decision + 1) })
 
 -- ---- each line has its effect
 
@@ -214,6 +215,7 @@ module _ (spec : RoomSpec) (fields : Fields) (i : ℕ) where
       subst (λ (mind' : MindOf StepMap). Effect spec fields (own_of fields i) (own_after fields i mind')) (sym (ap (λ (g : Goal). (opened_at g (chosen_at spec fields j k) (begun j (counted mind))).mind) is))
       (asked_effect (begun j (counted mind)) (chosen_at spec fields j k) (record {
         goals = refl;
+        decision = refl;
         past = ap line_progress rest;
         unread = ap is_reading rest;
         fresh = let w = at.word in omega arith;
@@ -309,6 +311,7 @@ module _ (spec : RoomSpec) (fields : Fields) (i : ℕ) where
       let turn = is_turn Ask is at.open_at at in
       asked_effect (counted mind) (chosen_at spec fields mind.process (current_round mind)) (record {
         goals = refl;
+        decision = refl;
         past = ap line_progress is;
         unread = ap is_reading is;
         fresh = let w = at.word in omega arith;
@@ -340,7 +343,7 @@ module _ (spec : RoomSpec) (fields : Fields) (i : ℕ) where
   effect_on (Out decision) is at =
       let mind = fields.mind i in
       let j = mind.process in
-      subst (λ (row : ℕ → ℕ). Effect spec fields (own_of fields i) (record (own_of fields i) { mind = (decided (counted mind)).mind; out = row })) (sym (changed_here fields.out i (changed (fields.out i) j (decision + 1)) i refl))
+      subst (λ (row : ℕ → ℕ). Effect spec fields (own_of fields i) (record (own_of fields i) { mind = (decided decision (counted mind)).mind; out = row })) (sym (changed_here fields.out i (changed (fields.out i) j (decision + 1)) i refl))
       (decides decision (is_turn (Out decision) is at.open_at at) (past_round spec.rounds (current_goal mind) (fields.step i j) at.own.counts))
 
 -- ---- what the simulators have after a line

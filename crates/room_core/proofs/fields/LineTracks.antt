@@ -16,7 +16,7 @@ use Rattle.simulator.specs.declared.line.Line.TheVariants.{Rest, Raise, Snap, Sh
 use Rattle.simulator.specs.declared.turn.Turn.{Turn}
 use Rattle.simulator.specs.declared.turn.Turn.TheVariants.{Useful, Quiet}
 use Rattle.simulator.specs.Minds.{MindOf, goal_at, current_goal, current_round, is_unfinished, next_process}
-use Rattle.simulator.specs.Turns.{TakenOf, counted, begun, goes_on, ended, asked, acted, after_write, padded, gathered, opened_at}
+use Rattle.simulator.specs.Turns.{TakenOf, counted, begun, goes_on, ended, asked, acted, after_write, padded, gathered, opened_at, with_decision}
 use Rattle.simulator.specs.Ranges.{IsGoal, IsMind}
 use Rattle.simulator.specs.Moves.{IsOperation, first_move_at, first_move}
 use Rattle.room_core.specs.Fields.{StepMap, Fields, changed, changed_pair, changed_triple, levels_at, chosen_at, entry_of_steps, shown_value, is_same_collect, with_loaded}
@@ -146,4 +146,4 @@ told_line (GetView chosen) spec fields i mind at =
 told_line Values spec fields i mind at =
     gathered_told spec (fields.step i) (fields.level i) (entry_of_steps spec mind.snapshot) (mind.entries ++ Some (min (shown_value spec fields mind.snapshot (length mind.entries)) greatest) ∷ []) (counted mind) (sweep_below spec mind at.is_mind) (goal_range spec mind at.is_mind) at.others at.own
 told_line (Out decision) spec fields i mind at =
-    ended_told spec (fields.step i) (fields.level i) Useful goals.Done (counted mind) (sweep_below spec mind at.is_mind) at.others (tells_decided spec.rounds (current_goal mind) (fields.step i mind.process) (fields.level i mind.process) at.own)
+    ended_told spec (fields.step i) (fields.level i) Useful goals.Done (with_decision decision (counted mind)) (sweep_below spec mind at.is_mind) at.others (tells_decided spec.rounds (current_goal mind) (fields.step i mind.process) (fields.level i mind.process) at.own)

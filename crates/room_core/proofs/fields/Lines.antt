@@ -66,7 +66,7 @@ taken_on (Leave saw_two) spec fields j k mind = goes_on Ask mind
 taken_on Ask spec fields j k mind = asked (chosen_at spec fields j k) mind
 taken_on (GetView chosen) spec fields j k mind = got_view (entry_of_steps spec (with_loaded spec (fields.view chosen j k) mind).snapshot) spec chosen (with_loaded spec (fields.view chosen j k) mind)
 taken_on Values spec fields j k mind = got_value (entry_of_steps spec mind.snapshot) spec (shown_value spec fields mind.snapshot (length mind.entries)) mind
-taken_on (Out decision) spec fields j k mind = decided mind
+taken_on (Out decision) spec fields j k mind = decided decision mind
 
 -- ---- they make up the line
 

@@ -142,4 +142,4 @@ module _ (spec : RoomSpec) (fields : Fields) (i : ℕ) where
   on_line Values at counts =
       let mind = fields.mind i in
       on_gathered spec fields (fields.quiet i) (entry_of_steps spec mind.snapshot) (mind.entries ++ Some (min (shown_value spec fields mind.snapshot (length mind.entries)) greatest) ∷ []) (counted mind) counts
-  on_line (Out decision) at counts = blocked_anew {S = StepMap} (unresolved spec fields) (decided (counted (fields.mind i))).mind
+  on_line (Out decision) at counts = blocked_anew {S = StepMap} (unresolved spec fields) (decided decision (counted (fields.mind i))).mind

@@ -1,16 +1,12 @@
 -- Rooms of a protocol by which a process waits for all but f: with two rounds or more no process is spent, since what was agreed on in a
 -- later round shows all.
-use Rattle.std.proofs.Common.{◌≡◌, ℕ, zero, suc, ◌+◌, ◌<◌, ◌≤◌, ◌&&◌, ◌||◌, Bool, true, false, cond, eqb, ltb, map, ◌∷◌, length, Option, Some, None, refl, sym, ap, ◌∙◌, subst, arith}
+use Rattle.std.proofs.Common.{◌≡◌, ℕ, zero, suc, ◌+◌, ◌<◌, ◌≤◌, ◌&&◌, ◌||◌, Bool, true, false, eqb, ltb, map, ◌∷◌, length, Option, Some, None, refl, sym, ap, ◌∙◌, subst, arith}
 use Rattle.std.specs.Prelude.{slice_index}
 use Rattle.std.specs.List.{range_with_len}
-use Rattle.std.proofs.lemmas.Bool.{ne_eqb}
-use Rattle.std.proofs.lemmas.List.FromFn.{length-map-range_with_len}
-use Rattle.protocol_lang.specs.Meaning.{present, next_action}
-use Rattle.protocol_lang.specs.Trees.{Tree}
+use Rattle.protocol_lang.specs.Meaning.{present}
 use Rattle.protocol_lang.specs.declared.meaning.Action.TheVariants as actions
-use Rattle.protocol_lang.proofs.CallerLemmas.{decides_with}
 use Rattle.room_spec.specs.Rooms.{IsCertified, RoomSpec, IsWithinLimits, processes}
-use Rattle.room_core.specs.Agreements.{IsFixedAt, asks, greatest_step, has_out, is_clean, is_passed, row_at, shown, shown_by, written}
+use Rattle.room_core.specs.Agreements.{IsFixedAt, asks, greatest_step, has_out, is_clean, is_passed, row_at, shown}
 use Rattle.room_core.specs.Calls.{RoomState}
 use Rattle.room_core.specs.Fields.{Fields, fields_after_settle}
 use Rattle.room_core.specs.Reading.{AreFieldsOf}
@@ -18,6 +14,7 @@ use Rattle.room_core.specs.Settled.{HasTurnLeft, IsSettledFor, decided, spent, h
 use Rattle.room_core.proofs.agreements.Promises.{passed_fixed}
 use Rattle.room_core.proofs.moments.Visits.{fixed_shows_all}
 use Rattle.room_core.proofs.settling.Ending.{settled_for}
+use Rattle.room_core.proofs.settling.FewSpent.{few_present, shown_there}
 use Rattle.room_core.proofs.settling.InOrder.{settled_over}
 
 -- ---- a snapshot that shows all
@@ -29,9 +26,6 @@ all_present entries a (suc n) each =
     let rest = all_present entries (a + 1) n (λ p low high. each p (omega arith) (omega arith)) in
     ap (λ (e : Option ℕ). length (present (e ∷ map entries (range_with_len (a + 1) n)))) first.1 ∙ ap suc rest
 
-shown_there : (spec : RoomSpec) (fields : Fields) (p r : ℕ) → 1 ≤ r → (v : ℕ) × (shown spec fields p r ≡ Some v)
-shown_there spec fields p r some = (written spec fields p r, ap (λ (b : Bool). cond b None (Some (written spec fields p r))) (ne_eqb r 0 (λ e. absurd (omega (arith, e, some)))))
-
 passed_by : (a b c : Bool) → a ≡ true → (a || b || c) ≡ true
 passed_by true b c is = refl
 passed_by false b c is = absurd cc
@@ -42,10 +36,9 @@ module _ (room : RoomState) (fields : Fields) (limits : IsWithinLimits room.spec
   asks_no_write j k v within two fixed is =
       let row = row_at room.spec fields j k in
       let n = processes room.spec in
-      let view = shown_by room.spec fields row in
       let count = all_present (λ p. shown room.spec fields p (slice_index row p)) 0 n (λ p low high. shown_there room.spec fields p (slice_index row p) (fixed_shows_all room fields limits are j k p within (omega (arith, high)) two fixed)) in
-      let long = length-map-range_with_len (λ p. shown room.spec fields p (slice_index row p)) 0 n in
-      decides_with f (slice_index room.spec.inputs j) j k view (omega (arith, count, long)) v (subst (λ (tree : Tree). next_action tree (slice_index room.spec.inputs j) j k view ≡ actions.Write v) certified.protocol is)
+      let few = few_present room fields limits are f certified j k v is in
+      absurd (omega (arith, count, few))
 
   clean_passed : (j : ℕ) → is_clean room.spec fields j room.spec.rounds ≡ true → is_passed room.spec fields j room.spec.rounds ≡ true
   clean_passed j clean = passed_by (is_clean room.spec fields j room.spec.rounds) (ltb room.spec.rounds (greatest_step room.spec fields j)) (has_out room.spec fields j && eqb (greatest_step room.spec fields j) room.spec.rounds) clean

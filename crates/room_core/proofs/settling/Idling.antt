@@ -1,5 +1,5 @@
--- Where a simulator is idle and nobody else is in an open turn, each process is stuck.
-use Rattle.std.proofs.Common.{◌≡◌, ◌≢◌, ◌⊎◌, inl, inr, ℕ, zero, suc, ◌+◌, ◌<◌, ◌≤◌, Bool, true, false, cond, eqb, leb, ltb, length, Option, Some, None, refl, sym, ap, ◌∙◌, subst, arith}
+-- Where a simulator is idle and nobody else is in an open turn, each process is settled in its mind.
+use Rattle.std.proofs.Common.{◌≡◌, ◌≢◌, ◌⊎◌, inl, inr, ℕ, zero, suc, ◌<◌, ◌≤◌, Bool, true, false, cond, eqb, leb, ltb, Option, Some, None, refl, sym, ap, ◌∙◌, subst, arith}
 use Rattle.std.proofs.lemmas.Bool.{leb-true, cases_Bool}
 use mathlib.Core.Logic.{dite}
 use native.Mathlib.Decide.{ℕ_discrete}
@@ -21,8 +21,8 @@ use Rattle.simulator.proofs.CallerLemmas.{rest_line}
 use Rattle.room_core.specs.Calls.{RoomState, configuration_of}
 use Rattle.room_core.specs.Fields.{StepMap, Fields, levels_at, chosen_at, ready_in}
 use Rattle.room_core.specs.Reading.{AreFieldsOf, worded}
-use Rattle.room_core.specs.Agreements.{IsFixedAt, IsInside, asks}
-use Rattle.room_core.specs.Contents.{IsDue, first_write, next_write}
+use Rattle.room_core.specs.Agreements.{IsInside}
+use Rattle.room_core.specs.Settled.{IsSettledInMind, mind_decided, mind_spent, mind_waits}
 use Rattle.room_core.specs.Tracks.{AtRest, Tells, stage_of}
 use Rattle.room_core.proofs.fields.Replays.{shapes}
 use Rattle.room_core.proofs.fields.FieldReplays.{mind_is}
@@ -31,11 +31,8 @@ use Rattle.room_core.proofs.fields.Tracks.{beside, at_sweep}
 use Rattle.room_core.proofs.fields.LineTracks.{each_at_rest}
 use Rattle.room_core.proofs.agreements.Stages.{Progress, Past, line_progress, phase_of, now, phases_in, level_is, levels_are_phases, one_inside}
 use Rattle.room_core.proofs.agreements.Sound.{fields_sound}
-use Rattle.room_core.proofs.values.Knowing.{fields_known}
 use Rattle.room_core.proofs.settling.Marks.{mark, IsBlockedCount, all_blocked}
 use Rattle.room_core.proofs.settling.Blocking.{is_nothing, unresolved}
-use Rattle.room_core.proofs.settling.Finishing.{fields_stored}
-use Rattle.room_core.proofs.settling.Quieted.{IsStuck, stored, passed, inside}
 
 -- between two turns, unless it has crashed
 abbrev pub Rests : Fields → ℕ → Type 0
@@ -112,39 +109,27 @@ module _ (room : RoomState) (fields : Fields) (limits : IsWithinLimits room.spec
           absurd (let wrong : None ≡ Some to.0 = sym none ∙ to.1 in cc)
     ]
 
-    stuck_at : (goal : Goal) (j : ℕ) → goal_at (fields.mind i).goals j ≡ goal → j < processes room.spec → ((a : ℕ) → a < room.spec.simulators → Rests fields a) → HasNoWrite (mark (unresolved room.spec fields) j goal) → IsStuck room.spec fields j
-    stuck_at (goals.Write k value) j is low rests waits = absurd waits
-    stuck_at (goals.Ask k) j is low rests waits =
+    settled_at : (goal : Goal) (j : ℕ) → goal_at (fields.mind i).goals j ≡ goal → j < processes room.spec → ((a : ℕ) → a < room.spec.simulators → Rests fields a) → HasNoWrite (mark (unresolved room.spec fields) j goal) → IsSettledInMind room.spec fields i j
+    settled_at (goals.Write k value) j is low rests waits = absurd waits
+    settled_at (goals.Ask k) j is low rests waits =
         let spec = room.spec in
         let count : fields.step i j ≡ k = (subst (λ (g : Goal). Tells spec.rounds g AtRest (fields.step i j) (fields.level i j)) is (tells j)).counts in
         let range : IsGoal spec.rounds (goals.Ask k) = subst (IsGoal spec.rounds) is (is_mind.rounds j low) in
         let none = nothing_is (chosen_at spec fields j k) (blocked_by (unresolved spec fields j k) k waits) in
         let one = blocked_one j k range.0 count none in
-        inside one.0 k one.1 (crashed_inside one.0 j k (rests one.0 one.1) one.2) range.0 range.1 one.2
-    stuck_at goals.Done j is low rests waits =
-        let long : length (fields.mind i).goals ≡ processes room.spec = is_mind.goals in
-        stored i below (fields_stored room fields limits are i j (omega arith) is)
-    stuck_at goals.Spent j is low rests waits =
-        let spec = room.spec in
-        let count : fields.step i j ≡ spec.rounds = (subst (λ (g : Goal). Tells spec.rounds g AtRest (fields.step i j) (fields.level i j)) is (tells j)).counts in
-        let due = (fields_known room fields limits are).spent i j below low is in
-        by_due due.0 count due.1
-      where
-        by_due : (value : ℕ) → fields.step i j ≡ room.spec.rounds → IsDue room.spec fields j (fields.step i j + 1) value → IsStuck room.spec fields j
-        by_due value count (first_write one is) = absurd (let n = limits.shape.rounds_range in omega (arith, n.0))
-        by_due value count (next_write k low next fixed action) =
-            let same : k ≡ room.spec.rounds = omega arith in
-            passed value (subst (λ (r : ℕ). IsFixedAt room.spec fields j r) same fixed) (ap (λ (r : ℕ). asks room.spec fields j r) (sym same) ∙ action)
+        mind_waits one.0 k is one.1 (crashed_inside one.0 j k (rests one.0 one.1) one.2) range.0 range.1 one.2
+    settled_at goals.Done j is low rests waits = mind_decided is
+    settled_at goals.Spent j is low rests waits = mind_spent is
 
-    idle_stuck : (j : ℕ) → j < processes room.spec → ((a : ℕ) → a < room.spec.simulators → Rests fields a) → unfinished_in (fields.mind i).goals ≤ fields.quiet i → IsBlockedCount (unresolved room.spec fields) (fields.mind i) (fields.quiet i) → IsStuck room.spec fields j
-    idle_stuck j low rests enough counts =
-        stuck_at (goal_at (fields.mind i).goals j) j refl low rests (all_blocked {S = StepMap} (unresolved room.spec fields) (fields.mind i) (fields.quiet i) j enough counts)
+    idle_settled : (j : ℕ) → j < processes room.spec → ((a : ℕ) → a < room.spec.simulators → Rests fields a) → unfinished_in (fields.mind i).goals ≤ fields.quiet i → IsBlockedCount (unresolved room.spec fields) (fields.mind i) (fields.quiet i) → IsSettledInMind room.spec fields i j
+    idle_settled j low rests enough counts =
+        settled_at (goal_at (fields.mind i).goals j) j refl low rests (all_blocked {S = StepMap} (unresolved room.spec fields) (fields.mind i) (fields.quiet i) j enough counts)
 
   pub idle_all : (i : ℕ) → i < room.spec.simulators → ready_in room.spec fields i ≡ ready.Idle → ((a : ℕ) → a < room.spec.simulators → a ≢ i → Rests fields a) → IsBlockedCount (unresolved room.spec fields) (fields.mind i) (fields.quiet i)
-      → (is_resting (fields.mind i).line ≡ true) × ((j : ℕ) → j < processes room.spec → IsStuck room.spec fields j)
+      → (is_resting (fields.mind i).line ≡ true) × ((j : ℕ) → j < processes room.spec → IsSettledInMind room.spec fields i j)
   idle_all i below is others counts =
       let parts = enough_by (is_resting (fields.mind i).line) (leb (unfinished_in (fields.mind i).goals) (fields.quiet i)) (ltb (fields.mind i).turns room.spec.turns) is in
       let rests : (a : ℕ) → a < room.spec.simulators → Rests fields a = λ a within. dite (ℕ_discrete a i)
       (λ (e : a ≡ i). λ alive. ap (λ (b : ℕ). is_resting (fields.mind b).line) e ∙ parts.0)
       (λ (n : a ≢ i). others a within n) in
-      (parts.0, λ j low. idle_stuck i below parts.0 j low rests (leb-true _ _ parts.1) counts)
+      (parts.0, λ j low. idle_settled i below parts.0 j low rests (leb-true _ _ parts.1) counts)

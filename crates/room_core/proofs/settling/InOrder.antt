@@ -20,7 +20,8 @@ use Rattle.room_core.proofs.settling.Alone.{IsUp, has_step, in_turn, has_step_me
 use Rattle.room_core.proofs.fields.Maps.{changed_here}
 use Rattle.room_core.proofs.settling.Marks.{IsBlockedCount, blocked_anew}
 use Rattle.room_core.proofs.settling.Blocking.{unresolved}
-use Rattle.room_core.proofs.settling.Quieted.{IsStepOf, stands, wakes, moves, step_of, IsStuck, IsKeptBut, kept_step, blocks_step, stuck_quiet}
+use Rattle.room_core.proofs.settling.Quieted.{IsStepOf, stands, wakes, moves, step_of, IsKeptBut, kept_quiet, kept_step, settled_kept, blocks_step}
+use Rattle.room_core.specs.Settled.{IsSettledInMind}
 use Rattle.room_core.proofs.settling.Idling.{Rests, idle_all}
 
 module _ (spec : RoomSpec) (limits : IsWithinLimits spec) where
@@ -35,8 +36,8 @@ module _ (spec : RoomSpec) (limits : IsWithinLimits spec) where
   below_of : (room : RoomState) (i : ℕ) → room.spec ≡ spec → i < spec.simulators → i < room.spec.simulators
   below_of room i same below = subst (λ (s : RoomSpec). i < s.simulators) (sym same) below
 
-  kept_at : (room : RoomState) (fields : Fields) (i : ℕ) → room.spec ≡ spec → AreFieldsOf room fields → IsKeptBut spec i fields (fields_after_step spec fields i)
-  kept_at room fields i same are = subst (λ (s : RoomSpec). IsKeptBut s i fields (fields_after_step s fields i)) same (kept_step room fields i (limits_of room same) are)
+  kept_at : (room : RoomState) (fields : Fields) (i : ℕ) → room.spec ≡ spec → AreFieldsOf room fields → IsKeptBut i fields (fields_after_step spec fields i)
+  kept_at room fields i same are = subst (λ (s : RoomSpec). IsKeptBut i fields (fields_after_step s fields i)) same (kept_step room fields i (limits_of room same) are)
 
   blocks_at : (room : RoomState) (fields : Fields) (i : ℕ) → room.spec ≡ spec → AreFieldsOf room fields → IsBlockedCount (unresolved spec fields) (fields.mind i) (fields.quiet i)
       → IsBlockedCount (unresolved spec (fields_after_step spec fields i)) ((fields_after_step spec fields i).mind i) ((fields_after_step spec fields i).quiet i)
@@ -55,7 +56,7 @@ module _ (spec : RoomSpec) (limits : IsWithinLimits spec) where
   abbrev RestBelow : ℕ → Fields → Type 0
   RestBelow count fields = (a : ℕ) → a < count → Rests fields a
 
-  rests_kept : (i : ℕ) (fields after : Fields) (a : ℕ) → a ≢ i → IsKeptBut spec i fields after → Rests fields a → Rests after a
+  rests_kept : (i : ℕ) (fields after : Fields) (a : ℕ) → a ≢ i → IsKeptBut i fields after → Rests fields a → Rests after a
   rests_kept i fields after a other kept rests alive =
       ap (λ (m : MindOf StepMap). is_resting m.line) (kept.minds a other) ∙ rests (sym (kept.crashed a) ∙ alive)
 
@@ -126,12 +127,12 @@ module _ (spec : RoomSpec) (limits : IsWithinLimits spec) where
 
   -- ---- each runs alone
 
-  abbrev AllStuck : Fields → Type 0
-  AllStuck fields = (j : ℕ) → j < processes spec → IsStuck spec fields j
+  abbrev AllSettled : Fields → ℕ → Type 0
+  AllSettled fields a = (j : ℕ) → j < processes spec → IsSettledInMind spec fields a j
 
-  -- it has no turn left, or each process is stuck
+  -- it has no turn left, or each process is settled in its mind
   abbrev IsOver : Fields → ℕ → Type 0
-  IsOver fields a = fields.crashed a ≡ false → (spec.turns ≤ (fields.mind a).turns) ⊎ AllStuck fields
+  IsOver fields a = fields.crashed a ≡ false → (spec.turns ≤ (fields.mind a).turns) ⊎ AllSettled fields a
 
   pub record AreOver (count : ℕ) (fields : Fields) : Type 0 where
     pub rests : (a : ℕ) → a < spec.simulators → Rests fields a
@@ -142,10 +143,10 @@ module _ (spec : RoomSpec) (limits : IsWithinLimits spec) where
     blocks : IsBlockedCount (unresolved spec fields) (fields.mind i) (fields.quiet i)
     over : (a : ℕ) → a < i → IsOver fields a
 
-  over_kept : (i : ℕ) (fields after : Fields) (a : ℕ) → a ≢ i → IsKeptBut spec i fields after → IsOver fields a → IsOver after a
+  over_kept : (i : ℕ) (fields after : Fields) (a : ℕ) → a ≢ i → IsKeptBut i fields after → IsOver fields a → IsOver after a
   over_kept i fields after a other kept over alive = elim (over (sym (kept.crashed a) ∙ alive)) [
     | inl out ↦ inl (subst (λ (m : MindOf StepMap). spec.turns ≤ m.turns) (sym (kept.minds a other)) out)
-    | inr stuck ↦ inr (λ j low. kept.stuck j (stuck j low))
+    | inr settled ↦ inr (λ j low. settled_kept spec i fields after a j kept (kept.minds a other) (settled j low))
   ]
 
   alone_step : (i : ℕ) (room : RoomState) (fields : Fields) → room.spec ≡ spec → AreFieldsOf room fields → IsAlone i fields → IsAlone i (fields_after_step spec fields i)
@@ -164,7 +165,7 @@ module _ (spec : RoomSpec) (limits : IsWithinLimits spec) where
     blocks = subst (λ (q : ℕ). IsBlockedCount (unresolved spec fields) (fields.mind i) q) (sym (changed_here fields.quiet i 0 i refl)) (blocked_anew {S = StepMap} (unresolved spec fields) (fields.mind i));
     over = λ a less alive. elim (is.over a less alive) [
       | inl out ↦ inl out
-      | inr stuck ↦ inr (λ j low. stuck_quiet spec fields (changed fields.quiet i 0) j (stuck j low))
+      | inr settled ↦ inr (λ j low. settled_kept spec i fields (record fields { quiet = changed fields.quiet i 0 }) a j (kept_quiet i fields (changed fields.quiet i 0)) refl (settled j low))
     ];
   }
 
@@ -176,12 +177,12 @@ module _ (spec : RoomSpec) (limits : IsWithinLimits spec) where
   out_by false enough has_turns is = absurd cc
 
   stop_at : (room : RoomState) (fields : Fields) (i : ℕ) (answer : Ready) → room.spec ≡ spec → AreFieldsOf room fields → i < spec.simulators → IsAlone i fields → ready_in spec fields i ≡ answer → is_step answer ≡ false
-      → (is_resting (fields.mind i).line ≡ true) × ((spec.turns ≤ (fields.mind i).turns) ⊎ AllStuck fields)
+      → (is_resting (fields.mind i).line ≡ true) × ((spec.turns ≤ (fields.mind i).turns) ⊎ AllSettled fields i)
   stop_at room fields i ready.Step same are below is answers stops = absurd cc
   stop_at room fields i ready.Idle same are below is answers stops =
-      let idle : (is_resting (fields.mind i).line ≡ true) × AllStuck fields =
+      let idle : (is_resting (fields.mind i).line ≡ true) × AllSettled fields i =
       (subst (λ (s : RoomSpec). i < s.simulators → ready_in s fields i ≡ ready.Idle → ((a : ℕ) → a < s.simulators → a ≢ i → Rests fields a) → IsBlockedCount (unresolved s fields) (fields.mind i) (fields.quiet i)
-      → (is_resting (fields.mind i).line ≡ true) × ((j : ℕ) → j < processes s → IsStuck s fields j)) same (idle_all room fields (limits_of room same) are i)) below answers is.rests is.blocks in
+      → (is_resting (fields.mind i).line ≡ true) × ((j : ℕ) → j < processes s → IsSettledInMind s fields i j)) same (idle_all room fields (limits_of room same) are i)) below answers is.rests is.blocks in
       (idle.0, inr idle.1)
   stop_at room fields i ready.OutOfTurns same are below is answers stops =
       let parts = out_by (is_resting (fields.mind i).line) (leb (unfinished_in (fields.mind i).goals) (fields.quiet i)) (ltb (fields.mind i).turns spec.turns) answers in
@@ -248,15 +249,15 @@ module _ (spec : RoomSpec) (limits : IsWithinLimits spec) where
                     (λ (e : a ≡ i). λ there. ap (λ (b : ℕ). is_resting (after.mind b).line) e ∙ ap (λ (m : MindOf StepMap). is_resting m.line) mind ∙ stop.0)
                     (λ (n : a ≢ i). rests_kept i end after a n kept (on.holds.rests a less n));
                 over = λ a less. dite (ℕ_discrete a i)
-                    (λ (e : a ≡ i). λ there. subst (λ (b : ℕ). (spec.turns ≤ (after.mind b).turns) ⊎ AllStuck after) (sym e) (over_here mind kept stop.1))
+                    (λ (e : a ≡ i). λ there. subst (λ (b : ℕ). (spec.turns ≤ (after.mind b).turns) ⊎ AllSettled after b) (sym e) (over_here mind kept stop.1))
                     (λ (n : a ≢ i). over_kept i end after a n kept (on.holds.over a (omega (arith, n))));
               };
             };
           }
         where
-          over_here : after.mind i ≡ end.mind i → IsKeptBut spec i end after → (spec.turns ≤ (end.mind i).turns) ⊎ AllStuck end → (spec.turns ≤ (after.mind i).turns) ⊎ AllStuck after
+          over_here : after.mind i ≡ end.mind i → IsKeptBut i end after → (spec.turns ≤ (end.mind i).turns) ⊎ AllSettled end i → (spec.turns ≤ (after.mind i).turns) ⊎ AllSettled after i
           over_here mind kept (inl out) = inl (subst (λ (m : MindOf StepMap). spec.turns ≤ m.turns) (sym mind) out)
-          over_here mind kept (inr stuck) = inr (λ j low. kept.stuck j (stuck j low))
+          over_here mind kept (inr settled) = inr (λ j low. settled_kept spec i end after i j kept mind (settled j low))
 
   order_alone : (count : ℕ) (fields : Fields) → count ≤ spec.simulators → Has (AreOver 0) fields → Has (AreOver count) (in_order (ran_alone (fields_kind spec)) count fields)
   order_alone zero fields few has = has

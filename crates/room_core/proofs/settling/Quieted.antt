@@ -1,18 +1,17 @@
 -- What becomes of each process while simulators run alone, one after the other.
 use Rattle.std.proofs.Common.{◌≡◌, ◌≢◌, ℕ, ◌<◌, ◌≤◌, Bool, true, false, cond, leb, refl, sym, ap, ◌∙◌, subst}
 use Rattle.std.proofs.lemmas.Bool.{leb-false}
-use Rattle.protocol_lang.specs.declared.meaning.Action.TheVariants as actions
 use Rattle.room_spec.specs.Rooms.{RoomSpec, IsWithinLimits}
 use Rattle.simulator.specs.declared.sweep.Ready.{Ready}
 use Rattle.simulator.specs.declared.sweep.Ready.TheVariants as ready
-use Rattle.simulator.specs.Minds.{MindOf, current_round}
+use Rattle.simulator.specs.Minds.{MindOf, current_round, goal_at}
 use Rattle.simulator.specs.Sweeps.{quiet_after}
 use Rattle.simulator.specs.Turns.{counted}
 use Rattle.room_core.specs.Rooms.{HasLine}
 use Rattle.room_core.specs.Calls.{RoomState, configuration_of, has_crashed, ready_at}
 use Rattle.room_core.specs.Fields.{StepMap, Fields, changed, line, ready_in, fields_when, fields_after_step, with_taken}
 use Rattle.room_core.specs.Reading.{AreFieldsOf}
-use Rattle.room_core.specs.Agreements.{IsFixedAt, asks}
+use Rattle.room_core.specs.Settled.{IsSettledInMind, mind_decided, mind_spent, mind_waits}
 use Rattle.room_core.proofs.fields.Replays.{shapes}
 use Rattle.room_core.proofs.fields.States.{has_line}
 use Rattle.room_core.proofs.fields.Maps.{changed_here}
@@ -21,7 +20,6 @@ use Rattle.room_core.proofs.fields.FieldLines.{is_store}
 use Rattle.room_core.proofs.fields.FieldReplays.{line_is, stands_at}
 use Rattle.room_core.proofs.fields.Lines.{stored_on, taken_on}
 use Rattle.room_core.proofs.fields.Effects.{Own, line_effect}
-use Rattle.room_core.proofs.agreements.Agreed.{AgreedStays, agreed_on_line}
 use Rattle.room_core.proofs.settling.Marks.{IsBlockedCount, blocked_anew}
 use Rattle.room_core.proofs.settling.Blocking.{unresolved, on_line}
 
@@ -50,24 +48,24 @@ module _ (room : RoomState) (fields : Fields) (i : ℕ) (limits : IsWithinLimits
       by_test (IsStepOf room fields i) (fields.crashed i) fields (fields_when (ready_in room.spec fields i) room.spec fields i) stands
       (λ alive. when_ready (ready_in room.spec fields i) below ((fields_stand room fields limits are).reads.crashed i below ∙ alive) (sym (same_ready room fields i limits below are))))
 
--- ---- what is stuck stays so
+-- ---- what is settled in a mind stays so
 
-pub data IsStuck (spec : RoomSpec) (fields : Fields) (j : ℕ) : Type 0 where
-  stored : (a : ℕ) → a < spec.simulators → fields.out a j ≢ 0 → IsStuck spec fields j
-  passed : (value : ℕ) → IsFixedAt spec fields j spec.rounds → asks spec fields j spec.rounds ≡ actions.Write value → IsStuck spec fields j
-  inside : (a k : ℕ) → a < spec.simulators → fields.crashed a ≡ true → 1 ≤ k → k ≤ spec.rounds → fields.level a j k ≡ 1 → IsStuck spec fields j
-
--- a quiet count has no part in it
-pub stuck_quiet : (spec : RoomSpec) (fields : Fields) (quiet : ℕ → ℕ) (j : ℕ) → IsStuck spec fields j → IsStuck spec (record fields { quiet = quiet }) j
-stuck_quiet spec fields quiet j (stored a below out) = stored a below out
-stuck_quiet spec fields quiet j (passed value fixed asks) = passed value (record { simulator = fixed.simulator; below = fixed.below; two = fixed.two; seen = λ a below blind. fixed.seen a below (record { process = blind.process; round = blind.round; line = blind.line }) }) asks
-stuck_quiet spec fields quiet j (inside a k below crashed low high one) = inside a k below crashed low high one
-
--- after a step of simulator i: the others have the same in mind, nobody has crashed, and what was stuck is so
-pub record IsKeptBut (spec : RoomSpec) (i : ℕ) (fields after : Fields) : Type 0 where
+-- after a step of simulator i: the others have the same in mind, nobody has crashed, and whoever had is at the levels at which it was
+pub record IsKeptBut (i : ℕ) (fields after : Fields) : Type 0 where
   pub crashed : (a : ℕ) → after.crashed a ≡ fields.crashed a
   pub minds : (a : ℕ) → a ≢ i → after.mind a ≡ fields.mind a
-  pub stuck : (j : ℕ) → IsStuck spec fields j → IsStuck spec after j
+  pub levels : (a j k : ℕ) → fields.crashed a ≡ true → after.level a j k ≡ fields.level a j k
+
+-- a quiet count has no part in it
+pub kept_quiet : (i : ℕ) (fields : Fields) (quiet : ℕ → ℕ) → IsKeptBut i fields (record fields { quiet = quiet })
+kept_quiet i fields quiet = record { crashed = λ a. refl; minds = λ a other. refl; levels = λ a j k crashed. refl }
+
+-- of a simulator that has the same in mind
+pub settled_kept : (spec : RoomSpec) (i : ℕ) (fields after : Fields) (b j : ℕ) → IsKeptBut i fields after → after.mind b ≡ fields.mind b → IsSettledInMind spec fields b j → IsSettledInMind spec after b j
+settled_kept spec i fields after b j kept same (mind_decided is) = mind_decided (ap (λ (m : MindOf StepMap). goal_at m.goals j) same ∙ is)
+settled_kept spec i fields after b j kept same (mind_spent is) = mind_spent (ap (λ (m : MindOf StepMap). goal_at m.goals j) same ∙ is)
+settled_kept spec i fields after b j kept same (mind_waits a k is below crashed first last one) =
+    mind_waits a k (ap (λ (m : MindOf StepMap). goal_at m.goals j) same ∙ is) below (kept.crashed a ∙ crashed) first last (kept.levels a j k crashed ∙ one)
 
 module _ (room : RoomState) (fields : Fields) (i : ℕ) (limits : IsWithinLimits room.spec) (are : AreFieldsOf room fields) where
   line_crashed : HasLine (configuration_of room) i → (a : ℕ) → (line room.spec fields i).crashed a ≡ fields.crashed a
@@ -84,24 +82,18 @@ module _ (room : RoomState) (fields : Fields) (i : ℕ) (limits : IsWithinLimits
   alive_is : HasLine (configuration_of room) i → fields.crashed i ≡ false
   alive_is may = sym ((fields_stand room fields limits are).reads.crashed i may.alive.below) ∙ may.alive.alive
 
-  stuck_line : HasLine (configuration_of room) i → AgreedStays room.spec fields (line room.spec fields i) → (j : ℕ) → IsStuck room.spec fields j → IsStuck room.spec (line room.spec fields i) j
-  stuck_line may stays j (stored a below out) = stored a below (λ none. out (sym (stays.out a j out) ∙ none))
-  stuck_line may stays j (passed value fixed asks) =
-      let rounds = (limits.shape.rounds_range).0 in
-      passed value (stays.fixed j room.spec.rounds fixed) (stays.asks j room.spec.rounds rounds fixed ∙ asks)
-  stuck_line may stays j (inside a k below crashed low high one) =
-      let other : a ≢ i = λ e. absurd (let wrong : true ≡ false = sym crashed ∙ ap fields.crashed e ∙ alive_is may in cc) in
-      inside a k below (line_crashed may a ∙ crashed) low high (level_else may a j k other ∙ one)
+  levels_kept : HasLine (configuration_of room) i → (a j k : ℕ) → fields.crashed a ≡ true → (line room.spec fields i).level a j k ≡ fields.level a j k
+  levels_kept may a j k crashed = level_else may a j k (λ e. let wrong : true ≡ false = sym crashed ∙ ap fields.crashed e ∙ alive_is may in cc)
 
-  pub kept_by : (after : Fields) → IsStepOf room fields i after → (HasLine (configuration_of room) i → AgreedStays room.spec fields (line room.spec fields i)) → IsKeptBut room.spec i fields after
-  kept_by after stands stays = record { crashed = λ a. refl; minds = λ a other. refl; stuck = λ j is. is }
-  kept_by after wakes stays = record { crashed = λ a. refl; minds = λ a other. refl; stuck = stuck_quiet room.spec fields (changed fields.quiet i 0) }
-  kept_by after (moves may is) stays =
+  pub kept_by : (after : Fields) → IsStepOf room fields i after → IsKeptBut i fields after
+  kept_by after stands = record { crashed = λ a. refl; minds = λ a other. refl; levels = λ a j k crashed. refl }
+  kept_by after wakes = kept_quiet i fields (changed fields.quiet i 0)
+  kept_by after (moves may is) =
       let effect = line_effect (configuration_of room) fields i (shapes (configuration_of room) limits are.run) (fields_stand room fields limits are) may in
-      record { crashed = line_crashed may; minds = λ a other. ap (λ (own : Own). own.mind) (effect.others a other); stuck = stuck_line may (stays may) }
+      record { crashed = line_crashed may; minds = λ a other. ap (λ (own : Own). own.mind) (effect.others a other); levels = levels_kept may }
 
-  pub kept_step : IsKeptBut room.spec i fields (fields_after_step room.spec fields i)
-  kept_step = kept_by (fields_after_step room.spec fields i) (step_of room fields i limits are) (λ may. agreed_on_line room fields limits are i may)
+  pub kept_step : IsKeptBut i fields (fields_after_step room.spec fields i)
+  kept_step = kept_by (fields_after_step room.spec fields i) (step_of room fields i limits are)
 
 -- ---- the asks in vain stay so
 

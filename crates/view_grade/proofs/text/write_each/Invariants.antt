@@ -4,4 +4,4 @@ use Rattle.view_grade.specs.Grades.{claim_line}
 use Rattle.view_grade.proofs.text.write_each.Given as goal
 
 abbrev pub invariant-loop-claim : goal.invariant-loop-claim
-invariant-loop-claim l = l.output ≡ l.fn.output ++ flat_map (claim_line l.report) (take l.claim-index l.claims)
+invariant-loop-claim l = l.output ≡ l.fn.output ++ flat_map (claim_line l.reported) (take l.claim-index l.claims)

@@ -2,7 +2,7 @@ use Rattle.std.proofs.Common.{◌≡◌, ◌∙◌, ℕ, true, false, Bool, ap, 
 use Rattle.std.specs.Prelude.{◌&&◌}
 use Rattle.room_core.specs.Agreements.{asks, is_clean}
 use Rattle.ws_history.specs.Readings.{read_of}
-use Rattle.ws_history.specs.Reports.{is_write}
+use Rattle.room_core.specs.Settled.{is_write}
 use Rattle.ws_history.proofs.reports.is_spent.Goals as goal
 
 pub returns-in-Write : goal.returns-in-Write

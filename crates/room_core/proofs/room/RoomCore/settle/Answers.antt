@@ -3,6 +3,7 @@ use Rattle.room_core.specs.Calls.{RoomState, Settle, configuration_of, room_kind
 use Rattle.room_core.specs.Rooms.{IsRoom}
 use Rattle.room_core.specs.Settles.{Settles}
 use Rattle.room_core.proofs.settling.Certified.{certified_for}
+use Rattle.room_core.proofs.settling.EachDecides.{each_decides}
 use Rattle.room_core.proofs.settling.Ending.{settled_for}
 use Rattle.room_core.proofs.agreements.Lasting.{agreements_stay}
 use Rattle.room_core.proofs.settling.Unbounded.{settles}
@@ -28,3 +29,8 @@ pub returns-clause-certified : goal.returns-clause-certified
 returns-clause-certified c = λ fields are f certified two left j low.
     let was : IsRoom (configuration_of c.args.self.now) = subst (λ (r : RoomState). IsRoom (configuration_of r)) c.self.view_is c.self.invariant.is_room in
     certified_for c.args.self.now fields was.shape.limits are f certified two left j low
+
+pub returns-clause-decides : goal.returns-clause-decides
+returns-clause-decides c = λ fields are f certified few left.
+    let was : IsRoom (configuration_of c.args.self.now) = subst (λ (r : RoomState). IsRoom (configuration_of r)) c.self.view_is c.self.invariant.is_room in
+    each_decides c.args.self.now fields was.shape.limits are left f certified few

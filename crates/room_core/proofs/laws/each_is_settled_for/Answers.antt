@@ -1,0 +1,11 @@
+use Rattle.room_core.proofs.settling.EachDecides.{each_decides, each_settled, few_waiting}
+use Rattle.room_core.proofs.laws.each_is_settled_for.Goals as goal
+
+pub returns-clause-each : goal.returns-clause-each
+returns-clause-each c = λ room fields limits are left j low. each_settled room fields limits are left j low
+
+pub returns-clause-few : goal.returns-clause-few
+returns-clause-few c = λ room fields limits are left. few_waiting room fields limits are left
+
+pub returns-clause-decides : goal.returns-clause-decides
+returns-clause-decides c = λ room fields limits are left f certified few. each_decides room fields limits are left f certified few
