@@ -54,6 +54,7 @@ struct bgview_plan {
     uint32_t schedules; /* by how many schedules each room is run; bgview takes 1 to 1000000 */
     uint32_t crashes;   /* in each of them at most this many simulators crash */
     uint32_t seed;      /* what the schedules are drawn from: the same seed gives the same ones */
+    uint32_t from;      /* the number of the first schedule; bgview takes 0 if none is given */
     uint32_t top;       /* how many outcomes of a room are shown at most, or BGVIEW_NO_LIMIT */
     uint32_t outcome;   /* the outcome of which nothing but the script is written, by its number from 1; or BGVIEW_EACH */
     bool group;         /* whether outcomes that differ only in which simulators hold processes are one */

@@ -13,7 +13,7 @@ const OPTIONS = {
 };
 const JSON_TOO = ['outcomes', 'task', 'inputs', 'keeps']; // with `json: true` these are calls of their own
 const TEXTS = { grade: 'goal', inputs: 'values', keeps: 'task' }; // the calls with a second input, and the option that has it
-const PLAN = [['schedules', 1000], ['crashes', 1], ['seed', 1], ['top', LARGEST], ['outcome', LARGEST]]; // the numbers of a struct bgview_plan,
+const PLAN = [['schedules', 1000], ['crashes', 1], ['seed', 1], ['from', 0], ['top', LARGEST], ['outcome', LARGEST]]; // the numbers of a struct bgview_plan,
 const PLAN_FLAGS = ['group', 'brief', 'json']; // and after them these
 const RESULT = 24; // the bytes of a struct bgview_result
 const NO_MEMORY = 3;

@@ -45,7 +45,7 @@ const MODES = [
   ['keeps', 'bgview outcomes --keeps count', { task: 'count' }],
   ['outcomes', `bgview outcomes --nodes ${NODES} --json`, { nodes: NODES, json: true }], ['task', `bgview outcomes --nodes ${NODES} --task --json`, { nodes: NODES, json: true }],
   ['inputs', 'bgview outcomes --nodes 200 --inputs 0,7 --json', { nodes: 200, values: '0,7', json: true }],
-  ['sample', 'bgview sample --schedules 20', { schedules: 20 }],
+  ['sample', 'bgview sample --schedules 20', { schedules: 20 }], ['sample', 'bgview sample --schedules 20 --from 4294967290', { schedules: 20, from: 4294967290 }],
   ['sample', 'bgview sample --schedules 20 --crashes 2 --seed 5 --group --brief --top 2', { schedules: 20, crashes: 2, seed: 5, group: true, brief: true, top: 2 }],
   ['sample', 'bgview sample --schedules 20 --json --outcome 2', { schedules: 20, json: true, outcome: 2 }],
   ['grade', 'bgview grade --commands 2 --goal spent', { commands: 2, goal: 'spent' }],

@@ -38,7 +38,7 @@ class _Result(ctypes.Structure):
 class Plan(ctypes.Structure):
     """`struct bgview_plan` of include/bgview.h."""
 
-    _fields_ = [(name, ctypes.c_uint32) for name in ("schedules", "crashes", "seed", "top", "outcome")] + [(name, ctypes.c_bool) for name in ("group", "brief", "json")]
+    _fields_ = [(name, ctypes.c_uint32) for name in ("schedules", "crashes", "seed", "from", "top", "outcome")] + [(name, ctypes.c_bool) for name in ("group", "brief", "json")]
 
 
 def bytes_of(text: Text) -> bytes:

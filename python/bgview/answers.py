@@ -178,26 +178,27 @@ def keeps_json(rooms: Text, task: Text, nodes: int = 1000000) -> Objects:
     return Objects(*_answer("keeps_json", rooms, *slice_of(task), _nodes(nodes)))
 
 
-def _plan(json: bool, schedules: int, crashes: int, seed: int, group: bool, brief: bool, top: Optional[int], outcome: Optional[int]) -> Any:
+def _plan(json: bool, schedules: int, crashes: int, seed: int, group: bool, brief: bool, top: Optional[int], outcome: Optional[int], from_: int) -> Any:
     """How rooms are sampled, as a call takes it."""
-    numbers = number("schedules", schedules, 1000000, 1), number("crashes", crashes, 8), number("seed", seed)
+    numbers = number("schedules", schedules, 1000000, 1), number("crashes", crashes, 8), number("seed", seed), number("from_", from_)
     return ctypes.byref(Plan(*numbers, _unless_none("top", top, 1000000, 1), _unless_none("outcome", outcome, 1000000, 1), group, brief, json))
 
 
 def sample(
-    rooms: Text, schedules: int = 1000, crashes: int = 1, seed: int = 1, group: bool = False, brief: bool = False, top: Optional[int] = None, outcome: Optional[int] = None
+    rooms: Text, schedules: int = 1000, crashes: int = 1, seed: int = 1, group: bool = False, brief: bool = False, top: Optional[int] = None, outcome: Optional[int] = None, from_: int = 0
 ) -> Answer:
     """The outcomes of each room by this number of random schedules, and how often each came. In a schedule at most `crashes` simulators crash; the same `seed` gives
     the same schedules. `group` counts outcomes as one that differ only in which simulators hold processes; `brief` leaves out the scripts that lead to the outcomes;
-    `top` shows only this number of them, the most frequent; `outcome` gives nothing but the script of the outcome of this number. As `bgview sample`, on one thread."""
-    return Answer(*_answer("sample", rooms, _plan(False, schedules, crashes, seed, group, brief, top, outcome)))
+    `top` shows only this number of them, the most frequent; `outcome` gives nothing but the script of the outcome of this number; the schedules begin with the number
+    `from_`. As `bgview sample`, on one thread."""
+    return Answer(*_answer("sample", rooms, _plan(False, schedules, crashes, seed, group, brief, top, outcome, from_)))
 
 
 def sample_json(
-    rooms: Text, schedules: int = 1000, crashes: int = 1, seed: int = 1, group: bool = False, brief: bool = False, top: Optional[int] = None, outcome: Optional[int] = None
+    rooms: Text, schedules: int = 1000, crashes: int = 1, seed: int = 1, group: bool = False, brief: bool = False, top: Optional[int] = None, outcome: Optional[int] = None, from_: int = 0
 ) -> Objects:
     """The same: for each room an object for each outcome, and then one for the room. As `bgview sample --json`."""
-    return Objects(*_answer("sample", rooms, _plan(True, schedules, crashes, seed, group, brief, top, outcome)))
+    return Objects(*_answer("sample", rooms, _plan(True, schedules, crashes, seed, group, brief, top, outcome, from_)))
 
 
 def lint(file: Text) -> Answer:

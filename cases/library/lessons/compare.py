@@ -33,6 +33,7 @@ MODES = {
     "bgview outcomes --nodes 20000 --keeps": lambda text: bgview.keeps(text, "equal(mine) == count; given >= 2", 20000),
     "bgview sample --schedules 20": lambda text: bgview.sample(text, 20),
     "bgview sample --schedules 20 --crashes 2 --seed 5 --group --brief --top 2": lambda text: bgview.sample(text, 20, 2, 5, group=True, brief=True, top=2),
+    "bgview sample --schedules 20 --from 4294967290": lambda text: bgview.sample(text, 20, from_=4294967290),
     "bgview sample --schedules 20 --outcome 2": lambda text: bgview.sample(text, 20, outcome=2),
     "bgview sample --schedules 20 --json --workers 2": lambda text: bgview.sample_json(text, 20),
     "bgview lint": bgview.lint,

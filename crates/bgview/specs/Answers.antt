@@ -1,5 +1,5 @@
 -- What is answered for an input, by what is requested.
-use Rattle.std.specs.Prelude.{◌≡◌, ◌≢◌, ⊤, ℕ, ◌<◌, ◌≤◌, Bool, List, [], ◌∷◌, ◌++◌, length, Option, Some, None, Result, Ok, Err, OnOk, alloc_error, if◌then◌else◌, option_map}
+use Rattle.std.specs.Prelude.{◌≡◌, ⊤, ℕ, ◌<◌, ◌≤◌, Bool, ◌&&◌, ◌||◌, List, [], ◌∷◌, ◌++◌, length, Option, Some, None, is_some, Result, Ok, Err, OnOk, alloc_error, if◌then◌else◌, option_map}
 use Rattle.std.specs.declared.alloc.AllocError.{AllocError}
 use Rattle.io_text.specs.Reading.{most_bytes}
 use Rattle.io_text.specs.declared.fault.DeviceFault.{DeviceFault}
@@ -20,7 +20,6 @@ use Rattle.decision_tasks.specs.Tasks.{task_in}
 use Rattle.decision_tasks.specs.declared.task.LineFault.{LineFault}
 use Rattle.view_outcomes.specs.Values.{values_in}
 use Rattle.view_outcomes.specs.declared.search.Asked.{Asked}
-use Rattle.view_outcomes.specs.declared.search.Asked.TheVariants.{Task}
 use Rattle.view_outcomes.specs.declared.search.Asked.TheVariants as asking
 use Rattle.view_outcomes.specs.declared.search.Search.{Search}
 use Rattle.view_outcomes.specs.declared.values.ValuesFault.{ValuesFault}
@@ -32,12 +31,13 @@ use Rattle.view_trace.specs.Trace.{IsTraceIn}
 use Rattle.view_why.specs.Why.{IsExplanationIn}
 use Rattle.bgview.specs.Ends.{written}
 use Rattle.bgview.specs.declared.request.Grading.{Grading}
-use Rattle.bgview_command_line.specs.declared.words.Mode.{Mode}
-use Rattle.bgview_command_line.specs.declared.words.Mode.TheVariants.{Why, Trace, Draw, Page, Transcript, Fault, Grade, Sample, Outcomes, Lint, Live}
+use Rattle.bgview.specs.declared.request.OfInput.{OfInput}
+use Rattle.bgview.specs.declared.request.OfInput.TheVariants.{Live, Whole}
 use Rattle.bgview.specs.declared.request.Request.{Request}
+use Rattle.bgview.specs.declared.request.Request.TheVariants.{Why, Trace, Draw, Page, Transcript, Grade, Sample, Outcomes, Lint}
 use Rattle.bgview.specs.declared.request.Searching.{Searching}
 use Rattle.bgview.specs.declared.fault.OptionFault.{OptionFault}
-use Rattle.bgview.specs.declared.fault.OptionFault.TheVariants.{Both, Goal, Inputs, Keeps}
+use Rattle.bgview.specs.declared.fault.OptionFault.TheVariants.{Alone, Both, Goal, Inputs, Keeps}
 use Rattle.bgview.specs.declared.fault.ViewFault.{ViewFault}
 use Rattle.bgview.specs.declared.fault.ViewFault.TheVariants.{BadInput, BadOption, Device, Incomplete}
 
@@ -63,13 +63,22 @@ values_text searching = option_map (λ text. text.now) searching.values
 abbrev pub keeps_text : Searching → Option (List ℕ)
 keeps_text searching = option_map (λ text. text.now) searching.keeps
 
--- what is asked of each room: with which inputs it keeps its task, if values are given for them; whether it keeps a task of one's own, if that is given; else whether it keeps its
--- own, or all its outcomes
-abbrev pub IsAskedBy : Bool → Option (List ℕ) → Option (List ℕ) → Asked → Type 0
-IsAskedBy task None None asked = asked ≡ (if task then Task else asking.Outcomes)
-IsAskedBy task (Some values) None asked = AreInputsAsked values asked
-IsAskedBy task None (Some keeps) asked = IsTaskAsked keeps asked
-IsAskedBy task (Some values) (Some keeps) asked = ⊥
+-- the outcomes of each room that are listed: that of a number alone, if one is given; else at most a number of them, if one is given; else all
+abbrev pub listed_by : Option ℕ → Option ℕ → Asked
+listed_by (Some number) top = asking.Outcome number
+listed_by None (Some top) = asking.First top
+listed_by None None = asking.Outcomes
+
+-- what is asked of each room if neither values for inputs nor a task of one's own are given: whether it keeps its own task, or its outcomes
+abbrev pub asked_alone : Searching → Asked
+asked_alone searching = if searching.task then asking.Task else listed_by searching.outcome searching.top
+
+-- what is asked of each room: with which inputs it keeps its task, if values are given for them; whether it keeps a task of one's own, if that is given; else this
+abbrev pub IsAskedBy : Asked → Option (List ℕ) → Option (List ℕ) → Asked → Type 0
+IsAskedBy alone None None asked = asked ≡ alone
+IsAskedBy alone (Some values) None asked = AreInputsAsked values asked
+IsAskedBy alone None (Some keeps) asked = IsTaskAsked keeps asked
+IsAskedBy alone (Some values) (Some keeps) asked = ⊥
 
 -- rooms are searched as is requested, whatever is asked of each
 pub record IsSearchFor (searching : Searching) (search : Search) : Type 0 where
@@ -81,44 +90,35 @@ pub record IsSearchFor (searching : Searching) (search : Search) : Type 0 where
 -- the search that is requested
 pub record IsSearchBy (searching : Searching) (search : Search) : Type 0 where
   pub search_is : IsSearchFor searching search
-  pub asked : IsAskedBy searching.task (values_text searching) (keeps_text searching) search.asked
+  pub asked : IsAskedBy (asked_alone searching) (values_text searching) (keeps_text searching) search.asked
 
 -- rooms are searched as is requested
 abbrev pub IsSearchShown : Searching → List ℕ → Result Outcome AllocError → List ℕ → Type 0
 IsSearchShown searching input ending output = (search : Search) × IsSearchBy searching search × IsWhole (IsOutcomesFor search input) ending output
 
--- as text, or as JSON if that is asked for; `fault` reads no input, and `live` doesn't wait for all of it
-abbrev pub IsShownIn : Mode → Request → List ℕ → Result Outcome AllocError → List ℕ → Type 0
-IsShownIn Why request input ending output = IsWhole (IsExplanationIn request.json input) ending output
-IsShownIn Fault request input ending output = IsWhole (IsExplanationIn request.json input) ending output
-IsShownIn Trace request input ending output = IsTraceIn request.json input ending output
-IsShownIn Draw request input ending output = IsDrawn request.style input ending output
-IsShownIn Page request input ending output = IsPageFor (input ∷ []) ending output
-IsShownIn Transcript request input ending output = IsTranscribed input ending output
-IsShownIn Grade request input ending output = IsGradeFor request.grading input ending output
-IsShownIn Sample request input ending output = IsSampleFor request.plan input ending output
-IsShownIn Outcomes request input ending output = IsSearchShown request.search input ending output
-IsShownIn Lint request input ending output = IsWhole (IsLintIn request.json input) ending output
-IsShownIn Live request input ending output = ⊥
-
+-- as text, or as JSON if that is asked for
 abbrev pub IsShown : Request → List ℕ → Result Outcome AllocError → List ℕ → Type 0
-IsShown request input ending output = IsShownIn request.mode request input ending output
+IsShown (Why json) input ending output = IsWhole (IsExplanationIn json input) ending output
+IsShown (Trace json) input ending output = IsTraceIn json input ending output
+IsShown (Draw style) input ending output = IsDrawn style input ending output
+IsShown Page input ending output = IsPageFor (input ∷ []) ending output
+IsShown Transcript input ending output = IsTranscribed input ending output
+IsShown (Grade grading) input ending output = IsGradeFor grading input ending output
+IsShown (Sample plan) input ending output = IsSampleFor plan input ending output
+IsShown (Outcomes searching) input ending output = IsSearchShown searching input ending output
+IsShown (Lint json) input ending output = IsWhole (IsLintIn json input) ending output
 
 -- ---- why nothing is shown
 
 -- the input's first fault and its line, by what the input is read as: rooms are refused one by one, so a file of rooms has no fault
-abbrev pub first_fault : Mode → List ℕ → Option FaultAt
-first_fault Why input = fault_in (input_says input)
-first_fault Fault input = fault_in (input_says input)
-first_fault Trace input = fault_in (script_says input)
-first_fault Draw input = fault_in (script_says input)
+abbrev pub first_fault : Request → List ℕ → Option FaultAt
+first_fault (Why json) input = fault_in (input_says input)
+first_fault (Trace json) input = fault_in (script_says input)
+first_fault (Draw style) input = fault_in (script_says input)
 first_fault Page input = fault_among (input ∷ [])
 first_fault Transcript input = fault_in (script_says input)
-first_fault Grade input = fault_in (script_says input)
-first_fault Sample input = None
-first_fault Outcomes input = None
-first_fault Lint input = None
-first_fault Live input = None
+first_fault (Grade grading) input = fault_in (script_says input)
+first_fault _ input = None
 
 abbrev pub goal_fault_in : {A : Type 0} → Result A GoalFault → Option OptionFault
 goal_fault_in (Ok goal) = None
@@ -139,19 +139,19 @@ search_fault (Some values) None = values_fault_in (values_in values)
 search_fault None (Some keeps) = keeps_fault_in (task_in keeps)
 search_fault (Some values) (Some keeps) = Some Both
 
--- the fault of the goal that a script is graded by, or of the values of which inputs are made
-abbrev pub option_fault : Mode → Request → Option OptionFault
-option_fault Grade request = goal_fault_in (goal_in (goal_text request.grading))
-option_fault Why request = None
-option_fault Fault request = None
-option_fault Trace request = None
-option_fault Draw request = None
-option_fault Page request = None
-option_fault Transcript request = None
-option_fault Sample request = None
-option_fault Outcomes request = search_fault (values_text request.search) (keeps_text request.search)
-option_fault Lint request = None
-option_fault Live request = None
+-- one outcome alone is asked for, and so is whether tasks are kept
+abbrev pub is_more_asked : Searching → Bool
+is_more_asked searching = is_some searching.outcome && (searching.task || (is_some searching.values || is_some searching.keeps))
+
+-- the fault of the options of `outcomes`
+abbrev pub searching_fault : Searching → Option OptionFault
+searching_fault searching = if is_more_asked searching then Some Alone else search_fault (values_text searching) (keeps_text searching)
+
+-- the fault of the goal that a script is graded by, or of the options of `outcomes`
+abbrev pub option_fault : Request → Option OptionFault
+option_fault (Grade grading) = goal_fault_in (goal_in (goal_text grading))
+option_fault (Outcomes searching) = searching_fault searching
+option_fault _ = None
 
 -- ---- the answer
 
@@ -171,7 +171,7 @@ IsAnswerOf fit long shown fault bad_option (Err (Device Write)) output = fit × 
 -- the answer to an input that was read whole before
 abbrev pub IsWholeAnswer : Request → List ℕ → Result Outcome ViewFault → List ℕ → Type 0
 IsWholeAnswer request input result output =
-    IsAnswerOf (length input ≤ most_bytes) (most_bytes < length input) (IsShown request input) (first_fault request.mode input) (option_fault request.mode request) result output
+    IsAnswerOf (length input ≤ most_bytes) (most_bytes < length input) (IsShown request input) (first_fault request input) (option_fault request) result output
 
 -- how a script ends that was played as it was written
 abbrev pub live_result : Result (Result Outcome AllocError) DeviceFault → Result Outcome ViewFault
@@ -188,10 +188,10 @@ pub record IsLiveAnswer (input : List ℕ) (result : Result Outcome ViewFault) (
   pub result_is : result ≡ live_result served
   pub all : OnOk served (unread ≡ [])
 
--- The answer to an input, by whether the mode reads it whole before it answers.
-pub record IsAnswer (request : Request) (input : List ℕ) (result : Result Outcome ViewFault) (output : List ℕ) : Type 0 where
-  pub whole : request.mode ≢ Live → IsWholeAnswer request input result output
-  pub live : request.mode ≡ Live → IsLiveAnswer input result output
+-- the answer to what is asked of an input
+abbrev pub IsAnswer : OfInput → List ℕ → Result Outcome ViewFault → List ℕ → Type 0
+IsAnswer Live input result output = IsLiveAnswer input result output
+IsAnswer (Whole request) input result output = IsWholeAnswer request input result output
 
 -- ---- inside the crate
 
@@ -206,4 +206,4 @@ Ends fault bad_option (Device TooLong) = ⊥
 Ends fault bad_option Incomplete = ⊥
 
 abbrev pub EndsRequest : Request → List ℕ → ViewFault → Type 0
-EndsRequest request input fault = Ends (first_fault request.mode input) (option_fault request.mode request) fault
+EndsRequest request input fault = Ends (first_fault request input) (option_fault request) fault

@@ -1,5 +1,5 @@
 -- How the program ends, by the words that it is given and the input that they name.
-use Rattle.std.specs.Prelude.{◌≡◌, ◌≢◌, ◌⊎◌, ℕ, Bool, List, [], ◌∷◌, Option, Some, None, Result, Err, IfSome, IsSome, codes, option_and_then, unwrap_or}
+use Rattle.std.specs.Prelude.{◌≡◌, ◌⊎◌, ℕ, Bool, List, [], ◌∷◌, Option, Some, None, Result, Err, IfSome, IsSome, codes, option_and_then, unwrap_or}
 use Rattle.clap.specs.Kinds.{IsAmong}
 use Rattle.clap.specs.Words.{Row, fault_of, subcommand_of}
 use Rattle.clap.specs.declared.error.kind.ErrorKind.{ErrorKind}
@@ -7,21 +7,22 @@ use Rattle.clap.specs.declared.error.kind.ErrorKind.TheVariants.{OutOfMemory}
 use Rattle.io_text.specs.declared.fault.DeviceFault.TheVariants.{Read}
 use Rattle.room_files.specs.declared.outcome.Outcome.{Outcome}
 use Rattle.bgview.specs.Answers.{IsAnswer}
-use Rattle.bgview_command_line.specs.CommandLine.{bgview_app, codes_among, file_among, json_among, mode_among, other_among}
+use Rattle.bgview_command_line.specs.CommandLine.{bgview_app, codes_among, file_among, mode_among, other_among}
 use Rattle.program_io.specs.Errors.{Errors}
 use Rattle.program_io.specs.Named.{HasAppended, Writes, input_named}
 use Rattle.program_io.specs.Statuses.{words_status}
 use Rattle.bgview.specs.Ends.{ending_status, is_read_failed}
 use Rattle.bgview.specs.Faults.{AreFaultsSaid}
-use Rattle.bgview.specs.Notes.{AreBothNotes, AreNotesIn}
+use Rattle.bgview.specs.Notes.{AreBothNotes, AreNotesOf}
 use Rattle.bgview.specs.Pages.{IsPageAnswer}
-use Rattle.bgview.specs.Requests.{IsRequestAmong}
+use Rattle.bgview.specs.Requests.{IsRequestedBy}
 use Rattle.bgview.specs.Said.{IsEndSaid}
 use Rattle.bgview.specs.Unread.{IsUnreadIf}
 use Rattle.view_page.specs.Faults.{NamedFile}
-use Rattle.bgview_command_line.specs.declared.words.Mode.TheVariants.{Fault}
 use Rattle.bgview.specs.declared.ended.Ended.{Ended}
-use Rattle.bgview.specs.declared.request.Request.{Request}
+use Rattle.bgview.specs.declared.request.OfInput.{OfInput}
+use Rattle.bgview.specs.declared.request.Requested.{Requested}
+use Rattle.bgview.specs.declared.request.Requested.TheVariants.{Faults, Input}
 use Rattle.bgview.specs.declared.fault.ViewFault.{ViewFault}
 use Rattle.bgview.specs.declared.fault.ViewFault.TheVariants.{Device}
 
@@ -29,13 +30,12 @@ use Rattle.bgview.specs.declared.fault.ViewFault.TheVariants.{Device}
 abbrev pub Found : Type 0
 Found = Option (List ℕ × List Row)
 
--- An input is answered as the words request.
-pub record IsAnswered (found : Found) (input : List ℕ) (result : Result Outcome ViewFault) (writes : Writes) : Type 0 where
-  pub request : Request
-  pub requested : IsRequestAmong found request
+-- What is asked of an input is answered, and what is said of it is noted.
+pub record IsAnswered (asked : OfInput) (input : List ℕ) (result : Result Outcome ViewFault) (before notes : List ℕ) (writes : Writes) : Type 0 where
   pub output : List ℕ
-  pub answer : IsAnswer request input result output
+  pub answer : IsAnswer asked input result output
   pub appended : HasAppended writes output
+  pub noted : AreNotesOf asked input result before notes
 
 -- What the inputs give that the words name, if it is known.
 pub record Named : Type 0 where
@@ -49,10 +49,6 @@ named_by standard file found = record { first = input_named standard file (file_
 abbrev pub IsNotOpened : Result Outcome ViewFault → List ℕ → Writes → Type 0
 IsNotOpened result notes writes = (result ≡ Err (Device Read)) × (notes ≡ []) × HasAppended writes []
 
--- one input is answered, and what is said of it is noted
-abbrev pub IsNotedAnswer : Found → List ℕ → Result Outcome ViewFault → List ℕ → Writes → Type 0
-IsNotedAnswer found bytes result notes writes = IsAnswered found bytes result writes × AreNotesIn (mode_among found) (json_among found) bytes result [] notes
-
 -- both are answered in one page, and what is said of them is noted
 abbrev pub IsPaged : NamedFile → NamedFile → Result Outcome ViewFault → List ℕ → Writes → Type 0
 IsPaged file next result notes writes = (output : List ℕ) × IsPageAnswer (file.bytes ∷ next.bytes ∷ []) result output × HasAppended writes output × AreBothNotes file next result notes
@@ -62,8 +58,8 @@ abbrev pub named_file : Option (List ℕ) → List ℕ → NamedFile
 named_file path bytes = record { name = unwrap_or path (codes "-"); bytes = bytes }
 
 -- One input is answered, or two in one page, unless the second was not opened.
-pub record IsReadBy (found : Found) (named : Named) (result : Result Outcome ViewFault) (notes : List ℕ) (writes : Writes) : Type 0 where
-  pub one : other_among found ≡ None → IfSome named.first (λ bytes. IsNotedAnswer found bytes result notes writes)
+pub record IsReadBy (found : Found) (named : Named) (asked : OfInput) (result : Result Outcome ViewFault) (notes : List ℕ) (writes : Writes) : Type 0 where
+  pub one : other_among found ≡ None → IfSome named.first (λ bytes. IsAnswered asked bytes result [] notes writes)
   pub two : IsSome (other_among found) → IsNotOpened result notes writes
       ⊎ IfSome named.first (λ file. IfSome named.second (λ next. IsPaged (named_file (file_among found) file) (named_file (other_among found) next) result notes writes))
 
@@ -72,11 +68,20 @@ abbrev pub IsUnreadOf : Found → Ended → Type 0
 IsUnreadOf found ended = IsUnreadIf (is_read_failed ended.result) (file_among found) ended.unread
     ⊎ (IsSome (other_among found) × IsUnreadIf (is_read_failed ended.result) (other_among found) ended.unread)
 
--- What was done is what the words ask for: faults are said, or the inputs that they name are answered, unless a file that they name was not
--- opened.
+-- What is asked of the inputs that the words name is done, unless a file that they name was not opened.
+abbrev pub IsInputDone : Found → Named → OfInput → Ended → List ℕ → Writes → Type 0
+IsInputDone found named asked ended notes writes = ((IsSome (file_among found) × IsNotOpened ended.result notes writes) ⊎ IsReadBy found named asked ended.result notes writes) × IsUnreadOf found ended
+
+-- What is requested is done: faults are said, or something is done with the inputs.
+abbrev pub IsDone : Requested → Found → Named → Ended → List ℕ → Writes → Type 0
+IsDone Faults found named ended notes writes = ((output : List ℕ) × AreFaultsSaid (codes_among found) ended.result output × HasAppended writes output) × (notes ≡ []) × (ended.unread ≡ None)
+IsDone (Input asked) found named ended notes writes = IsInputDone found named asked ended notes writes
+
+-- What the words request is done.
 pub record IsEnding (found : Found) (named : Named) (ended : Ended) (notes : List ℕ) (writes : Writes) : Type 0 where
-  pub faults : mode_among found ≡ Fault → ((output : List ℕ) × AreFaultsSaid (codes_among found) ended.result output × HasAppended writes output) × (notes ≡ []) × (ended.unread ≡ None)
-  pub answer : mode_among found ≢ Fault → ((IsSome (file_among found) × IsNotOpened ended.result notes writes) ⊎ IsReadBy found named ended.result notes writes) × IsUnreadOf found ended
+  pub requested : Requested
+  pub is_requested : IsRequestedBy (mode_among found) found requested
+  pub done : IsDone requested found named ended notes writes
 
 -- The exit status for these words: that of what they ask for, and what is said with it on standard error; or they ask for nothing, for a
 -- reason of this kind, and nothing is written.

@@ -7,8 +7,10 @@ use Rattle.file_faults.specs.Warnings.{file_warnings}
 use Rattle.view_grade.specs.Goals.{goal_forms}
 use Rattle.view_page.specs.Faults.{AreBothFaults, AreFileFaults, NamedFile}
 use Rattle.view_page.specs.Pages.{kind_of}
-use Rattle.bgview_command_line.specs.declared.words.Mode.{Mode}
-use Rattle.bgview_command_line.specs.declared.words.Mode.TheVariants.{Why, Trace, Draw, Page, Transcript, Fault, Grade, Sample, Outcomes, Lint, Live}
+use Rattle.bgview.specs.declared.request.OfInput.{OfInput}
+use Rattle.bgview.specs.declared.request.OfInput.TheVariants.{Live, Whole}
+use Rattle.bgview.specs.declared.request.Request.{Request}
+use Rattle.bgview.specs.declared.request.Request.TheVariants.{Why, Trace, Draw, Page, Transcript, Grade, Sample, Outcomes, Lint}
 use Rattle.bgview.specs.declared.fault.ViewFault.{ViewFault}
 use Rattle.bgview.specs.declared.fault.ViewFault.TheVariants.{BadInput, BadOption, Device, Incomplete}
 
@@ -82,17 +84,19 @@ abbrev pub AreLintNotes : {A : Type 0} → Bool → List ℕ → Result A ViewFa
 AreLintNotes false input result old new = AreWarnings input result new
 AreLintNotes true input result old new = new ≡ old
 
--- what each mode says on standard error: of an input's faults; `lint`, which says these as its answer, what it warns of; and `live`, which says
--- them in place, nothing
-abbrev pub AreNotesIn : {A : Type 0} → Mode → Bool → List ℕ → Result A ViewFault → List ℕ → List ℕ → Type 0
-AreNotesIn Why json input result old new = AreWhyNotes json input result old new
-AreNotesIn Fault json input result old new = AreWhyNotes json input result old new
-AreNotesIn Trace json input result old new = AreScriptNotes input result new
-AreNotesIn Draw json input result old new = AreScriptNotes input result new
-AreNotesIn Page json input result old new = AreFileNotes input result new
-AreNotesIn Transcript json input result old new = AreScriptNotes input result new
-AreNotesIn Grade json input result old new = AreGradeNotes input result new
-AreNotesIn Sample json input result old new = AreRoomNotes input result new
-AreNotesIn Outcomes json input result old new = AreRoomNotes input result new
-AreNotesIn Lint json input result old new = AreLintNotes json input result old new
-AreNotesIn Live json input result old new = new ≡ old
+-- what is said on standard error of an input that is answered whole: of its faults; and as `lint` says these as its answer, what it warns of
+abbrev pub AreNotesOn : {A : Type 0} → Request → List ℕ → Result A ViewFault → List ℕ → List ℕ → Type 0
+AreNotesOn (Why json) input result old new = AreWhyNotes json input result old new
+AreNotesOn (Trace json) input result old new = AreScriptNotes input result new
+AreNotesOn (Draw style) input result old new = AreScriptNotes input result new
+AreNotesOn Page input result old new = AreFileNotes input result new
+AreNotesOn Transcript input result old new = AreScriptNotes input result new
+AreNotesOn (Grade grading) input result old new = AreGradeNotes input result new
+AreNotesOn (Sample plan) input result old new = AreRoomNotes input result new
+AreNotesOn (Outcomes searching) input result old new = AreRoomNotes input result new
+AreNotesOn (Lint json) input result old new = AreLintNotes json input result old new
+
+-- and of any input: `live` says its faults in place
+abbrev pub AreNotesOf : {A : Type 0} → OfInput → List ℕ → Result A ViewFault → List ℕ → List ℕ → Type 0
+AreNotesOf Live input result old new = new ≡ old
+AreNotesOf (Whole request) input result old new = AreNotesOn request input result old new

@@ -1,12 +1,18 @@
--- What the words of the command line request of an input.
-use Rattle.std.specs.Prelude.{◌≡◌, ℕ, List, [], Option, codes, option_map, unwrap_or}
+-- What the words of the command line request.
+use Rattle.std.specs.Prelude.{◌≡◌, ⊤, ℕ, List, [], Option, codes, option_map, unwrap_or}
 use Rattle.clap.specs.Words.{Row}
 use Rattle.room_sample.specs.declared.sampling.Plan.{Plan}
 use Rattle.run_picture.specs.declared.picture.Style.{Style}
 use Rattle.view_outcomes.specs.Forms.{form_if}
-use Rattle.bgview_command_line.specs.CommandLine.{IsNumber, IsNumberIfAny, is_given, json_among, mode_among, value_among}
+use Rattle.bgview_command_line.specs.CommandLine.{IsNumber, IsNumberIfAny, is_given, json_among, value_among}
+use Rattle.bgview_command_line.specs.declared.words.Mode.{Mode}
+use Rattle.bgview_command_line.specs.declared.words.Mode.TheVariants as modes
 use Rattle.bgview.specs.declared.request.Grading.{Grading}
+use Rattle.bgview.specs.declared.request.OfInput.TheVariants.{Live, Whole}
 use Rattle.bgview.specs.declared.request.Request.{Request}
+use Rattle.bgview.specs.declared.request.Request.TheVariants.{Why, Trace, Draw, Page, Transcript, Grade, Sample, Outcomes, Lint}
+use Rattle.bgview.specs.declared.request.Requested.{Requested}
+use Rattle.bgview.specs.declared.request.Requested.TheVariants.{Faults, Input}
 use Rattle.bgview.specs.declared.request.Searching.{Searching}
 
 -- the plan that the values of `sample` say
@@ -14,6 +20,7 @@ pub record IsPlanAmong (found : Option (List ℕ × List Row)) (plan : Plan) : T
   pub schedules : IsNumber (value_among (codes "schedules") found) 1000 plan.schedules
   pub crashes : IsNumber (value_among (codes "crashes") found) 1 plan.crashes
   pub seed : IsNumber (value_among (codes "seed") found) 1 plan.seed
+  pub from : IsNumber (value_among (codes "from") found) 0 plan.from
   pub workers : IsNumber (value_among (codes "workers") found) 1 plan.workers
   pub group : plan.group ≡ is_given (value_among (codes "group") found)
   pub brief : plan.brief ≡ is_given (value_among (codes "brief") found)
@@ -27,6 +34,8 @@ pub record IsSearchAmong (found : Option (List ℕ × List Row)) (search : Searc
   pub nodes : IsNumber (value_among (codes "nodes") found) 1000000 search.nodes
   pub brief : search.brief ≡ is_given (value_among (codes "brief") found)
   pub form : search.form ≡ form_if (json_among found)
+  pub top : IsNumberIfAny (value_among (codes "top") found) search.top
+  pub outcome : IsNumberIfAny (value_among (codes "outcome") found) search.outcome
   pub task : search.task ≡ is_given (value_among (codes "task") found)
   pub values : option_map (λ text. text.now) search.values ≡ value_among (codes "inputs") found
   pub keeps : option_map (λ text. text.now) search.keeps ≡ value_among (codes "keeps") found
@@ -41,11 +50,22 @@ pub record IsStyleAmong (found : Option (List ℕ × List Row)) (style : Style) 
   pub percent : IsNumber (value_among (codes "scale") found) 100 style.percent
   pub by_turns : style.by_turns ≡ is_given (value_among (codes "turns") found)
 
+-- what is requested of an input that is read whole: what the mode is, with what the values of its options say
+abbrev pub IsRequestBy : Mode → Option (List ℕ × List Row) → Request → Type 0
+IsRequestBy modes.Why found (Why json) = json ≡ json_among found
+IsRequestBy modes.Trace found (Trace json) = json ≡ json_among found
+IsRequestBy modes.Draw found (Draw style) = IsStyleAmong found style
+IsRequestBy modes.Page found Page = ⊤
+IsRequestBy modes.Transcript found Transcript = ⊤
+IsRequestBy modes.Grade found (Grade grading) = IsGradingAmong found grading
+IsRequestBy modes.Sample found (Sample plan) = IsPlanAmong found plan
+IsRequestBy modes.Outcomes found (Outcomes searching) = IsSearchAmong found searching
+IsRequestBy modes.Lint found (Lint json) = json ≡ json_among found
+IsRequestBy _ _ _ = ⊥
+
 -- what the words request
-pub record IsRequestAmong (found : Option (List ℕ × List Row)) (request : Request) : Type 0 where
-  pub mode : request.mode ≡ mode_among found
-  pub json : request.json ≡ json_among found
-  pub plan : IsPlanAmong found request.plan
-  pub search : IsSearchAmong found request.search
-  pub grading : IsGradingAmong found request.grading
-  pub style : IsStyleAmong found request.style
+abbrev pub IsRequestedBy : Mode → Option (List ℕ × List Row) → Requested → Type 0
+IsRequestedBy modes.Fault found Faults = ⊤
+IsRequestedBy modes.Live found (Input Live) = ⊤
+IsRequestedBy mode found (Input (Whole request)) = IsRequestBy mode found request
+IsRequestedBy _ _ _ = ⊥

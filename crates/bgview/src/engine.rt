@@ -1,18 +1,18 @@
 //! Reads inputs, and writes the answers to them.
-ghost use Rattle.std.specs.Prelude.{◌≡◌, ◌≢◌, ◌+◌, ◌≤◌, ◌||◌, ◌∷◌, [], List, ℕ, false, length, map, IfSome};
+ghost use Rattle.std.specs.Prelude.{◌≡◌, ◌+◌, ◌≤◌, ◌||◌, ◌∷◌, [], List, ℕ, false, length, map, IfSome};
 ghost use Rattle.std.specs.Io.KnownBytes.{Appends};
 ghost use Rattle.io_text.specs.Devices.{HasRead, HasWritten, failed_writes};
 ghost use Rattle.io_text.specs.Reading.{most_bytes};
 ghost use Rattle.bgview.specs.Answers.{IsLiveAnswer, IsWholeAnswer};
 ghost use Rattle.bgview.specs.Ends.{is_read_failed, is_write_failed};
 ghost use Rattle.bgview.specs.Faults.{AreFaultsSaid};
-ghost use Rattle.bgview.specs.Notes.{AreBothNotes, AreNotesIn};
+ghost use Rattle.bgview.specs.Notes.{AreBothNotes, AreNotesOn};
 ghost use Rattle.bgview.specs.Pages.{IsPageAnswer};
-ghost use Rattle.bgview_command_line.specs.declared.words.Mode.TheVariants.{Live};
 
 use crate::fault::{ViewFault, written};
 use crate::request::Request;
 use crate::showing::show;
+use crate::system::{Aside, System};
 use fault_words::say_faults;
 use io_text::{Device, Text, read_input, write_output};
 use live_script::serve;
@@ -24,58 +24,51 @@ use std::thread::Threads;
 use view_page::{faults_of_both, page_of_both};
 
 /// Answers the input that the reader gives as is requested. The whole input is read and judged before anything is written. What is said of
-/// its faults, or of a goal that is not valid, becomes `notes`.
+/// its faults, or of a goal that is not valid, becomes the notes of `aside`.
 ///
 /// # Errors
 ///
 /// A device that failed; an input that is too long; the input's first fault, or an option's; or an allocation that failed. If that was for a
 /// block or a command of a script, the script goes on to its end; if it was for a room's sample, what there is memory for is written.
-pub fn answer_io<H: Threads + Sync, R: Read, W: Write, P: Progress>(
-    rt: &H,
-    alloc: Global,
+pub fn answer_io<H: Threads + Sync, I, R: Read, W: Write, P: Progress>(
+    system: &System<'_, H, I>,
     reader: &mut Device<R>,
     writer: &mut Device<W>,
     request: &Request<'_>,
-    notes: &mut Text,
-    progress: &mut P,
+    aside: &mut Aside<P>,
 ) -> Result<Outcome, ViewFault>
     requires reader { reader.old.failed ≡ false }
     requires writer { writer.old.failed ≡ false }
-    // `live` reads no input whole.
-    requires mode { request.now.mode ≢ Live }
     // What is written is the answer to what was read, and the outcome goes with it. No write is of nothing.
     ensures text { IfSome (R.remaining reader.old.inner) (λ input. (output : List ℕ) × IsWholeAnswer request.now input result output
         × Appends (W.contents writer.old.inner) (W.contents writer.new.inner) output
         × (writer.new.calls ≤ writer.old.calls + length output + failed_writes (is_write_failed result))) }
     ensures reader { HasRead reader.old reader.new (R.remaining reader.old.inner) (is_read_failed result) }
     ensures writer { HasWritten writer.old writer.new result (is_write_failed result) }
-    ensures notes { IfSome (R.remaining reader.old.inner) (λ input. AreNotesIn request.now.mode request.now.json input result notes.old notes.new) }
+    ensures notes { IfSome (R.remaining reader.old.inner) (λ input. AreNotesOn request.now input result aside.old.notes aside.new.notes) }
 {
-    let input = read_input(alloc, reader)?;
-    write_answer(rt, alloc, &input, writer, request, notes, progress)
+    let input = read_input(system.alloc, reader)?;
+    write_answer(system, &input, writer, request, aside)
 }
 
 /// Answers an input as is requested.
-fn write_answer<H: Threads + Sync, W: Write, P: Progress>(
-    rt: &H,
-    alloc: Global,
+fn write_answer<H: Threads + Sync, I, W: Write, P: Progress>(
+    system: &System<'_, H, I>,
     input: &[u8],
     writer: &mut Device<W>,
     request: &Request<'_>,
-    notes: &mut Text,
-    progress: &mut P,
+    aside: &mut Aside<P>,
 ) -> Result<Outcome, ViewFault>
     requires input { length input.now ≤ most_bytes }
     requires writer { writer.old.failed ≡ false }
-    requires mode { request.now.mode ≢ Live }
     ensures text { (output : List ℕ) × IsWholeAnswer request.now input.now result output
         × Appends (W.contents writer.old.inner) (W.contents writer.new.inner) output
         × (writer.new.calls ≤ writer.old.calls + length output + failed_writes (is_write_failed result)) }
     ensures read { is_read_failed result ≡ false }
     ensures writer { HasWritten writer.old writer.new result (is_write_failed result) }
-    ensures notes { AreNotesIn request.now.mode request.now.json input.now result notes.old notes.new }
+    ensures notes { AreNotesOn request.now input.now result aside.old.notes aside.new.notes }
 {
-    let shown = show(rt, alloc, request, input, notes, progress)?;
+    let shown = show(system, request, input, aside)?;
     write_output(writer, shown.output.as_bytes())?;
     written(shown.ending)
 }
@@ -100,61 +93,78 @@ pub fn live_io<R: Read, W: Write>(
     written(ending)
 }
 
-/// Answers the files of these names that two readers give, and writes a page that steps through both next to each other. What is said of
-/// all their faults becomes `notes`.
+/// A file that is read, by the name that the words give it.
+#[derive(Drop)]
+pub struct NamedReader<'a, R> {
+    pub name: &'a str,
+    pub reader: Device<R>,
+}
+
+/// A file that was read, by its name.
+#[derive(Clone, Copy)]
+struct NamedFile<'a> {
+    name: &'a str,
+    bytes: &'a [u8],
+}
+
+/// Answers two files, and writes a page that steps through both next to each other. What is said of all their faults becomes `notes`.
 ///
 /// # Errors
 ///
 /// As of `answer_io`, for the first of the files that has a fault.
 pub fn pages_io<R: Read, S: Read, W: Write>(
     alloc: Global,
-    reader: &mut Device<R>,
-    other: &mut Device<S>,
+    first: &mut NamedReader<'_, R>,
+    second: &mut NamedReader<'_, S>,
     writer: &mut Device<W>,
-    name: &str,
-    next_name: &str,
     notes: &mut Text,
 ) -> Result<Outcome, ViewFault>
-    requires reader { reader.old.failed ≡ false }
-    requires other { other.old.failed ≡ false }
+    requires first { first.old.reader.failed ≡ false }
+    requires second { second.old.reader.failed ≡ false }
     requires writer { writer.old.failed ≡ false }
-    ensures text { IfSome (R.remaining reader.old.inner) (λ file. IfSome (S.remaining other.old.inner) (λ next.
+    ensures text { IfSome (R.remaining first.old.reader.inner) (λ file. IfSome (S.remaining second.old.reader.inner) (λ next.
         (output : List ℕ) × IsPageAnswer (file ∷ next ∷ []) result output
         × Appends (W.contents writer.old.inner) (W.contents writer.new.inner) output
         × (writer.new.calls ≤ writer.old.calls + length output + failed_writes (is_write_failed result)))) }
     // One of the readers failed exactly if reading ended the call.
-    ensures read { is_read_failed result ≡ (reader.new.failed || other.new.failed) }
+    ensures read { is_read_failed result ≡ (first.new.reader.failed || second.new.reader.failed) }
     ensures writer { HasWritten writer.old writer.new result (is_write_failed result) }
-    ensures notes { IfSome (R.remaining reader.old.inner) (λ file. IfSome (S.remaining other.old.inner) (λ next.
-        AreBothNotes (record { name = name.now; bytes = file }) (record { name = next_name.now; bytes = next }) result notes.new)) }
+    ensures notes { IfSome (R.remaining first.old.reader.inner) (λ file. IfSome (S.remaining second.old.reader.inner) (λ next.
+        AreBothNotes (record { name = first.old.name.now; bytes = file }) (record { name = second.old.name.now; bytes = next }) result notes.new)) }
 {
-    let file = read_input(alloc, reader)?;
-    let next = read_input(alloc, other)?;
-    write_both(alloc, name, next_name, &file, &next, writer, notes)
+    let file = read_input(alloc, &mut first.reader)?;
+    let next = read_input(alloc, &mut second.reader)?;
+    let one = NamedFile {
+        name: first.name,
+        bytes: &file,
+    };
+    let other = NamedFile {
+        name: second.name,
+        bytes: &next,
+    };
+    write_both(alloc, &one, &other, writer, notes)
 }
 
-/// Answers two files, and writes a page that steps through both.
+/// Writes a page of both files.
 fn write_both<W: Write>(
     alloc: Global,
-    name: &str,
-    next_name: &str,
-    file: &[u8],
-    next: &[u8],
+    first: &NamedFile<'_>,
+    second: &NamedFile<'_>,
     writer: &mut Device<W>,
     notes: &mut Text,
 ) -> Result<Outcome, ViewFault>
-    requires first { length file.now ≤ most_bytes }
-    requires second { length next.now ≤ most_bytes }
+    requires first { length first.now.bytes.now ≤ most_bytes }
+    requires second { length second.now.bytes.now ≤ most_bytes }
     requires writer { writer.old.failed ≡ false }
-    ensures text { (output : List ℕ) × IsPageAnswer (file.now ∷ next.now ∷ []) result output
+    ensures text { (output : List ℕ) × IsPageAnswer (first.now.bytes.now ∷ second.now.bytes.now ∷ []) result output
         × Appends (W.contents writer.old.inner) (W.contents writer.new.inner) output
         × (writer.new.calls ≤ writer.old.calls + length output + failed_writes (is_write_failed result)) }
     ensures read { is_read_failed result ≡ false }
     ensures writer { HasWritten writer.old writer.new result (is_write_failed result) }
-    ensures notes { AreBothNotes (record { name = name.now; bytes = file.now }) (record { name = next_name.now; bytes = next.now }) result notes.new }
+    ensures notes { AreBothNotes (record { name = first.now.name.now; bytes = first.now.bytes.now }) (record { name = second.now.name.now; bytes = second.now.bytes.now }) result notes.new }
 {
-    *notes = faults_of_both(alloc, name, next_name, file, next)?;
-    let paged = page_of_both(alloc, file, next)?;
+    *notes = faults_of_both(alloc, first.name, second.name, first.bytes, second.bytes)?;
+    let paged = page_of_both(alloc, first.bytes, second.bytes)?;
     write_output(writer, paged.output.as_bytes())?;
     written(paged.ending)
 }

@@ -22,6 +22,8 @@ pub enum OptionFault {
     Keeps(LineFault),
     /// Values for inputs and a task of one's own are both given.
     Both,
+    /// One outcome alone is asked for, and so is whether tasks are kept.
+    Alone,
 }
 
 /// Why an answer was not written whole.

@@ -1,6 +1,5 @@
 //! How far a long answer is, on a terminal.
-use crate::request::Request;
-use bgview_command_line::Mode;
+use crate::request::{OfInput, Request, Requested};
 use run_search::Progress;
 use std::io::Write;
 use std::{fs, io};
@@ -16,12 +15,12 @@ pub struct Parts {
 }
 
 impl Parts {
-    /// The parts of the answer to this request: schedules of a sample, or nodes of a search.
-    pub fn of(request: &Request<'_>) -> Parts {
-        match request.mode {
-            Mode::Sample => Parts {
+    /// The parts of the answer to what is requested: schedules of a sample, or nodes of a search.
+    pub fn of(requested: &Requested<'_>) -> Parts {
+        match requested {
+            Requested::Input(OfInput::Whole(Request::Sample(plan))) => Parts {
                 name: "schedules",
-                total: Some(u64::from(request.plan.schedules)),
+                total: Some(u64::from(plan.schedules)),
             },
             _ => Parts {
                 name: "nodes",

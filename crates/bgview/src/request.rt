@@ -1,6 +1,7 @@
-//! What the words of the command line request of an input.
+//! What the words of the command line request.
 ghost use Rattle.clap.specs.Words.{subcommand_rows_of};
-ghost use Rattle.bgview.specs.Requests.{IsGradingAmong, IsPlanAmong, IsRequestAmong, IsSearchAmong, IsStyleAmong};
+ghost use Rattle.bgview_command_line.specs.CommandLine.{mode_among};
+ghost use Rattle.bgview.specs.Requests.{IsGradingAmong, IsPlanAmong, IsRequestedBy, IsSearchAmong, IsStyleAmong};
 
 use bgview_command_line::{
     Mode, is_given, line_in, number_among, number_if_any, text_among, text_if_any,
@@ -29,6 +30,10 @@ pub struct Searching<'a> {
     /// Whether transcripts are left out, in JSON the events of runs.
     pub brief: bool,
     pub form: Form,
+    /// How many outcomes of a room are shown at most, if not all are.
+    pub top: Option<u32>,
+    /// The number of the outcome of each room that is shown alone, if one is.
+    pub outcome: Option<u32>,
     /// Whether the rooms' tasks alone are judged.
     pub task: bool,
     /// The values of which inputs are made, as text, if the rooms' tasks are judged with all of them.
@@ -37,30 +42,66 @@ pub struct Searching<'a> {
     pub keeps: Option<&'a str>,
 }
 
-/// What is requested of an input.
+/// What is requested of an input that is read whole before it is answered.
 #[derive(Clone, Copy)]
-pub struct Request<'a> {
-    pub mode: Mode,
-    /// Whether the answer is written as JSON, if the mode has such an answer.
-    pub json: bool,
-    pub plan: Plan,
-    pub search: Searching<'a>,
-    pub grading: Grading<'a>,
-    pub style: Style,
+pub enum Request<'a> {
+    /// Which rooms of a transcript are runs, and why the others are none; as JSON or as text.
+    Why { json: bool },
+    /// What each step of a script did; as JSON or as text.
+    Trace { json: bool },
+    /// A picture of a script's rooms.
+    Draw(Style),
+    /// A page that steps through a script or a transcript.
+    Page,
+    /// The rooms of a script as a transcript.
+    Transcript,
+    /// Whether a script reaches a goal.
+    Grade(Grading<'a>),
+    /// The outcomes of rooms by random schedules.
+    Sample(Plan),
+    /// The outcomes of all runs of rooms, or whether these keep a task.
+    Outcomes(Searching<'a>),
+    /// All faults of a file; as JSON or as text.
+    Lint { json: bool },
 }
 
-/// What the words request of an input.
-pub fn request_in<'a>(matches: &ArgMatches<'a>) -> Request<'a>
-    ensures { IsRequestAmong (subcommand_rows_of matches.now) result }
+/// What is requested of an input.
+#[derive(Clone, Copy)]
+pub enum OfInput<'a> {
+    /// To be played as it is written.
+    Live,
+    /// To be answered once it is read.
+    Whole(Request<'a>),
+}
+
+/// What is requested.
+#[derive(Clone, Copy)]
+pub enum Requested<'a> {
+    /// Faults in words, by their numbers.
+    Faults,
+    /// Something of an input.
+    Input(OfInput<'a>),
+}
+
+/// What the words request.
+pub fn requested_in<'a>(matches: &ArgMatches<'a>) -> Requested<'a>
+    ensures { IsRequestedBy (mode_among (subcommand_rows_of matches.now)) (subcommand_rows_of matches.now) result }
 {
-    Request {
-        mode: line_in(matches).command,
-        json: is_given(matches, "json"),
-        plan: plan_in(matches),
-        search: search_in(matches),
-        grading: grading_in(matches),
-        style: style_in(matches),
-    }
+    let json = is_given(matches, "json");
+    let request = match line_in(matches).command {
+        Mode::Fault => return Requested::Faults,
+        Mode::Live => return Requested::Input(OfInput::Live),
+        Mode::Why => Request::Why { json },
+        Mode::Trace => Request::Trace { json },
+        Mode::Draw => Request::Draw(style_in(matches)),
+        Mode::Page => Request::Page,
+        Mode::Transcript => Request::Transcript,
+        Mode::Grade => Request::Grade(grading_in(matches)),
+        Mode::Sample => Request::Sample(plan_in(matches)),
+        Mode::Outcomes => Request::Outcomes(search_in(matches)),
+        Mode::Lint => Request::Lint { json },
+    };
+    Requested::Input(OfInput::Whole(request))
 }
 
 /// How rooms are drawn by what the words ask for.
@@ -91,6 +132,7 @@ fn plan_in(matches: &ArgMatches<'_>) -> Plan
         schedules: number_among(matches, "schedules", 1000),
         crashes: number_among(matches, "crashes", 1),
         seed: number_among(matches, "seed", 1),
+        from: number_among(matches, "from", 0),
         workers: number_among(matches, "workers", 1),
         group: is_given(matches, "group"),
         brief: is_given(matches, "brief"),
@@ -109,6 +151,8 @@ fn search_in<'a>(matches: &ArgMatches<'a>) -> Searching<'a>
         nodes: number_among(matches, "nodes", 1000000),
         brief: is_given(matches, "brief"),
         form: Form::of(is_given(matches, "json")),
+        top: number_if_any(matches, "top"),
+        outcome: number_if_any(matches, "outcome"),
         task: is_given(matches, "task"),
         values: text_if_any(matches, "inputs"),
         keeps: text_if_any(matches, "keeps"),

@@ -80,6 +80,10 @@ fn say_words<E: Write>(errors: &mut Device<E>, fault: ViewFault) -> Result<(), D
         ViewFault::BadOption(OptionFault::Both) => {
             write_output(errors, b"--inputs and --keeps can't be given together")
         }
+        ViewFault::BadOption(OptionFault::Alone) => write_output(
+            errors,
+            b"--outcome can't be given together with --task, --inputs or --keeps",
+        ),
     }
 }
 

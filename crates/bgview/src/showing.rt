@@ -1,5 +1,5 @@
 //! From a request and an input to what is shown: one call for each mode.
-ghost use Rattle.std.specs.Prelude.{◌≡◌, ◌≢◌, ◌≤◌, Ok, None, IfErr, IfOk, IsOk, false, if◌then◌else◌, length};
+ghost use Rattle.std.specs.Prelude.{◌≡◌, ◌≤◌, Ok, None, IfErr, IfOk, IsOk, false, length};
 ghost use Rattle.io_text.specs.Reading.{most_bytes};
 ghost use Rattle.file_faults.specs.Lint.{IsLintIn};
 ghost use Rattle.room_files.specs.Blocks.{IsFaultOr};
@@ -10,18 +10,16 @@ ghost use Rattle.view_outcomes.specs.Asked.{AreInputsAsked, IsTaskAsked};
 ghost use Rattle.view_outcomes.specs.Blocks.{IsOutcomesFor};
 ghost use Rattle.decision_tasks.specs.Tasks.{task_in};
 ghost use Rattle.view_outcomes.specs.Values.{values_in};
-ghost use Rattle.view_outcomes.specs.declared.search.Asked.TheVariants.{Outcomes, Task};
 ghost use Rattle.view_outcomes.specs.declared.search.Search.{Search as SearchValue};
 ghost use Rattle.view_page.specs.Pages.{fault_in};
 ghost use Rattle.view_trace.specs.Trace.{IsTraceIn};
 ghost use Rattle.view_why.specs.Why.{IsExplanationIn};
-ghost use Rattle.bgview.specs.Answers.{Ends, EndsRequest, IsGradeFor, IsSearchFor, IsSearchShown, IsShown, IsWhole, goal_fault_in, goal_text, keeps_fault_in, keeps_text, search_fault, values_fault_in, values_text};
-ghost use Rattle.bgview_command_line.specs.declared.words.Mode.TheVariants.{Live};
-ghost use Rattle.bgview.specs.Notes.{AreGoalNotes, AreGradeNotes, AreLintNotes, AreNotes, AreNotesIn, AreRoomNotes, AreSaidOfFile, AreWhyNotes};
+ghost use Rattle.bgview.specs.Answers.{Ends, EndsRequest, IsGradeFor, IsSearchFor, IsSearchShown, IsShown, IsWhole, asked_alone, goal_fault_in, goal_text, is_more_asked, keeps_fault_in, keeps_text, search_fault, searching_fault, values_fault_in, values_text};
+ghost use Rattle.bgview.specs.Notes.{AreGoalNotes, AreGradeNotes, AreLintNotes, AreNotes, AreNotesOn, AreRoomNotes, AreSaidOfFile, AreWhyNotes};
 
 use crate::fault::{OptionFault, ViewFault};
 use crate::request::{Grading, Request, Searching};
-use bgview_command_line::Mode;
+use crate::system::{Aside, System};
 use decision_tasks::DecisionTask;
 use file_faults::{lint, lint_json, room_faults, script_faults, transcript_faults, warnings_of};
 use io_text::{DeviceFault, Text};
@@ -40,47 +38,45 @@ use view_trace::{trace, trace_json};
 use view_transcript::transcribe;
 use view_why::{explain, explain_json};
 
-/// What is shown of an input as is requested. What is said of its faults, or of a goal that is not valid, becomes `notes`.
-pub fn show<H: Threads + Sync, P: Progress>(
-    rt: &H,
-    alloc: Global,
+/// What is shown of an input as is requested. What is said of its faults, or of a goal that is not valid, becomes the notes of `aside`.
+pub fn show<H: Threads + Sync, I, P: Progress>(
+    system: &System<'_, H, I>,
     request: &Request<'_>,
     input: &[u8],
-    notes: &mut Text,
-    progress: &mut P,
+    aside: &mut Aside<P>,
 ) -> Result<PlayText, ViewFault>
-    requires short { length input.now ≤ most_bytes }
-    requires mode { request.now.mode ≢ Live }
+    requires { length input.now ≤ most_bytes }
     ensures shown { IfOk result (λ shown. IsShown request.now input.now shown.ending shown.output) }
     ensures err { IfErr result (EndsRequest request.now input.now) }
-    ensures notes { AreNotesIn request.now.mode request.now.json input.now result notes.old notes.new }
+    ensures notes { AreNotesOn request.now input.now result aside.old.notes aside.new.notes }
 {
-    match request.mode {
-        Mode::Why | Mode::Fault => explained(alloc, request.json, input, notes),
-        Mode::Trace => {
-            *notes = script_faults(alloc, input)?;
-            Ok(traced(alloc, request.json, input)?)
+    let alloc = system.alloc;
+    match request {
+        Request::Why { json } => explained(alloc, *json, input, &mut aside.notes),
+        Request::Trace { json } => {
+            aside.notes = script_faults(alloc, input)?;
+            Ok(traced(alloc, *json, input)?)
         }
-        Mode::Draw => {
-            *notes = script_faults(alloc, input)?;
-            Ok(draw(alloc, request.style, input)?)
+        Request::Draw(style) => {
+            aside.notes = script_faults(alloc, input)?;
+            Ok(draw(alloc, *style, input)?)
         }
-        Mode::Page => {
-            *notes = said_of_file(alloc, input)?;
+        Request::Page => {
+            aside.notes = said_of_file(alloc, input)?;
             Ok(page(alloc, input)?)
         }
-        Mode::Transcript => {
-            *notes = script_faults(alloc, input)?;
+        Request::Transcript => {
+            aside.notes = script_faults(alloc, input)?;
             Ok(transcribe(alloc, input)?)
         }
-        Mode::Grade => grade_or_note(alloc, &request.grading, input, notes),
-        Mode::Sample => {
-            *notes = room_faults(alloc, input)?;
-            Ok(sample_blocks(&Threaded::new(rt), alloc, input, &request.plan, progress)?)
+        Request::Grade(grading) => grade_or_note(alloc, grading, input, &mut aside.notes),
+        Request::Sample(plan) => {
+            aside.notes = room_faults(alloc, input)?;
+            let workers = Threaded::new(system.threads);
+            Ok(sample_blocks(&workers, alloc, input, plan, &mut aside.progress)?)
         }
-        Mode::Outcomes => search_or_fail(alloc, &request.search, input, notes, progress),
-        Mode::Lint => linted(alloc, request.json, input, notes),
-        Mode::Live => unreachable!(), // it doesn't wait for its whole input
+        Request::Outcomes(searching) => search_or_fail(alloc, searching, input, aside),
+        Request::Lint { json } => linted(alloc, *json, input, &mut aside.notes),
     }
 }
 
@@ -168,26 +164,51 @@ fn explain_or_note(alloc: Global, input: &[u8], notes: &mut Text) -> Result<Play
     }
 }
 
-/// Searches rooms, unless the values of inputs, or a task of one's own, are not valid. What is said of refused blocks becomes `notes`.
+/// Searches rooms, unless the options are not valid. What is said of refused blocks becomes the notes of `aside`.
 fn search_or_fail<P: Progress>(
     alloc: Global,
     searching: &Searching<'_>,
     input: &[u8],
-    notes: &mut Text,
-    progress: &mut P,
+    aside: &mut Aside<P>,
+) -> Result<PlayText, ViewFault>
+    requires { length input.now ≤ most_bytes }
+    ensures shown { IfOk result (λ shown. IsSearchShown searching.now input.now shown.ending shown.output) }
+    ensures err { IfErr result (Ends None (searching_fault searching.now)) }
+    ensures notes { AreRoomNotes input.now result aside.new.notes }
+{
+    if is_more_asked(searching) {
+        return Err(ViewFault::BadOption(OptionFault::Alone));
+    }
+    search_asked(alloc, searching, input, aside)
+}
+
+/// Whether one outcome alone is asked for, and so is whether tasks are kept.
+fn is_more_asked(searching: &Searching<'_>) -> bool
+    ensures { result ≡ is_more_asked searching.now }
+{
+    let is_judged = searching.task || searching.values.is_some() || searching.keeps.is_some();
+    searching.outcome.is_some() && is_judged
+}
+
+/// Searches rooms, unless the values of inputs, or a task of one's own, are not valid. What is said of refused blocks becomes the notes of `aside`.
+fn search_asked<P: Progress>(
+    alloc: Global,
+    searching: &Searching<'_>,
+    input: &[u8],
+    aside: &mut Aside<P>,
 ) -> Result<PlayText, ViewFault>
     requires { length input.now ≤ most_bytes }
     ensures shown { IfOk result (λ shown. IsSearchShown searching.now input.now shown.ending shown.output) }
     ensures err { IfErr result (Ends None (search_fault (values_text searching.now) (keeps_text searching.now))) }
-    ensures notes { AreRoomNotes input.now result notes.new }
+    ensures notes { AreRoomNotes input.now result aside.new.notes }
 {
     match (searching.values, searching.keeps) {
         (None, None) => {
-            let search = search_for(searching, asked_alone(searching.task));
-            searched(alloc, &search, input, notes, progress)
+            let search = search_for(searching, asked_alone(searching));
+            searched(alloc, &search, input, aside)
         }
-        (Some(values), None) => search_inputs(alloc, searching, values, input, notes, progress),
-        (None, Some(keeps)) => search_kept(alloc, searching, keeps, input, notes, progress),
+        (Some(values), None) => search_inputs(alloc, searching, values, input, aside),
+        (None, Some(keeps)) => search_kept(alloc, searching, keeps, input, aside),
         (Some(_), Some(_)) => Err(ViewFault::BadOption(OptionFault::Both)),
     }
 }
@@ -198,18 +219,17 @@ fn search_inputs<P: Progress>(
     searching: &Searching<'_>,
     text: &str,
     input: &[u8],
-    notes: &mut Text,
-    progress: &mut P,
+    aside: &mut Aside<P>,
 ) -> Result<PlayText, ViewFault>
     requires { length input.now ≤ most_bytes }
     ensures shown { IfOk result (λ shown. (search : SearchValue) × IsSearchFor searching.now search × AreInputsAsked text.now search.asked × IsWhole (IsOutcomesFor search input.now) shown.ending shown.output) }
     ensures err { IfErr result (Ends None (values_fault_in (values_in text.now))) }
-    ensures notes { AreRoomNotes input.now result notes.new }
+    ensures notes { AreRoomNotes input.now result aside.new.notes }
 {
     match read_values(text.as_bytes()) {
         Ok(values) => {
             let search = search_for(searching, Asked::Inputs(values.as_slice()));
-            searched(alloc, &search, input, notes, progress)
+            searched(alloc, &search, input, aside)
         }
         Err(fault) => Err(ViewFault::BadOption(OptionFault::Inputs(fault))),
     }
@@ -221,28 +241,32 @@ fn search_kept<P: Progress>(
     searching: &Searching<'_>,
     text: &str,
     input: &[u8],
-    notes: &mut Text,
-    progress: &mut P,
+    aside: &mut Aside<P>,
 ) -> Result<PlayText, ViewFault>
     requires { length input.now ≤ most_bytes }
     ensures shown { IfOk result (λ shown. (search : SearchValue) × IsSearchFor searching.now search × IsTaskAsked text.now search.asked × IsWhole (IsOutcomesFor search input.now) shown.ending shown.output) }
     ensures err { IfErr result (Ends None (keeps_fault_in (task_in text.now))) }
-    ensures notes { AreRoomNotes input.now result notes.new }
+    ensures notes { AreRoomNotes input.now result aside.new.notes }
 {
     match DecisionTask::read(alloc, text.as_bytes())? {
         Ok(task) => {
             let search = search_for(searching, Asked::Keeps(&task));
-            searched(alloc, &search, input, notes, progress)
+            searched(alloc, &search, input, aside)
         }
         Err(fault) => Err(ViewFault::BadOption(OptionFault::Keeps(fault))),
     }
 }
 
 /// What is asked of each room if neither values for inputs nor a task of one's own are given.
-fn asked_alone<'a>(task: bool) -> Asked<'a>
-    ensures { result ≡ (if task then Task else Outcomes) }
+fn asked_alone<'a>(searching: &Searching<'_>) -> Asked<'a>
+    ensures { result ≡ asked_alone searching.now }
 {
-    if task { Asked::Task } else { Asked::Outcomes }
+    match (searching.task, searching.outcome, searching.top) {
+        (true, _, _) => Asked::Task,
+        (false, Some(number), _) => Asked::Outcome(number),
+        (false, None, Some(top)) => Asked::First(top),
+        (false, None, None) => Asked::Outcomes,
+    }
 }
 
 /// The search that asks this of each room.
@@ -258,21 +282,20 @@ fn search_for<'a>(searching: &Searching<'_>, asked: Asked<'a>) -> Search<'a>
     }
 }
 
-/// Searches rooms. What is said of refused blocks becomes `notes`.
+/// Searches rooms. What is said of refused blocks becomes the notes of `aside`.
 fn searched<P: Progress>(
     alloc: Global,
     search: &Search<'_>,
     input: &[u8],
-    notes: &mut Text,
-    progress: &mut P,
+    aside: &mut Aside<P>,
 ) -> Result<PlayText, ViewFault>
     requires { length input.now ≤ most_bytes }
     ensures shown { IfOk result (λ shown. IsWhole (IsOutcomesFor search.now input.now) shown.ending shown.output) }
     ensures err { IfErr result (Ends None None) }
-    ensures notes { AreRoomNotes input.now result notes.new }
+    ensures notes { AreRoomNotes input.now result aside.new.notes }
 {
-    *notes = room_faults(alloc, input)?;
-    Ok(whole(search_blocks(alloc, input, search, progress)?))
+    aside.notes = room_faults(alloc, input)?;
+    Ok(whole(search_blocks(alloc, input, search, &mut aside.progress)?))
 }
 
 /// Grades a script. What is said of all its faults, or of a goal that is not valid, becomes `notes`.

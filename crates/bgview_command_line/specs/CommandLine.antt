@@ -50,6 +50,9 @@ crashes_rule = number_rule (codes "crashes") 0 8
 abbrev pub seed_rule : Rule
 seed_rule = number_rule (codes "seed") 0 4294967295
 
+abbrev pub from_rule : Rule
+from_rule = number_rule (codes "from") 0 4294967295
+
 abbrev pub top_rule : Rule
 top_rule = number_rule (codes "top") 1 1000000
 
@@ -67,9 +70,9 @@ brief_rule = record (new_rule (codes "brief")) { long = Some (codes "brief"); ac
 abbrev pub group_rule : Rule
 group_rule = record (new_rule (codes "group")) { long = Some (codes "group"); action = Some SetTrue }
 
--- the subcommand `sample` as far as it says which schedules are drawn: a file and three numbers
+-- the subcommand `sample` as far as it says which schedules are drawn: a file and four numbers
 abbrev pub drawing_app : App
-drawing_app = with_rule (with_rule (with_rule (file_app (codes "sample")) schedules_rule) crashes_rule) seed_rule
+drawing_app = with_rule (with_rule (with_rule (with_rule (file_app (codes "sample")) schedules_rule) crashes_rule) seed_rule) from_rule
 
 -- and which outcomes are shown
 abbrev pub choosing_app : App
@@ -93,9 +96,13 @@ task_rule = record (new_rule (codes "task")) { long = Some (codes "task"); actio
 abbrev pub searching_app : App
 searching_app = with_rule (with_rule (file_app (codes "outcomes")) stopped_rule) nodes_rule
 
--- and how the outcomes are listed
+-- and which outcomes are shown
+abbrev pub picking_app : App
+picking_app = with_rule (with_rule searching_app top_rule) outcome_rule
+
+-- and how they are written
 abbrev pub listing_app : App
-listing_app = with_rule (with_rule searching_app json_rule) brief_rule
+listing_app = with_rule (with_rule picking_app json_rule) brief_rule
 
 -- an option that takes a text
 abbrev pub inputs_rule : Rule

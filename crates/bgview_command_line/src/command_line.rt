@@ -4,7 +4,7 @@ ghost use Rattle.clap.specs.Kinds.{FailsBy};
 ghost use Rattle.clap.specs.declared.builder.command.Command.TheViews.{out-Command};
 ghost use Rattle.clap.specs.Words.{app_of, fault_of, subcommand_of, subcommand_rows_of, with_subcommand};
 ghost use Rattle.clap.specs.Walk.{rule_of};
-ghost use Rattle.bgview_command_line.specs.CommandLine.{bgview_app, brief_rule, choosing_app, commands_rule, crashes_rule, draw_app, drawing_app, fault_app, file_app, goal_rule, grade_app, group_rule, inputs_rule, json_rule, keeps_rule, listing_app, outcome_rule, outcomes_app, page_app, plain_app, sample_app, scale_rule, schedules_rule, searching_app, seed_rule, nodes_rule, stopped_rule, task_rule, telling_app, top_rule, turns_rule, workers_rule};
+ghost use Rattle.bgview_command_line.specs.CommandLine.{bgview_app, brief_rule, choosing_app, commands_rule, crashes_rule, draw_app, drawing_app, fault_app, file_app, from_rule, goal_rule, grade_app, group_rule, inputs_rule, json_rule, keeps_rule, listing_app, outcome_rule, outcomes_app, page_app, picking_app, plain_app, sample_app, scale_rule, schedules_rule, searching_app, seed_rule, nodes_rule, stopped_rule, task_rule, telling_app, top_rule, turns_rule, workers_rule};
 
 use clap::{Arg, ArgAction, ArgMatches, Command, Error, value_parser};
 use std::alloc::{AllocError, Global};
@@ -160,8 +160,14 @@ fn choosing_command<'a>(alloc: Global) -> Result<Command<'a>, AllocError>
 {
     let sample = drawing_command(alloc)?;
     let with_group = sample.arg(group_option(alloc))?;
-    let with_top = with_group.arg(top_option(alloc))?;
-    with_top.arg(outcome_option(alloc))
+    let with_top = with_group.arg(top_option(
+        alloc,
+        "Shows only the K most frequent outcomes of each room, and makes their scripts alone; without it, all",
+    ))?;
+    with_top.arg(outcome_option(
+        alloc,
+        "Writes nothing but the script of the K-th most frequent outcome of each room",
+    ))
 }
 
 /// The subcommand `sample` with the options that say which schedules are drawn.
@@ -173,12 +179,13 @@ fn drawing_command<'a>(alloc: Global) -> Result<Command<'a>, AllocError>
         alloc,
         "sample",
         "Runs each room of a file by random schedules, and counts the outcomes",
-        "bgview sample [--schedules N] [--crashes F] [--seed S] [--workers W] [--group] [--top K] [--outcome K] [--json] [--brief] [FILE]",
+        "bgview sample [--schedules N] [--crashes F] [--seed S] [--from K] [--workers W] [--group] [--top K] [--outcome K] [--json] [--brief] [FILE]",
         "The rooms; without it, standard input is read",
     )?;
     let with_schedules = sample.arg(schedules_option(alloc))?;
     let with_crashes = with_schedules.arg(crashes_option(alloc))?;
-    with_crashes.arg(seed_option(alloc))
+    let with_seed = with_crashes.arg(seed_option(alloc))?;
+    with_seed.arg(from_option(alloc))
 }
 
 /// The option `--workers W`.
@@ -240,6 +247,18 @@ fn seed_option<'a>(alloc: Global) -> Arg<'a>
         .help("What the schedules are drawn from, 0 to 4294967295; without it, 1")
 }
 
+/// The option `--from K`.
+fn from_option<'a>(alloc: Global) -> Arg<'a>
+    ensures rule { rule_of result ≡ from_rule }
+    ensures local { result.global ≡ false }
+{
+    Arg::new(alloc, "from")
+        .long("from")
+        .value_name("K")
+        .value_parser(value_parser!(u32).range(0..=4294967295))
+        .help("The number of the first schedule, 0 to 4294967295; without it, 0")
+}
+
 /// The option `--group`.
 fn group_option<'a>(alloc: Global) -> Arg<'a>
     ensures rule { rule_of result ≡ group_rule }
@@ -252,7 +271,7 @@ fn group_option<'a>(alloc: Global) -> Arg<'a>
 }
 
 /// The option `--top K`.
-fn top_option<'a>(alloc: Global) -> Arg<'a>
+fn top_option<'a>(alloc: Global, help: &'a str) -> Arg<'a>
     ensures rule { rule_of result ≡ top_rule }
     ensures local { result.global ≡ false }
 {
@@ -260,13 +279,11 @@ fn top_option<'a>(alloc: Global) -> Arg<'a>
         .long("top")
         .value_name("K")
         .value_parser(value_parser!(u32).range(1..=1000000))
-        .help(
-            "Shows only the K most frequent outcomes of each room, and makes their scripts alone; without it, all",
-        )
+        .help(help)
 }
 
 /// The option `--outcome K`.
-fn outcome_option<'a>(alloc: Global) -> Arg<'a>
+fn outcome_option<'a>(alloc: Global, help: &'a str) -> Arg<'a>
     ensures rule { rule_of result ≡ outcome_rule }
     ensures local { result.global ≡ false }
 {
@@ -274,7 +291,7 @@ fn outcome_option<'a>(alloc: Global) -> Arg<'a>
         .long("outcome")
         .value_name("K")
         .value_parser(value_parser!(u32).range(1..=1000000))
-        .help("Writes nothing but the script of the K-th most frequent outcome of each room")
+        .help(help)
 }
 
 /// The subcommand `outcomes`, which takes a file, numbers, flags and texts.
@@ -288,16 +305,32 @@ fn outcomes_command<'a>(alloc: Global) -> Result<Command<'a>, AllocError>
     with_inputs.arg(keeps_option(alloc))
 }
 
-/// The subcommand `outcomes` with the options that say which runs are searched, and how the outcomes are listed.
+/// The subcommand `outcomes` with the options that say which runs are searched, which outcomes are shown, and how.
 fn listing_command<'a>(alloc: Global) -> Result<Command<'a>, AllocError>
     ensures app { IfOk result (λ command. app_of command ≡ listing_app) }
     ensures local { IfOk result (λ command. (out-Command command).has_globals ≡ false) }
 {
-    let outcomes = searching_command(alloc)?;
+    let outcomes = picking_command(alloc)?;
     let with_json = outcomes.arg(json_option(alloc))?;
     with_json.arg(brief_option(
         alloc,
         "Leaves out the transcripts, and in JSON the events of runs",
+    ))
+}
+
+/// The subcommand `outcomes` with the options that say which runs are searched, and which outcomes are shown.
+fn picking_command<'a>(alloc: Global) -> Result<Command<'a>, AllocError>
+    ensures app { IfOk result (λ command. app_of command ≡ picking_app) }
+    ensures local { IfOk result (λ command. (out-Command command).has_globals ≡ false) }
+{
+    let outcomes = searching_command(alloc)?;
+    let with_top = outcomes.arg(top_option(
+        alloc,
+        "Shows only the first K outcomes of the list of each room; without it, all",
+    ))?;
+    with_top.arg(outcome_option(
+        alloc,
+        "Writes nothing but the transcript of the K-th outcome of the list of each room",
     ))
 }
 
@@ -310,7 +343,7 @@ fn searching_command<'a>(alloc: Global) -> Result<Command<'a>, AllocError>
         alloc,
         "outcomes",
         "Searches all runs of each room's protocol, and lists all outcomes",
-        "bgview outcomes [--crashes F] [--nodes N] [--json] [--brief] [--task] [--inputs A,B,..] [--keeps TASK] [FILE]",
+        "bgview outcomes [--crashes F] [--nodes N] [--top K] [--outcome K] [--json] [--brief] [--task] [--inputs A,B,..] [--keeps TASK] [FILE]",
         "The rooms; without it, standard input is read",
     )?;
     let with_crashes = outcomes.arg(stopped_option(alloc))?;

@@ -115,6 +115,7 @@ plan_of plan = record {
   schedules = plan.schedules;
   crashes = plan.crashes;
   seed = plan.seed;
+  from = plan.from;
   workers = 1;
   group = plan.group;
   brief = plan.brief;

@@ -14,6 +14,8 @@ pub struct SamplePlan {
     pub crashes: u32,
     /// What the schedules are drawn from: the same seed gives the same ones.
     pub seed: u32,
+    /// The number of the first schedule.
+    pub from: u32,
     /// How many outcomes are shown at most, or all if it is 4294967295.
     pub top: u32,
     /// The outcome of which nothing but the script is written, by its number in the order in which they are shown, from 1; or 4294967295 for all.
@@ -34,6 +36,7 @@ pub fn plan_of(plan: &SamplePlan) -> Plan
         schedules: plan.schedules,
         crashes: plan.crashes,
         seed: plan.seed,
+        from: plan.from,
         workers: 1,
         group: plan.group,
         brief: plan.brief,

@@ -20,6 +20,7 @@ use history_checker::NoRoom;
 use io_text::Text;
 use room_files::{SpecList, count_lines, split_line};
 use room_spec::Name;
+use room_warnings::Format;
 use std::alloc::{AllocError, Global};
 use std::marker::Model;
 use transcript::{LineFault, read_line};
@@ -120,101 +121,89 @@ impl<'a> Opened<'a> {
     }
 }
 
+/// A part of a transcript: all of its event lines from one on, or one line. `opened` is what the transcript has before its event lines.
+#[derive(Clone, Copy)]
+struct EventPart<'a> {
+    opened: &'a Opened<'a>,
+    /// The number of the part's first line.
+    number: u64,
+    text: &'a [u8],
+}
+
 /// Writes what is said of all faults of event lines, the first of which has this number.
-pub(crate) fn write_event_faults(
-    alloc: Global,
+pub(crate) fn write_event_faults<'a>(
+    format: Format,
     output: &mut Text,
-    json: bool,
-    opened: &Opened<'_>,
+    opened: &'a Opened<'a>,
     first: u64,
-    transcript: &[u8],
+    transcript: &'a [u8],
 ) -> Result<(), AllocError>
-    ensures { OnOk result (output.new ≡ output.old ++ events_said json opened.now first transcript.now) }
+    ensures { OnOk result (output.new ≡ output.old ++ events_said format.json opened.now first transcript.now) }
 {
     let mut rest = transcript;
     let mut number = first;
     let mut left = MOST_EXPLAINED;
-    let mut strangers = Strangers::new(alloc);
+    let mut strangers = Strangers::new(format.alloc);
     'walk: while !rest.is_empty() {
-        let Some(fewer) = write_event(
-            alloc,
-            output,
-            json,
-            left,
+        let part = EventPart {
             opened,
-            &mut strangers,
             number,
-            rest,
-        )?
-        else {
+            text: rest,
+        };
+        let Some(fewer) = write_event(format, output, left, &mut strangers, &part)? else {
             return Ok(());
         };
         left = fewer;
         number = next_event(number, rest);
         rest = events_behind(rest);
     }
-    write_end(alloc, output, json, &strangers)
+    write_end(format, output, &strangers)
 }
 
 /// Writes how many lines had a name of no room that an earlier one had, if some did.
-fn write_end(
-    alloc: Global,
-    output: &mut Text,
-    json: bool,
-    strangers: &Strangers,
-) -> Result<(), AllocError>
-    ensures { OnOk result (output.new ≡ output.old ++ more_in json (more_note MORE_LINES.now strangers.now)) }
+fn write_end(format: Format, output: &mut Text, strangers: &Strangers) -> Result<(), AllocError>
+    ensures { OnOk result (output.new ≡ output.old ++ more_in format.json (more_note MORE_LINES.now strangers.now)) }
 {
-    let mut said = Text::new(alloc);
+    let mut said = Text::new(format.alloc);
     strangers.write_more(&mut said, MORE_LINES)?;
-    write_more_in(alloc, output, json, said.as_bytes())
+    write_more_in(format, output, said.as_bytes())
 }
 
-/// Writes what is said of the line with which a text begins, which has this number. Gives how many may still be explained.
+/// Writes what is said of the line with which a part begins. Gives how many may still be explained.
 fn write_event(
-    alloc: Global,
+    format: Format,
     output: &mut Text,
-    json: bool,
     left: usize,
-    opened: &Opened<'_>,
     strangers: &mut Strangers,
-    number: u64,
-    text: &[u8],
+    part: &EventPart<'_>,
 ) -> Result<Option<usize>, AllocError>
-    ensures left { IfOk result (λ fewer. fewer ≡ left_after left (event_in json opened.now strangers.old number text.now)) }
-    ensures text { OnOk result (output.new ≡ output.old ++ said_if_left (enough_in json) left (event_in json opened.now strangers.old number text.now)) }
-    ensures strangers { OnOk result (strangers.new ≡ strangers_after opened.now strangers.old text.now) }
+    ensures left { IfOk result (λ fewer. fewer ≡ left_after left (event_in format.json part.now.opened.now strangers.old part.now.number part.now.text.now)) }
+    ensures text { OnOk result (output.new ≡ output.old ++ said_if_left (enough_in format.json) left (event_in format.json part.now.opened.now strangers.old part.now.number part.now.text.now)) }
+    ensures strangers { OnOk result (strangers.new ≡ strangers_after part.now.opened.now strangers.old part.now.text.now) }
 {
-    let mut shown = Text::new(alloc);
-    write_event_in(alloc, &mut shown, json, opened, strangers, number, text)?;
-    write_part(alloc, output, json, left, shown.as_bytes())
+    let mut shown = Text::new(format.alloc);
+    write_event_in(format, &mut shown, strangers, part)?;
+    write_part(format, output, left, shown.as_bytes())
 }
 
-/// Writes what is said of the line with which a text begins, as text or as JSON.
+/// Writes what is said of the line with which a part begins, as text or as JSON.
 fn write_event_in(
-    alloc: Global,
+    format: Format,
     output: &mut Text,
-    json: bool,
-    opened: &Opened<'_>,
     strangers: &mut Strangers,
-    number: u64,
-    text: &[u8],
+    part: &EventPart<'_>,
 ) -> Result<(), AllocError>
-    ensures text { OnOk result (output.new ≡ output.old ++ event_in json opened.now strangers.old number text.now) }
-    ensures strangers { OnOk result (strangers.new ≡ strangers_after opened.now strangers.old text.now) }
+    ensures text { OnOk result (output.new ≡ output.old ++ event_in format.json part.now.opened.now strangers.old part.now.number part.now.text.now) }
+    ensures strangers { OnOk result (strangers.new ≡ strangers_after part.now.opened.now strangers.old part.now.text.now) }
 {
-    if !json {
-        return write_event_said(alloc, output, opened, strangers, number, text);
+    let alloc = format.alloc;
+    if !format.json {
+        return write_event_said(alloc, output, strangers, part);
     }
     let mut said = Text::new(alloc);
-    write_event_said(alloc, &mut said, opened, strangers, number, text)?;
-    write_fault(
-        alloc,
-        output,
-        false,
-        &event_spot(number, text),
-        said.as_bytes(),
-    )
+    write_event_said(alloc, &mut said, strangers, part)?;
+    let spot = event_spot(part.number, part.text);
+    write_fault(alloc, output, false, &spot, said.as_bytes())
 }
 
 /// The place of what is said of the line with which a text begins.
@@ -252,61 +241,52 @@ fn first_byte(number: u64, what: &'static str) -> Spot
 fn write_event_said(
     alloc: Global,
     output: &mut Text,
-    opened: &Opened<'_>,
     strangers: &mut Strangers,
-    number: u64,
-    text: &[u8],
+    part: &EventPart<'_>,
 ) -> Result<(), AllocError>
-    ensures text { OnOk result (output.new ≡ output.old ++ event_said opened.now strangers.old number text.now) }
-    ensures strangers { OnOk result (strangers.new ≡ strangers_after opened.now strangers.old text.now) }
+    ensures text { OnOk result (output.new ≡ output.old ++ event_said part.now.opened.now strangers.old part.now.number part.now.text.now) }
+    ensures strangers { OnOk result (strangers.new ≡ strangers_after part.now.opened.now strangers.old part.now.text.now) }
 {
-    let (line, _) = split_line(text);
-    match read_line(line) {
-        Ok((name, _)) => write_no_room(alloc, output, opened, strangers, number, line, &name),
-        Err(fault) => write_bad_line(alloc, output, number, line, fault),
+    let (text, _) = split_line(part.text);
+    let line = EventPart { text, ..*part };
+    match read_line(text) {
+        Ok((name, _)) => write_no_room(alloc, output, strangers, &line, &name),
+        Err(fault) => write_bad_line(alloc, output, &line, fault),
     }
 }
 
-/// Writes what is said of the line of this number, which is no event line.
+/// Writes what is said of a line which is no event line.
 fn write_bad_line(
     alloc: Global,
     output: &mut Text,
-    number: u64,
-    line: &[u8],
+    line: &EventPart<'_>,
     fault: LineFault,
 ) -> Result<(), AllocError>
-    ensures { OnOk result (output.new ≡ output.old ++ bad_line_said number line.now fault) }
+    ensures { OnOk result (output.new ≡ output.old ++ bad_line_said line.now.number line.now.text.now fault) }
 {
-    if fits_one(line, &BLOCK_LINES) {
-        return write_misplaced(alloc, output, number, line, fault, BLOCKS_BEFORE);
+    if fits_one(line.text, &BLOCK_LINES) {
+        return write_misplaced(alloc, output, line, fault, BLOCKS_BEFORE);
     }
-    if fits_one(line, &REPORT_LINES) {
-        return write_misplaced(alloc, output, number, line, fault, EVENTS_ALONE);
+    if fits_one(line.text, &REPORT_LINES) {
+        return write_misplaced(alloc, output, line, fault, EVENTS_ALONE);
     }
     let words = fault.sentence().as_bytes();
-    write_form_fault(alloc, output, number, words, line, &EVENTS)?;
-    write_advice(output, &NO_EVENT, line)
+    write_form_fault(alloc, output, line.number, words, line.text, &EVENTS)?;
+    write_advice(output, &NO_EVENT, line.text)
 }
 
 /// Writes the fault of a line that has its place elsewhere, and where.
 fn write_misplaced(
     alloc: Global,
     output: &mut Text,
-    number: u64,
-    line: &[u8],
+    line: &EventPart<'_>,
     fault: LineFault,
     elsewhere: &[u8],
 ) -> Result<(), AllocError>
-    ensures { OnOk result (output.new ≡ output.old ++ misplaced_said number line.now fault elsewhere.now) }
+    ensures { OnOk result (output.new ≡ output.old ++ misplaced_said line.now.number line.now.text.now fault elsewhere.now) }
 {
-    write_place(
-        alloc,
-        output,
-        number,
-        fault.sentence().as_bytes(),
-        &[],
-        line,
-    )?;
+    let words = fault.sentence().as_bytes();
+    write_place(alloc, output, line.number, words, &[], line.text)?;
     write_indented(output, elsewhere)
 }
 
@@ -342,43 +322,38 @@ fn events_behind(text: &[u8]) -> &[u8]
     }
 }
 
-/// Writes that the line of this number has the name of no room, unless a room has it.
+/// Writes that a line has the name of no room, unless a room has it.
 fn write_no_room(
     alloc: Global,
     output: &mut Text,
-    opened: &Opened<'_>,
     strangers: &mut Strangers,
-    number: u64,
-    line: &[u8],
+    line: &EventPart<'_>,
     name: &Name,
 ) -> Result<(), AllocError>
-    ensures text { OnOk result (output.new ≡ output.old ++ no_room_said opened.now strangers.old number line.now name.now) }
-    ensures strangers { OnOk result (strangers.new ≡ met_unless (has_room name.now opened.now.rooms) name.now strangers.old) }
+    ensures text { OnOk result (output.new ≡ output.old ++ no_room_said line.now.opened.now strangers.old line.now.number line.now.text.now name.now) }
+    ensures strangers { OnOk result (strangers.new ≡ met_unless (has_room name.now line.now.opened.now.rooms) name.now strangers.old) }
 {
-    if opened.has(name) {
+    if line.opened.has(name) {
         return Ok(());
     }
-    let bytes = name.as_str().as_bytes();
-    write_stranger(alloc, output, opened, strangers, number, line, bytes)
+    write_stranger(alloc, output, strangers, line, name.as_str().as_bytes())
 }
 
 /// Writes the same of a name that no room has, and that a block of this name is refused, if one is, unless an earlier line has the same name.
 fn write_stranger(
     alloc: Global,
     output: &mut Text,
-    opened: &Opened<'_>,
     strangers: &mut Strangers,
-    number: u64,
-    line: &[u8],
+    line: &EventPart<'_>,
     name: &[u8],
 ) -> Result<(), AllocError>
-    ensures text { OnOk result (output.new ≡ output.old ++ stranger_said opened.now strangers.old number line.now name.now) }
+    ensures text { OnOk result (output.new ≡ output.old ++ stranger_said line.now.opened.now strangers.old line.now.number line.now.text.now name.now) }
     ensures strangers { OnOk result (strangers.new ≡ met name.now strangers.old) }
 {
     if strangers.meet(alloc, name)? {
         return Ok(());
     }
     let words = NoRoom.sentence().as_bytes();
-    write_place(alloc, output, number, words, &[], line)?;
-    opened.write_meant(output, name)
+    write_place(alloc, output, line.number, words, &[], line.text)?;
+    line.opened.write_meant(output, name)
 }

@@ -11,6 +11,7 @@ use fault_text::{
 };
 use io_text::Text;
 use room_files::{InputFault, Setup, SpecList, TextFault, read_all_blocks, read_blocks};
+use room_warnings::Format;
 use std::alloc::{AllocError, Global};
 
 /// What may help with such an input.
@@ -70,7 +71,7 @@ fn write_more_if(
 {
     match refusals {
         [] => Ok(()),
-        _ => write_enough(alloc, output, true),
+        _ => write_enough(Format { alloc, json: true }, output),
     }
 }
 
@@ -120,7 +121,8 @@ pub(crate) fn transcript_objects(alloc: Global, input: &[u8]) -> Result<Text, Al
         Ok((setup, transcript)) => {
             write_refusals(alloc, &mut output, input, &setup.refused)?;
             let opened = Opened::of(&setup.rooms, input, &setup.refused);
-            write_event_faults(alloc, &mut output, true, &opened, setup.line, transcript)?;
+            let format = Format { alloc, json: true };
+            write_event_faults(format, &mut output, &opened, setup.line, transcript)?;
             Ok(output)
         }
         Err(InputFault::Memory) => Err(AllocError),
@@ -174,7 +176,8 @@ pub fn transcript_faults(alloc: Global, input: &[u8]) -> Result<Text, AllocError
         Ok((setup, transcript)) => {
             setup.refused.write_notes(alloc, &mut output, input)?;
             let opened = Opened::of(&setup.rooms, input, &setup.refused);
-            write_event_faults(alloc, &mut output, false, &opened, setup.line, transcript)?;
+            let format = Format { alloc, json: false };
+            write_event_faults(format, &mut output, &opened, setup.line, transcript)?;
             Ok(output)
         }
         Err(InputFault::Memory) => Err(AllocError),

@@ -9,6 +9,7 @@ use fault_text::{ENOUGH, Spot, behind_lines};
 use io_text::Text;
 use json_lines::{text_value, write_line};
 use room_files::{next_line, split_line};
+use room_warnings::Format;
 use serde_json::{Value, json};
 use std::alloc::{AllocError, Global};
 
@@ -114,25 +115,24 @@ fn place_value(place: Option<usize>) -> Value
 }
 
 /// Writes that no more is explained, as text or as JSON.
-pub(crate) fn write_enough(alloc: Global, output: &mut Text, json: bool) -> Result<(), AllocError>
-    ensures { OnOk result (output.new ≡ output.old ++ enough_in json) }
+pub(crate) fn write_enough(format: Format, output: &mut Text) -> Result<(), AllocError>
+    ensures { OnOk result (output.new ≡ output.old ++ enough_in format.json) }
 {
-    write_more_in(alloc, output, json, ENOUGH)
+    write_more_in(format, output, ENOUGH)
 }
 
 /// Writes how many parts were not explained, as text or as JSON, if there are some.
 pub(crate) fn write_more_in(
-    alloc: Global,
+    format: Format,
     output: &mut Text,
-    json: bool,
     said: &[u8],
 ) -> Result<(), AllocError>
-    ensures { OnOk result (output.new ≡ output.old ++ more_in json said.now) }
+    ensures { OnOk result (output.new ≡ output.old ++ more_in format.json said.now) }
 {
     match said {
-        _ if !json => output.put(said),
+        _ if !format.json => output.put(said),
         [] => Ok(()),
-        _ => write_more_line(alloc, output, said),
+        _ => write_more_line(format.alloc, output, said),
     }
 }
 

@@ -5,9 +5,10 @@ ghost use Rattle.room_files.specs.Blocks.{block_extent};
 ghost use Rattle.script_play.specs.Script.{command_in, is_open, text_behind};
 ghost use Rattle.file_faults.specs.Scripts.{absent_said, bad_command, begins_with_block, block_in_front, block_said, count_note, ends_as_elsewhere, entry_in, entry_said, entry_spot, explained_at_most, fault_said, is_block_refused, known_after, known_after_command, line_said, line_spot, meant, met_if_absent, next_number, none_known, refused_said, refused_spot, rooms_after_read, script_faults, script_said, simulators_note, taken_said};
 ghost use Rattle.file_faults.specs.Json.{enough_in, more_in};
-ghost use Rattle.file_faults.specs.OpenRooms.{rooms_begun, simulators_of};
+ghost use Rattle.file_faults.specs.OpenRooms.{refusal_of, rooms_begun, simulators_of};
 ghost use Rattle.fault_text.specs.Strangers.{met, more_note};
 ghost use Rattle.file_faults.specs.declared.scripts.TheConstants.{MORE_COMMANDS};
+ghost use Rattle.service_core.specs.Replies.{name_in};
 ghost use Rattle.service_core.specs.declared.reply.Refusal.TheVariants.{NoRoom};
 ghost use Rattle.file_faults.specs.Walks.{left_after, said_if_left};
 
@@ -22,8 +23,9 @@ use fault_text::{
 use io_text::Text;
 use room_files::{BlockFault, TextFault, count_lines, read_room, split_line, write_refused};
 use room_spec::{Name, Spec, SpecFault, block_len};
+use room_warnings::Format;
 use script_play::read_command;
-use service_core::Refusal;
+use service_core::{Command, Refusal};
 use std::alloc::{AllocError, Global};
 use std::marker::Model;
 
@@ -74,13 +76,22 @@ impl Known {
     }
 
     /// Writes how many commands had a name of no open room that an earlier one had, if some did.
-    fn write_end(&self, alloc: Global, output: &mut Text, json: bool) -> Result<(), AllocError>
-        ensures { OnOk result (output.new ≡ output.old ++ more_in json (more_note MORE_COMMANDS.now self.now.strangers)) }
+    fn write_end(&self, format: Format, output: &mut Text) -> Result<(), AllocError>
+        ensures { OnOk result (output.new ≡ output.old ++ more_in format.json (more_note MORE_COMMANDS.now self.now.strangers)) }
     {
-        let mut said = Text::new(alloc);
+        let mut said = Text::new(format.alloc);
         self.strangers.write_more(&mut said, MORE_COMMANDS)?;
-        write_more_in(alloc, output, json, said.as_bytes())
+        write_more_in(format, output, said.as_bytes())
     }
+}
+
+/// A part of a script: all of its entries from one on, or one line, or one block.
+#[derive(Clone, Copy)]
+struct ScriptPart<'a> {
+    script: &'a [u8],
+    /// The number of the part's first line.
+    number: u64,
+    text: &'a [u8],
 }
 
 /// What is said of all faults of a script: of its blocks, of lines that are no commands, and of commands to rooms or simulators that there are not.
@@ -97,23 +108,19 @@ pub fn script_faults(alloc: Global, script: &[u8]) -> Result<Text, AllocError>
 pub(crate) fn script_said(alloc: Global, json: bool, script: &[u8]) -> Result<Text, AllocError>
     ensures { IfOk result (λ text. text ≡ script_said json script.now) }
 {
+    let format = Format { alloc, json };
     let mut output = Text::new(alloc);
     let mut rest = script;
     let mut number = 1;
     let mut left = explained_at_most(script);
     let mut known = Known::new(alloc);
     'walk: while !rest.is_empty() {
-        let Some(fewer) = write_entry(
-            alloc,
-            &mut output,
-            json,
-            left,
-            &mut known,
+        let part = ScriptPart {
             script,
             number,
-            rest,
-        )?
-        else {
+            text: rest,
+        };
+        let Some(fewer) = write_entry(format, &mut output, left, &mut known, &part)? else {
             return Ok(output);
         };
         left = fewer;
@@ -121,7 +128,7 @@ pub(crate) fn script_said(alloc: Global, json: bool, script: &[u8]) -> Result<Te
         number = next_number(number, line, later);
         rest = text_behind(line, later);
     }
-    known.write_end(alloc, &mut output, json)?;
+    known.write_end(format, &mut output)?;
     Ok(output)
 }
 
@@ -150,45 +157,40 @@ fn ends_as_elsewhere(script: &[u8]) -> bool
     line.iter().any(|byte| *byte == b'\r')
 }
 
-/// Writes what is said of the entry with which a text begins, whose first line has this number. Gives how many may still be explained.
+/// Writes what is said of the entry with which a part begins. Gives how many may still be explained.
 fn write_entry(
-    alloc: Global,
+    format: Format,
     output: &mut Text,
-    json: bool,
     left: usize,
     known: &mut Known,
-    script: &[u8],
-    number: u64,
-    text: &[u8],
+    part: &ScriptPart<'_>,
 ) -> Result<Option<usize>, AllocError>
-    ensures left { IfOk result (λ fewer. fewer ≡ left_after left (entry_in json script.now known.old number text.now)) }
-    ensures text { OnOk result (output.new ≡ output.old ++ said_if_left (enough_in json) left (entry_in json script.now known.old number text.now)) }
-    ensures known { OnOk result (known.new ≡ known_after known.old text.now) }
+    ensures left { IfOk result (λ fewer. fewer ≡ left_after left (entry_in format.json part.now.script.now known.old part.now.number part.now.text.now)) }
+    ensures text { OnOk result (output.new ≡ output.old ++ said_if_left (enough_in format.json) left (entry_in format.json part.now.script.now known.old part.now.number part.now.text.now)) }
+    ensures known { OnOk result (known.new ≡ known_after known.old part.now.text.now) }
 {
-    let mut shown = Text::new(alloc);
-    write_entry_in(alloc, &mut shown, json, known, script, number, text)?;
-    write_part(alloc, output, json, left, shown.as_bytes())
+    let mut shown = Text::new(format.alloc);
+    write_entry_in(format, &mut shown, known, part)?;
+    write_part(format, output, left, shown.as_bytes())
 }
 
-/// Writes what is said of the entry with which a text begins, as text or as JSON.
+/// Writes what is said of the entry with which a part begins, as text or as JSON.
 fn write_entry_in(
-    alloc: Global,
+    format: Format,
     output: &mut Text,
-    json: bool,
     known: &mut Known,
-    script: &[u8],
-    number: u64,
-    text: &[u8],
+    part: &ScriptPart<'_>,
 ) -> Result<(), AllocError>
-    ensures text { OnOk result (output.new ≡ output.old ++ entry_in json script.now known.old number text.now) }
-    ensures known { OnOk result (known.new ≡ known_after known.old text.now) }
+    ensures text { OnOk result (output.new ≡ output.old ++ entry_in format.json part.now.script.now known.old part.now.number part.now.text.now) }
+    ensures known { OnOk result (known.new ≡ known_after known.old part.now.text.now) }
 {
-    if !json {
-        return write_entry_said(alloc, output, known, script, number, text);
+    let alloc = format.alloc;
+    if !format.json {
+        return write_entry_said(alloc, output, known, part);
     }
-    let (refused, spot) = entry_spot(alloc, known, number, text)?;
+    let (refused, spot) = entry_spot(alloc, known, part.number, part.text)?;
     let mut said = Text::new(alloc);
-    write_entry_said(alloc, &mut said, known, script, number, text)?;
+    write_entry_said(alloc, &mut said, known, part)?;
     write_fault(alloc, output, refused, &spot, said.as_bytes())
 }
 
@@ -218,25 +220,25 @@ fn write_entry_said(
     alloc: Global,
     output: &mut Text,
     known: &mut Known,
-    script: &[u8],
-    number: u64,
-    text: &[u8],
+    part: &ScriptPart<'_>,
 ) -> Result<(), AllocError>
-    ensures text { OnOk result (output.new ≡ output.old ++ entry_said script.now known.old number text.now) }
-    ensures known { OnOk result (known.new ≡ known_after known.old text.now) }
+    ensures text { OnOk result (output.new ≡ output.old ++ entry_said part.now.script.now known.old part.now.number part.now.text.now) }
+    ensures known { OnOk result (known.new ≡ known_after known.old part.now.text.now) }
 {
-    let (line, later) = split_line(text);
+    let (line, later) = split_line(part.text);
     if is_open(line) {
-        let block = block_in_front(later);
-        write_block_said(
-            alloc,
-            output,
-            &mut known.rooms,
-            later_line(number, 1),
-            block,
-        )
+        let block = ScriptPart {
+            number: later_line(part.number, 1),
+            text: block_in_front(later),
+            ..*part
+        };
+        write_block_said(alloc, output, &mut known.rooms, &block)
     } else {
-        write_line_said(alloc, output, known, script, number, line)
+        let command = ScriptPart {
+            text: line,
+            ..*part
+        };
+        write_line_said(alloc, output, known, &command)
     }
 }
 
@@ -255,20 +257,19 @@ fn refused_spot(number: u64, refusal: Option<Refusal>) -> Spot
     }
 }
 
-/// Writes what is said of a block whose first line has this number.
+/// Writes what is said of a block.
 fn write_block_said(
     alloc: Global,
     output: &mut Text,
     rooms: &mut OpenRooms,
-    number: u64,
-    block: &[u8],
+    block: &ScriptPart<'_>,
 ) -> Result<(), AllocError>
-    ensures text { OnOk result (output.new ≡ output.old ++ block_said rooms.old number block.now) }
-    ensures rooms { OnOk result (rooms.new ≡ rooms_after_read rooms.old (block_in block.now)) }
+    ensures text { OnOk result (output.new ≡ output.old ++ block_said rooms.old block.now.number block.now.text.now) }
+    ensures rooms { OnOk result (rooms.new ≡ rooms_after_read rooms.old (block_in block.now.text.now)) }
 {
-    match read_room(alloc, block)? {
-        Ok((spec, _)) => write_taken_said(alloc, output, rooms, number, block, &spec),
-        Err(fault) => write_refusal_said(alloc, output, number, block, fault),
+    match read_room(alloc, block.text)? {
+        Ok((spec, _)) => write_taken_said(alloc, output, rooms, block, &spec),
+        Err(fault) => write_refusal_said(alloc, output, block, fault),
     }
 }
 
@@ -277,104 +278,85 @@ fn write_taken_said(
     alloc: Global,
     output: &mut Text,
     rooms: &mut OpenRooms,
-    number: u64,
-    block: &[u8],
+    block: &ScriptPart<'_>,
     spec: &Spec,
 ) -> Result<(), AllocError>
-    ensures text { OnOk result (output.new ≡ output.old ++ taken_said rooms.old number block.now spec.now) }
+    ensures text { OnOk result (output.new ≡ output.old ++ taken_said rooms.old block.now.number block.now.text.now spec.now) }
     ensures rooms { OnOk result (rooms.new ≡ rooms_begun rooms.old spec.now) }
 {
     if rooms.begin(spec)? {
-        write_name_taken(alloc, output, number, block)
+        write_name_taken(alloc, output, block.number, block.text)
     } else {
         Ok(())
     }
 }
 
-/// Writes that a block with this first line is refused for this fault, and what is said of the fault.
+/// Writes that a block is refused for this fault, and what is said of the fault.
 fn write_refusal_said(
     alloc: Global,
     output: &mut Text,
-    number: u64,
-    block: &[u8],
+    block: &ScriptPart<'_>,
     fault: SpecFault,
 ) -> Result<(), AllocError>
-    ensures { OnOk result (output.new ≡ output.old ++ fault_said number block.now fault) }
+    ensures { OnOk result (output.new ≡ output.old ++ fault_said block.now.number block.now.text.now fault) }
 {
     output.put(b"    ")?;
-    write_refused(output, number, fault)?;
-    write_block_fault(alloc, output, number, block, fault)
+    write_refused(output, block.number, fault)?;
+    write_block_fault(alloc, output, block.number, block.text, fault)
 }
 
-/// Writes what is said of the line of this number, unless it is a command that is done.
+/// Writes what is said of a line, unless it is a command that is done.
 fn write_line_said(
     alloc: Global,
     output: &mut Text,
     known: &mut Known,
-    script: &[u8],
-    number: u64,
-    line: &[u8],
+    line: &ScriptPart<'_>,
 ) -> Result<(), AllocError>
-    ensures text { OnOk result (output.new ≡ output.old ++ line_said script.now known.old number line.now (command_in line.now)) }
-    ensures known { OnOk result (known.new ≡ known_after_command known.old (command_in line.now)) }
+    ensures text { OnOk result (output.new ≡ output.old ++ line_said line.now.script.now known.old line.now.number line.now.text.now (command_in line.now.text.now)) }
+    ensures known { OnOk result (known.new ≡ known_after_command known.old (command_in line.now.text.now)) }
 {
-    let Some(command) = read_command(line) else {
-        return write_bad_command(alloc, output, number, line);
+    let Some(command) = read_command(line.text) else {
+        return write_bad_command(alloc, output, line.number, line.text);
     };
-    let refusal = known.rooms.refusal_of(&command);
-    write_refused_said(
-        alloc,
-        output,
-        known,
-        script,
-        number,
-        line,
-        command.name(),
-        refusal,
-    )?;
+    write_refused_said(alloc, output, known, line, &command)?;
     known.rooms.note(&command)
 }
 
-/// Writes why the command of the line of this number, to the room of this name, is refused, if it is.
+/// Writes why the command of a line is refused, if it is.
 fn write_refused_said(
     alloc: Global,
     output: &mut Text,
     known: &mut Known,
-    script: &[u8],
-    number: u64,
-    line: &[u8],
-    name: &Name,
-    refusal: Option<Refusal>,
+    line: &ScriptPart<'_>,
+    command: &Command,
 ) -> Result<(), AllocError>
-    ensures text { OnOk result (output.new ≡ output.old ++ refused_said script.now known.old number line.now name.now refusal) }
+    ensures text { OnOk result (output.new ≡ output.old ++ refused_said line.now.script.now known.old line.now.number line.now.text.now (name_in command.now) (refusal_of known.old.rooms command.now)) }
     ensures rooms { OnOk result (known.new.rooms ≡ known.old.rooms) }
-    ensures strangers { OnOk result (known.new.strangers ≡ met_if_absent known.old.strangers name.now refusal) }
+    ensures strangers { OnOk result (known.new.strangers ≡ met_if_absent known.old.strangers (name_in command.now) (refusal_of known.old.rooms command.now)) }
 {
-    match refusal {
+    match known.rooms.refusal_of(command) {
         None => Ok(()),
         Some(Refusal::NoRoom) => {
             let strangers = &mut known.strangers;
-            write_absent_said(alloc, output, strangers, script, number, line, name)
+            write_absent_said(alloc, output, strangers, line, command.name())
         }
         Some(refusal) => {
             let words = refusal.sentence().as_bytes();
-            write_place(alloc, output, number, words, &[], line)?;
-            write_simulators_note(output, known.rooms.simulators_of(name))
+            write_place(alloc, output, line.number, words, &[], line.text)?;
+            write_simulators_note(output, known.rooms.simulators_of(command.name()))
         }
     }
 }
 
-/// Writes that no room of this name is open at the line of this number, unless an earlier line has the same name.
+/// Writes that no room of this name is open at a line, unless an earlier line has the same name.
 fn write_absent_said(
     alloc: Global,
     output: &mut Text,
     strangers: &mut Strangers,
-    script: &[u8],
-    number: u64,
-    line: &[u8],
+    line: &ScriptPart<'_>,
     name: &Name,
 ) -> Result<(), AllocError>
-    ensures text { OnOk result (output.new ≡ output.old ++ absent_said script.now strangers.old number line.now name.now) }
+    ensures text { OnOk result (output.new ≡ output.old ++ absent_said line.now.script.now strangers.old line.now.number line.now.text.now name.now) }
     ensures strangers { OnOk result (strangers.new ≡ met name.now strangers.old) }
 {
     let bytes = name.as_str().as_bytes();
@@ -382,8 +364,8 @@ fn write_absent_said(
         return Ok(());
     }
     let words = Refusal::NoRoom.sentence().as_bytes();
-    write_place(alloc, output, number, words, &[], line)?;
-    write_meant(output, script, bytes)
+    write_place(alloc, output, line.number, words, &[], line.text)?;
+    write_meant(output, line.script, bytes)
 }
 
 /// Writes which room may be meant by a name of no open room.

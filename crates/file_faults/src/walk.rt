@@ -5,25 +5,25 @@ ghost use Rattle.file_faults.specs.Walks.{left_after, said_if_left};
 
 use crate::json::write_enough;
 use io_text::Text;
-use std::alloc::{AllocError, Global};
+use room_warnings::Format;
+use std::alloc::AllocError;
 
 /// Writes what is said of a part, if it is said of some and there are parts left that may be explained, and else that there are enough. Gives how many are left,
 /// or that the walk ends.
 pub(crate) fn write_part(
-    alloc: Global,
+    format: Format,
     output: &mut Text,
-    json: bool,
     left: usize,
     said: &[u8],
 ) -> Result<Option<usize>, AllocError>
     ensures left { IfOk result (λ fewer. fewer ≡ left_after left said.now) }
-    ensures text { OnOk result (output.new ≡ output.old ++ said_if_left (enough_in json) left said.now) }
+    ensures text { OnOk result (output.new ≡ output.old ++ said_if_left (enough_in format.json) left said.now) }
 {
     if said.is_empty() {
         return Ok(Some(left));
     }
     if left == 0 {
-        write_enough(alloc, output, json)?;
+        write_enough(format, output)?;
         return Ok(None);
     }
     output.put(said)?;

@@ -14,7 +14,7 @@ use fault_text::{MOST_EXPLAINED, later_line, write_indented};
 use io_text::Text;
 use json_lines::{text_value, write_line};
 use room_files::{count_lines, read_room, split_line};
-use room_warnings::write_warnings;
+use room_warnings::{Format, write_warnings};
 use serde_json::{Value, json};
 use std::alloc::{AllocError, Global};
 
@@ -33,13 +33,14 @@ pub fn warnings_of(alloc: Global, input: &[u8]) -> Result<Text, AllocError>
 pub(crate) fn warnings_said(alloc: Global, json: bool, input: &[u8]) -> Result<Text, AllocError>
     ensures { IfOk result (λ text. text ≡ warnings_said json input.now) }
 {
+    let format = Format { alloc, json };
     let mut output = Text::new(alloc);
-    write_empty_warning(alloc, &mut output, json, input)?;
+    write_empty_warning(format, &mut output, input)?;
     let mut rest = input;
     let mut number = 1;
     let mut left = MOST_EXPLAINED;
     'walk: while !rest.is_empty() {
-        let Some(fewer) = write_first(alloc, &mut output, json, left, number, rest)? else {
+        let Some(fewer) = write_first(format, &mut output, left, number, rest)? else {
             return Ok(output);
         };
         left = fewer;
@@ -50,16 +51,11 @@ pub(crate) fn warnings_said(alloc: Global, json: bool, input: &[u8]) -> Result<T
 }
 
 /// Writes that a file is empty, if it is.
-fn write_empty_warning(
-    alloc: Global,
-    output: &mut Text,
-    json: bool,
-    input: &[u8],
-) -> Result<(), AllocError>
-    ensures { OnOk result (output.new ≡ output.old ++ empty_warning json input.now) }
+fn write_empty_warning(format: Format, output: &mut Text, input: &[u8]) -> Result<(), AllocError>
+    ensures { OnOk result (output.new ≡ output.old ++ empty_warning format.json input.now) }
 {
     match input {
-        [] if json => write_empty_line(alloc, output),
+        [] if format.json => write_empty_line(format.alloc, output),
         [] => write_indented(output, EMPTY_FILE),
         _ => Ok(()),
     }
@@ -83,47 +79,44 @@ fn empty_value(alloc: Global) -> Result<Value, AllocError>
 /// Writes what is warned of in the block with which a text begins, if it does, whose first line has this number. Gives how many may still be
 /// warned of.
 fn write_first(
-    alloc: Global,
+    format: Format,
     output: &mut Text,
-    json: bool,
     left: usize,
     number: u64,
     text: &[u8],
 ) -> Result<Option<usize>, AllocError>
-    ensures left { IfOk result (λ fewer. fewer ≡ left_after left (part_warnings json number text.now)) }
-    ensures text { OnOk result (output.new ≡ output.old ++ said_if_left (enough_in json) left (part_warnings json number text.now)) }
+    ensures left { IfOk result (λ fewer. fewer ≡ left_after left (part_warnings format.json number text.now)) }
+    ensures text { OnOk result (output.new ≡ output.old ++ said_if_left (enough_in format.json) left (part_warnings format.json number text.now)) }
 {
-    let mut said = Text::new(alloc);
-    write_part_warnings(alloc, &mut said, json, number, text)?;
-    write_part(alloc, output, json, left, said.as_bytes())
+    let mut said = Text::new(format.alloc);
+    write_part_warnings(format, &mut said, number, text)?;
+    write_part(format, output, left, said.as_bytes())
 }
 
 fn write_part_warnings(
-    alloc: Global,
+    format: Format,
     output: &mut Text,
-    json: bool,
     number: u64,
     text: &[u8],
 ) -> Result<(), AllocError>
-    ensures { OnOk result (output.new ≡ output.old ++ part_warnings json number text.now) }
+    ensures { OnOk result (output.new ≡ output.old ++ part_warnings format.json number text.now) }
 {
     if !begins_with_block(text) {
         return Ok(());
     }
-    write_block_warnings(alloc, output, json, number, block_in_front(text))
+    write_block_warnings(format, output, number, block_in_front(text))
 }
 
 fn write_block_warnings(
-    alloc: Global,
+    format: Format,
     output: &mut Text,
-    json: bool,
     number: u64,
     block: &[u8],
 ) -> Result<(), AllocError>
-    ensures { OnOk result (output.new ≡ output.old ++ block_warnings json number block.now) }
+    ensures { OnOk result (output.new ≡ output.old ++ block_warnings format.json number block.now) }
 {
-    match read_room(alloc, block)? {
-        Ok((spec, _)) => write_warnings(alloc, output, json, number, block, &spec),
+    match read_room(format.alloc, block)? {
+        Ok((spec, _)) => write_warnings(format, output, number, block, &spec),
         Err(_) => Ok(()),
     }
 }

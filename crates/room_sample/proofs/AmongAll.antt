@@ -19,7 +19,7 @@ use Rattle.room_outcomes.specs.Ends.{ends_of}
 use Rattle.room_outcomes.proofs.CallerLemmas.{reported_outcome}
 use Rattle.room_sample.specs.Schedules.{IsOutcome, room_after_schedule, room_after_stretch, settled_by}
 use Rattle.room_sample.specs.Chances.{random_of}
-use Rattle.room_sample.specs.Samples.{AreAmongAll, Counted, IsRunFrom, IsSampleOf, Sampled, counted, once_more, same_states}
+use Rattle.room_sample.specs.Samples.{AreAmongAll, Counted, IsRunFrom, IsSampleOf, Sampled, counted, number_at, once_more, same_states}
 use Rattle.room_sample.specs.declared.sampling.Plan.{Plan}
 use Rattle.room_sample.specs.declared.stretch.Stretch.{Stretch}
 use Rattle.room_sample.specs.declared.stretch.Stretch.TheVariants.{Steps, Crash}
@@ -97,4 +97,4 @@ runs_among spec crashes random (run ∷ runs) so_far limits drawn are =
 
 pub sample_among : (spec : RoomSpec) (plan : Plan) (schedules : ℕ) (outcomes : List Counted) → IsWithinLimits spec → IsSampleOf spec plan schedules outcomes → AreAmongAll spec outcomes
 sample_among spec plan schedules outcomes limits is =
-    All-from_recursion (λ (c : Counted). is_among spec c.states) outcomes (subst (are_among spec) (sym is.outcomes_are) (runs_among spec plan.crashes (random_of plan.seed) is.runs [] limits (λ k run there. (is.drawn k run there).drawn) tt))
+    All-from_recursion (λ (c : Counted). is_among spec c.states) outcomes (subst (are_among spec) (sym is.outcomes_are) (runs_among spec plan.crashes (λ k. random_of plan.seed (number_at plan k)) is.runs [] limits (λ k run there. (is.drawn k run there).drawn) tt))

@@ -1,4 +1,5 @@
 pub mod CallerLemmas
+mod AddingUp
 mod AmongAll
 mod Counting
 mod Drawing
@@ -15,6 +16,6 @@ mod SameRuns
 mod SameSteps
 mod Schedules
 mod Shortening
-mod Showing
+mod ShownOutcomes
 mod Stopping
 mod Uniform

@@ -5,7 +5,7 @@ use Rattle.room_spec.specs.Rooms.{RoomSpec}
 use Rattle.room_sample.specs.Samples.{AreRunsFrom, Counted, Sampled, counted_all, same_states}
 use Rattle.room_sample.specs.declared.sampling.Plan.{Plan}
 
--- the outcomes of the runs by the schedules of this many numbers from the first one on
+-- the outcomes of the runs by the schedules of this many places from the first one on
 pub record AreCountedFrom (spec : RoomSpec) (plan : Plan) (first count : ℕ) (outcomes : List Counted) : Type 0 where
   pub runs : List Sampled
   pub are_runs : AreRunsFrom spec plan first count runs

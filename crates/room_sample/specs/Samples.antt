@@ -1,5 +1,5 @@
 -- Runs of a room, counted by their outcomes.
-use Rattle.std.specs.Prelude.{◌≡◌, ◌⊎◌, ℕ, ◌+◌, ◌-◌, ◌^◌, ◌<◌, ◌≤◌, Bool, List, [], ◌∷◌, length, map, min, Some, slice_get, slice_index_or, if◌then◌else◌}
+use Rattle.std.specs.Prelude.{◌≡◌, ◌⊎◌, ℕ, ◌+◌, ◌-◌, ◌%◌, ◌^◌, ◌<◌, ◌≤◌, Bool, List, [], ◌∷◌, length, map, min, Some, slice_get, slice_index_or, if◌then◌else◌}
 use Rattle.std.specs.List.{All, fold, sum_by}
 use Rattle.std.specs.Cmp.Lexicographic.{pointwise}
 use Rattle.arrayvec.specs.declared.array_vec.ArrayVec.{ArrayVec}
@@ -55,17 +55,21 @@ pub record IsRunFrom (spec : RoomSpec) (crashes : ℕ) (random : Stream) (schedu
   pub outcome : IsOutcome spec crashes schedule states
   pub ends : (drawn.draws ≡ most_draws) ⊎ ((i : ℕ) → i < spec.simulators → HasStopped spec schedule i)
 
--- The run by the schedule of a number, which is drawn from a stream of its own: that of the seed and of this number.
-pub record IsRunOf (spec : RoomSpec) (plan : Plan) (number : ℕ) (run : Sampled) : Type 0 where
-  pub number_is : run.number ≡ number
-  pub drawn : IsRunFrom spec plan.crashes (random_of plan.seed number) run.schedule run.states
+-- the number of the schedule of a place in a plan, from 0: after the greatest number comes 0
+abbrev pub number_at : Plan → ℕ → ℕ
+number_at plan place = (plan.from + place) % 2 ^ 32
 
--- The runs by the schedules of this many numbers from the first one on, in order.
+-- The run by the schedule of a place, which is drawn from a stream of its own: that of the seed and of the schedule's number.
+pub record IsRunOf (spec : RoomSpec) (plan : Plan) (place : ℕ) (run : Sampled) : Type 0 where
+  pub number_is : run.number ≡ number_at plan place
+  pub drawn : IsRunFrom spec plan.crashes (random_of plan.seed (number_at plan place)) run.schedule run.states
+
+-- The runs by the schedules of this many places from the first one on, in order.
 pub record AreRunsFrom (spec : RoomSpec) (plan : Plan) (first count : ℕ) (runs : List Sampled) : Type 0 where
   pub length_is : length runs ≡ count
   pub drawn : (k : ℕ) (run : Sampled) → slice_get runs k ≡ Some run → IsRunOf spec plan (first + k) run
 
--- The outcomes of this many runs, by the schedules of the numbers from 0 on. Each outcome has the number of the first schedule that led to it.
+-- The outcomes of this many runs, by the schedules of the places from 0 on. Each outcome has the number of the first schedule that led to it.
 pub record IsSampleOf (spec : RoomSpec) (plan : Plan) (schedules : ℕ) (outcomes : List Counted) : Type 0 where
   pub runs : List Sampled
   pub count : length runs ≡ schedules

@@ -28,7 +28,15 @@ enum Cut {
     Lower { at: usize, less: u16 },
 }
 
-/// A short schedule that leads to these states if the given one does. The room is run at most 300 times for it, and at most `left` times,
+/// How a room ends: the states of its processes once it has settled after a schedule in which at most this many simulators crash.
+#[derive(Clone, Copy)]
+pub(crate) struct Ending<'a> {
+    pub(crate) spec: &'a Spec,
+    pub(crate) crashes: u32,
+    pub(crate) states: &'a States,
+}
+
+/// A short schedule that leads to this ending if the given one does. The room is run at most 300 times for it, and at most `left` times,
 /// which are counted down.
 ///
 /// # Errors
@@ -36,36 +44,32 @@ enum Cut {
 /// If an allocation fails.
 pub(crate) fn shorten(
     alloc: Global,
-    spec: &Spec,
-    crashes: u32,
-    states: &States,
+    ending: &Ending<'_>,
     schedule: &[Stretch],
     left: &mut u32,
 ) -> Result<Vec<Stretch>, AllocError>
-    ensures { IfOk result (λ short. KeepsOutcome spec.now crashes states.now.items schedule.now short.items) }
+    ensures { IfOk result (λ short. KeepsOutcome ending.now.spec.now ending.now.crashes ending.now.states.now.items schedule.now short.items) }
 {
     let mut tries = (*left).min(MOST_TRIES);
     *left = left.saturating_sub(tries);
-    let short = shorten_by(alloc, spec, crashes, states, schedule, &mut tries)?;
+    let short = shorten_by(alloc, ending, schedule, &mut tries)?;
     *left = left.saturating_add(tries);
     Ok(short)
 }
 
-/// A short schedule that leads to these states if the given one does, made by at most `tries` runs of the room.
+/// A short schedule that leads to this ending if the given one does, made by at most `tries` runs of the room.
 fn shorten_by(
     alloc: Global,
-    spec: &Spec,
-    crashes: u32,
-    states: &States,
+    ending: &Ending<'_>,
     schedule: &[Stretch],
     tries: &mut u32,
 ) -> Result<Vec<Stretch>, AllocError>
-    ensures { IfOk result (λ short. KeepsOutcome spec.now crashes states.now.items schedule.now short.items) }
+    ensures { IfOk result (λ short. KeepsOutcome ending.now.spec.now ending.now.crashes ending.now.states.now.items schedule.now short.items) }
 {
     let mut short = copied(alloc, schedule)?;
     let mut is_changed = true;
     for _ in 0..MOST_ROUNDS {
-        is_changed = go_over(alloc, spec, crashes, states, &mut short, is_changed, tries)?;
+        is_changed = go_over(alloc, ending, &mut short, is_changed, tries)?;
     }
     Ok(short)
 }
@@ -73,21 +77,19 @@ fn shorten_by(
 /// Leaves out and lowers what it can, if the last time changed something. Gives whether it has.
 fn go_over(
     alloc: Global,
-    spec: &Spec,
-    crashes: u32,
-    states: &States,
+    ending: &Ending<'_>,
     schedule: &mut Vec<Stretch>,
     is_changed: bool,
     tries: &mut u32,
 ) -> Result<bool, AllocError>
-    ensures { OnOk result (KeepsOutcome spec.now crashes states.now.items schedule.old.items schedule.new.items) }
+    ensures { OnOk result (KeepsOutcome ending.now.spec.now ending.now.crashes ending.now.states.now.items schedule.old.items schedule.new.items) }
 {
     if !is_changed {
         return Ok(false);
     }
     let before = size_of(schedule.as_slice());
-    leave_out(alloc, spec, crashes, states, schedule, tries)?;
-    lower_all(alloc, spec, crashes, states, schedule, tries)?;
+    leave_out(alloc, ending, schedule, tries)?;
+    lower_all(alloc, ending, schedule, tries)?;
     Ok(size_of(schedule.as_slice()) != before)
 }
 
@@ -120,17 +122,15 @@ fn steps_in(stretch: Stretch) -> u16 {
 /// Leaves out all that can be left out: half of the stretches, a quarter, and so on to single ones.
 fn leave_out(
     alloc: Global,
-    spec: &Spec,
-    crashes: u32,
-    states: &States,
+    ending: &Ending<'_>,
     schedule: &mut Vec<Stretch>,
     tries: &mut u32,
 ) -> Result<(), AllocError>
-    ensures { OnOk result (KeepsOutcome spec.now crashes states.now.items schedule.old.items schedule.new.items) }
+    ensures { OnOk result (KeepsOutcome ending.now.spec.now ending.now.crashes ending.now.states.now.items schedule.old.items schedule.new.items) }
 {
     let mut size = schedule.len();
     for _ in 0..MOST_HALVES {
-        leave_out_parts(alloc, spec, crashes, states, schedule, size, tries)?;
+        leave_out_parts(alloc, ending, schedule, size, tries)?;
         size /= 2;
     }
     Ok(())
@@ -139,14 +139,12 @@ fn leave_out(
 /// Leaves out parts of `size` stretches that can be left out.
 fn leave_out_parts(
     alloc: Global,
-    spec: &Spec,
-    crashes: u32,
-    states: &States,
+    ending: &Ending<'_>,
     schedule: &mut Vec<Stretch>,
     size: usize,
     tries: &mut u32,
 ) -> Result<(), AllocError>
-    ensures { OnOk result (KeepsOutcome spec.now crashes states.now.items schedule.old.items schedule.new.items) }
+    ensures { OnOk result (KeepsOutcome ending.now.spec.now ending.now.crashes ending.now.states.now.items schedule.old.items schedule.new.items) }
 {
     let mut from = 0_usize;
     for _ in 0..MOST_TRIES {
@@ -154,7 +152,7 @@ fn leave_out_parts(
             return Ok(());
         }
         let cut = Cut::Leave { from, count: size };
-        let is_cut = try_cut(alloc, spec, crashes, states, schedule, cut, tries)?;
+        let is_cut = try_cut(alloc, ending, schedule, cut, tries)?;
         from = next_part(from, size, is_cut);
     }
     Ok(())
@@ -172,16 +170,14 @@ fn next_part(from: usize, size: usize, is_cut: bool) -> usize {
 /// Lets each stretch take as few steps as it can.
 fn lower_all(
     alloc: Global,
-    spec: &Spec,
-    crashes: u32,
-    states: &States,
+    ending: &Ending<'_>,
     schedule: &mut Vec<Stretch>,
     tries: &mut u32,
 ) -> Result<(), AllocError>
-    ensures { OnOk result (KeepsOutcome spec.now crashes states.now.items schedule.old.items schedule.new.items) }
+    ensures { OnOk result (KeepsOutcome ending.now.spec.now ending.now.crashes ending.now.states.now.items schedule.old.items schedule.new.items) }
 {
     for at in 0..schedule.len() {
-        lower(alloc, spec, crashes, states, schedule, at, tries)?;
+        lower(alloc, ending, schedule, at, tries)?;
     }
     Ok(())
 }
@@ -189,14 +185,12 @@ fn lower_all(
 /// Lets one stretch take as few steps as it can: half of them, a quarter less, and so on by single ones.
 fn lower(
     alloc: Global,
-    spec: &Spec,
-    crashes: u32,
-    states: &States,
+    ending: &Ending<'_>,
     schedule: &mut Vec<Stretch>,
     at: usize,
     tries: &mut u32,
 ) -> Result<(), AllocError>
-    ensures { OnOk result (KeepsOutcome spec.now crashes states.now.items schedule.old.items schedule.new.items) }
+    ensures { OnOk result (KeepsOutcome ending.now.spec.now ending.now.crashes ending.now.states.now.items schedule.old.items schedule.new.items) }
 {
     let mut less = steps_at(schedule.as_slice(), at).div_ceil(2);
     for _ in 0..MOST_TRIES {
@@ -204,7 +198,7 @@ fn lower(
             return Ok(());
         }
         let cut = Cut::Lower { at, less };
-        let is_cut = try_cut(alloc, spec, crashes, states, schedule, cut, tries)?;
+        let is_cut = try_cut(alloc, ending, schedule, cut, tries)?;
         less = next_less(less, is_cut);
     }
     Ok(())
@@ -222,28 +216,31 @@ fn steps_at(schedule: &[Stretch], at: usize) -> u16 {
     }
 }
 
-/// Takes a cut if the room still ends in these states, and the schedule gets smaller. Gives whether it has.
+/// Takes a cut if the room still ends so, and the schedule gets smaller. Gives whether it has.
 fn try_cut(
     alloc: Global,
-    spec: &Spec,
-    crashes: u32,
-    states: &States,
+    ending: &Ending<'_>,
     schedule: &mut Vec<Stretch>,
     cut: Cut,
     tries: &mut u32,
 ) -> Result<bool, AllocError>
-    ensures { OnOk result (KeepsOutcome spec.now crashes states.now.items schedule.old.items schedule.new.items) }
+    ensures { OnOk result (KeepsOutcome ending.now.spec.now ending.now.crashes ending.now.states.now.items schedule.old.items schedule.new.items) }
 {
     if *tries == 0 {
         return Ok(false);
     }
     *tries -= 1;
     let shorter = cut_out(alloc, schedule.as_slice(), cut)?;
-    let run = run_by(alloc, spec.clone()?, crashes, shorter.as_slice())?;
+    let run = run_by(
+        alloc,
+        ending.spec.clone()?,
+        ending.crashes,
+        shorter.as_slice(),
+    )?;
     if size_of(run.schedule.as_slice()) >= size_of(schedule.as_slice()) {
         return Ok(false);
     }
-    if !are_same(run.states.as_slice(), states.as_slice()) {
+    if !are_same(run.states.as_slice(), ending.states.as_slice()) {
         return Ok(false);
     }
     *schedule = run.schedule;

@@ -1,5 +1,5 @@
 //! Laws of samples.
-ghost use Rattle.std.specs.Prelude.{◌≡◌, ℕ, ◌<◌, ◌^◌, List};
+ghost use Rattle.std.specs.Prelude.{◌≡◌, ℕ, ◌+◌, ◌<◌, ◌^◌, List};
 ghost use Rattle.std.specs.List.{All, sum_by};
 ghost use Rattle.rand_core.specs.Stream.{Stream};
 ghost use Rattle.room_spec.specs.Rooms.{IsWithinLimits, RoomSpec, processes};
@@ -7,7 +7,8 @@ ghost use Rattle.ws_history.specs.declared.states.ProcessState.{ProcessState};
 ghost use Rattle.run_search.specs.Outcomes.{IsRunOutcome};
 ghost use Rattle.room_outcomes.specs.Ends.{ends_of};
 ghost use Rattle.room_sample.specs.Groups.{AreGroups, grouped};
-ghost use Rattle.room_sample.specs.Samples.{CameByFirst, Counted, IsRunFrom, IsSampleOf};
+ghost use Rattle.room_sample.specs.Parts.{added_all};
+ghost use Rattle.room_sample.specs.Samples.{CameByFirst, Counted, IsRunFrom, IsSampleOf, number_at};
 ghost use Rattle.room_sample.specs.Schedules.{IsOutcome};
 ghost use Rattle.room_sample.specs.declared.sampling.Plan.{Plan};
 ghost use Rattle.room_sample.specs.declared.stretch.Stretch.{Stretch};
@@ -31,12 +32,21 @@ pub fn determined_runs()
         (schedule ≡ other) × (states ≡ others) }
 {}
 
-/// The same seed gives the same sample: if as many simulators may crash, as many schedules give the same outcomes, as often, and in the same
+/// The same seed gives the same sample: if as many simulators may crash, as many schedules from the same number on give the same outcomes, as often, and in the same
 /// order, whatever else the plans say. So the outcomes are the same by any number of threads.
 pub fn determined_samples()
     ensures { (spec : RoomSpec) (plan other_plan : Plan) (schedules : ℕ) (outcomes others : List Counted) →
-        IsWithinLimits spec → plan.seed ≡ other_plan.seed → plan.crashes ≡ other_plan.crashes →
+        IsWithinLimits spec → plan.seed ≡ other_plan.seed → plan.from ≡ other_plan.from → plan.crashes ≡ other_plan.crashes →
         IsSampleOf spec plan schedules outcomes → IsSampleOf spec other_plan schedules others → outcomes ≡ others }
+{}
+
+/// Samples add up: if one plan begins with the number that comes after the schedules of another one with the same seed and as many crashes, the outcomes of both, each as often as in
+/// both together, are those of one sample of all their schedules.
+pub fn samples_add_up()
+    ensures { (spec : RoomSpec) (plan later_plan : Plan) (schedules more : ℕ) (outcomes later : List Counted) →
+        plan.seed ≡ later_plan.seed → later_plan.from ≡ number_at plan schedules → plan.crashes ≡ later_plan.crashes → schedules + more < 2 ^ 32 →
+        IsSampleOf spec plan schedules outcomes → IsSampleOf spec later_plan more later →
+        IsSampleOf spec plan (schedules + more) (added_all outcomes later) }
 {}
 
 /// The schedule of an outcome's number leads to it. So the seed and the number give a schedule of each outcome again, and none has to be kept.

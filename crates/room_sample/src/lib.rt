@@ -13,8 +13,8 @@ mod stretch;
 mod tally;
 mod workers;
 
-pub use examples::{Example, PartialExamples, example_of, examples_of};
+pub use examples::{Example, PartialExamples, Showing, example_of, examples_of};
 pub use sampling::{PartialSample, Plan, sample};
 pub use stretch::Stretch;
 pub use tally::{Outcome, States, Tally};
-pub use workers::{OneWorker, Threaded, Workers};
+pub use workers::{OneWorker, Places, Threaded, Workers};

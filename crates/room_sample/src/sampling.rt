@@ -3,7 +3,7 @@ ghost use Rattle.std.specs.Prelude.{◌≡◌, ◌<◌, ◌≤◌, IfOk, OnErr, 
 ghost use Rattle.room_sample.specs.Samples.{AreAmongAll, IsSampleOf};
 
 use crate::tally::Tally;
-use crate::workers::Workers;
+use crate::workers::{Places, Workers};
 use room_spec::Spec;
 use run_search::Progress;
 use std::alloc::{AllocError, Global};
@@ -23,6 +23,8 @@ pub struct Plan {
     pub crashes: u32,
     /// What the schedules are drawn from: the same seed gives the same ones.
     pub seed: u32,
+    /// The number of the first schedule. The schedules of a seed have the numbers 0 to 4294967295, and those of a plan follow each other; after the greatest comes 0.
+    pub from: u32,
     /// How many threads run schedules at the same time if several may, 1 to 16. A smaller number counts as 1, and a larger one as 16. The outcomes
     /// are the same by any number.
     pub workers: u32,
@@ -68,62 +70,74 @@ pub fn sample<W: Workers, P: Progress>(
     ensures among { AreAmongAll spec.now result.outcomes }
 {
     let _shape = spec.shape(); // for the proof: the room is within its limits
-    let mut kept = Vec::new(alloc);
-    let mut outcomes = Tally::new(alloc);
-    let mut schedules = 0;
-    while schedules < plan.schedules {
-        progress.reached(u64::from(schedules));
-        match count_round(
-            workers,
-            alloc,
-            spec,
-            plan,
-            &mut kept,
-            &mut outcomes,
-            schedules,
-        ) {
-            Ok(counted) => schedules = counted,
-            Err(refused) => {
-                return PartialSample {
-                    outcomes,
-                    schedules,
-                    ending: Err(refused),
-                };
-            }
+    let mut counting = Counting {
+        outcomes: Tally::new(alloc),
+        schedules: 0,
+        kept: Vec::new(alloc),
+    };
+    while counting.schedules < plan.schedules {
+        progress.reached(u64::from(counting.schedules));
+        if let Err(refused) = count_round(workers, alloc, spec, plan, &mut counting) {
+            return sample_of(counting, Err(refused));
         }
     }
+    sample_of(counting, Ok(()))
+}
+
+/// What is counted so far.
+#[derive(Drop)]
+struct Counting {
+    outcomes: Tally,
+    schedules: u32,
+    /// A block of memory that is kept for the end.
+    kept: Vec<u8>,
+}
+
+fn sample_of(counting: Counting, ending: Result<(), AllocError>) -> PartialSample
+    ensures outcomes { result.outcomes ≡ counting.outcomes }
+    ensures schedules { result.schedules ≡ counting.schedules }
+    ensures ending { result.ending ≡ ending }
+{
+    let Counting {
+        outcomes,
+        schedules,
+        ..
+    } = counting;
     PartialSample {
         outcomes,
         schedules,
-        ending: Ok(()),
+        ending,
     }
 }
 
-/// Runs the room by the schedules of one round more, after this many, and counts their outcomes. Gives how many schedules are counted then.
-/// An `Err` leaves the outcomes as they were.
+/// Runs the room by the schedules of one round more, and counts their outcomes. An `Err` leaves the outcomes, and how many schedules are counted, as they were.
 #[tactic(auto, using(crate::proofs::Parts::part_more))]
 fn count_round<W: Workers>(
     workers: &W,
     alloc: Global,
     spec: &Spec,
     plan: &Plan,
-    kept: &mut Vec<u8>,
-    outcomes: &mut Tally,
-    done: u32,
-) -> Result<u32, AllocError>
+    counting: &mut Counting,
+) -> Result<(), AllocError>
     requires may { W.may_count }
-    requires before { IsSampleOf spec.now plan.now done outcomes.old }
-    requires left { done < plan.now.schedules }
-    ensures sample { IfOk result (λ counted. IsSampleOf spec.now plan.now counted outcomes.new) }
-    ensures more { IfOk result (λ counted. done < counted) }
-    ensures few { IfOk result (λ counted. counted ≤ plan.now.schedules) }
-    ensures err { OnErr result (outcomes.new ≡ outcomes.old) }
+    requires before { IsSampleOf spec.now plan.now counting.old.schedules counting.old.outcomes }
+    requires left { counting.old.schedules < plan.now.schedules }
+    ensures sample { OnOk result (IsSampleOf spec.now plan.now counting.new.schedules counting.new.outcomes) }
+    ensures more { OnOk result (counting.old.schedules < counting.new.schedules) }
+    ensures few { counting.new.schedules ≤ plan.now.schedules }
+    ensures outcomes { OnErr result (counting.new.outcomes ≡ counting.old.outcomes) }
+    ensures schedules { OnErr result (counting.new.schedules ≡ counting.old.schedules) }
 {
-    keep_memory(kept, outcomes.len())?;
-    let count = (plan.schedules - done).min(workers.round(plan));
-    let later = workers.count(alloc, spec, plan, done, count)?;
-    outcomes.add_all(later)?;
-    Ok(done + count)
+    keep_memory(&mut counting.kept, counting.outcomes.len())?;
+    let done = counting.schedules;
+    let places = Places {
+        first: done,
+        count: (plan.schedules - done).min(workers.round(plan)),
+    };
+    let later = workers.count(alloc, spec, plan, places)?;
+    counting.outcomes.add_all(later)?;
+    counting.schedules = done + places.count;
+    Ok(())
 }
 
 /// Makes the block of memory that is kept large enough for this many outcomes.

@@ -21,6 +21,15 @@ const A_SHARE: u32 = 4000;
 /// The most threads at the same time.
 const MOST_WORKERS: u32 = 16;
 
+/// Schedules of a plan that follow each other, by their places in it.
+#[derive(Clone, Copy)]
+pub struct Places {
+    /// The place of the first one; a plan's first schedule has the place 0.
+    pub first: u32,
+    /// How many they are.
+    pub count: u32,
+}
+
 /// Who runs the schedules of a sample and counts their outcomes. The outcomes are the same by each of them.
 pub trait Workers {
     ghost use Rattle.std.specs.Prelude.{◌+◌, ◌<◌, ◌≤◌, ◌^◌, IfOk};
@@ -33,18 +42,17 @@ pub trait Workers {
     fn round(&self, plan: &Plan) -> u32
         ensures { 1 ≤ result };
 
-    /// Runs a room by the schedules of `count` numbers from `first` on, and counts their outcomes.
+    /// Runs a room by the schedules of these places, and counts their outcomes.
     fn count(
         &self,
         alloc: Global,
         spec: &Spec,
         plan: &Plan,
-        first: u32,
-        count: u32,
+        places: Places,
     ) -> Result<Tally, AllocError>
         requires may { may_count }
-        requires fits { first + count < 2 ^ 32 }
-        ensures { IfOk result (AreCountedFrom spec.now plan.now first count) };
+        requires fits { places.first + places.count < 2 ^ 32 }
+        ensures { IfOk result (AreCountedFrom spec.now plan.now places.first places.count) };
 }
 
 /// The caller's thread. It starts no other, whatever number a plan says.
@@ -63,10 +71,9 @@ impl Workers for OneWorker {
         alloc: Global,
         spec: &Spec,
         plan: &Plan,
-        first: u32,
-        count: u32,
+        places: Places,
     ) -> Result<Tally, AllocError> {
-        count_some(alloc, spec, plan, first, count)
+        count_some(alloc, spec, plan, places)
     }
 }
 
@@ -95,10 +102,9 @@ impl<R: Threads + Sync> Workers for Threaded<'_, R> {
         alloc: Global,
         spec: &Spec,
         plan: &Plan,
-        first: u32,
-        count: u32,
+        places: Places,
     ) -> Result<Tally, AllocError> {
-        count_by_workers(self.rt, alloc, spec, plan, first, count, workers_of(plan))
+        count_by_workers(self.rt, alloc, spec, plan, places, workers_of(plan))
     }
 }
 
@@ -118,34 +124,40 @@ fn round_of(workers: u32) -> u32
     }
 }
 
-/// Runs a room by the schedules of `count` numbers from `first` on, and counts their outcomes: by `workers` threads at the same time, an
-/// equal part on each. A part for which no thread can be started is run on this one.
+/// Runs a room by the schedules of these places, and counts their outcomes: by `workers` threads at the same time, an equal part on each. A part for
+/// which no thread can be started is run on this one.
 #[cycle(workers)]
 pub(crate) fn count_by_workers<R: Threads + Sync>(
     rt: &R,
     alloc: Global,
     spec: &Spec,
     plan: &Plan,
-    first: u32,
-    count: u32,
+    places: Places,
     workers: u32,
 ) -> Result<Tally, AllocError>
-    requires { first + count < 2 ^ 32 }
-    ensures { IfOk result (AreCountedFrom spec.now plan.now first count) }
+    requires { places.first + places.count < 2 ^ 32 }
+    ensures { IfOk result (AreCountedFrom spec.now plan.now places.first places.count) }
 {
     if workers <= 1 {
-        return count_some(alloc, spec, plan, first, count);
+        return count_some(alloc, spec, plan, places);
     }
+    let Places { first, count } = places;
     let own = count / workers;
     let (next, left, others) = (first + own, count - own, workers - 1);
     let count_own = move || -> Result<Tally, AllocError>
         requires { first + own < 2 ^ 32 }
         ensures { IfOk result (AreCountedFrom spec.entry.now plan.entry.now first own) }
-    { count_some(alloc, spec, plan, first, own) };
+    { count_some(alloc, spec, plan, Places { first, count: own }) };
     let count_others = move || -> Result<Tally, AllocError>
         requires { next + left < 2 ^ 32 }
         ensures { IfOk result (AreCountedFrom spec.entry.now plan.entry.now next left) }
-    { count_by_workers(rt, alloc, spec, plan, next, left, others) };
+    {
+        let rest = Places {
+            first: next,
+            count: left,
+        };
+        count_by_workers(rt, alloc, spec, plan, rest, others)
+    };
     let (tally, later) = thread::join(rt, count_own, count_others);
     Ok(both(tally?, later?)?)
 }
@@ -158,24 +170,19 @@ fn both(mut tally: Tally, later: Tally) -> Result<Tally, AllocError>
     Ok(tally)
 }
 
-/// Runs a room by the schedules of `count` numbers from `first` on, in order, and counts their outcomes. No schedule is kept.
-fn count_some(
-    alloc: Global,
-    spec: &Spec,
-    plan: &Plan,
-    first: u32,
-    count: u32,
-) -> Result<Tally, AllocError>
-    requires { first + count < 2 ^ 32 }
-    ensures { IfOk result (AreCountedFrom spec.now plan.now first count) }
+/// Runs a room by the schedules of these places, in order, and counts their outcomes. No schedule is kept.
+fn count_some(alloc: Global, spec: &Spec, plan: &Plan, places: Places) -> Result<Tally, AllocError>
+    requires { places.first + places.count < 2 ^ 32 }
+    ensures { IfOk result (AreCountedFrom spec.now plan.now places.first places.count) }
 {
     let mut tally = Tally::new(alloc);
-    for done in 0..count {
-        let mut chances = Chances::of(plan.seed, first + done);
+    for done in 0..places.count {
+        let number = plan.from.wrapping_add(places.first + done);
+        let mut chances = Chances::of(plan.seed, number);
         let run = run_anew(alloc, spec, &mut chances, plan.crashes)?;
         let outcome = Outcome {
             times: 1,
-            first: first + done,
+            first: number,
         };
         tally.add(run.states, outcome)?;
     }

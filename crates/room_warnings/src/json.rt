@@ -10,19 +10,39 @@ use json_lines::{text_value, write_line};
 use serde_json::{Value, json};
 use std::alloc::{AllocError, Global};
 
-/// Writes the sentence of a warning about a place of a line, which has these bytes before the place and from it on.
+/// How something is written: as text or as JSON, and with which allocator.
+#[derive(Clone, Copy)]
+pub struct Format {
+    pub alloc: Global,
+    pub json: bool,
+}
+
+/// A sentence about a place of a line, which has these bytes before the place and from it on.
+#[derive(Clone, Copy)]
+pub(crate) struct Warning<'a> {
+    /// The number of the line.
+    pub(crate) number: u64,
+    pub(crate) sentence: &'a [u8],
+    pub(crate) front: &'a [u8],
+    pub(crate) back: &'a [u8],
+}
+
+/// Writes a warning.
 pub(crate) fn write_warning(
-    alloc: Global,
+    format: Format,
     output: &mut Text,
-    json: bool,
-    number: u64,
-    sentence: &[u8],
-    front: &[u8],
-    back: &[u8],
+    warning: &Warning<'_>,
 ) -> Result<(), AllocError>
-    ensures { OnOk result (output.new ≡ output.old ++ warning_in json number sentence.now front.now back.now) }
+    ensures { OnOk result (output.new ≡ output.old ++ warning_in format.json warning.now.number warning.now.sentence.now warning.now.front.now warning.now.back.now) }
 {
-    if !json {
+    let alloc = format.alloc;
+    let Warning {
+        number,
+        sentence,
+        front,
+        back,
+    } = *warning;
+    if !format.json {
         return write_place(alloc, output, number, sentence, front, back);
     }
     write_warning_line(alloc, output, number, front.len() + 1, sentence)

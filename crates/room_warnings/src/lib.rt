@@ -9,4 +9,5 @@ mod rules;
 mod warnings;
 mod words;
 
+pub use json::Format;
 pub use warnings::write_warnings;

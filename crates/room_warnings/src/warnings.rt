@@ -1,10 +1,11 @@
 //! The warnings of a room, in words.
 ghost use Rattle.std.specs.Prelude.{◌≡◌, ◌-◌, ◌*◌, ◌≤◌, ◌++◌, IfOk, OnOk, length, take};
 ghost use Rattle.fault_text.specs.declared.blocks.TheConstants.{HEAD_LINES};
+ghost use Rattle.room_spec.specs.Rooms.{processes};
 ghost use Rattle.room_warnings.specs.Warnings.{at_place, decide_warning, from_place, inputs_warning, number_warnings, place_sentence, room_warnings, sentence_if, turns_sentence, turns_warning};
 
 use crate::calls::calls_none;
-use crate::json::write_warning;
+use crate::json::{Format, Warning, write_warning};
 use crate::rules::holds_always;
 use crate::words::has_word;
 use fault_text::{HEAD_LINES, last_line, later_line, line_at, line_ends, program_of};
@@ -34,75 +35,76 @@ const TOO_FEW: &[u8] =
 const TOO_FEW_UNDECIDED: &[u8] =
     b"warning: too few turns for a simulator to finish alone: it needs one for each round of each process";
 
+/// A valid room of a file: its block, and what is read from it.
+#[derive(Clone, Copy)]
+struct Room<'a> {
+    /// The number of the block's first line.
+    first: u64,
+    block: &'a [u8],
+    spec: &'a Spec,
+    /// How many lines of the block come before the protocol's text.
+    lines: u64,
+    /// The protocol's text.
+    program: &'a [u8],
+}
+
 /// Writes what may be warned of in a room, whose block this is, as text or as JSON. The block's first line has this number.
 pub fn write_warnings(
-    alloc: Global,
+    format: Format,
     output: &mut Text,
-    json: bool,
     first: u64,
     block: &[u8],
     spec: &Spec,
 ) -> Result<(), AllocError>
-    ensures { OnOk result (output.new ≡ output.old ++ room_warnings json first block.now spec.now) }
+    ensures { OnOk result (output.new ≡ output.old ++ room_warnings format.json first block.now spec.now) }
 {
     let (lines, program) = program_of(block);
-    let decides = has_word(b"decide", program);
-    write_number_warnings(alloc, output, json, first, block, decides, spec)?;
-    write_decide_warning(alloc, output, json, first, lines, decides)?;
-    write_from(
-        alloc,
-        output,
-        json,
-        spec.n(),
+    let room = Room {
         first,
+        block,
+        spec,
         lines,
         program,
-        program,
-    )
+    };
+    let decides = has_word(b"decide", program);
+    write_number_warnings(format, output, &room, decides)?;
+    write_decide_warning(format, output, &room, decides)?;
+    write_from(format, output, &room, program)
 }
 
 /// Writes what may be warned of in the numbers of a room: of its inputs, and of its turns, if a rule of its protocol decides or not.
 #[tactic(auto, unfolding(crate::specs::Warnings::number_warnings))]
 fn write_number_warnings(
-    alloc: Global,
+    format: Format,
     output: &mut Text,
-    json: bool,
-    first: u64,
-    block: &[u8],
+    room: &Room<'_>,
     decides: bool,
-    spec: &Spec,
 ) -> Result<(), AllocError>
-    ensures { OnOk result (output.new ≡ output.old ++ number_warnings json first block.now decides spec.now) }
+    ensures { OnOk result (output.new ≡ output.old ++ number_warnings format.json room.now.first room.now.block.now decides room.now.spec.now) }
 {
-    let sentence = turns_sentence(decides, spec);
-    write_inputs_warning(alloc, output, json, first, block, spec)?;
-    write_turns_warning(alloc, output, json, first, block, sentence)
+    let sentence = turns_sentence(decides, room.spec);
+    write_inputs_warning(format, output, room)?;
+    write_turns_warning(format, output, room, sentence)
 }
 
 /// Writes that a room has one process alone, if it has, about the line of its inputs.
 fn write_inputs_warning(
-    alloc: Global,
+    format: Format,
     output: &mut Text,
-    json: bool,
-    first: u64,
-    block: &[u8],
-    spec: &Spec,
+    room: &Room<'_>,
 ) -> Result<(), AllocError>
-    ensures { OnOk result (output.new ≡ output.old ++ inputs_warning json first block.now spec.now) }
+    ensures { OnOk result (output.new ≡ output.old ++ inputs_warning format.json room.now.first room.now.block.now room.now.spec.now) }
 {
-    if spec.n() != 1 {
+    if room.spec.n() != 1 {
         return Ok(());
     }
-    let number = later_line(first, 2);
-    write_warning(
-        alloc,
-        output,
-        json,
-        number,
-        ONE_PROCESS,
-        &[],
-        line_at(block, 3),
-    )
+    let warning = Warning {
+        number: later_line(room.first, 2),
+        sentence: ONE_PROCESS,
+        front: &[],
+        back: line_at(room.block, 3),
+    };
+    write_warning(format, output, &warning)
 }
 
 /// What is wrong with a room's turns, or nothing: they are fewer than a simulator needs that brings all processes to their ends alone.
@@ -119,102 +121,89 @@ fn turns_sentence(decides: bool, spec: &Spec) -> &'static [u8]
     }
 }
 
-/// Writes a sentence, unless it is empty, about the line of a block's turns.
+/// Writes a sentence, unless it is empty, about the line of a room's turns.
 fn write_turns_warning(
-    alloc: Global,
+    format: Format,
     output: &mut Text,
-    json: bool,
-    first: u64,
-    block: &[u8],
+    room: &Room<'_>,
     sentence: &[u8],
 ) -> Result<(), AllocError>
-    ensures { OnOk result (output.new ≡ output.old ++ turns_warning json first block.now sentence.now) }
+    ensures { OnOk result (output.new ≡ output.old ++ turns_warning format.json room.now.first room.now.block.now sentence.now) }
 {
     if sentence.is_empty() {
         return Ok(());
     }
-    let number = later_line(first, 5);
-    write_warning(
-        alloc,
-        output,
-        json,
-        number,
+    let warning = Warning {
+        number: later_line(room.first, 5),
         sentence,
-        &[],
-        line_at(block, 6),
-    )
+        front: &[],
+        back: line_at(room.block, 6),
+    };
+    write_warning(format, output, &warning)
 }
 
-/// Writes, unless a rule decides, that no process does. The protocol's text comes after this many lines of its block.
+/// Writes, unless a rule decides, that no process does.
 fn write_decide_warning(
-    alloc: Global,
+    format: Format,
     output: &mut Text,
-    json: bool,
-    first: u64,
-    lines: u64,
+    room: &Room<'_>,
     decides: bool,
 ) -> Result<(), AllocError>
-    ensures { OnOk result (output.new ≡ output.old ++ decide_warning json first lines decides) }
+    ensures { OnOk result (output.new ≡ output.old ++ decide_warning format.json room.now.first room.now.lines decides) }
 {
     if decides {
         return Ok(());
     }
-    let number = later_line(first, lines.saturating_sub(1));
-    write_warning(alloc, output, json, number, NO_DECISION, &[], b"protocol")
+    let warning = Warning {
+        number: later_line(room.first, room.lines.saturating_sub(1)),
+        sentence: NO_DECISION,
+        front: &[],
+        back: b"protocol",
+    };
+    write_warning(format, output, &warning)
 }
 
 /// Writes what may be warned of from a place of a protocol's text on, which has these bytes there.
 #[tactic(auto, unfolding(crate::specs::Warnings::from_place))]
 fn write_from(
-    alloc: Global,
+    format: Format,
     output: &mut Text,
-    json: bool,
-    n: usize,
-    first: u64,
-    lines: u64,
-    program: &[u8],
+    room: &Room<'_>,
     rest: &[u8],
 ) -> Result<(), AllocError>
-    requires { lines ≤ HEAD_LINES }
-    ensures { OnOk result (output.new ≡ output.old ++ from_place json n first lines program.now rest.now) }
+    requires { room.now.lines ≤ HEAD_LINES }
+    ensures { OnOk result (output.new ≡ output.old ++ from_place format.json (processes room.now.spec.now) room.now.first room.now.lines room.now.program.now rest.now) }
 {
     let [_, later @ ..] = rest else {
         return Ok(());
     };
-    write_at(alloc, output, json, n, first, lines, program, rest)?;
-    write_from(alloc, output, json, n, first, lines, program, later)
+    write_at(format, output, room, rest)?;
+    write_from(format, output, room, later)
 }
 
 /// Writes what may be warned of at a place of a protocol's text.
 fn write_at(
-    alloc: Global,
+    format: Format,
     output: &mut Text,
-    json: bool,
-    n: usize,
-    first: u64,
-    lines: u64,
-    program: &[u8],
+    room: &Room<'_>,
     rest: &[u8],
 ) -> Result<(), AllocError>
-    requires { lines ≤ HEAD_LINES }
-    ensures { OnOk result (output.new ≡ output.old ++ at_place json n first lines program.now rest.now) }
+    requires { room.now.lines ≤ HEAD_LINES }
+    ensures { OnOk result (output.new ≡ output.old ++ at_place format.json (processes room.now.spec.now) room.now.first room.now.lines room.now.program.now rest.now) }
 {
-    let sentence = place_sentence(alloc, n, rest)?;
+    let sentence = place_sentence(format.alloc, room.spec.n(), rest)?;
     if sentence.is_empty() {
         return Ok(());
     }
-    let before = before(program, rest);
-    let number = later_line(first, lines + line_ends(before));
+    let before = before(room.program, rest);
     let (back, _) = split_line(rest);
-    write_warning(
-        alloc,
-        output,
-        json,
-        number,
+    let warning = Warning {
+        number: later_line(room.first, room.lines + line_ends(before)),
         sentence,
-        last_line(before),
+        front: last_line(before),
         back,
-    )
+    };
+    write_warning(format, output, &warning)
 }
 
 /// What is to be said of the place where a protocol's text has these bytes, or nothing.

@@ -58,10 +58,7 @@ fn event_step(
 {
     match event {
         Event::Write { p, .. } => first_step(alloc, Deed::CountWrite, *p, round, marks),
-        Event::Snap { p, .. } => {
-            let simulator = chosen(*p, round, marks);
-            read_step(alloc, words, *p, round, marks, simulator)
-        }
+        Event::Snap { p, .. } => read_step(alloc, words, *p, round, marks),
         Event::Decide { p, .. } => first_step(alloc, Deed::Decide, *p, round, marks),
     }
 }
@@ -150,11 +147,10 @@ fn read_step(
     process: u8,
     round: u8,
     marks: &[Mark],
-    simulator: Option<u8>,
 ) -> Result<Option<u64>, AllocError>
-    ensures { IfOk result (λ step. step ≡ read_step words process round marks.now simulator) }
+    ensures { IfOk result (λ step. step ≡ read_step words process round marks.now (chosen process round marks.now)) }
 {
-    let Some(simulator) = simulator else {
+    let Some(simulator) = chosen(process, round, marks) else {
         return Ok(None);
     };
     let reads = reads_by(words, simulator, process, round).steps(alloc, marks)?;

@@ -1,7 +1,7 @@
 //! The lanes of the processes: each event at the step at which it takes effect, and the state of each process.
-ghost use Rattle.std.specs.Prelude.{◌≡◌, ◌+◌, ◌*◌, ◌++◌, ◌∷◌, ◌≤◌, ◌<◌, IfOk, OnOk, length};
+ghost use Rattle.std.specs.Prelude.{◌≡◌, ◌+◌, ◌*◌, ◌++◌, ◌∷◌, ◌≤◌, ◌<◌, IfOk, OnOk, Some, length};
 ghost use Rattle.transcript.specs.Grammar.{entry_text};
-ghost use Rattle.run_picture.specs.History.{all_events, box_width, boxed, column_for, entries_text, event_box, event_hint, event_look, event_shapes, event_start, event_width, event_words, event_x, events_right, first_pen, lane_events, lane_line, lane_right, last_line, own_pen, own_shapes, pen_after, process_lane, process_lanes, row_processes, state_look, state_words, tie, tied};
+ghost use Rattle.run_picture.specs.History.{all_events, box_width, boxed, column_for, entries_text, event_box, event_hint, event_look, event_shapes, event_start, event_width, event_words, event_x, events_right, first_pen, lane_events, lane_line, lane_right, last_line, pen_after, process_lane, process_lanes, row_processes, state_look, state_words, tie, tied};
 ghost use Rattle.run_picture.specs.Opens.{open_shapes};
 ghost use Rattle.simulator_lanes.specs.Panels.{states_in};
 ghost use Rattle.simulator_lanes.specs.Words.{process_name};
@@ -17,6 +17,24 @@ use simulator_lanes::{
 use std::alloc::{AllocError, Global};
 use transcript::Event;
 use ws_history::ProcessState;
+
+/// A room as it is drawn: what is drawn of it, its columns, and where they are.
+#[derive(Clone, Copy)]
+pub(crate) struct Chart<'a> {
+    pub(crate) panel: &'a Panel,
+    pub(crate) columns: &'a [Column],
+    pub(crate) grid: Grid,
+}
+
+/// The lane of a process in a row.
+#[derive(Clone, Copy)]
+struct Lane {
+    process: u8,
+    /// Its upper end.
+    y: u64,
+    /// How far right its line goes.
+    right: u64,
+}
 
 /// How far the lane of a process is drawn.
 #[derive(Clone, Copy)]
@@ -36,17 +54,15 @@ struct Pen {
 pub(crate) fn add_all_events(
     ties: &mut Sheet,
     boxes: &mut Sheet,
-    panel: &Panel,
-    columns: &[Column],
-    grid: Grid,
+    chart: &Chart<'_>,
 ) -> Result<u64, AllocError>
-    ensures ties { OnOk result (ties.new ≡ ties.old ++ all_events tied panel.now columns.now grid) }
-    ensures boxes { OnOk result (boxes.new ≡ boxes.old ++ all_events boxed panel.now columns.now grid) }
-    ensures right { IfOk result (λ right. right ≡ events_right panel.now columns.now grid) }
+    ensures ties { OnOk result (ties.new ≡ ties.old ++ all_events tied chart.now.panel.now chart.now.columns.now chart.now.grid) }
+    ensures boxes { OnOk result (boxes.new ≡ boxes.old ++ all_events boxed chart.now.panel.now chart.now.columns.now chart.now.grid) }
+    ensures right { IfOk result (λ right. right ≡ events_right chart.now.panel.now chart.now.columns.now chart.now.grid) }
 {
-    let mut right = grid.right();
-    for process in 0..grid.processes {
-        right = right.max(add_lane_events(ties, boxes, panel, columns, grid, process)?);
+    let mut right = chart.grid.right();
+    for process in 0..chart.grid.processes {
+        right = right.max(add_lane_events(ties, boxes, chart, process)?);
     }
     Ok(right)
 }
@@ -56,19 +72,19 @@ pub(crate) fn add_all_events(
 fn add_lane_events(
     ties: &mut Sheet,
     boxes: &mut Sheet,
-    panel: &Panel,
-    columns: &[Column],
-    grid: Grid,
+    chart: &Chart<'_>,
     process: u8,
 ) -> Result<u64, AllocError>
-    ensures ties { OnOk result (ties.new ≡ ties.old ++ lane_events tied panel.now columns.now grid process) }
-    ensures boxes { OnOk result (boxes.new ≡ boxes.old ++ lane_events boxed panel.now columns.now grid process) }
-    ensures right { IfOk result (λ right. right ≡ lane_right panel.now columns.now grid process) }
+    ensures ties { OnOk result (ties.new ≡ ties.old ++ lane_events tied chart.now.panel.now chart.now.columns.now chart.now.grid process) }
+    ensures boxes { OnOk result (boxes.new ≡ boxes.old ++ lane_events boxed chart.now.panel.now chart.now.columns.now chart.now.grid process) }
+    ensures right { IfOk result (λ right. right ≡ lane_right chart.now.panel.now chart.now.columns.now chart.now.grid process) }
 {
     let mut pen = first_pen();
-    let events = panel.events();
+    let events = chart.panel.events();
     for event in events {
-        pen = add_own(ties, boxes, panel, columns, grid, process, pen, event)?;
+        if event.process() == process {
+            pen = add_event(ties, boxes, chart, pen, event)?;
+        }
     }
     Ok(pen.right)
 }
@@ -84,61 +100,58 @@ fn first_pen() -> Pen
     }
 }
 
-/// Draws the tie and the box of an event if it is one of this process.
-fn add_own(
+/// Draws the tie and the box of an event, if a column shows its step. Gives how far the lane of its process is drawn then.
+fn add_event(
     ties: &mut Sheet,
     boxes: &mut Sheet,
-    panel: &Panel,
-    columns: &[Column],
-    grid: Grid,
-    process: u8,
+    chart: &Chart<'_>,
     pen: Pen,
     event: &Event,
 ) -> Result<Pen, AllocError>
-    ensures ties { OnOk result (ties.new ≡ ties.old ++ own_shapes tied panel.now columns.now grid process pen event.now) }
-    ensures boxes { OnOk result (boxes.new ≡ boxes.old ++ own_shapes boxed panel.now columns.now grid process pen event.now) }
-    ensures pen { IfOk result (λ after. after ≡ own_pen panel.now columns.now grid process pen event.now) }
+    ensures ties { OnOk result (ties.new ≡ ties.old ++ event_shapes tied chart.now.grid pen event.now (column_for chart.now.panel.now chart.now.columns.now pen event.now)) }
+    ensures boxes { OnOk result (boxes.new ≡ boxes.old ++ event_shapes boxed chart.now.grid pen event.now (column_for chart.now.panel.now chart.now.columns.now pen event.now)) }
+    ensures pen { IfOk result (λ after. after ≡ pen_after chart.now.grid pen event.now (column_for chart.now.panel.now chart.now.columns.now pen event.now)) }
 {
-    if event.process() != process {
-        return Ok(pen);
-    }
-    let column = column_for(ties.alloc(), panel, columns, pen, event)?;
-    add_event(ties, boxes, grid, pen, event, column)?;
-    pen_after(ties.alloc(), grid, pen, event, column)
+    let grid = chart.grid;
+    let Some(column) = column_for(ties.alloc(), chart, pen, event)? else {
+        let round = round_at(pen.round, event);
+        return Ok(Pen { round, ..pen });
+    };
+    let start = event_start(grid, pen, event, &column);
+    add_tied(ties, grid, start, event, &column)?;
+    add_event_box(boxes, start, event)?;
+    pen_after(ties.alloc(), grid, pen, event, &column)
 }
 
 /// The column of an event, after what is drawn so far.
 fn column_for(
     alloc: Global,
-    panel: &Panel,
-    columns: &[Column],
+    chart: &Chart<'_>,
     pen: Pen,
     event: &Event,
 ) -> Result<Option<Column>, AllocError>
-    ensures { IfOk result (λ column. column ≡ column_for panel.now columns.now pen event.now) }
+    ensures { IfOk result (λ column. column ≡ column_for chart.now.panel.now chart.now.columns.now pen event.now) }
 {
+    let panel = chart.panel;
     let round = round_at(pen.round, event);
     let words = panel.words() as u8;
-    event_column(alloc, words, panel.marks(), columns, round, event)
+    event_column(alloc, words, panel.marks(), chart.columns, round, event)
 }
 
+/// How far the lane is drawn after an event in this column.
 fn pen_after(
     alloc: Global,
     grid: Grid,
     pen: Pen,
     event: &Event,
-    column: Option<Column>,
+    column: &Column,
 ) -> Result<Pen, AllocError>
-    ensures { IfOk result (λ after. after ≡ pen_after grid pen event.now column) }
+    ensures { IfOk result (λ after. after ≡ pen_after grid pen event.now (Some column.now)) }
 {
-    let round = round_at(pen.round, event);
-    let Some(column) = column else {
-        return Ok(Pen { round, ..pen });
-    };
     let width = event_width(alloc, event)?;
-    let x = event_x(grid, pen, &column).saturating_add(width);
+    let x = event_x(grid, pen, column).saturating_add(width);
     Ok(Pen {
-        round,
+        round: round_at(pen.round, event),
         row: grid.row(u64::from(column.place)),
         x,
         right: pen.right.max(x),
@@ -176,26 +189,6 @@ fn event_start(grid: Grid, pen: Pen, event: &Event, column: &Column) -> Point
     }
 }
 
-/// Draws the tie and the box of an event, if a column shows its step.
-fn add_event(
-    ties: &mut Sheet,
-    boxes: &mut Sheet,
-    grid: Grid,
-    pen: Pen,
-    event: &Event,
-    column: Option<Column>,
-) -> Result<(), AllocError>
-    ensures ties { OnOk result (ties.new ≡ ties.old ++ event_shapes tied grid pen event.now column) }
-    ensures boxes { OnOk result (boxes.new ≡ boxes.old ++ event_shapes boxed grid pen event.now column) }
-{
-    let Some(column) = column else {
-        return Ok(());
-    };
-    let start = event_start(grid, pen, event, &column);
-    add_tied(ties, grid, start, event, &column)?;
-    add_event_box(boxes, start, event)
-}
-
 #[tactic(auto, unfolding(crate::specs::History::tied))]
 fn add_tied(
     sheet: &mut Sheet,
@@ -227,14 +220,13 @@ fn add_tie(sheet: &mut Sheet, corner: Point, start: Point, hue: Colour) -> Resul
 #[tactic(auto, unfolding(crate::specs::History::process_lanes))]
 pub(crate) fn add_process_lanes(
     sheet: &mut Sheet,
-    grid: Grid,
+    chart: &Chart<'_>,
     right: u64,
-    panel: &Panel,
 ) -> Result<(), AllocError>
-    ensures { OnOk result (sheet.new ≡ sheet.old ++ process_lanes grid right panel.now) }
+    ensures { OnOk result (sheet.new ≡ sheet.old ++ process_lanes chart.now.grid right chart.now.panel.now) }
 {
-    for row in 0..grid.rows() {
-        add_row_processes(sheet, grid, right, panel, row)?;
+    for row in 0..chart.grid.rows() {
+        add_row_processes(sheet, chart, right, row)?;
     }
     Ok(())
 }
@@ -242,16 +234,15 @@ pub(crate) fn add_process_lanes(
 #[tactic(auto, unfolding(crate::specs::History::row_processes))]
 fn add_row_processes(
     sheet: &mut Sheet,
-    grid: Grid,
+    chart: &Chart<'_>,
     right: u64,
-    panel: &Panel,
     row: u64,
 ) -> Result<(), AllocError>
     requires { row ≤ 2 * 65535 }
-    ensures { OnOk result (sheet.new ≡ sheet.old ++ row_processes grid right panel.now row) }
+    ensures { OnOk result (sheet.new ≡ sheet.old ++ row_processes chart.now.grid right chart.now.panel.now row) }
 {
-    for process in 0..panel.states().len() {
-        add_process_lane(sheet, grid, right, panel, row, process)?;
+    for process in 0..chart.panel.states().len() {
+        add_process_lane(sheet, chart, right, row, process)?;
     }
     Ok(())
 }
@@ -259,56 +250,55 @@ fn add_row_processes(
 #[tactic(auto, using(std::proofs::lemmas::List::get_or_default))]
 fn add_process_lane(
     sheet: &mut Sheet,
-    grid: Grid,
+    chart: &Chart<'_>,
     right: u64,
-    panel: &Panel,
     row: u64,
     process: usize,
 ) -> Result<(), AllocError>
     requires row { row ≤ 2 * 65535 }
-    requires process { process < length (states_in panel.now.report) }
-    ensures { OnOk result (sheet.new ≡ sheet.old ++ process_lane grid right panel.now row process) }
+    requires process { process < length (states_in chart.now.panel.now.report) }
+    ensures { OnOk result (sheet.new ≡ sheet.old ++ process_lane chart.now.grid right chart.now.panel.now row process) }
 {
+    let (panel, grid) = (chart.panel, chart.grid);
     let state = panel.states()[process];
     let number = process as u8;
-    let y = grid.process_y(row, number);
+    let lane = Lane {
+        process: number,
+        y: grid.process_y(row, number),
+        right: grid.row_right(row),
+    };
     if row + 1 == grid.rows() {
-        add_last_lane(sheet, y, right, panel, number, state)
+        add_last_lane(sheet, Lane { right, ..lane }, panel, state)
     } else {
-        let end = grid.row_right(row);
-        add_lane_line(sheet, y, end, number, b"", Colour::Faint, Dashes::Solid)
+        add_lane_line(sheet, lane, b"", Colour::Faint, Dashes::Solid)
     }
 }
 
 /// Draws the lane of a process in the last row, with the state of the process and the proposals that may still be chosen.
 fn add_last_lane(
     sheet: &mut Sheet,
-    y: u64,
-    right: u64,
+    lane: Lane,
     panel: &Panel,
-    process: u8,
     state: ProcessState,
 ) -> Result<(), AllocError>
-    ensures { OnOk result (sheet.new ≡ sheet.old ++ (last_line y right panel.now process state ++ open_shapes y panel.now process)) }
+    ensures { OnOk result (sheet.new ≡ sheet.old ++ (last_line lane.y lane.right panel.now lane.process state ++ open_shapes lane.y panel.now lane.process)) }
 {
-    add_last_line(sheet, y, right, panel, process, state)?;
-    add_open(sheet, y, panel, process)
+    add_last_line(sheet, lane, panel, state)?;
+    add_open(sheet, lane.y, panel, lane.process)
 }
 
 /// Draws the name and the line of a process in the last row, with the state of the process.
 fn add_last_line(
     sheet: &mut Sheet,
-    y: u64,
-    right: u64,
+    lane: Lane,
     panel: &Panel,
-    process: u8,
     state: ProcessState,
 ) -> Result<(), AllocError>
-    ensures { OnOk result (sheet.new ≡ sheet.old ++ last_line y right panel.now process state) }
+    ensures { OnOk result (sheet.new ≡ sheet.old ++ last_line lane.y lane.right panel.now lane.process state) }
 {
     let words = state_words(sheet.alloc(), panel, state)?;
     let (colour, dashes) = state_look(state);
-    add_lane_line(sheet, y, right, process, words.as_bytes(), colour, dashes)
+    add_lane_line(sheet, lane, words.as_bytes(), colour, dashes)
 }
 
 /// The state of a process, in words. One that isn't through may go on if some simulator can.
@@ -348,21 +338,21 @@ fn state_look(state: ProcessState) -> (Colour, Dashes)
 #[tactic(auto, unfolding(crate::specs::History::lane_line))]
 fn add_lane_line(
     sheet: &mut Sheet,
-    y: u64,
-    right: u64,
-    process: u8,
+    lane: Lane,
     words: &[u8],
     colour: Colour,
     dashes: Dashes,
 ) -> Result<(), AllocError>
-    ensures { OnOk result (sheet.new ≡ sheet.old ++ lane_line y right process words.now colour dashes) }
+    ensures { OnOk result (sheet.new ≡ sheet.old ++ lane_line lane.y lane.right lane.process words.now colour dashes) }
 {
-    let name = process_name(sheet.alloc(), process)?;
+    let name = process_name(sheet.alloc(), lane.process)?;
+    let y = lane.y;
     let start = Point { x: MARGIN, y };
-    let hue = Colour::Hue(process);
+    let hue = Colour::Hue(lane.process);
     sheet.label(start.moved(0, 11), WORDS, hue, name.as_bytes())?;
     sheet.label(start.moved(0, 23), SMALL, colour, words)?;
-    let (from, to) = (Point { x: LEFT - 6, y }, Point { x: right, y });
+    let from = Point { x: LEFT - 6, y };
+    let to = Point { x: lane.right, y };
     sheet.line(from.moved(0, 11), to.moved(0, 11), 1, colour, dashes)
 }
 

@@ -9,7 +9,7 @@ ghost use Rattle.run_picture.specs.Legends.{legend_shapes};
 ghost use Rattle.run_picture.specs.Picture.{all_parts, bottom_from, grid_of, height_with, lanes_shapes, left_out_words, note_words, panel_height, panel_parts, panel_width, parts_from, parts_with, picture_of, room_shapes, scale_words, size_of, size_to, steps_heading, steps_shapes, steps_title, width_from, width_with, wrap_of};
 
 use crate::head::{add_head, head_width};
-use crate::history::{add_all_events, add_process_lanes};
+use crate::history::{Chart, add_all_events, add_process_lanes};
 use crate::legend::add_legend;
 use io_text::Text;
 use picture_shapes::{Colour, Point, Sheet, Size, write_part, write_svg};
@@ -176,10 +176,15 @@ fn add_room(
     ensures right { IfOk result (λ right. right ≡ events_right panel.now columns.now.columns grid) }
 {
     let mut boxes = Sheet::new(sheet.alloc());
+    let chart = Chart {
+        panel,
+        columns: columns.columns(),
+        grid,
+    };
     add_steps(sheet, grid, panel, columns)?;
-    let right = add_all_events(sheet, &mut boxes, panel, columns.columns(), grid)?;
+    let right = add_all_events(sheet, &mut boxes, &chart)?;
     add_proposals(sheet, grid, panel, columns.columns())?;
-    add_process_lanes(sheet, grid, right, panel)?;
+    add_process_lanes(sheet, &chart, right)?;
     sheet.append(boxes)?;
     Ok(right)
 }

@@ -14,6 +14,16 @@ use run_columns::{Agreement, Column, Deed, Fate, Mark, Scale, Step};
 use std::alloc::{AllocError, Global};
 use step_words::write_counts;
 
+/// A proposal as it is drawn.
+#[derive(Clone, Copy)]
+struct Proposal<'a> {
+    /// The step that completes it.
+    step: &'a Step,
+    /// How many writes of each process it shows.
+    counts: &'a [u8],
+    fate: Fate,
+}
+
 /// Draws the proposals, each under the step that completes it, if each column is one step; else nothing.
 ///
 /// # Errors
@@ -99,8 +109,12 @@ fn add_proposal_at(
 {
     let agreement = agreement_of(step);
     let counts = counts_of(sheet.alloc(), panel, agreement, step.simulator)?;
-    let fate = agreement.fate(step.simulator, panel.marks(), panel.events());
-    add_proposal_with(sheet, corner, step, counts.as_bytes(), fate)
+    let proposal = Proposal {
+        step,
+        counts: counts.as_bytes(),
+        fate: agreement.fate(step.simulator, panel.marks(), panel.events()),
+    };
+    add_proposal_with(sheet, corner, &proposal)
 }
 
 fn agreement_of(step: &Step) -> Agreement
@@ -139,22 +153,13 @@ pub fn counts_of(
 fn add_proposal_with(
     sheet: &mut Sheet,
     corner: Point,
-    step: &Step,
-    counts: &[u8],
-    fate: Fate,
+    proposal: &Proposal<'_>,
 ) -> Result<(), AllocError>
-    ensures { OnOk result (sheet.new ≡ sheet.old ++ proposal_with corner step.now counts.now fate) }
+    ensures { OnOk result (sheet.new ≡ sheet.old ++ proposal_with corner proposal.now.step.now proposal.now.counts.now proposal.now.fate) }
 {
-    let words = short_counts(sheet.alloc(), counts)?;
-    let hint = proposal_hint(sheet.alloc(), step, counts, fate)?;
-    add_proposal_box(
-        sheet,
-        corner,
-        step.process,
-        words.as_bytes(),
-        hint.as_bytes(),
-        fate,
-    )
+    let words = short_counts(sheet.alloc(), proposal.counts)?;
+    let hint = proposal_hint(sheet.alloc(), proposal)?;
+    add_proposal_box(sheet, corner, proposal, words.as_bytes(), hint.as_bytes())
 }
 
 #[tactic(auto, unfolding(crate::specs::Proposals::short_counts))]
@@ -168,13 +173,13 @@ fn short_counts(alloc: Global, counts: &[u8]) -> Result<Text, AllocError>
 fn add_proposal_box(
     sheet: &mut Sheet,
     corner: Point,
-    process: u8,
+    proposal: &Proposal<'_>,
     words: &[u8],
     hint: &[u8],
-    fate: Fate,
 ) -> Result<(), AllocError>
-    ensures { OnOk result (sheet.new ≡ sheet.old ++ proposal_box corner process words.now hint.now fate) }
+    ensures { OnOk result (sheet.new ≡ sheet.old ++ proposal_box corner proposal.now.step.now.process words.now hint.now proposal.now.fate) }
 {
+    let (process, fate) = (proposal.step.process, proposal.fate);
     let frame = Frame::at(corner.moved(0, 47), proposal_width(words), 11);
     let outline = fate_outline(fate, process);
     sheet.area(frame, 2, Colour::White, outline, Dashes::Solid)?;
@@ -210,15 +215,16 @@ fn fate_font(fate: Fate) -> Font
 }
 
 #[tactic(auto, unfolding(crate::specs::Proposals::proposal_hint))]
-fn proposal_hint(alloc: Global, step: &Step, counts: &[u8], fate: Fate) -> Result<Text, AllocError>
-    ensures { IfOk result (λ words. words ≡ proposal_hint (agreement_of step.now) step.now.simulator counts.now fate) }
+fn proposal_hint(alloc: Global, proposal: &Proposal<'_>) -> Result<Text, AllocError>
+    ensures { IfOk result (λ words. words ≡ proposal_hint (agreement_of proposal.now.step.now) proposal.now.step.now.simulator proposal.now.counts.now proposal.now.fate) }
 {
+    let step = proposal.step;
     let mut words = Text::new(alloc);
     write_proposer(&mut words, step.simulator)?;
-    words.put(counts)?;
+    words.put(proposal.counts)?;
     words.put(b" for ")?;
     write_process_round(&mut words, step.process, step.round)?;
-    words.put(fate_words(fate))?;
+    words.put(fate_words(proposal.fate))?;
     Ok(words)
 }
 

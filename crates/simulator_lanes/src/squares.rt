@@ -1,5 +1,7 @@
 //! A square for each column, or the cross of a crash.
 ghost use Rattle.std.specs.Prelude.{◌≡◌, ◌++◌, IfOk, OnOk};
+ghost use Rattle.run_columns.specs.Columns.{simulator_of};
+ghost use Rattle.simulator_lanes.specs.Layout.{cell};
 ghost use Rattle.simulator_lanes.specs.Squares.{count_words, crash_words, cross, cross_lines, cross_word, letter_shapes, square, square_by, squares, step_fill, step_ink, step_outline, step_square, steps_square, stretch, stretch_words};
 
 use crate::fonts::{DIGIT, LETTER, SMALL_BOLD};
@@ -35,24 +37,31 @@ pub fn add_squares(
 fn add_square(sheet: &mut Sheet, grid: Grid, spec: &Spec, column: &Column) -> Result<(), AllocError>
     ensures { OnOk result (sheet.new ≡ sheet.old ++ square grid spec.now column.now) }
 {
-    let corner = grid.cell(column.first.simulator(), column.place);
     match column.first {
-        Mark::Step(step) => add_steps(sheet, grid.scale, spec, corner, column, &step),
-        Mark::Crash { simulator } => add_cross(sheet, corner, simulator),
+        Mark::Step(step) => add_steps(sheet, grid, spec, column, &step),
+        Mark::Crash { simulator } => add_cross(sheet, corner_of(grid, column), simulator),
     }
 }
 
+/// Where a column's square begins.
+fn corner_of(grid: Grid, column: &Column) -> Point
+    ensures { result ≡ cell grid (simulator_of column.now.first) column.now.place }
+{
+    grid.cell(column.first.simulator(), column.place)
+}
+
+/// Draws the step or the steps of a column, of which this is the first.
 fn add_steps(
     sheet: &mut Sheet,
-    scale: Scale,
+    grid: Grid,
     spec: &Spec,
-    corner: Point,
     column: &Column,
     step: &Step,
 ) -> Result<(), AllocError>
-    ensures { OnOk result (sheet.new ≡ sheet.old ++ steps_square scale spec.now corner column.now step.now) }
+    ensures { OnOk result (sheet.new ≡ sheet.old ++ steps_square grid.scale spec.now (cell grid (simulator_of column.now.first) column.now.place) column.now step.now) }
 {
-    match scale {
+    let corner = corner_of(grid, column);
+    match grid.scale {
         Scale::Steps => add_step(sheet, spec, corner, column.before.saturating_add(1), step),
         Scale::Turns => {
             let hue = Colour::Hue(step.process);

@@ -11,6 +11,15 @@ use run_columns::{Column, Mark, Scale, Step};
 use simulator::Turn;
 use std::alloc::{AllocError, Global};
 
+/// The columns of a turn.
+#[derive(Clone, Copy)]
+struct Span {
+    first: Column,
+    last: Column,
+    /// A step of the turn.
+    step: Step,
+}
+
 /// Draws a bar for each turn, unless a column may show several.
 ///
 /// # Errors
@@ -64,8 +73,12 @@ fn add_turn_from(
     if !is_first(column, step, columns) {
         return Ok(());
     }
-    let last = last_of(step, column, columns);
-    add_bar_parts(sheet, grid, column, &last, step)
+    let span = Span {
+        first: *column,
+        last: last_of(step, column, columns),
+        step: *step,
+    };
+    add_bar_parts(sheet, grid, &span)
 }
 
 /// Whether this is the first column that shows a step of the same turn.
@@ -111,57 +124,39 @@ fn shows_turn(step: &Step, column: &Column) -> bool
 
 /// Draws the bar of a turn, from its first to its last column, in each row that it touches.
 #[tactic(auto, unfolding(crate::specs::Turns::bar_parts))]
-fn add_bar_parts(
-    sheet: &mut Sheet,
-    grid: Grid,
-    first: &Column,
-    last: &Column,
-    step: &Step,
-) -> Result<(), AllocError>
-    ensures { OnOk result (sheet.new ≡ sheet.old ++ bar_parts grid first.now last.now step.now) }
+fn add_bar_parts(sheet: &mut Sheet, grid: Grid, span: &Span) -> Result<(), AllocError>
+    ensures { OnOk result (sheet.new ≡ sheet.old ++ bar_parts grid span.now.first span.now.last span.now.step) }
 {
     for row in 0..grid.rows() {
-        add_bar_part(sheet, grid, first, last, step, row)?;
+        add_bar_part(sheet, grid, span, row)?;
     }
     Ok(())
 }
 
-fn add_bar_part(
-    sheet: &mut Sheet,
-    grid: Grid,
-    first: &Column,
-    last: &Column,
-    step: &Step,
-    row: u64,
-) -> Result<(), AllocError>
+fn add_bar_part(sheet: &mut Sheet, grid: Grid, span: &Span, row: u64) -> Result<(), AllocError>
     requires { row ≤ 2 * 65535 }
-    ensures { OnOk result (sheet.new ≡ sheet.old ++ bar_part grid first.now last.now step.now row) }
+    ensures { OnOk result (sheet.new ≡ sheet.old ++ bar_part grid span.now.first span.now.last span.now.step row) }
 {
-    if grid.row(u64::from(first.place)) <= row && row <= grid.row(u64::from(last.place)) {
-        add_bar_in(sheet, grid, first, last, step, row)
+    let first_row = grid.row(u64::from(span.first.place));
+    let last_row = grid.row(u64::from(span.last.place));
+    if first_row <= row && row <= last_row {
+        add_bar_in(sheet, grid, span, row)
     } else {
         Ok(())
     }
 }
 
 #[tactic(auto, unfolding(crate::specs::Turns::bar_in))]
-fn add_bar_in(
-    sheet: &mut Sheet,
-    grid: Grid,
-    first: &Column,
-    last: &Column,
-    step: &Step,
-    row: u64,
-) -> Result<(), AllocError>
+fn add_bar_in(sheet: &mut Sheet, grid: Grid, span: &Span, row: u64) -> Result<(), AllocError>
     requires { row ≤ 2 * 65535 }
-    ensures { OnOk result (sheet.new ≡ sheet.old ++ bar_in grid first.now last.now step.now row) }
+    ensures { OnOk result (sheet.new ≡ sheet.old ++ bar_in grid span.now.first span.now.last span.now.step row) }
 {
     let start = Point {
-        x: bar_left(grid, first, row),
-        y: grid.lane_y(row, step.simulator),
+        x: bar_left(grid, &span.first, row),
+        y: grid.lane_y(row, span.step.simulator),
     };
-    let width = bar_right(grid, last, row).saturating_sub(start.x);
-    add_bar(sheet, start, width, step, last.end)
+    let width = bar_right(grid, &span.last, row).saturating_sub(start.x);
+    add_bar(sheet, start, width, &span.step, span.last.end)
 }
 
 /// The left end of a turn's bar in a row.

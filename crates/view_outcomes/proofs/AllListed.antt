@@ -1,6 +1,6 @@
 -- Outcomes that are listed one by one.
 use Rattle.std.proofs.Common.{Bool, ◌≡◌, ◌∙◌, ℕ, ◌+◌, List, [], ◌∷◌, ◌++◌, Option, None, Some, length, take, sym, ap, subst, arith, inl, inr}
-use Rattle.std.specs.Prelude.{IfNone, IfSome, slice_get}
+use Rattle.std.specs.Prelude.{IfNone, IfSome, IsPermutation, slice_get}
 use Rattle.std.specs.List.{Contains}
 use Rattle.std.specs.Option.{option_map}
 use Rattle.std.proofs.lemmas.Bool.{cases_lt}
@@ -15,7 +15,7 @@ use Rattle.run_search.specs.declared.ended.Ended.{Ended}
 use Rattle.run_search.specs.Outcomes.{IsRunOutcome}
 use Rattle.run_search.specs.Tasks.{IsBreakingRun, IsShortestBreaking}
 use Rattle.view_outcomes.specs.declared.listing.Listed.{Listed}
-use Rattle.view_outcomes.specs.Listing.{AreAllListed, HasRun, IsTaskOfRuns, listed_ends}
+use Rattle.view_outcomes.specs.Listing.{AreAllListed, AreInOrder, AreMostFirst, HasRun, IsTaskOfRuns, listed_ends}
 
 abbrev pub Runs : RoomSpec → Bool → List Listed → Type 0
 Runs spec brief all = (i : ℕ) (one : Listed) → slice_get all i ≡ Some one → HasRun spec brief one
@@ -51,6 +51,9 @@ all_listed spec crashes brief all outcomes runs ends complete sound distinct = r
   complete = λ outcome is. subst (λ (l : List (List Ended)). Contains l outcome) (sym ends) (complete outcome is);
   distinct = λ i j outcome first second. distinct i j outcome (ap (λ (l : List (List Ended)). slice_get l i) (sym ends) ∙ first) (ap (λ (l : List (List Ended)). slice_get l j) (sym ends) ∙ second);
 }
+
+pub all_in_order : (spec : RoomSpec) (crashes : ℕ) (brief : Bool) (found all : List Listed) → AreAllListed spec crashes brief found → IsPermutation found all → AreMostFirst all → AreInOrder spec crashes brief all
+all_in_order spec crashes brief found all outcomes same most_first = record { found = found; outcomes = outcomes; same = same; most_first = most_first }
 
 -- what is found of the task: none, or a shortest run that breaks it
 pub task_of : {A : Type 0} (spec : RoomSpec) (items : A → List Event) (found : Option A) → IfNone found ((events : List Event) → IsRun spec events → KeepsOwnTask spec events)

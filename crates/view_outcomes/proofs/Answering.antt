@@ -14,10 +14,12 @@ use Rattle.run_search.specs.Limits.{AreTooMany}
 use Rattle.view_outcomes.specs.declared.search.Asked.{Asked}
 use Rattle.view_outcomes.specs.declared.search.Search.{Search}
 use Rattle.view_outcomes.specs.declared.listing.AllOutcomes.{AllOutcomes}
-use Rattle.view_outcomes.specs.Listing.{AreAllListed, IsTaskOfRuns}
+use Rattle.view_outcomes.specs.declared.listing.Listed.{Listed}
+use Rattle.view_outcomes.specs.Forms.{is_brief_alone}
+use Rattle.view_outcomes.specs.Listing.{AreInOrder, IsTaskOfRuns, chosen}
 use Rattle.view_outcomes.specs.Judgements.{IsTaskText, is_kept}
-use Rattle.view_outcomes.specs.Rooms.{AddsOutcomes, AreRoomAnswers, IsListText, IsRoomAnswer, IsTextFor, crashes_for}
-use Rattle.view_outcomes.specs.Shown.{found_shown, head_in, judgement_in, taskless_in, unfinished_in, unjudged_in}
+use Rattle.view_outcomes.specs.Rooms.{AddsOutcomes, AreRoomAnswers, IsAloneText, IsListText, IsRoomAnswer, IsTextFor, crashes_for}
+use Rattle.view_outcomes.specs.Shown.{alone_in, found_shown, head_in, judgement_in, taskless_in, unfinished_in, unjudged_in}
 
 and_right : (b : Bool) → b ≡ (b && true)
 and_right true = refl
@@ -63,19 +65,18 @@ none_is (Some value) true is = absurd cc
 none_is (Some value) false is = refl
 
 -- what was written of a room that was searched to the end
-pub found_told : (search : Search) (spec : RoomSpec) (block name : List ℕ) (crashes : ℕ) (all : AllOutcomes) (well : Bool) (before head after : List ℕ) → name ≡ spec.name → crashes ≡ crashes_for spec search.crashes
-    → AreAllListed spec crashes search.brief all.listed.items → HasNodes spec search.nodes all.nodes → IsTaskOfRuns spec (option_map (λ events. events.items) all.breaking) → well ≡ is_none all.breaking
-    → head ≡ before ++ head_in search.form name crashes → after ≡ head ++ found_shown search spec block crashes all → (text : List ℕ) × IsListText search spec block well text × (after ≡ before ++ text)
-found_told search spec block name crashes all well before head after named stopped outcomes nodes task well_is head_is after_is =
+pub found_told : (search : Search) (spec : RoomSpec) (block : List ℕ) (crashes : ℕ) (all : AllOutcomes) (well : Bool) (before head after : List ℕ) → crashes ≡ crashes_for spec search.crashes
+    → AreInOrder spec crashes search.brief all.listed.items → HasNodes spec search.nodes all.nodes → IsTaskOfRuns spec (option_map (λ events. events.items) all.breaking) → well ≡ is_none all.breaking
+    → head ≡ before ++ head_in search.form spec.name crashes → after ≡ head ++ found_shown search spec block crashes all → (text : List ℕ) × IsListText search spec block well text × (after ≡ before ++ text)
+found_told search spec block crashes all well before head after stopped outcomes nodes task well_is head_is after_is =
     let rest = found_shown search spec block crashes all in
-    let first : head_in search.form name crashes ≡ head_in search.form spec.name (crashes_for spec search.crashes) = ap (λ (n : List ℕ). head_in search.form n crashes) named ∙ ap (head_in search.form spec.name) stopped in
     let answer : IsListText search spec block well (head_in search.form spec.name (crashes_for spec search.crashes) ++ rest) = record {
       rest = rest;
       rest_is =
           inl
           (record {
             all = all;
-            outcomes = subst (λ (n : ℕ). AreAllListed spec n search.brief all.listed.items) stopped outcomes;
+            outcomes = subst (λ (n : ℕ). AreInOrder spec n search.brief all.listed.items) stopped outcomes;
             nodes = nodes;
             task = task;
             well_is = well_is;
@@ -85,15 +86,14 @@ found_told search spec block name crashes all well before head after named stopp
     } in (
       head_in search.form spec.name (crashes_for spec search.crashes) ++ rest,
       answer,
-      after_is ∙ ap (λ (t : List ℕ). t ++ rest) head_is ∙ append_assoc before (head_in search.form name crashes) rest ∙ ap (λ (t : List ℕ). before ++ (t ++ rest)) first,
+      after_is ∙ ap (λ (t : List ℕ). t ++ rest) head_is ∙ append_assoc before (head_in search.form spec.name crashes) rest ∙ ap (λ (n : ℕ). before ++ (head_in search.form spec.name n ++ rest)) stopped,
     )
 
 -- and of one with more nodes than the limit
-pub unfinished_told : (search : Search) (spec : RoomSpec) (block name : List ℕ) (crashes : ℕ) (before head after : List ℕ) → name ≡ spec.name → crashes ≡ crashes_for spec search.crashes → AreTooMany spec search.nodes
-    → head ≡ before ++ head_in search.form name crashes → after ≡ head ++ unfinished_in search.form spec crashes search.nodes → (text : List ℕ) × IsListText search spec block false text × (after ≡ before ++ text)
-unfinished_told search spec block name crashes before head after named stopped many head_is after_is =
+pub unfinished_told : (search : Search) (spec : RoomSpec) (block : List ℕ) (crashes : ℕ) (before head after : List ℕ) → crashes ≡ crashes_for spec search.crashes → AreTooMany spec search.nodes
+    → head ≡ before ++ head_in search.form spec.name crashes → after ≡ head ++ unfinished_in search.form spec crashes search.nodes → (text : List ℕ) × IsListText search spec block false text × (after ≡ before ++ text)
+unfinished_told search spec block crashes before head after stopped many head_is after_is =
     let rest = unfinished_in search.form spec crashes search.nodes in
-    let first : head_in search.form name crashes ≡ head_in search.form spec.name (crashes_for spec search.crashes) = ap (λ (n : List ℕ). head_in search.form n crashes) named ∙ ap (head_in search.form spec.name) stopped in
     let answer : IsListText search spec block false (head_in search.form spec.name (crashes_for spec search.crashes) ++ rest) = record {
       rest = rest;
       rest_is = inr (record { many = many; text_is = ap (λ (n : ℕ). unfinished_in search.form spec n search.nodes) stopped; well_is = refl });
@@ -101,7 +101,33 @@ unfinished_told search spec block name crashes before head after named stopped m
     } in (
       head_in search.form spec.name (crashes_for spec search.crashes) ++ rest,
       answer,
-      after_is ∙ ap (λ (t : List ℕ). t ++ rest) head_is ∙ append_assoc before (head_in search.form name crashes) rest ∙ ap (λ (t : List ℕ). before ++ (t ++ rest)) first,
+      after_is ∙ ap (λ (t : List ℕ). t ++ rest) head_is ∙ append_assoc before (head_in search.form spec.name crashes) rest ∙ ap (λ (n : ℕ). before ++ (head_in search.form spec.name n ++ rest)) stopped,
+    )
+
+-- ---- one outcome alone
+
+pub chosen_told : (search : Search) (spec : RoomSpec) (block : List ℕ) (number crashes : ℕ) (all : List Listed) (well : Bool) (before after : List ℕ) → crashes ≡ crashes_for spec search.crashes
+    → AreInOrder spec crashes (is_brief_alone search.form search.brief) all → well ≡ is_some (chosen number all) → after ≡ before ++ alone_in search.form spec.name block number all
+    → (text : List ℕ) × IsAloneText number search spec block well text × (after ≡ before ++ text)
+chosen_told search spec block number crashes all well before after stopped outcomes well_is after_is = (
+  alone_in search.form spec.name block number all,
+  inl
+      (record {
+        all = all;
+        outcomes = subst (λ (n : ℕ). AreInOrder spec n (is_brief_alone search.form search.brief) all) stopped outcomes;
+        well_is = well_is;
+        text_is = refl;
+      }),
+  after_is,
+)
+
+pub unlisted_told : (search : Search) (spec : RoomSpec) (block : List ℕ) (number crashes : ℕ) (before after : List ℕ) → crashes ≡ crashes_for spec search.crashes → AreTooMany spec search.nodes
+    → after ≡ before ++ (head_in search.form spec.name crashes ++ unfinished_in search.form spec crashes search.nodes) → (text : List ℕ) × IsAloneText number search spec block false text × (after ≡ before ++ text)
+unlisted_told search spec block number crashes before after stopped many after_is =
+    let rest = unfinished_in search.form spec (crashes_for spec search.crashes) search.nodes in (
+      head_in search.form spec.name (crashes_for spec search.crashes) ++ rest,
+      inr (record { rest = rest; rest_is = record { many = many; text_is = refl; well_is = refl }; text_is = refl }),
+      after_is ∙ ap (λ (n : ℕ). before ++ (head_in search.form spec.name n ++ unfinished_in search.form spec n search.nodes)) stopped,
     )
 
 -- ---- the task alone

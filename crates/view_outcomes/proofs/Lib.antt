@@ -4,6 +4,7 @@ mod Answering
 mod Counting
 mod Floats
 mod JudgingVectors
+mod Ordering
 mod OtherInputs
 mod ReadingBlocks
 mod ReadingValues

@@ -42,6 +42,15 @@ run_data (Some events) = events_data events.items
 abbrev pub outcome_data : List ℕ → Listed → Data
 outcome_data name one = object (member (codes "events") (run_data one.events) (member (codes "processes") (ends_data one.ends.items) (member (codes "room") (string name) no_members)))
 
+-- how many outcomes there are, none of which has this number
+abbrev pub none_data : List ℕ → ℕ → ℕ → Data
+none_data name number count = object (member (codes "number") (number_data number) (member (codes "outcomes") (number_data count) (member (codes "room") (string name) no_members)))
+
+-- the outcome of this number; or, if there is none, how many outcomes there are
+abbrev pub alone_data : List ℕ → ℕ → ℕ → Option Listed → Data
+alone_data name number count None = none_data name number count
+alone_data name number count (Some one) = outcome_data name one
+
 -- ---- a task
 
 -- how many values a room's task allows, a run that breaks it, and whether each run keeps it; `null` for a room without a task

@@ -1,29 +1,31 @@
 -- What is written of the rooms of a file: what is asked for, of each.
-use Rattle.std.specs.Prelude.{◌≡◌, ◌⊎◌, ℕ, ◌-◌, Bool, true, false, ◌&&◌, List, [], ◌∷◌, ◌++◌, length, Option, Some, None, is_none, option_map, Ok}
+use Rattle.std.specs.Prelude.{◌≡◌, ◌⊎◌, ℕ, ◌-◌, Bool, true, false, ◌&&◌, List, [], ◌∷◌, ◌++◌, length, Option, Some, None, is_none, is_some, option_map, Ok}
 use Rattle.std.specs.List.{concat}
 use Rattle.room_spec.specs.Blocks.{block_in}
 use Rattle.room_spec.specs.Rooms.{RoomSpec, processes}
 use Rattle.run_search.specs.Judging.{HasNodes}
 use Rattle.run_search.specs.Limits.{AreTooMany}
 use Rattle.view_outcomes.specs.declared.listing.AllOutcomes.{AllOutcomes}
+use Rattle.view_outcomes.specs.declared.listing.Listed.{Listed}
 use Rattle.view_outcomes.specs.declared.search.Asked.{Asked}
-use Rattle.view_outcomes.specs.declared.search.Asked.TheVariants.{Outcomes, Task, Inputs, Keeps}
+use Rattle.view_outcomes.specs.declared.search.Asked.TheVariants.{Outcomes, First, Outcome, Task, Inputs, Keeps}
 use Rattle.view_outcomes.specs.declared.search.Search.{Search}
 use Rattle.view_outcomes.specs.AllInputs.{IsInputsText}
+use Rattle.view_outcomes.specs.Forms.{is_brief_alone}
 use Rattle.view_outcomes.specs.Judgements.{IsTaskText}
 use Rattle.view_outcomes.specs.Keeping.{IsKeepingText}
-use Rattle.view_outcomes.specs.Listing.{AreAllListed, IsTaskOfRuns}
-use Rattle.view_outcomes.specs.Shown.{found_shown, head_in, unfinished_in}
+use Rattle.view_outcomes.specs.Listing.{AreInOrder, IsTaskOfRuns, chosen}
+use Rattle.view_outcomes.specs.Shown.{alone_in, found_shown, head_in, unfinished_in}
 
 -- all processes but one may stop, if the number is not said
 abbrev pub crashes_for : RoomSpec → Option ℕ → ℕ
 crashes_for spec None = processes spec - 1
 crashes_for spec (Some crashes) = crashes
 
--- The text shows all outcomes, and says how many nodes stand for the states of all runs, and whether each run keeps the room's task.
+-- The text shows the outcomes, all or the first ones, and says how many there are, how many nodes stand for the states of all runs, and whether each run keeps the room's task.
 pub record IsFoundText (search : Search) (spec : RoomSpec) (block : List ℕ) (well : Bool) (text : List ℕ) : Type 0 where
   pub all : AllOutcomes
-  pub outcomes : AreAllListed spec (crashes_for spec search.crashes) search.brief all.listed.items
+  pub outcomes : AreInOrder spec (crashes_for spec search.crashes) search.brief all.listed.items
   pub nodes : HasNodes spec search.nodes all.nodes
   pub task : IsTaskOfRuns spec (option_map (λ events. events.items) all.breaking)
   pub well_is : well ≡ is_none all.breaking
@@ -41,11 +43,30 @@ pub record IsListText (search : Search) (spec : RoomSpec) (block : List ℕ) (we
   pub rest_is : IsFoundText search spec block well rest ⊎ IsUnfinishedText search spec well rest
   pub text_is : text ≡ head_in search.form spec.name (crashes_for spec search.crashes) ++ rest
 
+-- The text is the transcript of the outcome of this number in the list of all outcomes, or says how many there are; all is well if there is that outcome.
+pub record IsChosenText (number : ℕ) (search : Search) (spec : RoomSpec) (block : List ℕ) (well : Bool) (text : List ℕ) : Type 0 where
+  pub all : List Listed
+  pub outcomes : AreInOrder spec (crashes_for spec search.crashes) (is_brief_alone search.form search.brief) all
+  pub well_is : well ≡ is_some (chosen number all)
+  pub text_is : text ≡ alone_in search.form spec.name block number all
+
+-- the text is what is written of a room with more nodes than the limit whose outcomes are listed, and so it is
+pub record IsUnlistedText (search : Search) (spec : RoomSpec) (well : Bool) (text : List ℕ) : Type 0 where
+  pub rest : List ℕ
+  pub rest_is : IsUnfinishedText search spec well rest
+  pub text_is : text ≡ head_in search.form spec.name (crashes_for spec search.crashes) ++ rest
+
+-- what is written of a room of which one outcome is shown
+abbrev pub IsAloneText : ℕ → Search → RoomSpec → List ℕ → Bool → List ℕ → Type 0
+IsAloneText number search spec block well text = IsChosenText number search spec block well text ⊎ IsUnlistedText search spec well text
+
 -- ---- rooms
 
--- what is asked for: all outcomes, whether each run keeps the task, with which inputs each does, or whether each keeps a task of one's own
+-- what is asked for: all outcomes, the first ones, or one; whether each run keeps the task, with which inputs each does, or whether each keeps a task of one's own
 abbrev pub IsTextFor : Asked → Search → RoomSpec → List ℕ → Bool → List ℕ → Type 0
 IsTextFor Outcomes search spec block well text = IsListText search spec block well text
+IsTextFor (First number) search spec block well text = IsListText search spec block well text
+IsTextFor (Outcome number) search spec block well text = IsAloneText number search spec block well text
 IsTextFor Task search spec block well text = IsTaskText search spec block well text
 IsTextFor (Inputs values) search spec block well text = IsInputsText search values.now spec block well text
 IsTextFor (Keeps task) search spec block well text = IsKeepingText task.now search spec block well text

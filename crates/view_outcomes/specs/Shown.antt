@@ -1,6 +1,6 @@
 -- What is written of a room, as text or as JSON: two writings of the same answer.
-use Rattle.std.specs.Prelude.{ℕ, ◌+◌, ◌-◌, ◌==◌, Bool, false, List, [], ◌++◌, length, map, if◌then◌else◌}
-use Rattle.std.specs.List.{concat, flat_map, range_with_len}
+use Rattle.std.specs.Prelude.{ℕ, ◌-◌, ◌==◌, min, Bool, false, List, [], ◌++◌, length, take, Option, Some, None, if◌then◌else◌}
+use Rattle.std.specs.List.{flat_map}
 use Rattle.json_lines.specs.Lines.{json_line}
 use Rattle.room_spec.specs.Rooms.{RoomSpec}
 use Rattle.run_search.specs.declared.judging.Judgement.{Judgement}
@@ -10,9 +10,10 @@ use Rattle.view_outcomes.specs.declared.listing.Listed.{Listed}
 use Rattle.view_outcomes.specs.declared.search.Form.{Form}
 use Rattle.view_outcomes.specs.declared.search.Form.TheVariants.{Text, Json}
 use Rattle.view_outcomes.specs.declared.search.Search.{Search}
-use Rattle.view_outcomes.specs.Counts.{most_values, values_in}
-use Rattle.view_outcomes.specs.Json.{decisions_data, found_data, judgement_data, outcome_data, too_many_data, unfinished_data, unjudged_data, unsearched_data, vectors_data}
-use Rattle.view_outcomes.specs.Texts.{advice, common_text, head_line, judgement_text, outcome_text, taskless_line, unfinished_line, unjudged_text}
+use Rattle.view_outcomes.specs.Asked.{top_of}
+use Rattle.view_outcomes.specs.Json.{alone_data, decisions_data, found_data, judgement_data, outcome_data, too_many_data, unfinished_data, unjudged_data, unsearched_data, vectors_data}
+use Rattle.view_outcomes.specs.Texts.{advice, alone_text, common_text, head_line, judgement_text, more_line, outcome_text, taskless_line, unfinished_line, unjudged_text}
+use Rattle.view_outcomes.specs.Listing.{chosen}
 use Rattle.view_outcomes.specs.KeptTexts.{kept_text, unsearched_text}
 use Rattle.view_outcomes.specs.VectorTexts.{too_many_line, vector_text, vector_unjudged_line, vectors_line}
 
@@ -27,16 +28,24 @@ abbrev pub outcome_in : Form → List ℕ → List ℕ → Listed → List ℕ
 outcome_in Text name block one = outcome_text name block one
 outcome_in Json name block one = json_line (outcome_data name one)
 
-abbrev pub outcome_if : Form → List ℕ → List ℕ → ℕ → Listed → List ℕ
-outcome_if form name block values one = if values_in one.ends.items == values then outcome_in form name block one else []
-
--- those with this number of decided values
-abbrev pub outcomes_with : Form → List ℕ → List ℕ → List Listed → ℕ → List ℕ
-outcomes_with form name block all values = flat_map (outcome_if form name block values) all
-
--- those with most decided values first
+-- these outcomes, in order
 abbrev pub outcomes_shown : Form → List ℕ → List ℕ → List Listed → List ℕ
-outcomes_shown form name block all = concat (map (λ fewer. outcomes_with form name block all (most_values all - fewer)) (range_with_len 0 (most_values all + 1)))
+outcomes_shown form name block shown = flat_map (outcome_in form name block) shown
+
+-- how many outcomes are shown
+abbrev pub shown_count : Option ℕ → ℕ → ℕ
+shown_count None count = count
+shown_count (Some top) count = min top count
+
+-- how many more there are; JSON says only how many there are
+abbrev pub more_in : Form → List ℕ → ℕ → List ℕ
+more_in Text name more = if more == 0 then [] else more_line name more
+more_in Json name more = []
+
+-- the first outcomes, as many as are shown, and how many more there are
+abbrev pub listed_shown : Form → List ℕ → List ℕ → Option ℕ → List Listed → List ℕ
+listed_shown form name block top all =
+    outcomes_shown form name block (take (shown_count top (length all)) all) ++ more_in form name (length all - shown_count top (length all))
 
 -- what they have in common, and whether each run keeps the room's task
 abbrev pub common_in : Form → RoomSpec → List ℕ → ℕ → ℕ → AllOutcomes → List ℕ
@@ -44,11 +53,18 @@ common_in Text spec block crashes limit all = common_text spec block all
 common_in Json spec block crashes limit all = json_line (found_data spec crashes limit all)
 
 abbrev pub found_shown : Search → RoomSpec → List ℕ → ℕ → AllOutcomes → List ℕ
-found_shown search spec block crashes all = outcomes_shown search.form spec.name block all.listed.items ++ common_in search.form spec block crashes search.nodes all
+found_shown search spec block crashes all = listed_shown search.form spec.name block (top_of search.asked) all.listed.items ++ common_in search.form spec block crashes search.nodes all
 
 abbrev pub unfinished_in : Form → RoomSpec → ℕ → ℕ → List ℕ
 unfinished_in Text spec crashes limit = unfinished_line limit advice
 unfinished_in Json spec crashes limit = json_line (unfinished_data spec crashes limit)
+
+-- ---- one outcome alone
+
+-- the transcript of the outcome of this number, if there is one; in JSON, that outcome
+abbrev pub alone_in : Form → List ℕ → List ℕ → ℕ → List Listed → List ℕ
+alone_in Text name block number all = alone_text name block number (length all) (chosen number all)
+alone_in Json name block number all = json_line (alone_data name number (length all) (chosen number all))
 
 -- ---- the task alone
 

@@ -39,6 +39,24 @@ transcript_if name block (Some events) = transcript_text name block events.items
 abbrev pub outcome_text : List ℕ → List ℕ → Listed → List ℕ
 outcome_text name block one = codes "\n" ++ (end_lines name one.ends.items ++ transcript_if name block one.events)
 
+-- how many outcomes there are that are not shown
+abbrev pub more_line : List ℕ → ℕ → List ℕ
+more_line name more = (codes "\n" ++ name) ++ (codes " has" ++ ((32 ∷ decimal more) ++ codes " more outcomes\n"))
+
+-- ---- one outcome alone
+
+abbrev pub count_words : List ℕ → ℕ → List ℕ
+count_words name count = (name ++ codes " has") ++ ((32 ∷ decimal count) ++ codes " outcomes, and none has the number")
+
+-- how many outcomes there are, none of which has this number
+abbrev pub none_line : List ℕ → ℕ → ℕ → List ℕ
+none_line name number count = count_words name count ++ ((32 ∷ decimal number) ++ codes "\n")
+
+-- the transcript of the outcome of this number; or, if there is none, how many outcomes there are
+abbrev pub alone_text : List ℕ → List ℕ → ℕ → ℕ → Option Listed → List ℕ
+alone_text name block number count None = none_line name number count
+alone_text name block number count (Some one) = transcript_if name block one.events
+
 -- ---- what they have in common
 
 abbrev pub most_line : List ℕ → List Listed → List ℕ

@@ -1,15 +1,17 @@
 //! Outcomes and tasks as JSON: an object a line.
-ghost use Rattle.std.specs.Prelude.{◌≡◌, [], ◌∷◌, ◌++◌, IfOk, OnOk, is_none, map};
+ghost use Rattle.std.specs.Prelude.{◌≡◌, [], ◌∷◌, ◌++◌, IfOk, OnOk, is_none, length, map};
 ghost use Rattle.std.specs.List.{filter};
 ghost use Rattle.serde_json.specs.Data.{boolean, null};
 ghost use Rattle.serde_json.specs.View.{view};
 ghost use Rattle.json_lines.specs.Lines.{json_line};
 ghost use Rattle.json_lines.specs.Values.{number_data};
 ghost use Rattle.view_outcomes.specs.Counts.{can_be_spent};
-ghost use Rattle.view_outcomes.specs.Json.{break_data, broken_unless, decisions_data, end_data, ends_data, found_data, judgement_data, list_data, outcome_data, room_decisions_data, room_task_data, room_vectors_data, run_data, spent_data, task_data, too_many_data, unfinished_data, unjudged_data, unsearched_data, vectors_data, verdict_data};
+ghost use Rattle.view_outcomes.specs.Listing.{chosen};
+ghost use Rattle.view_outcomes.specs.Json.{alone_data, break_data, broken_unless, decisions_data, end_data, ends_data, found_data, judgement_data, list_data, none_data, outcome_data, room_decisions_data, room_task_data, room_vectors_data, run_data, spent_data, task_data, too_many_data, unfinished_data, unjudged_data, unsearched_data, vectors_data, verdict_data};
 
 use crate::counts::{can_be_spent, most_values};
-use crate::listing::{AllOutcomes, Listed};
+use crate::listing::{AllOutcomes, Listed, chosen};
+use crate::search::SearchedRoom;
 use decision_tasks::{Break, DecisionJudgement};
 use io_text::Text;
 use json_lines::{events_value, write_line};
@@ -74,32 +76,65 @@ fn end_value(alloc: Global, ended: Ended) -> Result<Value, AllocError>
     }
 }
 
+/// Writes the outcome of this number in a list; or, if there is none, how many outcomes there are.
+pub fn write_alone_line(
+    alloc: Global,
+    output: &mut Text,
+    name: &str,
+    number: u32,
+    all: &[Listed],
+) -> Result<(), AllocError>
+    ensures { OnOk result (output.new ≡ output.old ++ json_line (alone_data name.now number (length all.now) (chosen number all.now))) }
+{
+    match chosen(all, number) {
+        None => write_none_line(alloc, output, name, number, all.len()),
+        Some(one) => write_outcome_line(alloc, output, name, one),
+    }
+}
+
+/// Writes how many outcomes there are, none of which has this number.
+fn write_none_line(
+    alloc: Global,
+    output: &mut Text,
+    name: &str,
+    number: u32,
+    count: usize,
+) -> Result<(), AllocError>
+    ensures { OnOk result (output.new ≡ output.old ++ json_line (none_data name.now number count)) }
+{
+    let value = none_value(alloc, name, number, count)?;
+    write_line(alloc, output, &value)
+}
+
+fn none_value(alloc: Global, name: &str, number: u32, count: usize) -> Result<Value, AllocError>
+    ensures { IfOk result (λ value. view value ≡ none_data name.now number count) }
+{
+    json!(in alloc; {"number": number, "outcomes": count, "room": name})
+}
+
 // ---- all outcomes
 
 /// Writes what all outcomes of a room have in common, and whether each run keeps the room's task.
 pub fn write_found_line(
-    alloc: Global,
+    room: &SearchedRoom<'_>,
     output: &mut Text,
-    spec: &Spec,
     crashes: usize,
-    limit: u32,
     all: &AllOutcomes,
 ) -> Result<(), AllocError>
-    ensures { OnOk result (output.new ≡ output.old ++ json_line (found_data spec.now crashes limit all.now)) }
+    ensures { OnOk result (output.new ≡ output.old ++ json_line (found_data room.now.spec.now crashes room.now.search.now.nodes all.now)) }
 {
-    let value = found_value(alloc, spec, crashes, limit, all)?;
-    write_line(alloc, output, &value)
+    let value = found_value(room, crashes, all)?;
+    write_line(room.alloc, output, &value)
 }
 
 fn found_value(
-    alloc: Global,
-    spec: &Spec,
+    room: &SearchedRoom<'_>,
     crashes: usize,
-    limit: u32,
     all: &AllOutcomes,
 ) -> Result<Value, AllocError>
-    ensures { IfOk result (λ value. view value ≡ found_data spec.now crashes limit all.now) }
+    ensures { IfOk result (λ value. view value ≡ found_data room.now.spec.now crashes room.now.search.now.nodes all.now) }
 {
+    let (alloc, spec, limit) = (room.alloc, room.spec, room.search.nodes);
     let name = spec.name().as_str();
     let listed = all.listed.as_slice();
     let (values, nodes, count) = (most_values(listed), all.nodes, listed.len());
@@ -151,28 +186,22 @@ fn push_if_spent(values: &mut Vec<Value>, all: &[Listed], process: usize) -> Res
     Ok(())
 }
 
-/// Writes that the room has more nodes than this number.
+/// Writes that the room has more nodes than are searched at most.
 pub fn write_unfinished_object(
-    alloc: Global,
+    room: &SearchedRoom<'_>,
     output: &mut Text,
-    spec: &Spec,
     crashes: usize,
-    limit: u32,
 ) -> Result<(), AllocError>
-    ensures { OnOk result (output.new ≡ output.old ++ json_line (unfinished_data spec.now crashes limit)) }
+    ensures { OnOk result (output.new ≡ output.old ++ json_line (unfinished_data room.now.spec.now crashes room.now.search.now.nodes)) }
 {
-    let value = unfinished_value(alloc, spec, crashes, limit)?;
-    write_line(alloc, output, &value)
+    let value = unfinished_value(room, crashes)?;
+    write_line(room.alloc, output, &value)
 }
 
-fn unfinished_value(
-    alloc: Global,
-    spec: &Spec,
-    crashes: usize,
-    limit: u32,
-) -> Result<Value, AllocError>
-    ensures { IfOk result (λ value. view value ≡ unfinished_data spec.now crashes limit) }
+fn unfinished_value(room: &SearchedRoom<'_>, crashes: usize) -> Result<Value, AllocError>
+    ensures { IfOk result (λ value. view value ≡ unfinished_data room.now.spec.now crashes room.now.search.now.nodes) }
 {
+    let (alloc, spec, limit) = (room.alloc, room.spec, room.search.nodes);
     let name = spec.name().as_str();
     let task = task_value(alloc, spec.task(), &Value::Null, &Value::Null)?;
     json!(in alloc; {
@@ -207,37 +236,33 @@ fn task_value(
 
 /// Writes whether each run keeps the room's task, and else a run that breaks it, unless that is left out.
 pub fn write_judgement_line(
-    alloc: Global,
+    room: &SearchedRoom<'_>,
     output: &mut Text,
-    spec: &Spec,
     brief: bool,
-    limit: u32,
     judgement: &Judgement,
 ) -> Result<(), AllocError>
-    ensures { OnOk result (output.new ≡ output.old ++ json_line (judgement_data brief spec.now limit judgement.now)) }
+    ensures { OnOk result (output.new ≡ output.old ++ json_line (judgement_data brief room.now.spec.now room.now.search.now.nodes judgement.now)) }
 {
-    let value = judgement_value(alloc, spec, brief, limit, judgement)?;
-    write_line(alloc, output, &value)
+    let value = judgement_value(room, brief, judgement)?;
+    write_line(room.alloc, output, &value)
 }
 
 fn judgement_value(
-    alloc: Global,
-    spec: &Spec,
+    room: &SearchedRoom<'_>,
     brief: bool,
-    limit: u32,
     judgement: &Judgement,
 ) -> Result<Value, AllocError>
-    ensures { IfOk result (λ value. view value ≡ judgement_data brief spec.now limit judgement.now) }
+    ensures { IfOk result (λ value. view value ≡ judgement_data brief room.now.spec.now room.now.search.now.nodes judgement.now) }
 {
     match judgement {
         Judgement::Kept(nodes) => {
             let (nodes, kept) = (Value::from(*nodes), Value::Bool(true));
-            room_task_value(alloc, spec, limit, &nodes, &Value::Null, &kept)
+            room_task_value(room, &nodes, &Value::Null, &kept)
         }
         Judgement::Broken(events) => {
-            let broken = broken_unless(alloc, brief, events.as_slice())?;
+            let broken = broken_unless(room.alloc, brief, events.as_slice())?;
             let kept = Value::Bool(false);
-            room_task_value(alloc, spec, limit, &Value::Null, &broken, &kept)
+            room_task_value(room, &Value::Null, &broken, &kept)
         }
     }
 }
@@ -252,37 +277,31 @@ fn broken_unless(alloc: Global, brief: bool, events: &[Event]) -> Result<Value, 
     events_value(alloc, events)
 }
 
-/// Writes that the room has no task, or more nodes than this number, and that no run that was searched breaks its task.
-pub fn write_unjudged_line(
-    alloc: Global,
-    output: &mut Text,
-    spec: &Spec,
-    limit: u32,
-) -> Result<(), AllocError>
-    ensures { OnOk result (output.new ≡ output.old ++ json_line (unjudged_data spec.now limit)) }
+/// Writes that the room has no task, or more nodes than are searched at most, and that no run that was searched breaks its task.
+pub fn write_unjudged_line(room: &SearchedRoom<'_>, output: &mut Text) -> Result<(), AllocError>
+    ensures { OnOk result (output.new ≡ output.old ++ json_line (unjudged_data room.now.spec.now room.now.search.now.nodes)) }
 {
-    let value = unjudged_value(alloc, spec, limit)?;
-    write_line(alloc, output, &value)
+    let value = unjudged_value(room)?;
+    write_line(room.alloc, output, &value)
 }
 
-fn unjudged_value(alloc: Global, spec: &Spec, limit: u32) -> Result<Value, AllocError>
-    ensures { IfOk result (λ value. view value ≡ unjudged_data spec.now limit) }
+fn unjudged_value(room: &SearchedRoom<'_>) -> Result<Value, AllocError>
+    ensures { IfOk result (λ value. view value ≡ unjudged_data room.now.spec.now room.now.search.now.nodes) }
 {
     let none = Value::Null;
-    room_task_value(alloc, spec, limit, &none, &none, &none)
+    room_task_value(room, &none, &none, &none)
 }
 
 /// The room, its inputs, and what is said of its task.
 fn room_task_value(
-    alloc: Global,
-    spec: &Spec,
-    limit: u32,
+    room: &SearchedRoom<'_>,
     nodes: &Value,
     broken: &Value,
     kept: &Value,
 ) -> Result<Value, AllocError>
-    ensures { IfOk result (λ value. view value ≡ room_task_data spec.now limit (view nodes.now) (view broken.now) (view kept.now)) }
+    ensures { IfOk result (λ value. view value ≡ room_task_data room.now.spec.now room.now.search.now.nodes (view nodes.now) (view broken.now) (view kept.now)) }
 {
+    let (alloc, spec, limit) = (room.alloc, room.spec, room.search.nodes);
     let name = spec.name().as_str();
     let inputs = inputs_value(alloc, spec)?;
     let task = task_value(alloc, spec.task(), broken, kept)?;
@@ -304,70 +323,58 @@ fn inputs_value(alloc: Global, spec: &Spec) -> Result<Value, AllocError>
 
 /// Writes for how many of how many vectors of these values each run keeps the room's task.
 pub fn write_vectors_object(
-    alloc: Global,
+    room: &SearchedRoom<'_>,
     output: &mut Text,
-    spec: &Spec,
-    limit: u32,
     values: &[u32],
     kept: usize,
     count: usize,
 ) -> Result<(), AllocError>
-    ensures { OnOk result (output.new ≡ output.old ++ json_line (vectors_data spec.now limit values.now kept count)) }
+    ensures { OnOk result (output.new ≡ output.old ++ json_line (vectors_data room.now.spec.now room.now.search.now.nodes values.now kept count)) }
 {
-    let value = vectors_value(alloc, spec, limit, values, kept, count)?;
-    write_line(alloc, output, &value)
+    let value = vectors_value(room, values, kept, count)?;
+    write_line(room.alloc, output, &value)
 }
 
 fn vectors_value(
-    alloc: Global,
-    spec: &Spec,
-    limit: u32,
+    room: &SearchedRoom<'_>,
     values: &[u32],
     kept: usize,
     count: usize,
 ) -> Result<Value, AllocError>
-    ensures { IfOk result (λ value. view value ≡ vectors_data spec.now limit values.now kept count) }
+    ensures { IfOk result (λ value. view value ≡ vectors_data room.now.spec.now room.now.search.now.nodes values.now kept count) }
 {
     let (kept, count) = (Value::from(kept), Value::from(count));
-    room_vectors_value(alloc, spec, limit, values, &kept, &count)
+    room_vectors_value(room, values, &kept, &count)
 }
 
 /// Writes that there are more vectors of these values than a room is judged with.
 pub fn write_too_many_object(
-    alloc: Global,
+    room: &SearchedRoom<'_>,
     output: &mut Text,
-    spec: &Spec,
-    limit: u32,
     values: &[u32],
 ) -> Result<(), AllocError>
-    ensures { OnOk result (output.new ≡ output.old ++ json_line (too_many_data spec.now limit values.now)) }
+    ensures { OnOk result (output.new ≡ output.old ++ json_line (too_many_data room.now.spec.now room.now.search.now.nodes values.now)) }
 {
-    let value = too_many_value(alloc, spec, limit, values)?;
-    write_line(alloc, output, &value)
+    let value = too_many_value(room, values)?;
+    write_line(room.alloc, output, &value)
 }
 
-fn too_many_value(
-    alloc: Global,
-    spec: &Spec,
-    limit: u32,
-    values: &[u32],
-) -> Result<Value, AllocError>
-    ensures { IfOk result (λ value. view value ≡ too_many_data spec.now limit values.now) }
+fn too_many_value(room: &SearchedRoom<'_>, values: &[u32]) -> Result<Value, AllocError>
+    ensures { IfOk result (λ value. view value ≡ too_many_data room.now.spec.now room.now.search.now.nodes values.now) }
 {
     let none = Value::Null;
-    room_vectors_value(alloc, spec, limit, values, &none, &none)
+    room_vectors_value(room, values, &none, &none)
 }
 
 fn room_vectors_value(
-    alloc: Global,
-    spec: &Spec,
-    limit: u32,
+    room: &SearchedRoom<'_>,
     values: &[u32],
     kept: &Value,
     count: &Value,
 ) -> Result<Value, AllocError>
-    ensures { IfOk result (λ value. view value ≡ room_vectors_data spec.now limit values.now (view kept.now) (view count.now)) }
+    ensures { IfOk result (λ value. view value ≡ room_vectors_data room.now.spec.now room.now.search.now.nodes values.now (view kept.now) (view count.now)) }
 {
+    let (alloc, spec, limit) = (room.alloc, room.spec, room.search.nodes);
     let name = spec.name().as_str();
     let values = values_value(alloc, values)?;
     json!(in alloc; {"kept": kept, "limit": limit, "room": name, "values": values, "vectors": count})
@@ -388,56 +395,47 @@ fn values_value(alloc: Global, numbers: &[u32]) -> Result<Value, AllocError>
 
 /// Writes whether each run keeps a task of one's own; or which process breaks it, and in which run.
 pub fn write_decisions_line(
-    alloc: Global,
+    room: &SearchedRoom<'_>,
     output: &mut Text,
-    spec: &Spec,
-    limit: u32,
     judgement: &DecisionJudgement,
 ) -> Result<(), AllocError>
-    ensures { OnOk result (output.new ≡ output.old ++ json_line (decisions_data spec.now limit judgement.now)) }
+    ensures { OnOk result (output.new ≡ output.old ++ json_line (decisions_data room.now.spec.now room.now.search.now.nodes judgement.now)) }
 {
-    let value = decisions_value(alloc, spec, limit, judgement)?;
-    write_line(alloc, output, &value)
+    let value = decisions_value(room, judgement)?;
+    write_line(room.alloc, output, &value)
 }
 
 fn decisions_value(
-    alloc: Global,
-    spec: &Spec,
-    limit: u32,
+    room: &SearchedRoom<'_>,
     judgement: &DecisionJudgement,
 ) -> Result<Value, AllocError>
-    ensures { IfOk result (λ value. view value ≡ decisions_data spec.now limit judgement.now) }
+    ensures { IfOk result (λ value. view value ≡ decisions_data room.now.spec.now room.now.search.now.nodes judgement.now) }
 {
     match judgement {
         DecisionJudgement::Kept(nodes) => {
-            let verdict = open_verdict(alloc, &Value::Bool(true))?;
-            room_decisions_value(alloc, spec, limit, &Value::from(*nodes), &verdict)
+            let verdict = open_verdict(room.alloc, &Value::Bool(true))?;
+            room_decisions_value(room, &Value::from(*nodes), &verdict)
         }
         DecisionJudgement::Broken(broken) => {
-            let verdict = break_value(alloc, broken)?;
-            room_decisions_value(alloc, spec, limit, &Value::Null, &verdict)
+            let verdict = break_value(room.alloc, broken)?;
+            room_decisions_value(room, &Value::Null, &verdict)
         }
     }
 }
 
-/// Writes that the room has more nodes than this number.
-pub fn write_unsearched_line(
-    alloc: Global,
-    output: &mut Text,
-    spec: &Spec,
-    limit: u32,
-) -> Result<(), AllocError>
-    ensures { OnOk result (output.new ≡ output.old ++ json_line (unsearched_data spec.now limit)) }
+/// Writes that the room has more nodes than are searched at most.
+pub fn write_unsearched_line(room: &SearchedRoom<'_>, output: &mut Text) -> Result<(), AllocError>
+    ensures { OnOk result (output.new ≡ output.old ++ json_line (unsearched_data room.now.spec.now room.now.search.now.nodes)) }
 {
-    let value = unsearched_value(alloc, spec, limit)?;
-    write_line(alloc, output, &value)
+    let value = unsearched_value(room)?;
+    write_line(room.alloc, output, &value)
 }
 
-fn unsearched_value(alloc: Global, spec: &Spec, limit: u32) -> Result<Value, AllocError>
-    ensures { IfOk result (λ value. view value ≡ unsearched_data spec.now limit) }
+fn unsearched_value(room: &SearchedRoom<'_>) -> Result<Value, AllocError>
+    ensures { IfOk result (λ value. view value ≡ unsearched_data room.now.spec.now room.now.search.now.nodes) }
 {
-    let verdict = open_verdict(alloc, &Value::Null)?;
-    room_decisions_value(alloc, spec, limit, &Value::Null, &verdict)
+    let verdict = open_verdict(room.alloc, &Value::Null)?;
+    room_decisions_value(room, &Value::Null, &verdict)
 }
 
 /// What is said of a task that no run is known to break.
@@ -457,14 +455,13 @@ fn break_value(alloc: Global, broken: &Break) -> Result<Value, AllocError>
 }
 
 fn room_decisions_value(
-    alloc: Global,
-    spec: &Spec,
-    limit: u32,
+    room: &SearchedRoom<'_>,
     nodes: &Value,
     verdict: &Value,
 ) -> Result<Value, AllocError>
-    ensures { IfOk result (λ value. view value ≡ room_decisions_data spec.now limit (view nodes.now) (view verdict.now)) }
+    ensures { IfOk result (λ value. view value ≡ room_decisions_data room.now.spec.now room.now.search.now.nodes (view nodes.now) (view verdict.now)) }
 {
-    let name = spec.name().as_str();
+    let (alloc, limit) = (room.alloc, room.search.nodes);
+    let name = room.spec.name().as_str();
     json!(in alloc; {"decisions": verdict, "limit": limit, "nodes": nodes, "room": name})
 }

@@ -3,68 +3,57 @@ ghost use Rattle.std.specs.Prelude.{◌≡◌, ◌++◌, IfOk, ℕ, List};
 ghost use Rattle.view_outcomes.specs.Keeping.{IsDecisionsText, IsKeepingText, IsOwnTaskText, are_kept};
 
 use crate::judging::judge;
-use crate::search::Search;
+use crate::search::SearchedRoom;
 use crate::shown::{show_decisions, show_unsearched};
 use decision_tasks::{DecisionJudgement, DecisionTask, judge_decisions};
 use io_text::Text;
-use room_spec::Spec;
 use run_search::{Progress, SearchFault};
-use std::alloc::{AllocError, Global};
+use std::alloc::AllocError;
 
 /// Writes whether each run keeps the room's own task, if it has one, and whether each keeps this task.
 pub fn judge_both<P: Progress>(
-    alloc: Global,
-    spec: &Spec,
-    block: &[u8],
+    room: &SearchedRoom<'_>,
     task: &DecisionTask,
-    search: &Search<'_>,
     output: &mut Text,
     progress: &mut P,
 ) -> Result<bool, AllocError>
-    ensures { IfOk result (λ well. (text : List ℕ) × IsKeepingText task.now search.now spec.now block.now well text × (output.new ≡ output.old ++ text)) }
+    ensures { IfOk result (λ well. (text : List ℕ) × IsKeepingText task.now room.now.search.now room.now.spec.now room.now.block.now well text × (output.new ≡ output.old ++ text)) }
 {
-    let well = judge_if_any(alloc, spec, block, search, output, progress)?;
-    let kept = judge_own(alloc, spec, block, task, search, output, progress)?;
+    let well = judge_if_any(room, output, progress)?;
+    let kept = judge_own(room, task, output, progress)?;
     Ok(well & kept)
 }
 
 /// Writes whether each run keeps the room's own task, if it has one.
 fn judge_if_any<P: Progress>(
-    alloc: Global,
-    spec: &Spec,
-    block: &[u8],
-    search: &Search<'_>,
+    room: &SearchedRoom<'_>,
     output: &mut Text,
     progress: &mut P,
 ) -> Result<bool, AllocError>
-    ensures { IfOk result (λ well. (text : List ℕ) × IsOwnTaskText search.now spec.now spec.now.task block.now well text × (output.new ≡ output.old ++ text)) }
+    ensures { IfOk result (λ well. (text : List ℕ) × IsOwnTaskText room.now.search.now room.now.spec.now room.now.spec.now.task room.now.block.now well text × (output.new ≡ output.old ++ text)) }
 {
-    match spec.task() {
+    match room.spec.task() {
         None => Ok(true),
-        Some(_) => judge(alloc, spec, block, search, output, progress),
+        Some(_) => judge(room, output, progress),
     }
 }
 
 /// Writes whether each run keeps the task, and else a run that breaks it; or that the room has too many nodes.
 fn judge_own<P: Progress>(
-    alloc: Global,
-    spec: &Spec,
-    block: &[u8],
+    room: &SearchedRoom<'_>,
     task: &DecisionTask,
-    search: &Search<'_>,
     output: &mut Text,
     progress: &mut P,
 ) -> Result<bool, AllocError>
-    ensures { IfOk result (λ well. (text : List ℕ) × IsDecisionsText task.now search.now spec.now block.now well text × (output.new ≡ output.old ++ text)) }
+    ensures { IfOk result (λ well. (text : List ℕ) × IsDecisionsText task.now room.now.search.now room.now.spec.now room.now.block.now well text × (output.new ≡ output.old ++ text)) }
 {
-    let (form, limit) = (search.form, search.nodes);
-    match judge_decisions(alloc, spec, task, limit, progress) {
+    match judge_decisions(room.alloc, room.spec, task, room.search.nodes, progress) {
         Ok(judgement) => {
-            show_decisions(alloc, output, form, spec, block, limit, &judgement)?;
+            show_decisions(room, output, &judgement)?;
             Ok(are_kept(&judgement))
         }
         Err(SearchFault::TooManyNodes) => {
-            show_unsearched(alloc, output, form, spec, limit)?;
+            show_unsearched(room, output)?;
             Ok(false)
         }
         Err(SearchFault::OutOfMemory) => Err(AllocError),

@@ -1,6 +1,7 @@
-//! All outcomes of the rooms of a file, as text or as JSON: each with a run that leads to it. Or whether the rooms' tasks are kept, with their own inputs or with all of some values, or a task of one's own.
+//! All outcomes of the rooms of a file, or one of each room, as text or as JSON: each with a run that leads to it. Or whether the rooms' tasks are kept, with their own inputs or with all of some values, or a task of one's own.
 #![tactic(auto)]
 
+mod alone_text;
 mod block;
 mod blocks;
 mod counts;
@@ -20,6 +21,5 @@ mod vector_text;
 mod vectors;
 
 pub use blocks::search_blocks;
-pub use listing::{AllOutcomes, Listed, find_all};
 pub use search::{Asked, Form, Search};
 pub use values::{MAX_VALUES, Values, ValuesFault, read_values};

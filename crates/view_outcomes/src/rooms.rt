@@ -4,21 +4,22 @@ ghost use Rattle.room_files.specs.BlockLists.{IsBlockAt};
 ghost use Rattle.room_spec.specs.Blocks.{block_in};
 ghost use Rattle.room_spec.specs.Grammar.{IsBlock};
 ghost use Rattle.room_spec.specs.Rooms.{RoomSpec};
-ghost use Rattle.view_outcomes.specs.Rooms.{AddsOutcomes, IsListText, IsRoomAnswer, crashes_for};
+ghost use Rattle.view_outcomes.specs.Rooms.{AddsOutcomes, IsAloneText, IsListText, IsRoomAnswer, crashes_for};
 
 use crate::inputs::judge_all;
 use crate::judging::judge;
 use crate::keeping::judge_both;
-use crate::listing::find_all;
-use crate::search::{Asked, Search};
-use crate::shown::{show_found, show_head, show_unfinished};
+use crate::listing::{find_all, find_listed, has_outcome};
+use crate::search::{Asked, Search, SearchedRoom};
+use crate::shown::{show_alone, show_found, show_head, show_unfinished, show_unlisted};
 use io_text::Text;
 use room_files::BlockList;
 use room_spec::{Spec, read_block};
 use run_search::{Progress, SearchFault};
 use std::alloc::{AllocError, Global};
 
-/// Writes what is asked for of each room. Gives whether all is well: each room was searched to the end, and each run of each keeps its room's task.
+/// Writes what is asked for of each room. Gives whether all is well: each room was searched to the end, and each run of each keeps its room's task; or, if one outcome is
+/// asked for, each room has it.
 pub fn write_rooms<P: Progress>(
     alloc: Global,
     rooms: &BlockList,
@@ -36,7 +37,7 @@ pub fn write_rooms<P: Progress>(
     Ok(well)
 }
 
-/// Writes what is asked for of the room of a block. Gives whether it was searched to the end, and each run keeps its task.
+/// Writes what is asked for of the room of a block. Gives whether it was searched to the end, and each run keeps its task or it has the outcome that is asked for.
 fn write_room<P: Progress>(
     alloc: Global,
     block: &[u8],
@@ -49,7 +50,13 @@ fn write_room<P: Progress>(
         (text : List ℕ) × IsRoomAnswer search.now spec well text × (output.new ≡ output.old ++ text)) }
 {
     let spec = room_of(alloc, block)?;
-    answer(alloc, &spec, block, search, output, progress)
+    let room = SearchedRoom {
+        alloc,
+        spec: &spec,
+        block,
+        search,
+    };
+    answer(&room, output, progress)
 }
 
 /// The room that a block says.
@@ -66,50 +73,65 @@ fn room_of(alloc: Global, block: &[u8]) -> Result<Spec, AllocError>
 
 /// Writes what is asked for of a room.
 fn answer<P: Progress>(
-    alloc: Global,
-    spec: &Spec,
-    block: &[u8],
-    search: &Search<'_>,
+    room: &SearchedRoom<'_>,
     output: &mut Text,
     progress: &mut P,
 ) -> Result<bool, AllocError>
-    requires says { block_in block.now ≡ Ok (spec.now, length block.now) }
-    requires block { IsBlock block.now spec.now (length block.now) }
-    ensures { IfOk result (λ well. (text : List ℕ) × IsRoomAnswer search.now spec.now well text × (output.new ≡ output.old ++ text)) }
+    requires says { block_in room.now.block.now ≡ Ok (room.now.spec.now, length room.now.block.now) }
+    requires block { IsBlock room.now.block.now room.now.spec.now (length room.now.block.now) }
+    ensures { IfOk result (λ well. (text : List ℕ) × IsRoomAnswer room.now.search.now room.now.spec.now well text × (output.new ≡ output.old ++ text)) }
 {
-    match search.asked {
-        Asked::Outcomes => list(alloc, spec, block, search, output, progress),
-        Asked::Task => judge(alloc, spec, block, search, output, progress),
-        Asked::Inputs(values) => judge_all(alloc, spec, block, search, values, output, progress),
-        Asked::Keeps(task) => judge_both(alloc, spec, block, task, search, output, progress),
+    match room.search.asked {
+        Asked::Outcomes | Asked::First(_) => list(room, output, progress),
+        Asked::Outcome(number) => choose(room, number, output, progress),
+        Asked::Task => judge(room, output, progress),
+        Asked::Inputs(values) => judge_all(room, values, output, progress),
+        Asked::Keeps(task) => judge_both(room, task, output, progress),
     }
 }
 
-/// Writes all outcomes of a room, or that it has too many nodes.
+/// Writes all outcomes of a room, or the first ones; or that it has too many nodes.
 fn list<P: Progress>(
-    alloc: Global,
-    spec: &Spec,
-    block: &[u8],
-    search: &Search<'_>,
+    room: &SearchedRoom<'_>,
     output: &mut Text,
     progress: &mut P,
 ) -> Result<bool, AllocError>
-    ensures { IfOk result (λ well. (text : List ℕ) × IsListText search.now spec.now block.now well text × (output.new ≡ output.old ++ text)) }
+    ensures { IfOk result (λ well. (text : List ℕ) × IsListText room.now.search.now room.now.spec.now room.now.block.now well text × (output.new ≡ output.old ++ text)) }
 {
-    let crashes = crashes_for(spec, search.crashes);
-    show_head(
-        output,
-        search.form,
-        spec.name().as_str().as_bytes(),
-        crashes,
-    )?;
-    match find_all(alloc, spec, crashes, search.nodes, search.brief, progress) {
+    let crashes = crashes_for(room.spec, room.search.crashes);
+    show_head(room, output, crashes)?;
+    match find_all(room, crashes, progress) {
         Ok(all) => {
-            show_found(alloc, output, search, spec, block, crashes, &all)?;
+            show_found(room, output, crashes, &all)?;
             Ok(all.breaking.is_none())
         }
         Err(SearchFault::TooManyNodes) => {
-            show_unfinished(alloc, output, search.form, spec, crashes, search.nodes)?;
+            show_unfinished(room, output, crashes)?;
+            Ok(false)
+        }
+        Err(SearchFault::OutOfMemory) => Err(AllocError),
+    }
+}
+
+/// Writes a transcript of the outcome of this number, from 1, in the list of a room's outcomes; or how many outcomes there are, or that the room has too many nodes. Gives
+/// whether there is that outcome.
+fn choose<P: Progress>(
+    room: &SearchedRoom<'_>,
+    number: u32,
+    output: &mut Text,
+    progress: &mut P,
+) -> Result<bool, AllocError>
+    ensures { IfOk result (λ well. (text : List ℕ) × IsAloneText number room.now.search.now room.now.spec.now room.now.block.now well text × (output.new ≡ output.old ++ text)) }
+{
+    let crashes = crashes_for(room.spec, room.search.crashes);
+    match find_listed(room, crashes, progress) {
+        Ok(listed) => {
+            let all = listed.as_slice();
+            show_alone(room, output, number, all)?;
+            Ok(has_outcome(all, number))
+        }
+        Err(SearchFault::TooManyNodes) => {
+            show_unlisted(room, output, crashes)?;
             Ok(false)
         }
         Err(SearchFault::OutOfMemory) => Err(AllocError),

@@ -1,6 +1,6 @@
 //! All outcomes of a room, as text.
 ghost use Rattle.std.specs.Prelude.{◌≡◌, ◌∷◌, ◌++◌, OnOk, codes, decimal, option_map};
-ghost use Rattle.view_outcomes.specs.Texts.{advice, all_runs_line, breaking_text, common_text, complete_line, end_line, end_lines, end_words, head_line, judgement_text, most_line, none_spent_if, outcome_text, spent_line, spent_line_if, spent_lines, task_text, taskless_line, transcript_text, unfinished_line, unjudged_text};
+ghost use Rattle.view_outcomes.specs.Texts.{advice, all_runs_line, breaking_text, common_text, complete_line, end_line, end_lines, end_words, head_line, judgement_text, more_line, most_line, none_spent_if, outcome_text, spent_line, spent_line_if, spent_lines, task_text, taskless_line, transcript_if, transcript_text, unfinished_line, unjudged_text};
 
 use crate::counts::{can_be_spent, is_any_spent, most_values};
 use crate::listing::{AllOutcomes, Listed};
@@ -67,7 +67,19 @@ pub fn write_outcome(
 {
     output.put(b"\n")?;
     write_ends(output, name, one.ends.as_slice())?;
-    match &one.events {
+    write_transcript_if(output, name, block, &one.events)
+}
+
+/// Writes a transcript of these events, if there are any.
+pub fn write_transcript_if(
+    output: &mut Text,
+    name: &[u8],
+    block: &[u8],
+    run: &Option<Vec<Event>>,
+) -> Result<(), AllocError>
+    ensures { OnOk result (output.new ≡ output.old ++ transcript_if name.now block.now run.now) }
+{
+    match run {
         None => Ok(()),
         Some(events) => write_transcript(output, name, block, events.as_slice()),
     }
@@ -129,22 +141,29 @@ fn write_most(output: &mut Text, name: &[u8], all: &[Listed]) -> Result<(), Allo
     ensures { OnOk result (output.new ≡ output.old ++ most_line name.now all.now) }
 {
     let most = most_values(all) as u64;
-    write_most_line(output, name, b" decided at most", most, b" values\n")
+    write_number_line(output, name, b" decided at most", most, b" values\n")
 }
 
-/// Writes a line that says how many of some things there are at most, after a blank one.
-fn write_most_line(
+/// Writes how many outcomes there are that are not shown.
+pub fn write_more(output: &mut Text, name: &[u8], more: usize) -> Result<(), AllocError>
+    ensures { OnOk result (output.new ≡ output.old ++ more_line name.now more) }
+{
+    write_number_line(output, name, b" has", more as u64, b" more outcomes\n")
+}
+
+/// Writes a line that says a number of some things, after a blank one.
+fn write_number_line(
     output: &mut Text,
     name: &[u8],
     words: &[u8],
-    most: u64,
+    number: u64,
     things: &[u8],
 ) -> Result<(), AllocError>
-    ensures { OnOk result (output.new ≡ output.old ++ ((codes "\n" ++ name.now) ++ (words.now ++ ((32 ∷ decimal most) ++ things.now)))) }
+    ensures { OnOk result (output.new ≡ output.old ++ ((codes "\n" ++ name.now) ++ (words.now ++ ((32 ∷ decimal number) ++ things.now)))) }
 {
     output.put_two(b"\n", name)?;
     output.put(words)?;
-    output.put_number(most)?;
+    output.put_number(number)?;
     output.put(things)
 }
 

@@ -3,25 +3,25 @@ ghost use Rattle.std.specs.Prelude.{◌≡◌, ◌∷◌, ◌++◌, OnOk, codes,
 ghost use Rattle.view_outcomes.specs.VectorTexts.{broken_words, kept_words, too_many_line, vector_text, vector_unjudged_line, vector_words, vectors_line, verdict_words};
 
 use crate::block::put_inputs;
+use crate::search::SearchedRoom;
 use crate::text::{write_transcript, write_unfinished};
 use io_text::Text;
 use run_search::Judgement;
 use std::alloc::AllocError;
 use transcript::Event;
 
-/// Writes what the room of this name with these inputs, which this block says, is judged to be. A run that breaks the task follows unless `brief`.
+/// Writes what the room with these inputs, which its block says, is judged to be. A run that breaks the task follows unless transcripts are left out.
 pub fn write_vector(
     output: &mut Text,
-    name: &[u8],
+    room: &SearchedRoom<'_>,
     inputs: &[u32],
-    block: &[u8],
-    brief: bool,
     judgement: &Judgement,
 ) -> Result<(), AllocError>
-    ensures { OnOk result (output.new ≡ output.old ++ vector_text brief name.now inputs.now block.now judgement.now) }
+    ensures { OnOk result (output.new ≡ output.old ++ vector_text room.now.search.now.brief room.now.spec.now.name inputs.now room.now.block.now judgement.now) }
 {
+    let name = room.spec.name().as_str().as_bytes();
     write_vector_words(output, name, inputs)?;
-    write_verdict(output, name, block, brief, judgement)
+    write_verdict(output, name, room.block, room.search.brief, judgement)
 }
 
 /// Writes what the line of a vector begins with.

@@ -48,10 +48,10 @@ broken_data spec outcomes = broken_by spec.task spec outcomes
 abbrev pub room_data : RoomSpec → Plan → List Counted → Data
 room_data spec plan outcomes =
     object (member (codes "crashes") (number (unsigned plan.crashes)) (member (codes "decided_at_most") (number (unsigned (most_of values_in outcomes)))
-    (member (codes "grouped") (boolean plan.group) (member (codes "held_at_most") (number (unsigned (most_of held_in outcomes))) (member (codes "once") (number (unsigned (once_in outcomes)))
+    (member (codes "from") (number (unsigned plan.from)) (member (codes "grouped") (boolean plan.group) (member (codes "held_at_most") (number (unsigned (most_of held_in outcomes))) (member (codes "once") (number (unsigned (once_in outcomes)))
     (member (codes "outcomes") (number (unsigned (length outcomes))) (member (codes "room") (string spec.name)
     (member (codes "schedules") (number (unsigned plan.schedules)) (member (codes "seed") (number (unsigned plan.seed))
-    (member (codes "task_broken") (broken_data spec outcomes) no_members))))))))))
+    (member (codes "task_broken") (broken_data spec outcomes) no_members)))))))))))
 
 abbrev pub room_line : RoomSpec → Plan → List Counted → List ℕ
 room_line spec plan outcomes = json_line (room_data spec plan outcomes)

@@ -99,6 +99,7 @@ cut_plan plan schedules top = record {
   schedules = schedules;
   crashes = plan.crashes;
   seed = plan.seed;
+  from = plan.from;
   workers = plan.workers;
   group = plan.group;
   brief = plan.brief;

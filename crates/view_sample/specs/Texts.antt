@@ -1,5 +1,5 @@
 -- What is written of a room that was sampled.
-use Rattle.std.specs.Prelude.{ℕ, min, Bool, List, [], ◌∷◌, ◌++◌, length, Option, None, Some, if◌then◌else◌, codes, decimal}
+use Rattle.std.specs.Prelude.{ℕ, ◌==◌, min, Bool, List, [], ◌∷◌, ◌++◌, length, Option, None, Some, if◌then◌else◌, codes, decimal}
 use Rattle.std.specs.List.{flat_map}
 use Rattle.room_files.specs.BlockLists.{whole_block}
 use Rattle.report_text.specs.ReportTexts.{process_lines}
@@ -27,9 +27,14 @@ script_text name block schedule =
 abbrev pub plan_end : Bool → List ℕ
 plan_end group = if group then codes " grouped\n" else codes "\n"
 
+-- the number of the first schedule, unless it is 0
+abbrev pub from_words : ℕ → List ℕ
+from_words from = if from == 0 then [] else codes " from" ++ (32 ∷ decimal from)
+
 abbrev pub plan_line : List ℕ → Plan → List ℕ
 plan_line name plan =
-    (name ++ (codes " sample" ++ (32 ∷ decimal plan.schedules))) ++ ((codes " crashes" ++ (32 ∷ decimal plan.crashes)) ++ ((codes " seed" ++ (32 ∷ decimal plan.seed)) ++ plan_end plan.group))
+    (name ++ (codes " sample" ++ (32 ∷ decimal plan.schedules)))
+    ++ ((codes " crashes" ++ (32 ∷ decimal plan.crashes)) ++ ((codes " seed" ++ (32 ∷ decimal plan.seed)) ++ (from_words plan.from ++ plan_end plan.group)))
 
 abbrev pub script_unless : Bool → List ℕ → List ℕ → List Stretch → List ℕ
 script_unless brief name block schedule = if brief then [] else script_text name block schedule

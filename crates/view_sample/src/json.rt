@@ -7,6 +7,7 @@ ghost use Rattle.json_lines.specs.Lines.{json_line};
 ghost use Rattle.view_sample.specs.Json.{alone_line, broken_data, none_data, outcome_data, outcome_line, outcome_lines, room_data, room_line, schedule_data, schedule_unless, stretch_data};
 
 use crate::counts::{most_of, once_in};
+use crate::sampled::Sampled;
 use crate::task::times_broken;
 use io_text::Text;
 use json_lines::{processes_value, write_line};
@@ -46,19 +47,18 @@ fn write_outcome_line(
 
 /// Writes the outcome of this number, and nothing else; or, if there is none, how many outcomes there are.
 pub(crate) fn write_alone_line(
-    alloc: Global,
+    room: &Sampled<'_>,
     output: &mut Text,
-    name: &str,
-    brief: bool,
     count: usize,
     number: u32,
     shown: Option<&Example>,
 ) -> Result<(), AllocError>
-    ensures { OnOk result (output.new ≡ output.old ++ alone_line name.now brief count number (option_map (λ one. shown_of one.now) shown.entry)) }
+    ensures { OnOk result (output.new ≡ output.old ++ alone_line room.now.spec.now.name room.now.plan.now.brief count number (option_map (λ one. shown_of one.now) shown.entry)) }
 {
+    let name = room.spec.name().as_str();
     match shown {
-        None => write_none_line(alloc, output, name, count, number),
-        Some(one) => write_outcome_line(alloc, output, name, brief, one),
+        None => write_none_line(room.alloc, output, name, count, number),
+        Some(one) => write_outcome_line(room.alloc, output, name, room.plan.brief, one),
     }
 }
 
@@ -132,10 +132,11 @@ fn room_value(
     let (values, held) = most_of(outcomes);
     let (count, once) = (outcomes.len(), once_in(outcomes));
     let (crashes, schedules, seed) = (plan.crashes, plan.schedules, plan.seed);
-    let grouped = plan.group;
+    let (from, grouped) = (plan.from, plan.group);
     json!(in alloc; {
         "crashes": crashes,
         "decided_at_most": values,
+        "from": from,
         "grouped": grouped,
         "held_at_most": held,
         "once": once,

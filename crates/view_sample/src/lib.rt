@@ -6,6 +6,7 @@ mod json;
 pub mod laws;
 mod rooms;
 mod sample;
+mod sampled;
 mod task;
 mod task_text;
 mod text;

@@ -11,13 +11,15 @@ ghost use Rattle.view_sample.specs.Rooms.{AddsCut, AddsFirst, AddsSamples, IsCho
 ghost use Rattle.view_sample.specs.Tasks.{first_broken};
 
 use crate::json::{write_alone_line, write_outcome_lines, write_room_line};
+use crate::sampled::Sampled;
 use crate::task::first_broken;
 use crate::task_text::{has_held, write_task};
 use crate::text::{shown_count, write_alone, write_sample};
 use io_text::Text;
 use room_files::{BlockList, read_room};
 use room_sample::{
-    Example, PartialExamples, PartialSample, Plan, Tally, Workers, example_of, examples_of, sample,
+    Example, PartialExamples, PartialSample, Plan, Showing, Tally, Workers, example_of,
+    examples_of, sample,
 };
 use room_spec::Spec;
 use run_search::Progress;
@@ -105,92 +107,84 @@ fn write_room<W: Workers, P: Progress>(
         ending?;
     }
     let counted = Plan { schedules, ..*plan };
-    let well = write_counted(alloc, output, &spec, block, &counted, outcomes)?;
+    let room = Sampled {
+        alloc,
+        spec: &spec,
+        block,
+        plan: &counted,
+    };
+    let well = write_counted(&room, output, outcomes)?;
     ending?;
     Ok(well)
 }
 
-/// Writes what is said of these outcomes of a room, which its block says.
-fn write_counted(
-    alloc: Global,
-    output: &mut Text,
-    spec: &Spec,
-    block: &[u8],
-    plan: &Plan,
-    outcomes: Tally,
-) -> Result<bool, AllocError>
-    requires limits { IsWithinLimits spec.now }
-    requires says { block_in block.now ≡ Ok (spec.now, length block.now) }
-    requires sample { IsSample spec.now plan.now outcomes }
-    requires among { AreAmongAll spec.now outcomes }
-    ensures whole { IfOk result (λ well. (text : List ℕ) × IsSampleText plan.now spec.now well text × (output.new ≡ output.old ++ text)) }
-    ensures cut { OnErr result (AddsCut plan.now spec.now output.old output.new) }
+/// Writes what is said of these outcomes of a room.
+fn write_counted(room: &Sampled<'_>, output: &mut Text, outcomes: Tally) -> Result<bool, AllocError>
+    requires limits { IsWithinLimits room.now.spec.now }
+    requires says { block_in room.now.block.now ≡ Ok (room.now.spec.now, length room.now.block.now) }
+    requires sample { IsSample room.now.spec.now room.now.plan.now outcomes }
+    requires among { AreAmongAll room.now.spec.now outcomes }
+    ensures whole { IfOk result (λ well. (text : List ℕ) × IsSampleText room.now.plan.now room.now.spec.now well text × (output.new ≡ output.old ++ text)) }
+    ensures cut { OnErr result (AddsCut room.now.plan.now room.now.spec.now output.old output.new) }
 {
-    let outcomes = grouped_if(alloc, plan.group, outcomes)?;
-    match plan.outcome {
-        None => write_listed(alloc, output, spec, block, plan, outcomes),
-        Some(number) => write_chosen(alloc, output, spec, block, plan, outcomes, number),
+    let outcomes = grouped_if(room.alloc, room.plan.group, outcomes)?;
+    match room.plan.outcome {
+        None => write_listed(room, output, outcomes),
+        Some(number) => write_chosen(room, output, outcomes, number),
     }
 }
 
 /// Writes these outcomes of a room, those first that came most often, and whether they keep its task. If an allocation fails, as many of them
 /// are written as there is memory for, or nothing.
 fn write_listed(
-    alloc: Global,
+    room: &Sampled<'_>,
     output: &mut Text,
-    spec: &Spec,
-    block: &[u8],
-    plan: &Plan,
     mut outcomes: Tally,
 ) -> Result<bool, AllocError>
-    requires limits { IsWithinLimits spec.now }
-    requires says { block_in block.now ≡ Ok (spec.now, length block.now) }
-    requires came { All (CameByFirst spec.now plan.now) outcomes }
-    requires few { sum_by (λ one. one.times) outcomes ≤ plan.now.schedules }
-    ensures whole { IfOk result (λ well. (text : List ℕ) × IsListed plan.now spec.now block.now outcomes well text × (output.new ≡ output.old ++ text)) }
-    ensures cut { OnErr result (ListsFewer plan.now spec.now block.now outcomes output.old output.new) }
+    requires limits { IsWithinLimits room.now.spec.now }
+    requires says { block_in room.now.block.now ≡ Ok (room.now.spec.now, length room.now.block.now) }
+    requires came { All (CameByFirst room.now.spec.now room.now.plan.now) outcomes }
+    requires few { sum_by (λ one. one.times) outcomes ≤ room.now.plan.now.schedules }
+    ensures whole { IfOk result (λ well. (text : List ℕ) × IsListed room.now.plan.now room.now.spec.now room.now.block.now outcomes well text × (output.new ≡ output.old ++ text)) }
+    ensures cut { OnErr result (ListsFewer room.now.plan.now room.now.spec.now room.now.block.now outcomes output.old output.new) }
 {
-    let held = has_held(spec, &outcomes);
-    let broken = broken_example(alloc, spec, plan, &outcomes)?;
-    let mut end = Text::new(alloc);
-    write_end(
-        alloc,
-        &mut end,
-        spec,
-        block,
-        plan,
-        &outcomes,
-        broken.as_ref(),
-    )?;
+    let plan = room.plan;
+    let held = has_held(room.spec, &outcomes);
+    let broken = broken_example(room, &outcomes)?;
+    let mut end = Text::new(room.alloc);
+    write_end(room, &mut end, &outcomes, broken.as_ref())?;
     outcomes.sort_by_times()?;
     let most = shown_count(plan.top, outcomes.len());
+    let showing = Showing {
+        spec: room.spec,
+        plan: room.plan,
+        scripts: !plan.brief,
+    };
     let PartialExamples { examples, ending } = examples_of(
-        alloc,
-        spec,
-        plan,
-        !plan.brief,
+        room.alloc,
+        &showing,
         &outcomes,
         most,
         tries_for(plan),
     );
-    write_most(alloc, output, spec, block, plan, &outcomes, examples, &end)?;
+    write_most(room, output, &outcomes, examples, &end)?;
     ending?;
     Ok(held)
 }
 
 /// The first outcome that breaks the room's task, with a script if one is shown.
-fn broken_example(
-    alloc: Global,
-    spec: &Spec,
-    plan: &Plan,
-    outcomes: &Tally,
-) -> Result<Option<Example>, AllocError>
-    requires { All (CameByFirst spec.now plan.now) outcomes.now }
-    ensures { IfOk result (λ broken. IsShownIf spec.now plan.now.crashes (shows_breaking plan.now) (first_broken spec.now outcomes.now) (option_map shown_of broken)) }
+fn broken_example(room: &Sampled<'_>, outcomes: &Tally) -> Result<Option<Example>, AllocError>
+    requires { All (CameByFirst room.now.spec.now room.now.plan.now) outcomes.now }
+    ensures { IfOk result (λ broken. IsShownIf room.now.spec.now room.now.plan.now.crashes (shows_breaking room.now.plan.now) (first_broken room.now.spec.now outcomes.now) (option_map shown_of broken)) }
 {
-    let scripts = shows_breaking(plan);
-    let found = first_broken(spec, outcomes);
-    example_of(alloc, spec, plan, scripts, found, tries_for(plan))
+    let scripts = shows_breaking(room.plan);
+    let showing = Showing {
+        spec: room.spec,
+        plan: room.plan,
+        scripts,
+    };
+    let found = first_broken(room.spec, outcomes);
+    example_of(room.alloc, &showing, found, tries_for(room.plan))
 }
 
 /// Whether a script that breaks the task is shown.
@@ -210,29 +204,24 @@ fn shows_alone(plan: &Plan) -> bool
 /// Writes these outcomes of a room, of which some are shown, and the text after them. If an allocation fails, it shows fewer: half as many each
 /// time, and gives the memory of the others free.
 fn write_most(
-    alloc: Global,
+    room: &Sampled<'_>,
     output: &mut Text,
-    spec: &Spec,
-    block: &[u8],
-    plan: &Plan,
     outcomes: &Tally,
     mut shown: Vec<Example>,
     end: &Text,
 ) -> Result<(), AllocError>
-    ensures text { OnOk result (output.new ≡ output.old ++ (shown_text plan.now.json plan.now spec.now.name block.now outcomes.now (map shown_of shown.items) ++ end.now)) }
+    ensures text { OnOk result (output.new ≡ output.old ++ (shown_text room.now.plan.now.json room.now.plan.now room.now.spec.now.name room.now.block.now outcomes.now (map shown_of shown.items) ++ end.now)) }
     ensures cut { OnErr result ((output.new ≡ output.old) ⊎ ((most : ℕ) × (most ≤ length shown.items) ×
-        (output.new ≡ output.old ++ (shown_text plan.now.json plan.now spec.now.name block.now outcomes.now (map shown_of (take most shown.items)) ++ end.now)))) }
+        (output.new ≡ output.old ++ (shown_text room.now.plan.now.json room.now.plan.now room.now.spec.now.name room.now.block.now outcomes.now (map shown_of (take most shown.items)) ++ end.now)))) }
 {
-    let all = shown.as_slice();
-    let written = write_told(alloc, output, spec, block, plan, outcomes, all, end);
+    let written = write_whole(room, output, outcomes, shown.as_slice(), end);
     if written.is_ok() {
         return written;
     }
     while !shown.is_empty() {
         shown.truncate(shown.len() / 2);
         shown.shrink_to_fit();
-        let fewer = shown.as_slice();
-        if write_told(alloc, output, spec, block, plan, outcomes, fewer, end).is_ok() {
+        if write_whole(room, output, outcomes, shown.as_slice(), end).is_ok() {
             return Err(AllocError);
         }
     }
@@ -240,116 +229,97 @@ fn write_most(
 }
 
 /// Writes these outcomes of a room, of which some are shown, and the text after them. An `Err` leaves the output as it was.
-fn write_told(
-    alloc: Global,
+fn write_whole(
+    room: &Sampled<'_>,
     output: &mut Text,
-    spec: &Spec,
-    block: &[u8],
-    plan: &Plan,
     outcomes: &Tally,
     shown: &[Example],
     end: &Text,
 ) -> Result<(), AllocError>
-    ensures text { OnOk result (output.new ≡ output.old ++ (shown_text plan.now.json plan.now spec.now.name block.now outcomes.now (map shown_of shown.now) ++ end.now)) }
+    ensures text { OnOk result (output.new ≡ output.old ++ (shown_text room.now.plan.now.json room.now.plan.now room.now.spec.now.name room.now.block.now outcomes.now (map shown_of shown.now) ++ end.now)) }
     ensures err { OnErr result (output.new ≡ output.old) }
 {
-    let mut text = Text::new(alloc);
-    write_shown(alloc, &mut text, spec, block, plan, outcomes, shown)?;
+    let mut text = Text::new(room.alloc);
+    write_shown(room, &mut text, outcomes, shown)?;
     text.put(end.as_bytes())?;
     output.put_long(text.as_bytes())
 }
 
 /// Writes these outcomes of a room, of which some are shown, as text or as JSON.
 fn write_shown(
-    alloc: Global,
+    room: &Sampled<'_>,
     output: &mut Text,
-    spec: &Spec,
-    block: &[u8],
-    plan: &Plan,
     outcomes: &Tally,
     shown: &[Example],
 ) -> Result<(), AllocError>
-    ensures { OnOk result (output.new ≡ output.old ++ shown_text plan.now.json plan.now spec.now.name block.now outcomes.now (map shown_of shown.now)) }
+    ensures { OnOk result (output.new ≡ output.old ++ shown_text room.now.plan.now.json room.now.plan.now room.now.spec.now.name room.now.block.now outcomes.now (map shown_of shown.now)) }
 {
-    let name = spec.name().as_str();
+    let plan = room.plan;
     if plan.json {
-        return write_outcome_lines(alloc, output, name, plan.brief, shown);
+        let name = room.spec.name().as_str();
+        return write_outcome_lines(room.alloc, output, name, plan.brief, shown);
     }
-    write_sample(output, name.as_bytes(), block, plan, outcomes, shown)
+    write_sample(room, output, outcomes, shown)
 }
 
 /// Writes what is said of the room's task, or, as JSON, of the room as a whole.
 fn write_end(
-    alloc: Global,
+    room: &Sampled<'_>,
     output: &mut Text,
-    spec: &Spec,
-    block: &[u8],
-    plan: &Plan,
     outcomes: &Tally,
     broken: Option<&Example>,
 ) -> Result<(), AllocError>
-    requires { sum_by (λ one. one.times) outcomes.now ≤ plan.now.schedules }
-    ensures { OnOk result (output.new ≡ output.old ++ end_text plan.now.json plan.now spec.now block.now outcomes.now (option_map (λ one. shown_of one.now) broken.entry)) }
+    requires { sum_by (λ one. one.times) outcomes.now ≤ room.now.plan.now.schedules }
+    ensures { OnOk result (output.new ≡ output.old ++ end_text room.now.plan.now.json room.now.plan.now room.now.spec.now room.now.block.now outcomes.now (option_map (λ one. shown_of one.now) broken.entry)) }
 {
-    if plan.json {
-        return write_room_line(alloc, output, spec, plan, outcomes);
+    if room.plan.json {
+        return write_room_line(room.alloc, output, room.spec, room.plan, outcomes);
     }
-    write_task(output, spec, block, plan, outcomes, broken)
+    write_task(room, output, outcomes, broken)
 }
 
 /// Writes the script of the outcome of this number, from 1, among those of a room, those first that came most often; or, as JSON, that outcome.
 /// Gives whether there is one. An `Err` leaves the output as it was.
 fn write_chosen(
-    alloc: Global,
+    room: &Sampled<'_>,
     output: &mut Text,
-    spec: &Spec,
-    block: &[u8],
-    plan: &Plan,
     mut outcomes: Tally,
     number: u32,
 ) -> Result<bool, AllocError>
-    requires limits { IsWithinLimits spec.now }
-    requires says { block_in block.now ≡ Ok (spec.now, length block.now) }
-    requires came { All (CameByFirst spec.now plan.now) outcomes }
-    ensures whole { IfOk result (λ well. (text : List ℕ) × IsChosen number plan.now spec.now block.now outcomes well text × (output.new ≡ output.old ++ text)) }
+    requires limits { IsWithinLimits room.now.spec.now }
+    requires says { block_in room.now.block.now ≡ Ok (room.now.spec.now, length room.now.block.now) }
+    requires came { All (CameByFirst room.now.spec.now room.now.plan.now) outcomes }
+    ensures whole { IfOk result (λ well. (text : List ℕ) × IsChosen number room.now.plan.now room.now.spec.now room.now.block.now outcomes well text × (output.new ≡ output.old ++ text)) }
     ensures err { OnErr result (output.new ≡ output.old) }
 {
     outcomes.sort_by_times()?;
-    let scripts = shows_alone(plan);
+    let scripts = shows_alone(room.plan);
+    let showing = Showing {
+        spec: room.spec,
+        plan: room.plan,
+        scripts,
+    };
     let found = outcomes.get(number.saturating_sub(1) as usize);
     let is_there = found.is_some();
-    let shown = example_of(alloc, spec, plan, scripts, found, tries_for(plan))?;
-    let mut text = Text::new(alloc);
-    write_one(
-        alloc,
-        &mut text,
-        spec,
-        block,
-        plan,
-        outcomes.len(),
-        number,
-        shown.as_ref(),
-    )?;
+    let shown = example_of(room.alloc, &showing, found, tries_for(room.plan))?;
+    let mut text = Text::new(room.alloc);
+    write_one(room, &mut text, outcomes.len(), number, shown.as_ref())?;
     output.put_long(text.as_bytes())?;
     Ok(is_there)
 }
 
 /// Writes the script of the outcome of this number, or as JSON that outcome; or how many outcomes there are, if there is none.
 fn write_one(
-    alloc: Global,
+    room: &Sampled<'_>,
     output: &mut Text,
-    spec: &Spec,
-    block: &[u8],
-    plan: &Plan,
     count: usize,
     number: u32,
     shown: Option<&Example>,
 ) -> Result<(), AllocError>
-    ensures { OnOk result (output.new ≡ output.old ++ alone_shown plan.now.json plan.now spec.now.name block.now count number (option_map (λ one. shown_of one.now) shown.entry)) }
+    ensures { OnOk result (output.new ≡ output.old ++ alone_shown room.now.plan.now.json room.now.plan.now room.now.spec.now.name room.now.block.now count number (option_map (λ one. shown_of one.now) shown.entry)) }
 {
-    let name = spec.name().as_str();
-    if plan.json {
-        return write_alone_line(alloc, output, name, plan.brief, count, number, shown);
+    if room.plan.json {
+        return write_alone_line(room, output, count, number, shown);
     }
-    write_alone(output, name.as_bytes(), block, count, number, shown)
+    write_alone(room, output, count, number, shown)
 }

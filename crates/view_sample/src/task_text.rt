@@ -4,6 +4,7 @@ ghost use Rattle.std.specs.List.{sum_by};
 ghost use Rattle.room_sample.specs.Shown.{shown_of};
 ghost use Rattle.view_sample.specs.TaskTexts.{broken_line, broken_text, has_held, held_line, of_words, task_text, times_words};
 
+use crate::sampled::Sampled;
 use crate::task::{first_broken, times_broken};
 use crate::text::{write_number_line, write_number_words, write_script_unless};
 use io_text::Text;
@@ -11,28 +12,25 @@ use room_sample::{Example, Plan, Stretch, Tally};
 use room_spec::Spec;
 use std::alloc::AllocError;
 
-/// Writes in how many schedules the task of the room that this block says was broken, with a script for `play` that breaks it; or that it
-/// held. Nothing is written of a room without a task.
+/// Writes in how many schedules a room's task was broken, with a script for `play` that breaks it; or that it held. Nothing is written of a room
+/// without a task.
 pub(crate) fn write_task(
+    room: &Sampled<'_>,
     output: &mut Text,
-    spec: &Spec,
-    block: &[u8],
-    plan: &Plan,
     outcomes: &Tally,
     broken: Option<&Example>,
 ) -> Result<(), AllocError>
-    requires { sum_by (λ one. one.times) outcomes.now ≤ plan.now.schedules }
-    ensures { OnOk result (output.new ≡ output.old ++ task_text spec.now block.now plan.now outcomes.now (option_map (λ one. shown_of one.now) broken.entry)) }
+    requires { sum_by (λ one. one.times) outcomes.now ≤ room.now.plan.now.schedules }
+    ensures { OnOk result (output.new ≡ output.old ++ task_text room.now.spec.now room.now.block.now room.now.plan.now outcomes.now (option_map (λ one. shown_of one.now) broken.entry)) }
 {
-    if spec.task().is_none() {
+    if room.spec.task().is_none() {
         return Ok(());
     }
-    let name = spec.name().as_str().as_bytes();
     match broken {
-        None => write_held(output, name, plan),
+        None => write_held(output, room.spec.name().as_str().as_bytes(), room.plan),
         Some(one) => {
-            let times = times_broken(spec, outcomes, plan.schedules);
-            write_broken(output, name, block, plan, times, one.schedule.as_slice())
+            let times = times_broken(room.spec, outcomes, room.plan.schedules);
+            write_broken(room, output, times, one.schedule.as_slice())
         }
     }
 }
@@ -53,17 +51,16 @@ fn write_held(output: &mut Text, name: &[u8], plan: &Plan) -> Result<(), AllocEr
 }
 
 fn write_broken(
+    room: &Sampled<'_>,
     output: &mut Text,
-    name: &[u8],
-    block: &[u8],
-    plan: &Plan,
     times: u32,
     schedule: &[Stretch],
 ) -> Result<(), AllocError>
-    ensures { OnOk result (output.new ≡ output.old ++ broken_text name.now block.now plan.now times schedule.now) }
+    ensures { OnOk result (output.new ≡ output.old ++ broken_text room.now.spec.now.name room.now.block.now room.now.plan.now times schedule.now) }
 {
+    let (name, plan) = (room.spec.name().as_str().as_bytes(), room.plan);
     write_broken_line(output, name, plan, times)?;
-    write_script_unless(output, plan.brief, name, block, schedule)
+    write_script_unless(output, plan.brief, name, room.block, schedule)
 }
 
 fn write_broken_line(

@@ -2,29 +2,28 @@
 ghost use Rattle.std.specs.Prelude.{◌≡◌, ◌≤◌, ◌++◌, ◌∷◌, OnOk, codes, decimal, map, option_map};
 ghost use Rattle.std.specs.List.{flat_map};
 ghost use Rattle.room_sample.specs.Shown.{shown_of};
-ghost use Rattle.view_sample.specs.Texts.{alone_text, count_words, most_lines, new_line, new_words, none_line, number_line, number_words, outcome_text, outcome_texts, plan_end, plan_line, sample_text, script_text, script_unless, shown_count, stretch_line};
+ghost use Rattle.view_sample.specs.Texts.{alone_text, count_words, from_words, most_lines, new_line, new_words, none_line, number_line, number_words, outcome_text, outcome_texts, plan_end, plan_line, sample_text, script_text, script_unless, shown_count, stretch_line};
 
 use crate::counts::{most_of, once_in};
+use crate::sampled::Sampled;
 use io_text::Text;
 use report_text::write_processes;
 use room_files::write_block;
 use room_sample::{Example, Plan, Stretch, Tally};
 use std::alloc::AllocError;
 
-/// Writes the outcomes of the room of this name, whose block these bytes are: how often each of those came that are shown, and a script for
-/// `play` that leads to it.
+/// Writes the outcomes of a room: how often each of those came that are shown, and a script for `play` that leads to it.
 pub(crate) fn write_sample(
+    room: &Sampled<'_>,
     output: &mut Text,
-    name: &[u8],
-    block: &[u8],
-    plan: &Plan,
     outcomes: &Tally,
     shown: &[Example],
 ) -> Result<(), AllocError>
-    ensures { OnOk result (output.new ≡ output.old ++ sample_text name.now block.now plan.now outcomes.now (map shown_of shown.now)) }
+    ensures { OnOk result (output.new ≡ output.old ++ sample_text room.now.spec.now.name room.now.block.now room.now.plan.now outcomes.now (map shown_of shown.now)) }
 {
+    let (name, plan) = (room.spec.name().as_str().as_bytes(), room.plan);
     write_plan(output, name, plan)?;
-    write_outcomes(output, plan.brief, name, block, shown)?;
+    write_outcomes(output, plan.brief, name, room.block, shown)?;
     write_most(output, name, outcomes)?;
     write_new(output, name, plan, outcomes)
 }
@@ -35,7 +34,18 @@ fn write_plan(output: &mut Text, name: &[u8], plan: &Plan) -> Result<(), AllocEr
     write_schedules(output, name, plan.schedules)?;
     write_crashes(output, plan.crashes)?;
     write_number(output, b" seed", u64::from(plan.seed))?;
+    write_from(output, plan.from)?;
     output.put(plan_end(plan.group))
+}
+
+/// Writes the number of the first schedule, unless it is 0.
+fn write_from(output: &mut Text, from: u32) -> Result<(), AllocError>
+    ensures { OnOk result (output.new ≡ output.old ++ from_words from) }
+{
+    if from == 0 {
+        return Ok(());
+    }
+    write_number(output, b" from", u64::from(from))
 }
 
 /// What follows the plan's numbers: whether the outcomes are groups.
@@ -132,18 +142,18 @@ pub(crate) fn write_script_unless(
 
 /// Writes the script of the outcome of this number, and nothing else; or, if there is none, how many outcomes there are.
 pub(crate) fn write_alone(
+    room: &Sampled<'_>,
     output: &mut Text,
-    name: &[u8],
-    block: &[u8],
     count: usize,
     number: u32,
     shown: Option<&Example>,
 ) -> Result<(), AllocError>
-    ensures { OnOk result (output.new ≡ output.old ++ alone_text name.now block.now count number (option_map (λ one. shown_of one.now) shown.entry)) }
+    ensures { OnOk result (output.new ≡ output.old ++ alone_text room.now.spec.now.name room.now.block.now count number (option_map (λ one. shown_of one.now) shown.entry)) }
 {
+    let name = room.spec.name().as_str().as_bytes();
     match shown {
         None => write_none(output, name, count as u64, number),
-        Some(one) => write_script(output, name, block, one.schedule.as_slice()),
+        Some(one) => write_script(output, name, room.block, one.schedule.as_slice()),
     }
 }
 

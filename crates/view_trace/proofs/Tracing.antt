@@ -22,6 +22,7 @@ use Rattle.service_core.specs.Rooms.{Applies, Entries, room_at, steps_of}
 use Rattle.script_play.specs.Play.{Done, DoesMore, IsPerformed, IsPlay, Replied, done_text, refusal_in}
 use Rattle.script_play.specs.ReplyTexts.{reply_text, sim_in}
 use Rattle.json_lines.specs.Lines.{json_line}
+use Rattle.view_trace.specs.Decisions.{decisions_at, decisions_under}
 use Rattle.view_trace.specs.Json.{reply_data}
 use Rattle.step_words.specs.Told.{IsTold, Telling, nothing_told}
 use Rattle.view_trace.specs.Trace.{AreNoted, AreNotesOn, HasTraced, IsJsonTraceFor, IsNoted, IsTraceFor, IsTraceIn, MissedRooms, Noted, answer_text, done_shown, end_notes, end_shown, missed_after, missed_by, noted_text, notes_after, refusal_shown}
@@ -68,29 +69,32 @@ answered true output now command name sim reply named of written = written ∙ a
 -- the notes under a reply
 module _ (json : Bool) (missed : MissedRooms) where
   notes_on : (room : Option RoomState) (command : Command) (reply : Reply) (telling : Telling) → AreSeen IsTold (nothing_told json) (steps_of room command) telling → (refusal_in reply ≡ None → telling.lacks ≡ false)
-      → AreNotesOn json missed room command reply (notes_after json missed (name_in command) reply telling)
-  notes_on room command Begun telling told whole = record { telling = telling; told = told; whole = whole refl; lines_are = refl }
-  notes_on room command (Steps taken last) telling told whole = record { telling = telling; told = told; whole = whole refl; lines_are = refl }
-  notes_on room command (Crash answer) telling told whole = record { telling = telling; told = told; whole = whole refl; lines_are = refl }
-  notes_on room command Settled telling told whole = record { telling = telling; told = told; whole = whole refl; lines_are = refl }
-  notes_on room command (Report report) telling told whole = record { telling = telling; told = told; whole = whole refl; lines_are = refl }
-  notes_on room command Closed telling told whole = record { telling = telling; told = told; whole = whole refl; lines_are = refl }
-  notes_on room command (Refused refusal) telling told whole = refl
+      → AreNotesOn json missed room command reply (notes_after json missed (name_in command) reply telling ++ decisions_under reply json (decisions_at room))
+  notes_on room command Begun telling told whole = record { telling = telling; told = told; whole = whole refl; lines_are = append-nil telling.lines }
+  notes_on room command (Steps taken last) telling told whole = record { telling = telling; told = told; whole = whole refl; lines_are = append-nil telling.lines }
+  notes_on room command (Crash answer) telling told whole = record { telling = telling; told = told; whole = whole refl; lines_are = append-nil telling.lines }
+  notes_on room command Settled telling told whole = record { telling = telling; told = told; whole = whole refl; lines_are = append-nil telling.lines }
+  notes_on room command (Report report) telling told whole = (telling.lines, record { telling = telling; told = told; whole = whole refl; lines_are = refl }, refl)
+  notes_on room command Closed telling told whole = record { telling = telling; told = told; whole = whole refl; lines_are = append-nil telling.lines }
+  notes_on room command (Refused refusal) telling told whole = append-nil (refusal_shown json missed (name_in command) refusal)
 
   -- a command was done
-  pub traced_command : (rooms after : Entries) (output middle now : List ℕ) (grown : MissedRooms) (command : Command) (reply : Reply) (telling : Telling) → Applies rooms command reply after
-      → AreSeen IsTold (nothing_told json) (steps_of (room_at rooms (name_in command)) command) telling → middle ≡ output ++ done_shown json (Replied command reply) → now ≡ middle ++ notes_after json missed (name_in command) reply telling
-      → grown ≡ missed_by missed (name_in command) reply
+  pub traced_command : (rooms after : Entries) (output middle noted now : List ℕ) (grown : MissedRooms) (command : Command) (reply : Reply) (telling : Telling) (decisions : List (Option ℕ)) → Applies rooms command reply after
+      → AreSeen IsTold (nothing_told json) (steps_of (room_at rooms (name_in command)) command) telling → decisions ≡ decisions_at (room_at rooms (name_in command)) → middle ≡ output ++ done_shown json (Replied command reply)
+      → noted ≡ middle ++ notes_after json missed (name_in command) reply telling → now ≡ noted ++ decisions_under reply json decisions → grown ≡ missed_by missed (name_in command) reply
       → (refusal_in reply ≡ None → telling.lacks ≡ false) → IsPerformed rooms (HasTraced json rooms missed output) command (refusal_in reply) after (HasTraced json after grown now)
-  traced_command rooms after output middle now grown command reply telling applies told first second known whole =
-      let notes = notes_after json missed (name_in command) reply telling in
+  traced_command rooms after output middle noted now grown command reply telling decisions applies told decided first second third known whole =
+      let room = room_at rooms (name_in command) in
+      let under = notes_after json missed (name_in command) reply telling in
+      let notes = under ++ decisions_under reply json (decisions_at room) in
       record {
         reply = reply;
         applies = applies;
         refusal_is = refl;
         done = subst (λ (m : MissedRooms). DoesMore (HasTraced json rooms missed output) (Replied command reply) (HasTraced json after m now)) (sym known)
-            (traced-push json missed rooms after output now notes (Replied command reply) (applies, notes_on (room_at rooms (name_in command)) command reply telling told whole)
-            (second ∙ ap (λ (t : List ℕ). t ++ notes) first ∙ append_assoc output (done_shown json (Replied command reply)) notes));
+            (traced-push json missed rooms after output now notes (Replied command reply) (applies, notes_on room command reply telling told whole)
+            (third ∙ ap₂ (λ (t : List ℕ) (d : List (Option ℕ)). t ++ decisions_under reply json d) second decided ∙ append_assoc middle under (decisions_under reply json (decisions_at room))
+            ∙ ap (λ (t : List ℕ). t ++ notes) first ∙ append_assoc output (done_shown json (Replied command reply)) notes));
       }
 
   -- a command was refused

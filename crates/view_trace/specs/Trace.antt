@@ -23,6 +23,7 @@ use Rattle.step_words.specs.Told.{IsTold, Telling, nothing_told}
 use Rattle.fault_text.specs.Lines.{indented}
 use Rattle.fault_text.specs.Strangers.{MetNames, is_met, met, more_note, refused_strangers}
 use Rattle.fault_text.specs.declared.refusals.RefusedBlock.{RefusedBlock}
+use Rattle.view_trace.specs.Decisions.{decisions_at, decisions_shown}
 use Rattle.view_trace.specs.Json.{done_data, reply_data}
 use Rattle.view_trace.specs.declared.missed.TheConstants.{MORE_COMMANDS}
 
@@ -87,9 +88,14 @@ abbrev pub block_shown : Bool → List ℕ → List ℕ
 block_shown false why = indented why
 block_shown true why = []
 
+-- under a report: the steps of its command, of which there are none, and what each simulator of the room has decided
+abbrev pub AreReportNotes : Bool → Option RoomState → Command → List ℕ → Type 0
+AreReportNotes json room command notes = (lines : List ℕ) × AreLinesOf json (steps_of room command) lines × (notes ≡ lines ++ decisions_shown json (decisions_at room))
+
 -- under a reply: why the command was refused, or the steps that it took in the room of its name as it was then
 abbrev pub AreNotesOn : Bool → MissedRooms → Option RoomState → Command → Reply → List ℕ → Type 0
 AreNotesOn json missed room command (Refused refusal) notes = notes ≡ refusal_shown json missed (name_in command) refusal
+AreNotesOn json missed room command (Report report) notes = AreReportNotes json room command notes
 AreNotesOn json missed room command reply notes = AreLinesOf json (steps_of room command) notes
 
 -- What was done to these rooms has such notes, and leads to those.

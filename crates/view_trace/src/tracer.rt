@@ -1,4 +1,4 @@
-//! What is said of what a service did: its replies, and under each the atomic steps that its command took.
+//! What is said of what a service did: its replies, and under each the atomic steps that its command took, or what the simulators have decided.
 ghost use Rattle.std.specs.Prelude.{◌≡◌, ◌≢◌, ◌++◌, [], None, Some, false, true, IfOk, OnOk};
 ghost use Rattle.room_spec.specs.Names.{is_name};
 ghost use Rattle.service_core.specs.declared.command.Command.TheVariants.{Step};
@@ -6,6 +6,7 @@ ghost use Rattle.service_core.specs.declared.reply.Refusal.TheVariants.{NoRoom};
 ghost use Rattle.script_play.specs.Play.{IsPerformed, refusal_in};
 ghost use Rattle.view_trace.specs.Trace.{HasTraced, answer_text, fault_written, lack_written, missed_by, missed_refused, notes_after, refusal_shown};
 
+use crate::decisions::{decisions_at, write_decisions};
 use crate::json::{write_fault_object, write_lack_object, write_reply_object};
 use crate::missed::Missed;
 use fault_text::write_indented;
@@ -47,6 +48,7 @@ impl<const JSON: bool> Tracer<JSON> {
     {
         let name = command.name().clone()?;
         let sim = sim_in(&command);
+        let decisions = decisions_at(&self.service, &name);
         let mut steps = StepTexts::new(alloc, JSON);
         let reply = self.service.apply_observed(alloc, command, &mut steps);
         let bytes = name.as_str().as_bytes();
@@ -59,6 +61,7 @@ impl<const JSON: bool> Tracer<JSON> {
             &reply,
             steps,
         )?;
+        write_decisions::<JSON>(&mut self.output, &reply, decisions.as_slice())?;
         Ok(refusal_in(&reply))
     }
 

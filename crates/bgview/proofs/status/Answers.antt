@@ -11,10 +11,10 @@ pub returns-in-Ok-clause-value : goal.returns-in-Ok-clause-value
 returns-in-Ok-clause-value g c =
     let writes : Writes = record { before = g.W.Write.contents c.args.writer.now.inner; after = g.W.Write.contents c.end-ended.new.writer.inner } in
     let errors : Errors = record { before = g.E.Write.contents c.args.errors.now.inner; after = g.E.Write.contents c.say_end.new.errors.inner; failed = c.say_end.new.errors.failed } in
-    done c.end-ended.result c.end-ended.new.notes c.in-Ok.ensures.kinds
-    (subst (λ (found : Found). IsEnding found (named_by (g.I.Inputs.standard_bytes c.args.inputs.now) (g.I.Inputs.file_bytes c.args.inputs.now) found) c.end-ended.result c.end-ended.new.notes writes)
+    done c.end-ended.result c.end-ended.new.aside.notes c.in-Ok.ensures.kinds
+    (subst (λ (found : Found). IsEnding found (named_by (g.I.Inputs.standard_bytes c.args.system.now.inputs.now) (g.I.Inputs.file_bytes c.args.system.now.inputs.now) found) c.end-ended.result c.end-ended.new.aside.notes writes)
     c.in-Ok.ensures.sound c.end-ended.ensures)
-    (subst (λ (mode : Mode). IsEndSaid mode c.end-ended.result c.end-ended.new.notes errors) (c.line_in-mode.ensures.command ∙ ap mode_among c.in-Ok.ensures.sound)
+    (subst (λ (mode : Mode). IsEndSaid mode c.end-ended.result c.end-ended.new.aside.notes errors) (c.line_in-mode.ensures.command ∙ ap mode_among c.in-Ok.ensures.sound)
     (subst (λ (notes : List ℕ). IsEndSaid c.line_in-mode.result.command c.end-ended.result notes errors) c.as_bytes.ensures c.say_end.ensures))
     c.status.ensures
 

@@ -13,5 +13,5 @@ returns-clause-text g c =
     (output : List ℕ) × IsPageAnswer (file ∷ next ∷ []) c.write_both.result output
     × Appends (g.W.Write.contents c.args.writer.now.inner) (g.W.Write.contents c.write_both.new.writer.inner) output
     × (c.write_both.new.writer.calls ≤ c.args.writer.now.calls + length output + failed_writes (is_write_failed c.write_both.result)))
-    (g.R.Read.remaining c.args.reader.now.inner) (g.S.Read.remaining c.args.other.now.inner) c.deref.result.now c.deref-2.result.now c.in_ok-file.file.items c.in_ok-next.next.items
+    (g.R.Read.remaining c.args.first.now.reader.inner) (g.S.Read.remaining c.args.second.now.reader.inner) c.deref.result.now c.deref-2.result.now c.in_ok-file.file.items c.in_ok-next.next.items
     c.in_ok-file.ensures.whole c.in_ok-next.ensures.whole c.deref.ensures.value c.deref-2.ensures.value c.write_both.ensures.text

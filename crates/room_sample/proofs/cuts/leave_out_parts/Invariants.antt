@@ -2,4 +2,4 @@ use Rattle.room_sample.specs.Shown.{KeepsOutcome}
 use Rattle.room_sample.proofs.cuts.leave_out_parts.Given as goal
 
 abbrev pub invariant-loop : goal.invariant-loop
-invariant-loop l = KeepsOutcome l.spec l.crashes l.states.items l.initial.schedule.items l.schedule.items
+invariant-loop l = KeepsOutcome l.ending.spec.now l.ending.crashes l.ending.states.now.items l.initial.schedule.items l.schedule.items

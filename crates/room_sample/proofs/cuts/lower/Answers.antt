@@ -3,4 +3,4 @@ use Rattle.room_sample.proofs.cuts.lower.Goals as goal
 
 pub loop-preserved : goal.loop-preserved
 loop-preserved c =
-    one_cut_more c.args.spec.now c.args.crashes c.args.states.now.items c.args.schedule.now.items c.loop.schedule.items c.try_cut.new.schedule.items c.loop.invariant c.in_ok-is_cut.ensures
+    one_cut_more c.args.ending.now.spec.now c.args.ending.now.crashes c.args.ending.now.states.now.items c.args.schedule.now.items c.loop.schedule.items c.try_cut.new.schedule.items c.loop.invariant c.in_ok-is_cut.ensures

@@ -4,4 +4,4 @@ use Rattle.room_sample.proofs.examples.examples_of.Given as goal
 
 -- the first ones are shown
 abbrev pub invariant-loop-index : goal.invariant-loop-index
-invariant-loop-index l = AreShown l.spec l.plan.crashes l.scripts (take l.index l.outcomes) (map shown_of l.examples.items)
+invariant-loop-index l = AreShown l.showing.spec.now l.showing.plan.now.crashes l.showing.scripts (take l.index l.outcomes) (map shown_of l.made.examples.items)

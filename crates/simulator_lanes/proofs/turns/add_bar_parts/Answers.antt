@@ -3,4 +3,4 @@ use Rattle.simulator_lanes.proofs.Texts.{piece_more}
 use Rattle.simulator_lanes.proofs.turns.add_bar_parts.Goals as goal
 
 pub loop-row-preserved : goal.loop-row-preserved
-loop-row-preserved c = piece_more (bar_part c.args.grid c.args.first.now c.args.last.now c.args.step.now) _ _ _ _ c.loop-row.invariant c.in_ok-add_bar_part.ensures
+loop-row-preserved c = piece_more (bar_part c.args.grid c.args.span.now.first c.args.span.now.last c.args.span.now.step) _ _ _ _ c.loop-row.invariant c.in_ok-add_bar_part.ensures

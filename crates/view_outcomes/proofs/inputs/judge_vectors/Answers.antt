@@ -10,7 +10,7 @@ use Rattle.view_outcomes.proofs.inputs.judge_vectors.Goals as goal
 
 pub judge_vector-requires-clause-inputs : goal.judge_vector-requires-clause-inputs
 judge_vector-requires-clause-inputs g c =
-    let n = processes c.args.spec.now in
+    let n = processes c.args.room.now.spec.now in
     let are : entries_of c.in_ok-all.all.items ≡ vectors c.args.values.now n = c.in_ok-all.ensures ∙ ap (vectors c.args.values.now) c.n.ensures.value in
     let size : c.len-index-end.result ≡ length c.in_ok-all.all.items = search rules in
     let at = slice_get_read c.in_ok-all.all.items c.len-index-end.result c.loop-index.index c.index.result.now size c.loop-index-test.true c.index.ensures in
@@ -18,7 +18,7 @@ judge_vector-requires-clause-inputs g c =
 
 pub loop-index-preserved : goal.loop-index-preserved
 loop-index-preserved g c =
-    let n = processes c.args.spec.now in
+    let n = processes c.args.room.now.spec.now in
     let inputs = c.as_slice-inputs.result.now in
     let are : entries_of c.in_ok-all.all.items ≡ vectors c.args.values.now n = c.in_ok-all.ensures ∙ ap (vectors c.args.values.now) c.n.ensures.value in
     let size : c.len-index-end.result ≡ length c.in_ok-all.all.items = search rules in
@@ -27,6 +27,6 @@ loop-index-preserved g c =
     let one : c.from-kept.result ≡ one_if c.in_ok-one.one = search rules in
     let small = one_if_small c.in_ok-one.one in (
       omega (arith, c.loop-index.invariant.0, one, small),
-      one_vector_more c.args.search.now c.args.spec.now c.args.block.now (vectors c.args.values.now n) c.loop-index.index inputs c.loop-index.kept (c.loop-index.kept + c.from-kept.result) c.in_ok-one.one c.args.output.now c.loop-index.output c.judge_vector.new.output
+      one_vector_more c.args.room.now.search.now c.args.room.now.spec.now c.args.room.now.block.now (vectors c.args.values.now n) c.loop-index.index inputs c.loop-index.kept (c.loop-index.kept + c.from-kept.result) c.in_ok-one.one c.args.output.now c.loop-index.output c.judge_vector.new.output
           there (ap (λ (k : ℕ). c.loop-index.kept + k) one) c.loop-index.invariant.1 c.in_ok-one.ensures,
     )

@@ -5,4 +5,4 @@ use Rattle.view_outcomes.specs.Vectors.{vectors}
 use Rattle.view_outcomes.proofs.inputs.judge_vectors.Given as goal
 
 abbrev pub invariant-loop-index : goal.invariant-loop-index
-invariant-loop-index g l = (l.kept ≤ l.index) × AddsVectors l.search l.spec l.block (take l.index (vectors l.values (processes l.spec))) l.kept l.initial.output l.output
+invariant-loop-index g l = (l.kept ≤ l.index) × AddsVectors l.room.search.now l.room.spec.now l.room.block.now (take l.index (vectors l.values (processes l.room.spec.now))) l.kept l.initial.output l.output

@@ -4,4 +4,4 @@ use Rattle.view_outcomes.proofs.Floats.{decisions_are}
 use Rattle.view_outcomes.proofs.json.write_decisions_line.Goals as goal
 
 pub write_line-requires : goal.write_line-requires
-write_line-requires c = ap has_float c.in_ok-value.ensures ∙ decisions_are c.args.spec.now c.args.limit c.args.judgement.now
+write_line-requires c = ap has_float c.in_ok-value.ensures ∙ decisions_are c.args.room.now.spec.now c.args.room.now.search.now.nodes c.args.judgement.now

@@ -4,4 +4,4 @@ use Rattle.view_outcomes.proofs.Floats.{found_is}
 use Rattle.view_outcomes.proofs.json.write_found_line.Goals as goal
 
 pub write_line-requires : goal.write_line-requires
-write_line-requires c = ap has_float c.in_ok-value.ensures ∙ found_is c.args.spec.now c.args.crashes c.args.limit c.args.all.now
+write_line-requires c = ap has_float c.in_ok-value.ensures ∙ found_is c.args.room.now.spec.now c.args.crashes c.args.room.now.search.now.nodes c.args.all.now

@@ -4,4 +4,4 @@ use Rattle.view_outcomes.proofs.Floats.{unsearched_is}
 use Rattle.view_outcomes.proofs.json.write_unsearched_line.Goals as goal
 
 pub write_line-requires : goal.write_line-requires
-write_line-requires c = ap has_float c.in_ok-value.ensures ∙ unsearched_is c.args.spec.now c.args.limit
+write_line-requires c = ap has_float c.in_ok-value.ensures ∙ unsearched_is c.args.room.now.spec.now c.args.room.now.search.now.nodes

@@ -3,5 +3,5 @@ use Rattle.view_outcomes.proofs.keeping.judge_both.Goals as goal
 
 pub returns : goal.returns
 returns g c =
-    both_told c.args.task.now c.args.search.now c.args.spec.now c.args.block.now c.in_ok-well.well c.in_ok-kept.kept c.args.output.now c.judge_if_any.new.output c.judge_own.new.output c.in_ok-well.ensures
+    both_told c.args.task.now c.args.room.now.search.now c.args.room.now.spec.now c.args.room.now.block.now c.in_ok-well.well c.in_ok-kept.kept c.args.output.now c.judge_if_any.new.output c.judge_own.new.output c.in_ok-well.ensures
     c.in_ok-kept.ensures

@@ -1,8 +1,6 @@
-use Rattle.std.proofs.Common.{◌≡◌, ◌-◌, ◌++◌, map}
-use Rattle.std.specs.List.{concat, range_with_len}
-use Rattle.view_outcomes.specs.Counts.{most_values}
-use Rattle.view_outcomes.specs.Shown.{outcomes_with}
+use Rattle.std.proofs.Common.{◌≡◌, ◌++◌, take}
+use Rattle.view_outcomes.specs.Shown.{outcomes_shown}
 use Rattle.view_outcomes.proofs.shown.show_outcomes.Given as goal
 
-abbrev pub invariant-loop-fewer : goal.invariant-loop-fewer
-invariant-loop-fewer l = l.output ≡ l.initial.output ++ concat (map (λ fewer. outcomes_with l.form l.name l.block l.all (most_values l.all - fewer)) (range_with_len 0 l.fewer))
+abbrev pub invariant-loop-one : goal.invariant-loop-one
+invariant-loop-one l = l.output ≡ l.initial.output ++ outcomes_shown l.room.search.now.form l.room.spec.now.name l.room.block.now (take l.one-index l.shown)

@@ -3,5 +3,5 @@ use Rattle.view_outcomes.proofs.text.write_most.Goals as goal
 
 pub returns : goal.returns
 returns c =
-    subst (λ (most : ℕ). OnOk c.write_most_line.result (c.write_most_line.new.output ≡ c.args.output.now ++ ((codes "\n" ++ c.args.name.now) ++ (codes " decided at most" ++ ((32 ∷ decimal most) ++ codes " values\n")))))
-    c.most_values-most.ensures c.write_most_line.ensures
+    subst (λ (most : ℕ). OnOk c.write_number_line.result (c.write_number_line.new.output ≡ c.args.output.now ++ ((codes "\n" ++ c.args.name.now) ++ (codes " decided at most" ++ ((32 ∷ decimal most) ++ codes " values\n")))))
+    c.most_values-most.ensures c.write_number_line.ensures

@@ -7,42 +7,42 @@ use Rattle.view_sample.proofs.RoomTexts.{ended, fewer_listed, made_listed, on_er
 use Rattle.view_sample.proofs.rooms.write_listed.Goals as goal
 
 pub examples_of-examples-requires : goal.examples_of-examples-requires
-examples_of-examples-requires c = ordered_came c.args.plan.now c.args.spec.now c.args.outcomes c.sort_by_times.new.self c.sort_by_times.ensures.all c.requires.came
+examples_of-examples-requires c = ordered_came c.args.room.now.plan.now c.args.room.now.spec.now c.args.outcomes c.sort_by_times.new.self c.sort_by_times.ensures.all c.requires.came
 
 pub returns-in_err-write_most-clause-cut : goal.returns-in_err-write_most-clause-cut
 returns-in_err-write_most-clause-cut c =
-    let spec = c.args.spec.now in
-    let plan = c.args.plan.now in
+    let spec = c.args.room.now.spec.now in
+    let plan = c.args.room.now.plan.now in
     let ordered = c.sort_by_times.new.self in
     let examples = c.examples_of-examples.result.examples.items in
     let most = c.shown_count-most.ensures.value ∙ ap (shown_count plan.top) c.len.ensures in
     let made = c.examples_of-examples.ensures.few in
     let few : length examples ≤ shown_count plan.top (length ordered) = omega (arith, most, made) in
-    let end = ended plan.json plan spec c.args.block.now c.args.outcomes c.as_ref.result c.in_ok-broken.broken c.new-end.result c.write_end.new.output c.new-end.ensures c.as_ref.ensures.value c.in_ok-write_end.ensures in
+    let end = ended plan.json plan spec c.args.room.now.block.now c.args.outcomes c.as_ref.result c.in_ok-broken.broken c.new-end.result c.write_end.new.output c.new-end.ensures c.as_ref.ensures.value c.in_ok-write_end.ensures in
     on_err c.from_residual-in_err-write_most.result
-    (fewer_listed plan spec c.args.block.now c.args.outcomes ordered examples (option_map shown_of c.in_ok-broken.broken) c.has_held-held.result c.write_end.new.output c.args.output.now c.write_most.new.output c.requires.limits c.requires.says
+    (fewer_listed plan spec c.args.room.now.block.now c.args.outcomes ordered examples (option_map shown_of c.in_ok-broken.broken) c.has_held-held.result c.write_end.new.output c.args.output.now c.write_most.new.output c.requires.limits c.requires.says
     c.sort_by_times.ensures.all c.in_ok-sort_by_times.ensures.sorted c.examples_of-examples.ensures.shown few c.in_ok-broken.ensures c.has_held-held.ensures end
     c.in_err-write_most.ensures.cut)
 
 pub returns-in_err-ending-clause-cut : goal.returns-in_err-ending-clause-cut
 returns-in_err-ending-clause-cut c =
-    let spec = c.args.spec.now in
-    let plan = c.args.plan.now in
+    let spec = c.args.room.now.spec.now in
+    let plan = c.args.room.now.plan.now in
     let ordered = c.sort_by_times.new.self in
     let examples = c.examples_of-examples.result.examples.items in
     let most = c.shown_count-most.ensures.value ∙ ap (shown_count plan.top) c.len.ensures in
     let made = c.examples_of-examples.ensures.few in
     let few : length examples ≤ shown_count plan.top (length ordered) = omega (arith, most, made) in
-    let end = ended plan.json plan spec c.args.block.now c.args.outcomes c.as_ref.result c.in_ok-broken.broken c.new-end.result c.write_end.new.output c.new-end.ensures c.as_ref.ensures.value c.in_ok-write_end.ensures in
+    let end = ended plan.json plan spec c.args.room.now.block.now c.args.outcomes c.as_ref.result c.in_ok-broken.broken c.new-end.result c.write_end.new.output c.new-end.ensures c.as_ref.ensures.value c.in_ok-write_end.ensures in
     on_err c.from_residual-in_err-ending.result
-    (made_listed plan spec c.args.block.now c.args.outcomes ordered examples (option_map shown_of c.in_ok-broken.broken) c.has_held-held.result c.write_end.new.output c.args.output.now c.write_most.new.output c.requires.limits c.requires.says
+    (made_listed plan spec c.args.room.now.block.now c.args.outcomes ordered examples (option_map shown_of c.in_ok-broken.broken) c.has_held-held.result c.write_end.new.output c.args.output.now c.write_most.new.output c.requires.limits c.requires.says
     c.sort_by_times.ensures.all c.in_ok-sort_by_times.ensures.sorted c.examples_of-examples.ensures.shown few c.in_ok-broken.ensures c.has_held-held.ensures end
     c.in_ok-write_most.ensures.text)
 
 pub returns-clause-whole : goal.returns-clause-whole
 returns-clause-whole c =
-    let spec = c.args.spec.now in
-    let plan = c.args.plan.now in
+    let spec = c.args.room.now.spec.now in
+    let plan = c.args.room.now.plan.now in
     let ordered = c.sort_by_times.new.self in
     let examples = c.examples_of-examples.result.examples.items in
     let most = c.shown_count-most.ensures.value ∙ ap (shown_count plan.top) c.len.ensures in
@@ -50,7 +50,7 @@ returns-clause-whole c =
     let there = c.shown_count-most.ensures.few in
     let count = c.len.ensures in
     let all : length examples ≡ shown_count plan.top (length ordered) = omega (arith, most, made, there, count) in
-    let end = ended plan.json plan spec c.args.block.now c.args.outcomes c.as_ref.result c.in_ok-broken.broken c.new-end.result c.write_end.new.output c.new-end.ensures c.as_ref.ensures.value c.in_ok-write_end.ensures in
-    whole_listed plan spec c.args.block.now c.args.outcomes ordered examples (option_map shown_of c.in_ok-broken.broken) c.has_held-held.result c.write_end.new.output c.args.output.now c.write_most.new.output c.requires.limits c.requires.says
+    let end = ended plan.json plan spec c.args.room.now.block.now c.args.outcomes c.as_ref.result c.in_ok-broken.broken c.new-end.result c.write_end.new.output c.new-end.ensures c.as_ref.ensures.value c.in_ok-write_end.ensures in
+    whole_listed plan spec c.args.room.now.block.now c.args.outcomes ordered examples (option_map shown_of c.in_ok-broken.broken) c.has_held-held.result c.write_end.new.output c.args.output.now c.write_most.new.output c.requires.limits c.requires.says
     c.sort_by_times.ensures.all c.in_ok-sort_by_times.ensures.sorted c.examples_of-examples.ensures.shown all c.in_ok-broken.ensures c.has_held-held.ensures end
     c.in_ok-write_most.ensures.text

@@ -1,0 +1,34 @@
+-- What the simulators of a room have decided, under its reports.
+use Rattle.std.specs.Prelude.{ℕ, Bool, true, false, List, [], ◌∷◌, ◌++◌, length, map, Option, Some, None, slice_index_or, codes, decimal}
+use Rattle.std.specs.List.{concat, range_with_len}
+use Rattle.room_core.specs.Calls.{RoomState, decisions_of}
+use Rattle.service_core.specs.declared.reply.Reply.{Reply}
+use Rattle.service_core.specs.declared.reply.Reply.TheVariants.{Report}
+
+-- what the simulators of a room have decided, if there is one
+abbrev pub decisions_at : Option RoomState → List (Option ℕ)
+decisions_at None = []
+decisions_at (Some room) = decisions_of room
+
+-- a simulator, and what it did
+unfoldable pub simulator_words : ℕ → List ℕ → List ℕ
+simulator_words i what = codes "    simulator" ++ ((32 ∷ decimal i) ++ what)
+
+-- what a simulator has decided
+abbrev pub decision_line : ℕ → Option ℕ → List ℕ
+decision_line i None = simulator_words i (codes " has not decided\n")
+decision_line i (Some value) = simulator_words i (codes " has decided") ++ ((32 ∷ decimal value) ++ codes "\n")
+
+-- a line for each simulator
+abbrev pub decision_lines : List (Option ℕ) → List ℕ
+decision_lines decisions = concat (map (λ i. decision_line i (slice_index_or decisions i None)) (range_with_len 0 (length decisions)))
+
+-- as text. In JSON each step has what the simulator decides by it.
+abbrev pub decisions_shown : Bool → List (Option ℕ) → List ℕ
+decisions_shown false decisions = decision_lines decisions
+decisions_shown true decisions = []
+
+-- under a report, and under no other reply
+abbrev pub decisions_under : Reply → Bool → List (Option ℕ) → List ℕ
+decisions_under (Report report) json decisions = decisions_shown json decisions
+decisions_under reply json decisions = []
